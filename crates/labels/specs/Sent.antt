@@ -1,0 +1,14 @@
+-- What a run has sent, and what a principal sees of it.
+-- Source: our own; seeing the channels that one may read is the observer of Volpano, Smith and Irvine 1996.
+use Rattle.std.specs.Prelude.{◌≡◌, ℕ, List, ◌++◌, filter}
+use Rattle.labels.specs.declared.sent.Pair.{Pair}
+use Rattle.principals.specs.ActsFor.{PrincipalHierarchy}
+use Rattle.labels.specs.Label.{Label, may_read}
+
+-- a list begins another one
+abbrev pub Begins : {X : Type 0} → List X → List X → Type 0
+Begins {X} xs ys = (rest : List X) × (xs ++ rest ≡ ys)
+
+-- what a principal sees of a list of sent pairs: those on channels whose label it may read, in order
+abbrev pub seen : PrincipalHierarchy → (ℕ → Label) → ℕ → List Pair → List Pair
+seen h label_of p sent = filter (λ pair. may_read h p (label_of pair.channel)) sent

@@ -1,0 +1,6 @@
+//! Labels of the decentralized label model: who may read what, and what may flow where.
+#![tactic(auto)]
+
+pub mod sent;
+
+pub use sent::Pair;

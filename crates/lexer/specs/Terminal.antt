@@ -1,0 +1,21 @@
+-- A token as contracts see it, without references: a terminal symbol of a grammar, with its text and its place.
+-- Source: the usual notion of a terminal symbol.
+use Rattle.std.specs.Prelude.{ℕ, List, map}
+use Rattle.lexer.specs.declared.token.Kind.{Kind}
+use Rattle.lexer.specs.declared.token.Token.{Token}
+
+-- a kind, the bytes of the text, the place of its first byte and the place past its last one
+pub record Terminal : Type 0 where
+  pub kind : Kind
+  pub text : List ℕ
+  pub start : ℕ
+  pub end : ℕ
+
+-- what a token is to a contract
+abbrev pub terminal_of : Token → Terminal
+terminal_of token =
+    record { kind = token.kind; text = token.text.now; start = token.span.start; end = token.span.end }
+
+-- the tokens of a list, each as a contract sees it
+abbrev pub terminals_of : List Token → List Terminal
+terminals_of tokens = map terminal_of tokens

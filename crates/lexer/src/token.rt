@@ -1,0 +1,103 @@
+/// What a token is.
+///
+/// The keywords come first, then the signs, then the kinds that many texts have.
+#[derive(Clone, Copy, Debug, PartialEq, Eq)]
+pub enum Kind {
+    Boolean,
+    Break,
+    Catch,
+    Continue,
+    Else,
+    Exception,
+    False,
+    Global,
+    If,
+    Input,
+    Int,
+    Output,
+    Receive,
+    Return,
+    Send,
+    Throw,
+    Throws,
+    True,
+    Try,
+    Void,
+    While,
+    /// `{`
+    OpenBrace,
+    /// `}`
+    CloseBrace,
+    /// `(`
+    OpenParenthesis,
+    /// `)`
+    CloseParenthesis,
+    /// `[`
+    OpenBracket,
+    /// `]`
+    CloseBracket,
+    /// `;`
+    Semicolon,
+    /// `,`
+    Comma,
+    /// `:`
+    Colon,
+    /// `=`
+    Assign,
+    /// `==`
+    EqualTo,
+    /// `!=`
+    NotEqualTo,
+    /// `<`
+    LessThan,
+    /// `<=`
+    AtMost,
+    /// `>`
+    GreaterThan,
+    /// `>=`
+    AtLeast,
+    /// `+`
+    Plus,
+    /// `-`
+    Minus,
+    /// `*`
+    Star,
+    /// `/`
+    Slash,
+    /// `%`
+    Percent,
+    /// `!`
+    Not,
+    /// `&&`
+    And,
+    /// `||`
+    Or,
+    /// A name, which is no keyword.
+    Name,
+    /// An integer with its value, at most 2147483647.
+    Integer(u32),
+    /// The end of the text.
+    End,
+}
+
+/// The bytes of a text from `start` on and before `end`.
+#[derive(Clone, Copy, Debug, PartialEq, Eq)]
+pub struct Span {
+    pub start: usize,
+    pub end: usize,
+}
+
+/// A token: its kind, its text, which is the slice of the source at its span, and that span.
+#[derive(Clone, Copy, Debug)]
+pub struct Token<'a> {
+    pub kind: Kind,
+    pub text: &'a str,
+    pub span: Span,
+}
+
+/// A place in a text: its line and its column, both from 1. A column is one character.
+#[derive(Clone, Copy, Debug, PartialEq, Eq)]
+pub struct Place {
+    pub line: usize,
+    pub column: usize,
+}

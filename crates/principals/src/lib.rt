@@ -1,0 +1,2 @@
+//! Principals and who acts for whom.
+#![tactic(auto)]
