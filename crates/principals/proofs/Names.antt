@@ -118,3 +118,11 @@ same_bytes bytes (x ∷ xs) (y ∷ ys) h = λ i. h.0 i ∷ same_bytes bytes xs y
 
 pub AllZip-length : {X : Type 0} (R : X → X → Type 0) (xs ys : List X) → AllZip R xs ys → length ys ≡ length xs
 AllZip-length R xs ys h = sym (length_all_zip R xs ys h)
+
+-- the bytes at a place are those of the text there
+pub bytes_at : {X : Type 0} (bytes : X → List ℕ) (xs : List X) (k : ℕ) (d : X) (name : List ℕ) → slice_get (map bytes xs) k ≡ Some name →
+    (k < length xs) × (name ≡ bytes (get_or xs k d))
+bytes_at bytes xs k d name h =
+    let within : k < length (map bytes xs) = slice_get_within (map bytes xs) k name h in
+    let inside : k < length xs = omega (arith, length-map xs bytes) in
+    (inside, sym (get_or_from_slice_get (map bytes xs) k name name h) ∙ get_or-map bytes xs k d name inside)
