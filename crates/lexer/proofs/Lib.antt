@@ -1,0 +1,5 @@
+pub mod Runs
+pub mod Tables
+pub mod Fronts
+pub mod Letters
+pub mod Nexts
