@@ -5,10 +5,13 @@ ghost use Rattle.principals.specs.ActsFor.{acts_for, ActsFor, AllBelow, AllDiffe
 ghost use Rattle.std.specs.Prelude.{Contains, IfOk, IsTrue, None, Some, length, map, option_map, slice_get, string_bytes, vec_len, ℕ, ◌↔◌, ◌≡◌, ◌≤◌};
 
 mod contained;
+pub mod fault;
 pub mod laws;
+mod reading;
 mod row;
 mod table;
 
+pub use fault::HierFault;
 use indexmap::IndexSet;
 use row::Row;
 use std::alloc::{AllocError, Global};

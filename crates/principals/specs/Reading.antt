@@ -1,0 +1,80 @@
+-- A text of a hierarchy, read one token after another. No public contract cites this file. Our own.
+use Rattle.std.specs.Prelude.{ℕ, List, [], ◌∷◌, ◌++◌, Option, None, Some, if◌then◌else◌, bytes_eq, codes, option_map, map}
+use Rattle.std.specs.Option.{option_and_then}
+use Rattle.lexer.specs.Terminal.{Terminal, terminal_of}
+use Rattle.lexer.specs.declared.token.Kind.{Kind}
+use Rattle.lexer.specs.declared.token.Kind.TheVariants.{Name as NameKind, Comma as CommaKind, Semicolon as SemicolonKind, End as EndKind}
+use Rattle.principals.specs.HierarchyText.{Entry, Declares, Relates}
+use Rattle.principals.specs.declared.reading.Role.{Role}
+use Rattle.principals.specs.declared.reading.Role.TheVariants.{Principal, ActsFor, Name, Comma, Semicolon, End, Other}
+use Rattle.principals.specs.declared.reading.Progress.{Progress}
+use Rattle.principals.specs.declared.reading.Progress.TheVariants as progress
+use Rattle.principals.specs.declared.reading.Statement.{Statement}
+use Rattle.principals.specs.declared.reading.Statement.TheVariants as statement
+
+-- what a token is here
+abbrev pub role_by : Kind → List ℕ → Role
+role_by NameKind text = if bytes_eq text (codes "principal") then Principal else (if bytes_eq text (codes "actsfor") then ActsFor else Name)
+role_by CommaKind text = Comma
+role_by SemicolonKind text = Semicolon
+role_by EndKind text = End
+role_by _ text = Other
+
+abbrev pub role_of : Terminal → Role
+role_of token = role_by token.kind token.text
+
+-- what was read of an item: nothing; what comes before a declared name; the name; the left name of a pair; this and the
+-- word; the whole pair. At last the end marker
+pub data State : Type 0 where
+  Fresh : State
+  Declaring : State
+  Listed : State
+  Subject : Terminal → State
+  Verb : Terminal → State
+  Complete : State
+  Ended : State
+
+-- the state after one more token, if some text goes on with it
+abbrev pub next_by : State → Role → Terminal → Option State
+next_by Fresh Principal token = Some Declaring
+next_by Fresh Name token = Some (Subject token)
+next_by Fresh End token = Some Ended
+next_by Declaring Name token = Some Listed
+next_by Listed Comma token = Some Declaring
+next_by Listed Semicolon token = Some Fresh
+next_by (Subject left) ActsFor token = Some (Verb left)
+next_by (Verb left) Name token = Some Complete
+next_by Complete Semicolon token = Some Fresh
+next_by _ _ token = None
+
+abbrev pub next : State → Terminal → Option State
+next state token = next_by state (role_of token) token
+
+-- the entry that one more token makes whole
+abbrev pub said : State → Terminal → List Entry
+said Declaring token = Declares token ∷ []
+said (Verb left) token = Relates left token ∷ []
+said _ token = []
+
+-- the state after tokens, and what they say
+abbrev pub run : State → List Terminal → Option (State × List Entry)
+run state [] = Some (state, [])
+run state (token ∷ rest) =
+    option_and_then (λ after. option_map (λ end. (end.0, said state token ++ end.1)) (run after rest)) (next state token)
+
+-- the code's states and statements, without references
+abbrev pub state_of : Progress → State
+state_of progress.Fresh = Fresh
+state_of progress.Declaring = Declaring
+state_of progress.Listed = Listed
+state_of (progress.Subject left) = Subject (terminal_of left)
+state_of (progress.Verb left) = Verb (terminal_of left)
+state_of progress.Complete = Complete
+state_of progress.Ended = Ended
+
+abbrev pub entry_of : Statement → Entry
+entry_of (statement.Declares name) = Declares (terminal_of name)
+entry_of (statement.Relates left right) = Relates (terminal_of left) (terminal_of right)
+
+abbrev pub entries_of : List Statement → List Entry
+entries_of statements = map entry_of statements
