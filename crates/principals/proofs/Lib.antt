@@ -4,3 +4,4 @@ mod Paths
 mod Rows
 pub mod Names
 mod Inclusion
+mod Automaton
