@@ -1,8 +1,8 @@
 -- The states of the reader and the grammar of the text: what a run reads is what the grammar derives.
-use Rattle.std.proofs.Common.{◌≡◌, ◌≢◌, ◌⊎◌, ℕ, Bool, true, false, List, [], ◌∷◌, ◌++◌, Option, None, Some, refl, sym, ap, ◌∙◌, subst, inl, inr, ⊎_elim, append_assoc, append-nil}
+use Rattle.std.proofs.Common.{◌≡◌, ◌≢◌, ℕ, Bool, true, false, List, [], ◌∷◌, ◌++◌, Option, None, Some, refl, sym, ap, ◌∙◌, subst, ⊎_elim, append_assoc, append-nil}
 use Rattle.std.specs.Prelude.{bytes_eq, codes, option_map, cond}
 use Rattle.std.specs.Option.{option_and_then}
-use Rattle.std.proofs.lemmas.Bool.{cases_Bool, false≢true, false_from_ne_true}
+use Rattle.std.proofs.lemmas.Bool.{false≢true, false_from_ne_true}
 use Rattle.std.proofs.lemmas.Option.{none-some, same_Some, some_pair_parts}
 use Rattle.std.proofs.lemmas.Slice.Eq.{bytes_eq-Decides}
 use Rattle.lexer.specs.Terminal.{Terminal, IsTerminated}
@@ -10,7 +10,7 @@ use Rattle.lexer.specs.declared.token.Kind.{Kind}
 use Rattle.lexer.specs.declared.token.Kind.TheVariants as kind
 use Rattle.principals.specs.HierarchyText.{Entry, Declares, Relates, IsWord, IsPrincipalName, Nonterminal, Items, Names, Derives, Finish, Declaration, Relation, OneMore, Last, BeginsForm}
 use Rattle.principals.specs.declared.reading.Role.{Role}
-use Rattle.principals.specs.declared.reading.Role.TheVariants.{Principal, ActsFor, Name, Comma, Semicolon, End, Other}
+use Rattle.principals.specs.declared.reading.Role.TheVariants.{Principal, ActsFor, Name, Comma, Semicolon, End}
 use Rattle.principals.specs.Reading.{role_by, role_of, State, Fresh, Declaring, Listed, Subject, Verb, Complete, Ended, next_by, next, said, run}
 
 -- ---- what a token is
@@ -67,7 +67,7 @@ Tells k r = (r ≡ Comma → k ≡ kind.Comma) × (r ≡ Semicolon → k ≡ kin
 by_kind : (k : Kind) (text : List ℕ) → Tells k (role_by k text)
 by_kind kind.Name text =
     cond_word (Tells kind.Name) (bytes_eq text (codes "principal")) (bytes_eq text (codes "actsfor"))
-        (λ h. cc, λ h. cc, λ h. cc) (λ h. cc, λ h. cc, λ h. cc) (λ h. cc, λ h. cc, λ h. cc)
+    (λ h. cc, λ h. cc, λ h. cc) (λ h. cc, λ h. cc, λ h. cc) (λ h. cc, λ h. cc, λ h. cc)
 by_kind kind.Comma text = (λ h. refl, λ h. cc, λ h. cc)
 by_kind kind.Semicolon text = (λ h. cc, λ h. refl, λ h. cc)
 by_kind kind.End text = (λ h. cc, λ h. cc, λ h. refl)
@@ -126,12 +126,12 @@ pub run-append : (s : State) (front rest : List Terminal) → run s (front ++ re
 run-append s [] rest = sym (onto-nil (run s rest))
 run-append s (t ∷ front) rest =
     let on : (o : Option State) → option_and_then (λ after. onto (said s t) (run after (front ++ rest))) o
-            ≡ then_run rest (option_and_then (λ after. onto (said s t) (run after front)) o) =
-        λ o. elim o as (λ o'. option_and_then (λ after. onto (said s t) (run after (front ++ rest))) o'
-            ≡ then_run rest (option_and_then (λ after. onto (said s t) (run after front)) o')) [
-            None ↦ refl
-          | Some after ↦ ap (onto (said s t)) (run-append after front rest) ∙ onto-then (said s t) rest (run after front)
-        ] in
+    ≡ then_run rest (option_and_then (λ after. onto (said s t) (run after front)) o) =
+    λ o. elim o as (λ o'. option_and_then (λ after. onto (said s t) (run after (front ++ rest))) o'
+    ≡ then_run rest (option_and_then (λ after. onto (said s t) (run after front)) o')) [
+      | None ↦ refl
+      | Some after ↦ ap (onto (said s t)) (run-append after front rest) ∙ onto-then (said s t) rest (run after front)
+    ] in
     on (next s t)
 
 -- one token more
@@ -169,15 +169,15 @@ derived_is_read (Declaration word rest entries h d) =
     one Fresh word Principal Declaring rest entries (word_role word h) refl (derived_is_read d)
 derived_is_read (Relation left word right semicolon rest entries l w r s d) =
     one Fresh left Name (Subject left) (word ∷ right ∷ semicolon ∷ rest) (Relates left right ∷ entries) (name_role left l) refl
-        (one (Subject left) word ActsFor (Verb left) (right ∷ semicolon ∷ rest) (Relates left right ∷ entries) (verb_role word w) refl
-            (one (Verb left) right Name Complete (semicolon ∷ rest) entries (name_role right r) refl
-                (one Complete semicolon Semicolon Fresh rest entries (kind_role semicolon kind.Semicolon Semicolon (λ _. refl) s) refl (derived_is_read d))))
+    (one (Subject left) word ActsFor (Verb left) (right ∷ semicolon ∷ rest) (Relates left right ∷ entries) (verb_role word w) refl
+    (one (Verb left) right Name Complete (semicolon ∷ rest) entries (name_role right r) refl
+    (one Complete semicolon Semicolon Fresh rest entries (kind_role semicolon kind.Semicolon Semicolon (λ _. refl) s) refl (derived_is_read d))))
 derived_is_read (OneMore name comma rest entries n c d) =
     one Declaring name Name Listed (comma ∷ rest) entries (name_role name n) refl
-        (one Listed comma Comma Declaring rest entries (kind_role comma kind.Comma Comma (λ _. refl) c) refl (derived_is_read d))
+    (one Listed comma Comma Declaring rest entries (kind_role comma kind.Comma Comma (λ _. refl) c) refl (derived_is_read d))
 derived_is_read (Last name semicolon rest entries n s d) =
     one Declaring name Name Listed (semicolon ∷ rest) entries (name_role name n) refl
-        (one Listed semicolon Semicolon Fresh rest entries (kind_role semicolon kind.Semicolon Semicolon (λ _. refl) s) refl (derived_is_read d))
+    (one Listed semicolon Semicolon Fresh rest entries (kind_role semicolon kind.Semicolon Semicolon (λ _. refl) s) refl (derived_is_read d))
 
 -- ---- what is read is derived
 
@@ -219,18 +219,18 @@ read_is_open [] s es h =
     subst (λ x. Open x [] es) (sym parts.0) (subst (λ x. Open Ended [] x) parts.1 (λ end k. Finish end k))
 read_is_open (t ∷ rest) s es h =
     let on_end : (after : State) → next s t ≡ Some after → (o : Option (State × List Entry)) → run after rest ≡ o → onto (said s t) o ≡ Some (Ended, es) → Open s (t ∷ rest) es =
-        λ after step o. elim o as (λ o'. run after rest ≡ o' → onto (said s t) o' ≡ Some (Ended, es) → Open s (t ∷ rest) es) [
-            None ↦ λ k g. absurd (none-some _ g)
-          | Some end ↦ λ k g.
-              let parts = some_pair_parts end.0 Ended (said s t ++ end.1) es g in
-              let last : run after rest ≡ Some (Ended, end.1) = k ∙ ap (λ x. Some (x, end.1)) parts.0 in
-              subst (λ x. Open s (t ∷ rest) x) parts.1 (open_step s t (role_of t) after rest end.1 refl step (read_is_open rest after end.1 last))
-        ] in
+    λ after step o. elim o as (λ o'. run after rest ≡ o' → onto (said s t) o' ≡ Some (Ended, es) → Open s (t ∷ rest) es) [
+      | None ↦ λ k g. absurd (none-some _ g)
+      | Some end ↦ λ k g.
+          let parts = some_pair_parts end.0 Ended (said s t ++ end.1) es g in
+          let last : run after rest ≡ Some (Ended, end.1) = k ∙ ap (λ x. Some (x, end.1)) parts.0 in
+          subst (λ x. Open s (t ∷ rest) x) parts.1 (open_step s t (role_of t) after rest end.1 refl step (read_is_open rest after end.1 last))
+    ] in
     let on_step : (o : Option State) → next s t ≡ o → option_and_then (λ after. onto (said s t) (run after rest)) o ≡ Some (Ended, es) → Open s (t ∷ rest) es =
-        λ o. elim o as (λ o'. next s t ≡ o' → option_and_then (λ after. onto (said s t) (run after rest)) o' ≡ Some (Ended, es) → Open s (t ∷ rest) es) [
-            None ↦ λ k g. absurd (none-some _ g)
-          | Some after ↦ λ k g. on_end after k (run after rest) refl g
-        ] in
+    λ o. elim o as (λ o'. next s t ≡ o' → option_and_then (λ after. onto (said s t) (run after rest)) o' ≡ Some (Ended, es) → Open s (t ∷ rest) es) [
+      | None ↦ λ k g. absurd (none-some _ g)
+      | Some after ↦ λ k g. on_end after k (run after rest) refl g
+    ] in
     on_step (next s t) refl h
 
 -- ---- fronts of texts of the form
@@ -289,21 +289,21 @@ pub run_ends : (tokens : List Terminal) (s end : State) (es : List Entry) → Is
 run_ends [] s end es t h = absurd t
 run_ends (t ∷ rest) s end es terminated h =
     let on_end : (after : State) → next s t ≡ Some after → (o : Option (State × List Entry)) → run after rest ≡ o → onto (said s t) o ≡ Some (end, es) → end ≡ Ended =
-        λ after step o. elim o as (λ o'. run after rest ≡ o' → onto (said s t) o' ≡ Some (end, es) → end ≡ Ended) [
-            None ↦ λ k g. absurd (none-some _ g)
-          | Some last ↦ λ k g.
-              let parts = some_pair_parts last.0 end (said s t ++ last.1) es g in
-              ⊎_elim
-                  (λ marker.
-                      let by_end : next_by s End t ≡ Some after = ap (λ r. next_by s r t) (sym (kind_role t kind.End End (λ _. refl) marker.0)) ∙ step in
-                      let nothing : Some (after, []) ≡ Some last = ap (run after) (sym marker.1) ∙ k in
-                      sym parts.0 ∙ sym (some_pair_parts after last.0 [] last.1 nothing).0 ∙ ends_by s t after by_end)
-                  (λ later. sym parts.0 ∙ run_ends rest after last.0 last.1 later.1 k)
-                  terminated
-        ] in
+    λ after step o. elim o as (λ o'. run after rest ≡ o' → onto (said s t) o' ≡ Some (end, es) → end ≡ Ended) [
+      | None ↦ λ k g. absurd (none-some _ g)
+      | Some last ↦ λ k g.
+          let parts = some_pair_parts last.0 end (said s t ++ last.1) es g in
+          ⊎_elim
+          (λ marker.
+          let by_end : next_by s End t ≡ Some after = ap (λ r. next_by s r t) (sym (kind_role t kind.End End (λ _. refl) marker.0)) ∙ step in
+          let nothing : Some (after, []) ≡ Some last = ap (run after) (sym marker.1) ∙ k in
+          sym parts.0 ∙ sym (some_pair_parts after last.0 [] last.1 nothing).0 ∙ ends_by s t after by_end)
+          (λ later. sym parts.0 ∙ run_ends rest after last.0 last.1 later.1 k)
+          terminated
+    ] in
     let on_step : (o : Option State) → next s t ≡ o → option_and_then (λ after. onto (said s t) (run after rest)) o ≡ Some (end, es) → end ≡ Ended =
-        λ o. elim o as (λ o'. next s t ≡ o' → option_and_then (λ after. onto (said s t) (run after rest)) o' ≡ Some (end, es) → end ≡ Ended) [
-            None ↦ λ k g. absurd (none-some _ g)
-          | Some after ↦ λ k g. on_end after k (run after rest) refl g
-        ] in
+    λ o. elim o as (λ o'. next s t ≡ o' → option_and_then (λ after. onto (said s t) (run after rest)) o' ≡ Some (end, es) → end ≡ Ended) [
+      | None ↦ λ k g. absurd (none-some _ g)
+      | Some after ↦ λ k g. on_end after k (run after rest) refl g
+    ] in
     on_step (next s t) refl h

@@ -38,15 +38,15 @@ pub data Nonterminal : Type 0 where
 pub data Derives : Nonterminal → List Terminal → List Entry → Type 0 where
   Finish : (end : Terminal) → end.kind ≡ End → Derives Items (end ∷ []) []
   Declaration : (word : Terminal) (rest : List Terminal) (entries : List Entry) → IsWord (codes "principal") word
-    → Derives Names rest entries → Derives Items (word ∷ rest) entries
+      → Derives Names rest entries → Derives Items (word ∷ rest) entries
   Relation : (left word right semicolon : Terminal) (rest : List Terminal) (entries : List Entry)
-    → IsPrincipalName left → IsWord (codes "actsfor") word → IsPrincipalName right → semicolon.kind ≡ Semicolon
-    → Derives Items rest entries → Derives Items (left ∷ word ∷ right ∷ semicolon ∷ rest) (Relates left right ∷ entries)
+      → IsPrincipalName left → IsWord (codes "actsfor") word → IsPrincipalName right → semicolon.kind ≡ Semicolon
+      → Derives Items rest entries → Derives Items (left ∷ word ∷ right ∷ semicolon ∷ rest) (Relates left right ∷ entries)
   OneMore : (name comma : Terminal) (rest : List Terminal) (entries : List Entry) → IsPrincipalName name
-    → comma.kind ≡ Comma → Derives Names rest entries → Derives Names (name ∷ comma ∷ rest) (Declares name ∷ entries)
+      → comma.kind ≡ Comma → Derives Names rest entries → Derives Names (name ∷ comma ∷ rest) (Declares name ∷ entries)
   Last : (name semicolon : Terminal) (rest : List Terminal) (entries : List Entry) → IsPrincipalName name
-    → semicolon.kind ≡ Semicolon → Derives Items rest entries
-    → Derives Names (name ∷ semicolon ∷ rest) (Declares name ∷ entries)
+      → semicolon.kind ≡ Semicolon → Derives Items rest entries
+      → Derives Names (name ∷ semicolon ∷ rest) (Declares name ∷ entries)
 
 -- the tokens of a whole text of this form, which says these entries
 abbrev pub IsHierarchyForm : List Terminal → List Entry → Type 0
@@ -86,11 +86,11 @@ written (Relates left right ∷ entries) = (left.text, right.text) ∷ written e
 pub data IsRefusal (names : List (List ℕ)) : Entry → HierFault → Type 0 where
   Twice : (name : Terminal) → Contains names name.text → IsRefusal names (Declares name) (DeclaredTwice name.start)
   Crowded : (name : Terminal) → (Contains names name.text → ⊥) → 256 ≤ length names
-    → IsRefusal names (Declares name) (TooManyPrincipals name.start)
+      → IsRefusal names (Declares name) (TooManyPrincipals name.start)
   UnknownLeft : (left right : Terminal) → (Contains names left.text → ⊥)
-    → IsRefusal names (Relates left right) (UnknownPrincipal left.start)
+      → IsRefusal names (Relates left right) (UnknownPrincipal left.start)
   UnknownRight : (left right : Terminal) → Contains names left.text → (Contains names right.text → ⊥)
-    → IsRefusal names (Relates left right) (UnknownPrincipal right.start)
+      → IsRefusal names (Relates left right) (UnknownPrincipal right.start)
 
 -- no entry is refused
 abbrev pub AllAccepted : List Entry → Type 0

@@ -4,7 +4,9 @@ use Rattle.std.specs.Option.{option_and_then}
 use Rattle.lexer.specs.Terminal.{Terminal, terminal_of}
 use Rattle.lexer.specs.declared.token.Kind.{Kind}
 use Rattle.lexer.specs.declared.token.Kind.TheVariants.{Name as NameKind, Comma as CommaKind, Semicolon as SemicolonKind, End as EndKind}
-use Rattle.principals.specs.HierarchyText.{Entry, Declares, Relates}
+use Rattle.principals.specs.HierarchyText.{Entry, Declares, Relates, IsUnexpectedAt}
+use Rattle.principals.specs.declared.fault.HierFault.{HierFault}
+use Rattle.principals.specs.declared.fault.HierFault.TheVariants as fault
 use Rattle.principals.specs.declared.reading.Role.{Role}
 use Rattle.principals.specs.declared.reading.Role.TheVariants.{Principal, ActsFor, Name, Comma, Semicolon, End, Other}
 use Rattle.principals.specs.declared.reading.Progress.{Progress}
@@ -78,3 +80,9 @@ entry_of (statement.Relates left right) = Relates (terminal_of left) (terminal_o
 
 abbrev pub entries_of : List Statement → List Entry
 entries_of statements = map entry_of statements
+
+-- a fault of the form alone
+abbrev pub IsFormFault : List Terminal → HierFault → Type 0
+IsFormFault tokens fault.NoMemory = Unit {0}
+IsFormFault tokens (fault.Syntax at) = IsUnexpectedAt tokens at
+IsFormFault tokens _ = ⊥

@@ -1,3 +1,7 @@
+ghost use Rattle.principals.specs.declared.fault.HierFault.TheVariants.{NoMemory};
+ghost use Rattle.std.specs.Prelude.{◌≡◌};
+
+use std::alloc::{AllocError, AllocFailed};
 use thiserror::Error;
 
 /// Why a text gave no hierarchy. Each place is a byte of the text.
@@ -21,4 +25,20 @@ pub enum HierFault {
     /// At this byte the 257th principal is declared.
     #[error("too many principals")]
     TooManyPrincipals(usize),
+}
+
+impl From<AllocError> for HierFault {
+    ghost from_gives = { λ _ fault. fault ≡ NoMemory };
+
+    fn from(_refused: AllocError) -> HierFault {
+        HierFault::NoMemory
+    }
+}
+
+impl<T: Drop> From<AllocFailed<T>> for HierFault {
+    ghost from_gives = { λ _ fault. fault ≡ NoMemory };
+
+    fn from(_refused: AllocFailed<T>) -> HierFault {
+        HierFault::NoMemory
+    }
 }

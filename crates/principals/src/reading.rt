@@ -1,10 +1,13 @@
 //! The form of a hierarchy text, read one token after another.
 
-ghost use Rattle.lexer.specs.Terminal.{terminal_of};
-ghost use Rattle.principals.specs.Reading.{entry_of, next, role_of, said, state_of};
-ghost use Rattle.std.specs.Prelude.{map, option_map, option_to_list, ◌≡◌};
+ghost use Rattle.lexer.specs.Terminal.{IsTerminated, terminal_of, terminals_of};
+ghost use Rattle.principals.specs.HierarchyText.{IsHierarchyForm};
+ghost use Rattle.principals.specs.Reading.{entries_of, IsFormFault, role_of};
+ghost use Rattle.std.specs.Prelude.{IfErr, IfOk, ◌≡◌};
 
+use crate::fault::HierFault;
 use lexer::{Kind, Token};
+use std::alloc::Global;
 
 /// What a token is in a hierarchy text.
 #[derive(Clone, Copy)]
@@ -115,4 +118,27 @@ impl<'a> Progress<'a> {
             _ => None,
         }
     }
+}
+
+/// What the tokens of a text say, or the first token with which no text of the form goes on.
+pub(crate) fn statements<'a>(
+    alloc: Global,
+    tokens: &[Token<'a>],
+) -> Result<Vec<Statement<'a>>, HierFault>
+    requires { IsTerminated (terminals_of tokens.now) }
+    ensures form { IfOk result (λ statements. IsHierarchyForm (terminals_of tokens.now) (entries_of statements.items)) }
+    ensures refused { IfErr result (IsFormFault (terminals_of tokens.now)) }
+{
+    let mut statements = Vec::new(alloc);
+    let mut progress = Progress::Fresh;
+    for token in tokens {
+        let Some(after) = progress.next(*token) else {
+            return Err(HierFault::Syntax(token.span.start));
+        };
+        if let Some(statement) = progress.said(*token) {
+            statements.push(statement)?;
+        }
+        progress = after;
+    }
+    Ok(statements)
 }
