@@ -5,3 +5,4 @@ mod Rows
 pub mod Names
 mod Inclusion
 mod Automaton
+mod Building

@@ -1,10 +1,12 @@
 -- A text of a hierarchy, read one token after another. No public contract cites this file. Our own.
-use Rattle.std.specs.Prelude.{ℕ, List, [], ◌∷◌, ◌++◌, Option, None, Some, if◌then◌else◌, bytes_eq, codes, option_map, map}
+use Rattle.std.specs.Prelude.{◌≡◌, ℕ, ◌≤◌, length, slice_get, List, [], ◌∷◌, ◌++◌, Option, None, Some, if◌then◌else◌, bytes_eq, codes, option_map, map}
+use Rattle.std.specs.List.{AllZip}
+use Rattle.principals.specs.ActsFor.{AllDifferent, AllBelow}
 use Rattle.std.specs.Option.{option_and_then}
 use Rattle.lexer.specs.Terminal.{Terminal, terminal_of}
 use Rattle.lexer.specs.declared.token.Kind.{Kind}
 use Rattle.lexer.specs.declared.token.Kind.TheVariants.{Name as NameKind, Comma as CommaKind, Semicolon as SemicolonKind, End as EndKind}
-use Rattle.principals.specs.HierarchyText.{Entry, Declares, Relates, IsUnexpectedAt}
+use Rattle.principals.specs.HierarchyText.{Entry, Declares, Relates, IsUnexpectedAt, AllAccepted, declared, written}
 use Rattle.principals.specs.declared.fault.HierFault.{HierFault}
 use Rattle.principals.specs.declared.fault.HierFault.TheVariants as fault
 use Rattle.principals.specs.declared.reading.Role.{Role}
@@ -86,3 +88,16 @@ abbrev pub IsFormFault : List Terminal → HierFault → Type 0
 IsFormFault tokens fault.NoMemory = Unit {0}
 IsFormFault tokens (fault.Syntax at) = IsUnexpectedAt tokens at
 IsFormFault tokens _ = ⊥
+
+-- the pairs are the numbers of these pairs of names
+abbrev pub HaveNames : List (List ℕ) → List (List ℕ × List ℕ) → List (ℕ × ℕ) → Type 0
+HaveNames names texts pairs = AllZip (λ text pair. (slice_get names pair.0 ≡ Some text.0) × (slice_get names pair.1 ≡ Some text.1)) texts pairs
+
+-- what entries that are all accepted build
+pub record Built (entries : List Entry) (names : List (List ℕ)) (pairs : List (ℕ × ℕ)) : Type 0 where
+  pub same_names : names ≡ declared entries
+  pub few : length names ≤ 256
+  pub different : AllDifferent names
+  pub there : AllBelow (length names) pairs
+  pub accepted : AllAccepted entries
+  pub same_pairs : HaveNames names (written entries) pairs
