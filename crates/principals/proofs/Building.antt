@@ -1,17 +1,20 @@
 -- What the statements of a text build, one after another.
-use Rattle.std.proofs.Common.{◌≡◌, ◌≢◌, ◌⊎◌, ℕ, zero, suc, ◌+◌, ◌<◌, ◌≤◌, List, [], ◌∷◌, ◌++◌, length, get_or, Some, None, refl, sym, ap, ◌∙◌, subst, inl, inr, ⊎_elim, append_assoc, append-nil, arith, length-append}
-use Rattle.std.specs.Prelude.{All, Contains, slice_get}
-use Rattle.std.specs.List.{AllZip}
+use Rattle.std.proofs.Common.{◌≡◌, ◌≢◌, ◌⊎◌, ℕ, zero, suc, ◌+◌, ◌<◌, List, [], ◌∷◌, ◌++◌, length, get_or, Some, refl, sym, ap, ◌∙◌, subst, inl, inr, ⊎_elim, arith}
+use Rattle.std.specs.Prelude.{Contains, slice_get}
 use Rattle.std.proofs.lemmas.List.{length_push}
 use Rattle.std.proofs.lemmas.List.Elements.{All-push, All-weaker, Contains-get_or}
 use Rattle.std.proofs.lemmas.List.Quantifiers.{all_pairs_push}
 use Rattle.std.proofs.lemmas.Option.{slice_get_within, none-some}
 use Rattle.lexer.specs.Terminal.{Terminal}
-use Rattle.principals.specs.ActsFor.{PrincipalHierarchy, AllDifferent, AllBelow}
+use Rattle.principals.specs.ActsFor.{PrincipalHierarchy, AllDifferent}
 use Rattle.principals.specs.HierarchyText.{Entry, Declares, Relates, IsRefusal, Twice, Crowded, UnknownLeft, UnknownRight, AllAccepted, IsFirstRefusal, IsSaid, declared, written}
-use Rattle.principals.specs.Reading.{Built, HaveNames}
+use Rattle.std.proofs.Common.{take, drop}
+use Rattle.std.proofs.lemmas.List.{take-append-drop, drop_more, take_more, map-append, map_push}
+use Rattle.principals.specs.Reading.{Built, HaveNames, IsBuildFault, IsStatementsFault, entry_of, entries_of}
+use Rattle.principals.specs.declared.reading.Statement.{Statement}
+use Rattle.principals.specs.declared.fault.HierFault.TheVariants as fault
 use Rattle.principals.specs.declared.fault.HierFault.{HierFault}
-use Rattle.principals.proofs.Names.{contains_number, number_contained}
+use Rattle.principals.proofs.Names.{contains_number}
 
 -- ---- lists
 
@@ -25,9 +28,9 @@ split_push (z ∷ xs) (b ∷ before) after x y h =
     let head : z ≡ b = cc in
     let tail : xs ++ x ∷ [] ≡ before ++ y ∷ after = cc in
     ⊎_elim
-        (λ e. inl (ap (λ w. w ∷ before) (sym head) ∙ ap (λ w. z ∷ w) e.0, e.1))
-        (λ r. inr (r.0, ap (λ w. w ∷ xs) head ∙ ap (λ w. b ∷ w) r.1))
-        (split_push xs before after x y tail)
+    (λ e. inl (ap (λ w. w ∷ before) (sym head) ∙ ap (λ w. z ∷ w) e.0, e.1))
+    (λ r. inr (r.0, ap (λ w. w ∷ xs) head ∙ ap (λ w. b ∷ w) r.1))
+    (split_push xs before after x y tail)
 
 nothing_before : {X : Type 0} (before after : List X) (x : X) → [] ≡ before ++ x ∷ after → ⊥
 nothing_before [] after x h = cc
@@ -63,9 +66,9 @@ written-push_pair (Relates left right ∷ es) l r = ap (λ x. (left.text, right.
 accepted-push : (es : List Entry) (e : Entry) → AllAccepted es → ((fault : HierFault) → IsRefusal (declared es) e fault → ⊥) → AllAccepted (es ++ e ∷ [])
 accepted-push es e accepted not_refused before after entry fault parts refused =
     ⊎_elim
-        (λ last. not_refused fault (subst (λ x. IsRefusal (declared x) e fault) last.0 (subst (λ x. IsRefusal (declared before) x fault) last.1 refused)))
-        (λ earlier. accepted before earlier.0 entry fault earlier.1 refused)
-        (split_push es before after e entry parts)
+    (λ last. not_refused fault (subst (λ x. IsRefusal (declared x) e fault) last.0 (subst (λ x. IsRefusal (declared before) x fault) last.1 refused)))
+    (λ earlier. accepted before earlier.0 entry fault earlier.1 refused)
+    (split_push es before after e entry parts)
 
 -- ---- pairs of numbers with names
 
@@ -99,7 +102,7 @@ built_nothing = record {
 different-push : (names : List (List ℕ)) (name : List ℕ) → AllDifferent names → (Contains names name → ⊥) → AllDifferent (names ++ name ∷ [])
 different-push names name different new =
     all_pairs_push (λ first second. first ≢ second) names name different
-        (λ k d l e. new (subst (λ x. Contains names x) e (Contains-get_or names k d l)))
+    (λ k d l e. new (subst (λ x. Contains names x) e (Contains-get_or names k d l)))
 
 name_accepted : (names : List (List ℕ)) (name : Terminal) (fault : HierFault) → (Contains names name.text → ⊥) → length names < 256 → IsRefusal names (Declares name) fault → ⊥
 name_accepted names name fault new room (Twice _ h) = new h
@@ -118,9 +121,9 @@ built_name es names pairs name built new room = record {
   there = All-weaker (λ pair. (pair.0 < length names) × (pair.1 < length names))
       (λ pair. (pair.0 < length (names ++ name.text ∷ [])) × (pair.1 < length (names ++ name.text ∷ [])))
       (λ pair h.
-          let left : pair.0 < length (names ++ name.text ∷ []) = omega (arith, length_push names name.text, h.0) in
-          let right : pair.1 < length (names ++ name.text ∷ []) = omega (arith, length_push names name.text, h.1) in
-          (left, right))
+      let left : pair.0 < length (names ++ name.text ∷ []) = omega (arith, length_push names name.text, h.0) in
+      let right : pair.1 < length (names ++ name.text ∷ []) = omega (arith, length_push names name.text, h.1) in
+      (left, right))
       pairs built.there;
   accepted = accepted-push es (Declares name) built.accepted (λ fault refused. name_accepted (declared es) name fault
       (λ h. new (subst (λ x. Contains x name.text) (sym built.same_names) h))
@@ -158,3 +161,31 @@ built_refused es after names pairs entry fault built refused = record {
 -- when all entries are added the hierarchy is what they say
 pub built_said : (es : List Entry) (hierarchy : PrincipalHierarchy) → Built es hierarchy.names hierarchy.pairs → IsSaid es hierarchy
 built_said es hierarchy built = record { accepted = built.accepted; names = built.same_names; pairs = built.same_pairs }
+
+-- why an entry is not added is why the entries are refused
+pub fault_of_entry : (es after : List Entry) (names : List (List ℕ)) (pairs : List (ℕ × ℕ)) (entry : Entry) (fault : HierFault) → Built es names pairs →
+    IsBuildFault names entry fault → IsStatementsFault (es ++ entry ∷ after) fault
+fault_of_entry es after names pairs entry fault.NoMemory built h = tt
+fault_of_entry es after names pairs entry fault.TooLong built h = built_refused es after names pairs entry fault.TooLong built h
+fault_of_entry es after names pairs entry (fault.Syntax at) built h = built_refused es after names pairs entry (fault.Syntax at) built h
+fault_of_entry es after names pairs entry (fault.DeclaredTwice at) built h = built_refused es after names pairs entry (fault.DeclaredTwice at) built h
+fault_of_entry es after names pairs entry (fault.UnknownPrincipal at) built h = built_refused es after names pairs entry (fault.UnknownPrincipal at) built h
+fault_of_entry es after names pairs entry (fault.TooManyPrincipals at) built h = built_refused es after names pairs entry (fault.TooManyPrincipals at) built h
+
+-- ---- statements
+
+-- the statements around one of them
+pub entries_around : (statements : List Statement) (i : ℕ) (d : Statement) → i < length statements →
+    entries_of statements ≡ entries_of (take i statements) ++ entry_of (get_or statements i d) ∷ entries_of (drop (i + 1) statements)
+entries_around statements i d h =
+    ap entries_of (sym (take-append-drop i statements) ∙ ap (λ x. take i statements ++ x) (drop_more statements i d h))
+    ∙ map-append entry_of (take i statements) (get_or statements i d ∷ drop (i + 1) statements)
+
+pub entries_more : (statements : List Statement) (i : ℕ) (d : Statement) → i < length statements →
+    entries_of (take (i + 1) statements) ≡ entries_of (take i statements) ++ entry_of (get_or statements i d) ∷ []
+entries_more statements i d h = ap entries_of (take_more statements i d h) ∙ map_push entry_of (take i statements) (get_or statements i d)
+
+pub built_same : {es es' : List Entry} {names names' : List (List ℕ)} {pairs pairs' : List (ℕ × ℕ)} → es ≡ es' → names ≡ names' → pairs ≡ pairs' →
+    Built es' names' pairs' → Built es names pairs
+built_same {es} {es'} {names} {names'} {pairs} {pairs'} e n p built =
+    subst (λ x. Built x names pairs) (sym e) (subst (λ x. Built es' x pairs) (sym n) (subst (λ x. Built es' names' x) (sym p) built))

@@ -6,7 +6,7 @@ use Rattle.std.specs.Option.{option_and_then}
 use Rattle.lexer.specs.Terminal.{Terminal, terminal_of}
 use Rattle.lexer.specs.declared.token.Kind.{Kind}
 use Rattle.lexer.specs.declared.token.Kind.TheVariants.{Name as NameKind, Comma as CommaKind, Semicolon as SemicolonKind, End as EndKind}
-use Rattle.principals.specs.HierarchyText.{Entry, Declares, Relates, IsUnexpectedAt, AllAccepted, declared, written}
+use Rattle.principals.specs.HierarchyText.{Entry, Declares, Relates, IsUnexpectedAt, AllAccepted, IsFirstRefusal, IsRefusal, declared, written}
 use Rattle.principals.specs.declared.fault.HierFault.{HierFault}
 use Rattle.principals.specs.declared.fault.HierFault.TheVariants as fault
 use Rattle.principals.specs.declared.reading.Role.{Role}
@@ -101,3 +101,13 @@ pub record Built (entries : List Entry) (names : List (List ℕ)) (pairs : List 
   pub there : AllBelow (length names) pairs
   pub accepted : AllAccepted entries
   pub same_pairs : HaveNames names (written entries) pairs
+
+-- why an entry is not added: want of memory, or its refusal
+abbrev pub IsBuildFault : List (List ℕ) → Entry → HierFault → Type 0
+IsBuildFault names entry fault.NoMemory = Unit {0}
+IsBuildFault names entry other = IsRefusal names entry other
+
+-- a fault of the entries alone
+abbrev pub IsStatementsFault : List Entry → HierFault → Type 0
+IsStatementsFault entries fault.NoMemory = Unit {0}
+IsStatementsFault entries other = IsFirstRefusal entries other
