@@ -3,3 +3,5 @@ pub mod Tables
 pub mod Fronts
 pub mod Letters
 pub mod Nexts
+pub mod Steps
+pub mod Reading

@@ -1,5 +1,6 @@
 pub mod Cut
 pub mod Lexeme
 pub mod Position
+pub mod Scan
 pub mod Terminal
 pub mod Words

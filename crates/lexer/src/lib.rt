@@ -3,6 +3,7 @@
 
 pub mod fault;
 pub mod names;
+pub mod pieces;
 pub mod places;
 pub mod token;
 
