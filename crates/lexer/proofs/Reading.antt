@@ -1,10 +1,19 @@
 -- What the scanner reads is the next lexeme.
 use Rattle.std.proofs.Common.{◌≡◌, ℕ, suc, ◌<◌, ◌≤◌, ◌==◌, ◌&&◌, ◌||◌, Bool, true, false, not, cond, List, [], ◌∷◌, ◌++◌, Option, Some, None, length, codes, refl, sym, ap, subst, ◌∙◌, inl, inr, arith, length-append}
-use Rattle.std.proofs.lemmas.Bool.{cases_Bool, and_from, and_parts, or_parts, not-true, eqb-true, eqb-false, cond-true, cond-false, le-leb, lt-leb}
+use Rattle.std.proofs.lemmas.Bool.{cases_Bool, cases_lt, and_from, and_parts, or_parts, not-true, eqb-true, eqb-false, leb-true, cond-true, cond-false, le-leb, lt-leb}
 use Rattle.std.specs.Char.{is_ascii_digit}
 use Rattle.std.specs.List.{list_all}
 use Rattle.std.specs.Prelude.{nat_le}
 use Rattle.std.specs.Str.Parse.{digits_value}
+use Rattle.std.specs.Str.{chars, IsUtf8, IsAscii}
+use Rattle.std.specs.Str.Parse.{ParsesUnsigned}
+use Rattle.std.specs.Int.{IsInRange}
+use Rattle.std.specs.Result.{OkIff}
+use Rattle.std.specs.Prelude.{Result, Ok, Err, ◌^◌}
+use Rattle.std.proofs.lemmas.Bool.Decides.{nat_tests}
+use Rattle.std.proofs.lemmas.Str.{encodes-IsAscii, encodes-chars}
+use Rattle.std.proofs.lemmas.Str.Ascii.{IsAscii-nil, IsAscii-cons}
+use Rattle.std.proofs.lemmas.Str.Parse.{IsDigitsTest, numerals_by_value, parse_digits}
 use Rattle.lexer.specs.Words.{is_white_space, may_begin, may_continue}
 use Rattle.lexer.specs.Lexeme.{Lexeme, Word, Gap, LargeLiteral, OpenComment, IsOpen, IsClosed, IsInLine, sign_of, greatest_literal}
 use Rattle.lexer.specs.Cut.{IsNext, HasNoLexeme}
@@ -228,3 +237,60 @@ class-sign c h =
     cond-false (is_white_space c) _ _ dark
     ∙ (cond-false (is_ascii_digit c) _ _ not_digit
       ∙ (cond-false (may_begin c) _ _ not_begun ∙ cond-false (c == 47) _ _ not_solidus))
+
+-- a text of digits is its characters
+digits_ascii : (cs : List ℕ) → list_all is_ascii_digit cs ≡ true → IsAscii cs
+digits_ascii [] all = IsAscii-nil
+digits_ascii (c ∷ cs) all =
+    let (first, others) = and_parts _ _ all in
+    IsAscii-cons c cs (digit_small c first) (digits_ascii cs others)
+  where
+  digit_small : (c : ℕ) → is_ascii_digit c ≡ true → c < 128
+  digit_small c h = grind (arith, nat_tests)
+
+pub digits_text : (bs : List ℕ) → IsUtf8 bs → list_all is_ascii_digit (chars bs) ≡ true → chars bs ≡ bs
+digits_text bs utf8 all = sym (encodes-IsAscii (chars bs) (digits_ascii (chars bs) all)) ∙ encodes-chars bs utf8
+
+digit_range : (c : ℕ) → is_ascii_digit c ≡ true → IsInRange 48 57 c
+digit_range c h = (leb-true 48 c (and_parts _ _ h).0, leb-true c 57 (and_parts _ _ h).1)
+
+range_digit : (c : ℕ) → IsInRange 48 57 c → is_ascii_digit c ≡ true
+range_digit c range = and_from _ _ (le-leb 48 c range.0) (le-leb c 57 range.1)
+
+digits_test : IsDigitsTest (λ ds. list_all is_ascii_digit ds ≡ true)
+digits_test = record {
+  empty = refl;
+  parts = λ c cs all. (digit_range c (and_parts _ _ all).0, (and_parts _ _ all).1);
+  more = λ c cs range all. and_from _ _ (range_digit c range) all;
+}
+
+-- `parse` reads the number that the digits write, or it is too large for the type
+parsed : {E : Type 0} (bs : List ℕ) (r : Result ℕ E) → ParsesUnsigned 32 10 bs r → list_all is_ascii_digit bs ≡ true
+    → OkIff r ((0 < length bs) × (digits_value 10 bs < 2 ^ 32)) (digits_value 10 bs)
+parsed bs r h all = parse_digits (numerals_by_value (λ ds. list_all is_ascii_digit ds ≡ true) digits_test) 32 bs r h all
+
+pub parsed_ok : {E : Type 0} (bs : List ℕ) (r : Result ℕ E) (value : ℕ) → ParsesUnsigned 32 10 bs r → IsUtf8 bs
+    → list_all is_ascii_digit (chars bs) ≡ true → r ≡ Ok value → value ≡ digits_value 10 (chars bs)
+parsed_ok {E} bs r value h utf8 all e =
+    let same = digits_text bs utf8 all in
+    let digits = subst (λ t. list_all is_ascii_digit t ≡ true) same all in
+    let P : Result ℕ E → Type 0 = λ x. OkIff x ((0 < length bs) × (digits_value 10 bs < 2 ^ 32)) (digits_value 10 bs) in
+    (subst P e (parsed bs r h digits)).1 ∙ ap (digits_value 10) (sym same)
+
+pub parsed_err : {E : Type 0} (bs : List ℕ) (r : Result ℕ E) (fault : E) → ParsesUnsigned 32 10 bs r → IsUtf8 bs
+    → list_all is_ascii_digit (chars bs) ≡ true → 0 < length (chars bs) → r ≡ Err fault
+    → greatest_literal < digits_value 10 (chars bs)
+parsed_err {E} bs r fault h utf8 all some e =
+    let same = digits_text bs utf8 all in
+    let digits = subst (λ t. list_all is_ascii_digit t ≡ true) same all in
+    let P : Result ℕ E → Type 0 = λ x. OkIff x ((0 < length bs) × (digits_value 10 bs < 2 ^ 32)) (digits_value 10 bs) in
+    let large = subst P e (parsed bs r h digits) in
+    subst (λ t. greatest_literal < digits_value 10 t) (sym same) (above bs (subst (λ t. 0 < length t) same some) large)
+  where
+  above : (bs : List ℕ) → 0 < length bs → ((0 < length bs) × (digits_value 10 bs < 2 ^ 32) → ⊥)
+      → greatest_literal < digits_value 10 bs
+  above bs some none =
+      elim (cases_lt greatest_literal (digits_value 10 bs)) [
+        inl large ↦ large
+        | inr small ↦ absurd (none (some, omega arith))
+      ]

@@ -3,7 +3,7 @@
 use Rattle.std.specs.Prelude.{◌≡◌, ℕ, ◌==◌, ◌&&◌, ◌||◌, Bool, false, not, cond, List, [], ◌∷◌, ◌++◌, Option, None, Some}
 use Rattle.std.specs.Char.{is_ascii_digit}
 use Rattle.lexer.specs.Words.{is_white_space, may_begin, may_continue}
-use Rattle.lexer.specs.Lexeme.{Lexeme, Word, Gap}
+use Rattle.lexer.specs.Lexeme.{Lexeme, Word, Gap, sign_of}
 use Rattle.lexer.specs.Cut.{IsNext}
 use Rattle.lexer.specs.declared.token.Kind.{Kind}
 use Rattle.lexer.specs.declared.pieces.Class.{Class}
@@ -41,3 +41,12 @@ lexeme_of (Some kind) = Word kind
 -- the text begins with the lexeme of this kind, and `rest` follows
 abbrev pub Reads : List ℕ → Option Kind → List ℕ → Type 0
 Reads text kind rest = (front : List ℕ) × IsNext text (lexeme_of kind) front rest
+
+-- the character and the first one of the list are no sign
+abbrev pub IsNoDouble : ℕ → List ℕ → Type 0
+IsNoDouble c [] = Unit {0}
+IsNoDouble c (d ∷ cs) = sign_of (c ∷ d ∷ []) ≡ None
+
+-- the character and the first one of the list are a sign of this kind, and `rest` follows
+abbrev pub IsDouble : ℕ → List ℕ → Kind → List ℕ → Type 0
+IsDouble c cs kind rest = (d : ℕ) × (cs ≡ d ∷ rest) × (sign_of (c ∷ d ∷ []) ≡ Some kind)

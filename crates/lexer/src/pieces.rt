@@ -1,8 +1,8 @@
 //! The next lexeme of a text.
 ghost use Rattle.lexer.specs.Cut.{IsStuck, HasNoLexeme};
 ghost use Rattle.lexer.specs.Lexeme.{sign_of};
-ghost use Rattle.lexer.specs.Scan.{holds, after_run, after_close, begins_sign, IsTail, Reads};
-ghost use Rattle.lexer.specs.Words.{may_begin};
+ghost use Rattle.lexer.specs.Scan.{holds, after_run, after_close, begins_sign, IsDouble, IsNoDouble, IsTail, Reads};
+ghost use Rattle.lexer.specs.Words.{is_white_space, may_begin};
 ghost use Rattle.std.specs.Prelude.{◌≡◌, ◌++◌, ◌∷◌, [], MatchResult, MatchOption, IsTrue, Some, None, false};
 ghost use Rattle.std.specs.Char.{is_ascii_digit};
 ghost use Rattle.std.specs.Str.{chars};
@@ -51,7 +51,7 @@ pub(crate) fn next_piece<'a>(
     requires { chars text.now ≡ first ∷ chars after.now }
     ensures { MatchResult result (λ piece. Reads (chars text.now) piece.kind (chars piece.rest.now)) (λ fault. IsStuck at (chars text.now) fault) }
 {
-    if matches!(first, ' ' | '\t' | '\r' | '\n') {
+    if is_white_space(first) {
         Ok(Piece {
             kind: None,
             rest: after,
@@ -67,6 +67,13 @@ pub(crate) fn next_piece<'a>(
     }
 }
 
+fn is_white_space(character: char) -> bool
+    ensures { result ≡ is_white_space character }
+{
+    matches!(character, ' ' | '\t' | '\r' | '\n')
+}
+
+/// A run of digits.
 fn literal<'a>(
     text: &'a str,
     first: char,
@@ -87,6 +94,7 @@ fn literal<'a>(
     }
 }
 
+/// A keyword or a name.
 fn word<'a>(text: &'a str, first: char, after: &'a str) -> Piece<'a>
     requires parts { chars text.now ≡ first ∷ chars after.now }
     requires begins { IsTrue (may_begin first) }
@@ -128,13 +136,10 @@ fn sign<'a>(text: &'a str, first: char, after: &'a str) -> Option<Piece<'a>>
     requires begins { IsTrue (begins_sign first) }
     ensures { MatchOption result (HasNoLexeme (chars text.now)) (λ piece. Reads (chars text.now) piece.kind (chars piece.rest.now)) }
 {
-    let mut characters = after.chars();
-    if let Some(second) = characters.next()
-        && let Some(kind) = double_sign(first, second)
-    {
+    if let Some((kind, rest)) = double_sign(first, after) {
         return Some(Piece {
             kind: Some(kind),
-            rest: characters.as_str(),
+            rest,
         });
     }
     let kind = single_sign(first)?;
@@ -144,7 +149,18 @@ fn sign<'a>(text: &'a str, first: char, after: &'a str) -> Option<Piece<'a>>
     })
 }
 
-fn double_sign(first: char, second: char) -> Option<Kind>
+/// The sign of two characters that begins with `first` and goes on in `after`, if there is one, and
+/// what follows it.
+fn double_sign(first: char, after: &str) -> Option<(Kind, &str)>
+    ensures { MatchOption result (IsNoDouble first (chars after.now)) (λ sign. IsDouble first (chars after.now) sign.0 (chars sign.1.now)) }
+{
+    let mut characters = after.chars();
+    let second = characters.next()?;
+    let kind = pair(first, second)?;
+    Some((kind, characters.as_str()))
+}
+
+fn pair(first: char, second: char) -> Option<Kind>
     ensures { result ≡ sign_of (first ∷ second ∷ []) }
 {
     match (first, second) {
