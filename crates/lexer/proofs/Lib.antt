@@ -5,3 +5,4 @@ pub mod Letters
 pub mod Nexts
 pub mod Steps
 pub mod Reading
+pub mod Cutting
