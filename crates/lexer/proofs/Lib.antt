@@ -6,3 +6,4 @@ pub mod Nexts
 pub mod Steps
 pub mod Reading
 pub mod Cutting
+pub mod Listed

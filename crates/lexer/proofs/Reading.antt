@@ -239,7 +239,7 @@ class-sign c h =
       ∙ (cond-false (may_begin c) _ _ not_begun ∙ cond-false (c == 47) _ _ not_solidus))
 
 -- a text of digits is its characters
-digits_ascii : (cs : List ℕ) → list_all is_ascii_digit cs ≡ true → IsAscii cs
+pub digits_ascii : (cs : List ℕ) → list_all is_ascii_digit cs ≡ true → IsAscii cs
 digits_ascii [] all = IsAscii-nil
 digits_ascii (c ∷ cs) all =
     let (first, others) = and_parts _ _ all in
