@@ -7,3 +7,4 @@ pub mod Steps
 pub mod Reading
 pub mod Cutting
 pub mod Listed
+pub mod Growing

@@ -26,7 +26,7 @@ size-append xs ys = ap length (encodes-append xs ys) ∙ length-append (encode_u
 parts_size : (text front left : List ℕ) → text ≡ front ++ left → size text ≡ size front + size left
 parts_size text front left e = ap size e ∙ size-append front left
 
-front_some : (lexeme : Lexeme) (text front left : List ℕ) → IsNext text lexeme front left → 1 ≤ size front
+pub front_some : (lexeme : Lexeme) (text front left : List ℕ) → IsNext text lexeme front left → 1 ≤ size front
 front_some lexeme text [] left next = absurd (nonempty lexeme [] next.is refl)
 front_some lexeme text (c ∷ front) left next = let h = length-le-encodes (c ∷ front) in omega arith
 

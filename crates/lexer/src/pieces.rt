@@ -154,10 +154,9 @@ fn sign<'a>(text: &'a str, first: char, after: &'a str) -> Option<Piece<'a>>
 fn double_sign(first: char, after: &str) -> Option<(Kind, &str)>
     ensures { MatchOption result (IsNoDouble first (chars after.now)) (λ sign. IsDouble first (chars after.now) sign.0 (chars sign.1.now)) }
 {
-    let mut characters = after.chars();
-    let second = characters.next()?;
+    let (second, rest) = first_character(after)?;
     let kind = pair(first, second)?;
-    Some((kind, characters.as_str()))
+    Some((kind, rest))
 }
 
 fn pair(first: char, second: char) -> Option<Kind>
@@ -200,8 +199,17 @@ fn single_sign(character: char) -> Option<Kind>
     }
 }
 
+/// The first character of `text`, and what follows it.
+pub(crate) fn first_character(text: &str) -> Option<(char, &str)>
+    ensures { MatchOption result (text.now ≡ []) (λ parts. chars text.now ≡ parts.0 ∷ chars parts.1.now) }
+{
+    let mut characters = text.chars();
+    let first = characters.next()?;
+    Some((first, characters.as_str()))
+}
+
 /// What stands in `text` before `rest`, which ends it.
-fn front<'a>(text: &'a str, rest: &str) -> &'a str
+pub(crate) fn front<'a>(text: &'a str, rest: &str) -> &'a str
     requires { IsTail (chars text.now) (chars rest.now) }
     ensures { chars text.now ≡ chars result.now ++ chars rest.now }
 {
