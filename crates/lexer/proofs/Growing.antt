@@ -1,11 +1,11 @@
 -- One more lexeme of a text that is cut so far.
 use Rattle.std.proofs.Common.{◌≡◌, ℕ, ◌+◌, ◌-◌, ◌<◌, ◌≤◌, List, [], ◌∷◌, ◌++◌, Option, Some, None, length, refl, sym, ap, subst, ◌∙◌, arith, append-nil}
-use Rattle.std.proofs.lemmas.Str.{encodes-chars}
+use Rattle.std.proofs.lemmas.Str.{encodes-chars, chars-nil}
 use Rattle.std.specs.Str.{chars, IsUtf8, encode_utf8_all}
 use Rattle.lexer.specs.Terminal.{Terminal}
 use Rattle.lexer.specs.Lexeme.{Lexeme, Word, Gap}
 use Rattle.lexer.specs.Cut.{Cuts, Nothing, Token, Between, IsNext, IsCut, IsRefused, IsStuck, terminal_at, size}
-use Rattle.lexer.specs.Scan.{Reads}
+use Rattle.lexer.specs.Scan.{Reads, lexeme_of}
 use Rattle.lexer.specs.declared.token.Kind.{Kind}
 use Rattle.lexer.specs.declared.token.Kind.TheVariants.{End}
 use Rattle.lexer.specs.declared.fault.LexFault.{LexFault}
@@ -36,6 +36,12 @@ goes text rest left lexeme front within ok tail_ok next =
     let parts : size (chars rest) ≡ size front + size (chars left) = ap size next.parts ∙ size-append front (chars left) in
     let some = front_some lexeme (chars rest) front (chars left) next in
     record { shorter = omega arith; place = omega arith }
+
+-- a lexeme takes a byte at least
+pub shorter_by : (rest left : List ℕ) (kind : Option Kind) → IsUtf8 rest → IsUtf8 left
+    → Reads (chars rest) kind (chars left) → length left < length rest
+shorter_by rest left kind ok tail_ok (front, next) =
+    (goes rest rest left (lexeme_of kind) front (omega arith) ok tail_ok next).shorter
 
 -- a gap
 pub record GrowsBy (text rest left : List ℕ) (tokens : List Terminal) : Type 0 where
@@ -87,4 +93,32 @@ token text rest left bytes tokens kind ok tail_ok bytes_ok so_far (front, next) 
         cuts = subst (λ t. Cuts 0 (chars text) (tokens ++ t ∷ []) (length text - length left) (chars left)) terminal
           (cuts_on 0 (chars text) tokens here (chars rest) _ (length text - length left) (chars left) so_far.cuts step);
       };
+    }
+
+-- a text that can't be cut further
+pub refused : (text rest : List ℕ) (tokens : List Terminal) (fault : LexFault) → IsCutSoFar text rest tokens
+    → IsStuck (length text - length rest) (chars rest) fault → IsRefused text fault
+refused text rest tokens fault so_far stuck = record {
+  words = tokens;
+  place = length text - length rest;
+  rest = chars rest;
+  cuts = so_far.cuts;
+  stuck = stuck;
+}
+
+-- a text that is cut to its end
+pub whole : (text rest : List ℕ) (tokens : List Terminal) (last : Terminal) → IsCutSoFar text rest tokens → rest ≡ []
+    → last ≡ record { kind = End; text = rest; start = length text; end = length text }
+    → IsCut text (tokens ++ last ∷ [])
+whole text rest tokens last so_far e k =
+    let place : length text - length rest ≡ length text = let n = ap length e in omega arith in
+    let none : chars rest ≡ [] = ap chars e ∙ chars-nil in
+    let width : length text ≡ length text + size [] = omega arith in
+    record {
+      words = tokens;
+      cuts = subst (λ r. Cuts 0 (chars text) tokens (length text) r) none
+        (subst (λ p. Cuts 0 (chars text) tokens p (chars rest)) place so_far.cuts);
+      ended = ap (λ t. tokens ++ t ∷ []) (k
+        ∙ (ap (λ r. record { kind = End; text = r; start = length text; end = length text }) e
+          ∙ ap (λ n. record { kind = End; text = []; start = length text; end = n }) width));
     }

@@ -2,7 +2,7 @@ ghost use Rattle.lexer.specs.Cut.{IsCut, IsRefused};
 ghost use Rattle.lexer.specs.Laws.{HasOneCut, IsCutOrRefused, HasOneRefusal};
 ghost use Rattle.lexer.specs.Listing.{IsInOrder, IsSliceOf, IsSpelled};
 ghost use Rattle.lexer.specs.Terminal.{Terminal, terminals_of, IsTerminated};
-ghost use Rattle.std.specs.Prelude.{◌≡◌, ◌≤◌, ◌+◌, ◌⊎◌, List, IfOk, IfErr, MatchResult, length, vec_len};
+ghost use Rattle.std.specs.Prelude.{◌≡◌, ◌≤◌, ◌+◌, ◌⊎◌, List, IfOk, IfErr, MatchResult, length};
 ghost use Rattle.std.specs.List.{All};
 
 use std::alloc::Global;
@@ -24,7 +24,7 @@ pub fn lex(alloc: Global, src: &str) -> Result<Vec<Token<'_>>, LexFault>
     ensures in_order { IfOk result (λ tokens. IsInOrder 0 (terminals_of tokens.items) (length src.now)) }
     ensures slices { IfOk result (λ tokens. All (IsSliceOf src.now) (terminals_of tokens.items)) }
     ensures spelled { IfOk result (λ tokens. All IsSpelled (terminals_of tokens.items)) }
-    ensures count { IfOk result (λ tokens. vec_len tokens ≤ length src.now + 1) }
+    ensures count { IfOk result (λ tokens. length (terminals_of tokens.items) ≤ length src.now + 1) }
 {
     let mut tokens = Vec::new(alloc);
     let mut rest = src;
