@@ -3,3 +3,8 @@ pub mod Tables
 pub mod Fronts
 pub mod Letters
 pub mod Nexts
+pub mod Steps
+pub mod Reading
+pub mod Cutting
+pub mod Listed
+pub mod Growing

@@ -8,6 +8,7 @@ use Rattle.std.specs.Str.Parse.{digits_value}
 use Rattle.lexer.specs.Words.{is_white_space, is_identifier, is_name, may_begin, may_continue, keyword_of}
 use Rattle.lexer.specs.Lexeme.{Lexeme, Word, Gap, LargeLiteral, OpenComment, IsLexeme, Blank, LineComment, BlockComment, Unended, Keyword, Identifier, Literal, TooLarge, Sign, IsInLine, IsOpen, IsClosed, IsNumeral, sign_of, greatest_literal}
 use Rattle.lexer.specs.Cut.{IsNext, HasNoLexeme}
+use Rattle.lexer.specs.Scan.{IsNoDouble}
 use Rattle.lexer.specs.declared.token.Kind.{Kind}
 use Rattle.lexer.specs.declared.token.Kind.TheVariants.{Slash, Name, Integer}
 use Rattle.lexer.proofs.Letters.{Class, White, Digit, Letter, Solidus, Other, class_of, class-White, class-Digit, class-Letter, class-Solidus, class-Other}
@@ -170,11 +171,6 @@ next_double c d cs kind class found = record {
   is = Sign (c ∷ d ∷ []) kind found;
   longest = bounded Other c (d ∷ cs) 1 class (λ lexeme tail more e front. front.1.1.1);
 }
-
--- the character begins no sign of two characters here
-abbrev pub IsNoDouble : ℕ → List ℕ → Type 0
-IsNoDouble c [] = Unit {0}
-IsNoDouble c (d ∷ cs) = sign_of (c ∷ d ∷ []) ≡ None
 
 single : (c : ℕ) (cs : List ℕ) → IsNoDouble c cs → (lexeme : Lexeme) (tail more : List ℕ) → cs ≡ tail ++ more
     → Front Other c tail lexeme → tail ≡ []
