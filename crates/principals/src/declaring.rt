@@ -1,6 +1,7 @@
 //! The hierarchy that the statements of a text say.
 
 ghost use Rattle.lexer.specs.Terminal.{terminal_of};
+ghost use Rattle.principals.specs.ActsFor.{IsHierarchy};
 ghost use Rattle.principals.specs.HierarchyText.{Declares, IsSaid, Relates};
 ghost use Rattle.principals.specs.Reading.{entries_of, IsBuildFault, IsStatementsFault};
 ghost use Rattle.principals.specs.Table.{names_of};
@@ -67,6 +68,7 @@ pub(crate) fn hierarchy_of(
     statements: &[Statement<'_>],
 ) -> Result<Hierarchy, HierFault>
     ensures said { IfOk result (IsSaid (entries_of statements.now)) }
+    ensures kept { IfOk result IsHierarchy }
     ensures refused { IfErr result (IsStatementsFault (entries_of statements.now)) }
 {
     let mut names = IndexSet::new(alloc);

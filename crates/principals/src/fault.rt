@@ -1,6 +1,7 @@
 ghost use Rattle.principals.specs.declared.fault.HierFault.TheVariants.{NoMemory};
 ghost use Rattle.std.specs.Prelude.{◌≡◌};
 
+use lexer::LexFault;
 use std::alloc::{AllocError, AllocFailed};
 use thiserror::Error;
 
@@ -40,5 +41,19 @@ impl<T: Drop> From<AllocFailed<T>> for HierFault {
 
     fn from(_refused: AllocFailed<T>) -> HierFault {
         HierFault::NoMemory
+    }
+}
+
+impl From<LexFault> for HierFault {
+    ghost use Rattle.principals.specs.Reading.{fault_of_lex};
+    ghost use Rattle.std.specs.Prelude.{◌≡◌};
+
+    ghost from_gives = { λ lex fault. fault ≡ fault_of_lex lex };
+
+    fn from(refused: LexFault) -> HierFault {
+        match refused {
+            LexFault::NoMemory => HierFault::NoMemory,
+            LexFault::NoToken(at) | LexFault::LiteralTooLarge(at) | LexFault::UnclosedComment(at) => HierFault::Syntax(at),
+        }
     }
 }

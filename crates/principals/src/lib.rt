@@ -9,11 +9,13 @@ mod contained;
 mod declaring;
 pub mod fault;
 pub mod laws;
+mod read;
 mod reading;
 mod row;
 mod table;
 
 pub use fault::HierFault;
+pub use read::GREATEST_TEXT;
 use indexmap::IndexSet;
 use row::Row;
 use std::alloc::{AllocError, Global};

@@ -2,6 +2,7 @@ use Rattle.std.proofs.Common.{◌≡◌, ◌≤◌, ◌+◌, ◌++◌, ◌∷◌
 use Rattle.std.proofs.lemmas.List.{take_all}
 use Rattle.std.proofs.lemmas.Result.{err_from_is_err_and}
 use Rattle.lexer.specs.Terminal.{terminal_of}
+use Rattle.principals.specs.ActsFor.{AllBelow, AllDifferent}
 use Rattle.principals.specs.HierarchyText.{Declares, Relates}
 use Rattle.principals.specs.Reading.{IsStatementsFault, entry_of, entries_of}
 use Rattle.principals.specs.Table.{names_of}
@@ -75,3 +76,14 @@ returns-clause-said c =
     ap entries_of (sym (take_all c.loop-statement.statement-index statements past)) in
     built_said (entries_of statements) c.in_ok-closed.field-0
     (built_same whole c.in_ok-closed.ensures.names c.in_ok-closed.ensures.pairs c.loop-statement.invariant)
+
+pub returns-clause-kept : goal.returns-clause-kept
+returns-clause-kept c =
+    let built = c.loop-statement.invariant in
+    let hierarchy = c.in_ok-closed.field-0 in
+    record {
+      few = subst (λ x. length x ≤ 256) (sym c.in_ok-closed.ensures.names) built.few;
+      different = subst AllDifferent (sym c.in_ok-closed.ensures.names) built.different;
+      there = subst (λ x. AllBelow (length x) hierarchy.pairs) (sym c.in_ok-closed.ensures.names)
+          (subst (λ x. AllBelow (length (names_of c.loop-statement.names)) x) (sym c.in_ok-closed.ensures.pairs) built.there);
+    }
