@@ -6,3 +6,4 @@ pub mod Names
 mod Inclusion
 mod Automaton
 mod Building
+mod Uniqueness

@@ -53,7 +53,8 @@ impl From<LexFault> for HierFault {
     fn from(refused: LexFault) -> HierFault {
         match refused {
             LexFault::NoMemory => HierFault::NoMemory,
-            LexFault::NoToken(at) | LexFault::LiteralTooLarge(at) | LexFault::UnclosedComment(at) => HierFault::Syntax(at),
+            LexFault::NoToken(at) | LexFault::LiteralTooLarge(at) | LexFault::UnclosedComment(at) =>
+                HierFault::Syntax(at),
         }
     }
 }

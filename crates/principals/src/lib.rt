@@ -15,8 +15,8 @@ mod row;
 mod table;
 
 pub use fault::HierFault;
-pub use read::GREATEST_TEXT;
 use indexmap::IndexSet;
+pub use read::GREATEST_TEXT;
 use row::Row;
 use std::alloc::{AllocError, Global};
 use std::marker::Model;
