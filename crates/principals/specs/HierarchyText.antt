@@ -131,6 +131,13 @@ pub record IsHierarchyOf (text : List ℕ) (hierarchy : PrincipalHierarchy) : Ty
   pub says : Says text entries
   pub said : IsSaid entries hierarchy
 
+-- the fault that a refusal of the tokens is
+abbrev pub fault_of_lex : LexFault → HierFault
+fault_of_lex LexNoMemory = NoMemory
+fault_of_lex (NoToken at) = Syntax at
+fault_of_lex (LiteralTooLarge at) = Syntax at
+fault_of_lex (UnclosedComment at) = Syntax at
+
 -- the byte at which a text is refused that has no tokens
 abbrev pub IsLexFaultAt : LexFault → ℕ → Type 0
 IsLexFaultAt LexNoMemory at = ⊥

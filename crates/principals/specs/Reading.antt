@@ -7,8 +7,6 @@ use Rattle.lexer.specs.Terminal.{Terminal, terminal_of}
 use Rattle.lexer.specs.declared.token.Kind.{Kind}
 use Rattle.lexer.specs.declared.token.Kind.TheVariants.{Name as NameKind, Comma as CommaKind, Semicolon as SemicolonKind, End as EndKind}
 use Rattle.principals.specs.HierarchyText.{Entry, Declares, Relates, IsUnexpectedAt, AllAccepted, IsFirstRefusal, IsRefusal, IsRefusedText, declared, written}
-use Rattle.lexer.specs.declared.fault.LexFault.{LexFault}
-use Rattle.lexer.specs.declared.fault.LexFault.TheVariants as lex
 use Rattle.principals.specs.declared.fault.HierFault.{HierFault}
 use Rattle.principals.specs.declared.fault.HierFault.TheVariants as fault
 use Rattle.principals.specs.declared.reading.Role.{Role}
@@ -113,13 +111,6 @@ IsBuildFault names entry other = IsRefusal names entry other
 abbrev pub IsStatementsFault : List Entry → HierFault → Type 0
 IsStatementsFault entries fault.NoMemory = Unit {0}
 IsStatementsFault entries other = IsFirstRefusal entries other
-
--- the fault that a refusal of the tokens is
-abbrev pub fault_of_lex : LexFault → HierFault
-fault_of_lex lex.NoMemory = fault.NoMemory
-fault_of_lex (lex.NoToken at) = fault.Syntax at
-fault_of_lex (lex.LiteralTooLarge at) = fault.Syntax at
-fault_of_lex (lex.UnclosedComment at) = fault.Syntax at
 
 -- a fault of a text, want of memory among them
 abbrev pub IsReadFault : List ℕ → HierFault → Type 0

@@ -23,10 +23,11 @@ fn declare(alloc: Global, names: &mut IndexSet<String>, name: &Token<'_>) -> Res
     ensures room { OnOk result (length (names_of names.old) < 256) }
     ensures refused { IfErr result (IsBuildFault (names_of names.old) (Declares (terminal_of name.now))) }
 {
+    let full = names.len() >= Row::LIMIT;
     if names.contains(name.text) {
         return Err(HierFault::DeclaredTwice(name.span.start));
     }
-    if names.len() >= Row::LIMIT {
+    if full {
         return Err(HierFault::TooManyPrincipals(name.span.start));
     }
     names.insert(String::from_str(alloc, name.text)?)?;

@@ -45,7 +45,7 @@ impl<T: Drop> From<AllocFailed<T>> for HierFault {
 }
 
 impl From<LexFault> for HierFault {
-    ghost use Rattle.principals.specs.Reading.{fault_of_lex};
+    ghost use Rattle.principals.specs.HierarchyText.{fault_of_lex};
     ghost use Rattle.std.specs.Prelude.{◌≡◌};
 
     ghost from_gives = { λ lex fault. fault ≡ fault_of_lex lex };

@@ -15,10 +15,10 @@ returns-then-contains-clause-refused c =
     Twice (terminal_of c.args.name.now)
     ((listed_iff (λ name. string_bytes name) c.args.names.now.keys c.args.name.now.text.now).0 (sym c.if-contains.ensures))
 
-pub returns-then-len-ge-LIMIT-clause-refused : goal.returns-then-len-ge-LIMIT-clause-refused
-returns-then-len-ge-LIMIT-clause-refused c =
+pub returns-then-full-clause-refused : goal.returns-then-full-clause-refused
+returns-then-full-clause-refused c =
     let full : 256 ≤ length (names_of c.args.names.now) =
-    omega (arith, length-map c.args.names.now.keys (λ name. string_bytes name), c.len.ensures.len, c.if-len-ge-LIMIT.true) in
+    omega (arith, length-map c.args.names.now.keys (λ name. string_bytes name), c.len-full.ensures.len, c.if-full.true) in
     Crowded (terminal_of c.args.name.now)
     (not_listed (λ name. string_bytes name) c.args.names.now.keys c.args.name.now.text.now (sym c.if-contains.ensures)) full
 
