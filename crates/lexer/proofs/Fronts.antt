@@ -59,7 +59,7 @@ keyword_shape c cs kind found =
     let lower = found_passes lowercase_word keywords refl (c ∷ cs) kind found in
     let (first, others) = and_parts _ _ lower in
     known Letter c cs (Word kind) (class-Letter c (lowercase_begins c first))
-      (ap (λ o. Word (unwrap_or o Name)) (sym found), lowercase_all cs others)
+    (ap (λ o. Word (unwrap_or o Name)) (sym found), lowercase_all cs others)
 
 name_kind : (found : Option Kind) → not (is_some found) ≡ true → Name ≡ unwrap_or found Name
 name_kind None free = refl
@@ -92,14 +92,14 @@ alone c kind e found =
     let both : Some Slash ≡ Some kind = sym slash ∙ here in
     let same : Slash ≡ kind = cc in
     known Solidus c [] (Word kind) (subst (λ x. class_of x ≡ Solidus) (sym e) class-Solidus)
-      (subst (λ k. AfterSolidus [] (Word k)) same Alone)
+    (subst (λ k. AfterSolidus [] (Word k)) same Alone)
 
 sign_shape : (c : ℕ) (cs : List ℕ) (kind : Kind) → sign_of (c ∷ cs) ≡ Some kind
     → Front (class_of c) c cs (Word kind)
 unfolding sign_word
 sign_shape c [] kind found =
     elim (or_cases _ _ (found_passes sign_word signs refl (c ∷ []) kind found)) [
-      inl first ↦ known Other c [] (Word kind) (class-Other c first) (kind, (found, (refl, omega arith)))
+      | inl first ↦ known Other c [] (Word kind) (class-Other c first) (kind, (found, (refl, omega arith)))
       | inr solidus ↦ alone c kind (eqb-true c 47 solidus) found
     ]
 sign_shape c (d ∷ []) kind found =
@@ -116,7 +116,7 @@ at_solidus c cs tail lexeme e h =
     let first : 47 ≡ c = cc in
     let others : tail ≡ cs = cc in
     known Solidus c cs lexeme (subst (λ x. class_of x ≡ Solidus) first class-Solidus)
-      (subst (λ t. AfterSolidus t lexeme) others h)
+    (subst (λ t. AfterSolidus t lexeme) others h)
 
 -- what a lexeme is
 pub shape : (lexeme : Lexeme) (text : List ℕ) (c : ℕ) (cs : List ℕ) → IsLexeme lexeme text → text ≡ c ∷ cs
@@ -133,10 +133,10 @@ shape lexeme text c cs (Keyword word kind found) e =
 shape lexeme text c cs (Identifier word named) e = name_shape c cs (subst (λ t. is_name t ≡ true) e named)
 shape lexeme text c cs (Literal digits numeral small) e =
     literal_shape c cs _ (subst IsNumeral e numeral)
-      (sym (cond-true (nat_le (digits_value 10 digits) greatest_literal) _ _ (le-leb _ _ small)) ∙ ap literal_of e)
+    (sym (cond-true (nat_le (digits_value 10 digits) greatest_literal) _ _ (le-leb _ _ small)) ∙ ap literal_of e)
 shape lexeme text c cs (TooLarge digits numeral large) e =
     literal_shape c cs _ (subst IsNumeral e numeral)
-      (sym (cond-false (nat_le (digits_value 10 digits) greatest_literal) _ _ (lt-leb _ _ large)) ∙ ap literal_of e)
+    (sym (cond-false (nat_le (digits_value 10 digits) greatest_literal) _ _ (lt-leb _ _ large)) ∙ ap literal_of e)
 shape lexeme text c cs (Sign sign kind found) e = sign_shape c cs kind (subst (λ t. sign_of t ≡ Some kind) e found)
 
 -- no lexeme is empty

@@ -31,11 +31,11 @@ may_begin-ascii c h = ap (λ b. b || c == 95) (is_xid_start-ascii c h)
 begun_elsewhere : (c : ℕ) → may_begin c ≡ true → (is_white_space c || is_ascii_digit c) ≡ false
 begun_elsewhere c begun =
     elim (cases_lt c 128) [
-      inl small ↦
-        let letter : begins_ascii c ≡ true = sym (may_begin-ascii c small) ∙ begun in
-        let apart : (not (begins_ascii c) || not (is_white_space c || is_ascii_digit c)) ≡ true =
-            agree_below_at (λ x. not (begins_ascii x) || not (is_white_space x || is_ascii_digit x)) (λ x. true) 128 c refl small in
-        not-true _ (subst (λ b. (not b || not (is_white_space c || is_ascii_digit c)) ≡ true) letter apart)
+      | inl small ↦
+          let letter : begins_ascii c ≡ true = sym (may_begin-ascii c small) ∙ begun in
+          let apart : (not (begins_ascii c) || not (is_white_space c || is_ascii_digit c)) ≡ true =
+          agree_below_at (λ x. not (begins_ascii x) || not (is_white_space x || is_ascii_digit x)) (λ x. true) 128 c refl small in
+          not-true _ (subst (λ b. (not b || not (is_white_space c || is_ascii_digit c)) ≡ true) letter apart)
       | inr large ↦ grind (arith, nat_tests)
     ]
 
@@ -68,7 +68,7 @@ class-Other c h =
     let not_begun : may_begin c ≡ false = may_begin-ascii c small ∙ not_letter in
     cond-false (is_white_space c) _ _ dark
     ∙ (cond-false (is_ascii_digit c) _ _ not_digit
-      ∙ (cond-false (may_begin c) _ _ not_begun ∙ cond-false (c == 47) _ _ not_solidus))
+    ∙ (cond-false (may_begin c) _ _ not_begun ∙ cond-false (c == 47) _ _ not_solidus))
 
 pub class-Solidus : class_of 47 ≡ Solidus
 class-Solidus = cond-false (may_begin 47) _ _ (may_begin-ascii 47 (omega arith))

@@ -95,12 +95,12 @@ fixed_found : (table : List (List ℕ × Kind)) → list_all (λ row. is_fixed r
 fixed_found [] all cs kind found = absurd cc
 fixed_found (row ∷ rows) all cs kind found =
     elim (cases_Bool (bytes_eq cs row.0)) [
-      inl same ↦
-        let both : Some row.1 ≡ Some kind = sym (cond-true (bytes_eq cs row.0) (Some row.1) (lookup (bytes_eq cs) rows) same) ∙ found in
-        let k : row.1 ≡ kind = cc in
-        subst (λ x. is_fixed x ≡ true) k (and_parts _ _ all).0
+      | inl same ↦
+          let both : Some row.1 ≡ Some kind = sym (cond-true (bytes_eq cs row.0) (Some row.1) (lookup (bytes_eq cs) rows) same) ∙ found in
+          let k : row.1 ≡ kind = cc in
+          subst (λ x. is_fixed x ≡ true) k (and_parts _ _ all).0
       | inr other ↦
-        fixed_found rows (and_parts _ _ all).1 cs kind (sym (cond-false (bytes_eq cs row.0) (Some row.1) (lookup (bytes_eq cs) rows) other) ∙ found)
+          fixed_found rows (and_parts _ _ all).1 cs kind (sym (cond-false (bytes_eq cs row.0) (Some row.1) (lookup (bytes_eq cs) rows) other) ∙ found)
     ]
 
 fixed_spells : (kind : Kind) (text : List ℕ) → is_fixed kind ≡ true
@@ -173,9 +173,10 @@ cut_slices source before start text ts end rest (Token _ _ kind front l us _ _ n
     let bytes = encode_utf8_all front in
     let parts : encode_utf8_all text ≡ bytes ++ encode_utf8_all l = ap encode_utf8_all next.parts ∙ encodes-append front l in
     let whole : source ≡ before ++ (bytes ++ encode_utf8_all l) = e ∙ ap (λ t. before ++ t) parts in
-    let longer : length (before ++ bytes) ≡ start + size front = length-append before bytes ∙ ap (λ k. k + length bytes) n in
-    (slice_between source before bytes (encode_utf8_all l) start whole n,
-    cut_slices source (before ++ bytes) (start + size front) l us end rest cuts (whole ∙ sym (append_assoc before bytes (encode_utf8_all l))) longer)
+    let longer : length (before ++ bytes) ≡ start + size front = length-append before bytes ∙ ap (λ k. k + length bytes) n in (
+      slice_between source before bytes (encode_utf8_all l) start whole n,
+      cut_slices source (before ++ bytes) (start + size front) l us end rest cuts (whole ∙ sym (append_assoc before bytes (encode_utf8_all l))) longer,
+    )
 cut_slices source before start text ts end rest (Between _ _ front l _ _ _ next cuts) e n =
     let bytes = encode_utf8_all front in
     let parts : encode_utf8_all text ≡ bytes ++ encode_utf8_all l = ap encode_utf8_all next.parts ∙ encodes-append front l in
@@ -204,11 +205,11 @@ listed_at text words ok cuts =
       terminated = cut_terminated 0 (chars text) words (length text) [] last cuts scalars refl;
       in_order = order_on 0 words (length text) (last ∷ []) (length text) (cut_order 0 (chars text) words (length text) [] cuts) (omega arith, omega arith, omega arith);
       slices = All-append (IsSliceOf text) words (last ∷ [])
-        (All-from_recursion (IsSliceOf text) words (cut_slices text [] 0 (chars text) words (length text) [] cuts (sym bytes) refl))
-        (All-cons (IsSliceOf text) last [] (slice_between text text [] [] (length text) (sym (append-nil text)) refl) (All-nil (IsSliceOf text)));
+          (All-from_recursion (IsSliceOf text) words (cut_slices text [] 0 (chars text) words (length text) [] cuts (sym bytes) refl))
+          (All-cons (IsSliceOf text) last [] (slice_between text text [] [] (length text) (sym (append-nil text)) refl) (All-nil (IsSliceOf text)));
       spelled = All-append IsSpelled words (last ∷ [])
-        (All-from_recursion IsSpelled words (cut_spelled 0 (chars text) words (length text) [] cuts scalars))
-        (All-cons IsSpelled last [] refl (All-nil IsSpelled));
+          (All-from_recursion IsSpelled words (cut_spelled 0 (chars text) words (length text) [] cuts scalars))
+          (All-cons IsSpelled last [] refl (All-nil IsSpelled));
       count = omega arith;
     }
 

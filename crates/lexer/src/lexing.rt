@@ -5,11 +5,10 @@ ghost use Rattle.lexer.specs.Terminal.{Terminal, terminals_of, IsTerminated};
 ghost use Rattle.std.specs.Prelude.{◌≡◌, ◌≤◌, ◌+◌, ◌⊎◌, List, IfOk, IfErr, MatchResult, length};
 ghost use Rattle.std.specs.List.{All};
 
-use std::alloc::Global;
-
 use crate::fault::LexFault;
 use crate::pieces::{Piece, first_character, front, next_piece};
 use crate::token::{Kind, Span, Token};
+use std::alloc::Global;
 
 /// The tokens of `src` by longest match, with an `End` behind them.
 ///
@@ -56,5 +55,4 @@ pub fn one_reading()
     ensures one_cut { HasOneCut }
     ensures cut_or_refused { IsCutOrRefused }
     ensures one_refusal { HasOneRefusal }
-{
-}
+{}

@@ -74,12 +74,7 @@ fn is_white_space(character: char) -> bool
 }
 
 /// A run of digits.
-fn literal<'a>(
-    text: &'a str,
-    first: char,
-    after: &'a str,
-    at: usize,
-) -> Result<Piece<'a>, LexFault>
+fn literal<'a>(text: &'a str, first: char, after: &'a str, at: usize) -> Result<Piece<'a>, LexFault>
     requires parts { chars text.now ≡ first ∷ chars after.now }
     requires digit { IsTrue (is_ascii_digit first) }
     ensures { MatchResult result (λ piece. Reads (chars text.now) piece.kind (chars piece.rest.now)) (λ fault. IsStuck at (chars text.now) fault) }

@@ -81,7 +81,7 @@ ended : (c : goal.In_ok-push-2) → IsCut c.args.src.now (terminals_of c.push-2.
 ended c =
     let tokens = c.loop-first.tokens.items in
     subst (IsCut c.args.src.now) (sym (ap terminals_of c.in_ok-push-2.ensures.items ∙ map-append terminal_of tokens _))
-      (whole c.args.src.now c.loop-first.rest.now (terminals_of tokens) _ c.loop-first.invariant.1 c.in_default.ensures refl)
+    (whole c.args.src.now c.loop-first.rest.now (terminals_of tokens) _ c.loop-first.invariant.1 c.in_default.ensures refl)
 
 all : (c : goal.In_ok-push-2) → Listed c.args.src.now (terminals_of c.push-2.new.self.items)
 all c = listed c.args.src.now (terminals_of c.push-2.new.self.items) c.utf8.src (ended c)

@@ -17,10 +17,10 @@ pub loop-character-preserved : goal.loop-character-preserved
 loop-character-preserved c =
     let h = step _ (chars_rest c.next.new.self) c.in-Some.character c.loop-character.invariant.0 c.in-Some.ensures.steps.0 in
     let on : (c.loop-character.starred && c.in-Some.character == 47) ≡ false =
-        elim c.else-starred.branch [
-          else-starred-via-then-starred+else-character-eq47 w ↦ and_right _ _ (ne_eqb _ _ w.if-character-eq47.false)
-          | else-starred-via-else-starred w ↦ and_left _ _ w.if-starred.false
-        ] in
+    elim c.else-starred.branch [
+      | else-starred-via-then-starred+else-character-eq47 w ↦ and_right _ _ (ne_eqb _ _ w.if-character-eq47.false)
+      | else-starred-via-else-starred w ↦ and_left _ _ w.if-starred.false
+    ] in
     (h.utf8, sym (close_on _ _ _ _ h.characters on) ∙ c.loop-character.invariant.1)
 
 pub returns : goal.returns
