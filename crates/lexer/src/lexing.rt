@@ -1,5 +1,5 @@
 ghost use Rattle.lexer.specs.Cut.{IsCut, IsRefused};
-ghost use Rattle.lexer.specs.Laws.{HasOneCut, IsCutOrRefused, HasOneRefusal};
+ghost use Rattle.lexer.specs.Laws.{IsAlwaysRead, HasOneCut, IsCutOrRefused, HasOneRefusal};
 ghost use Rattle.lexer.specs.Listing.{IsInOrder, IsSliceOf, IsSpelled};
 ghost use Rattle.lexer.specs.Terminal.{Terminal, terminals_of, IsTerminated};
 ghost use Rattle.std.specs.Prelude.{◌≡◌, ◌≤◌, ◌+◌, ◌⊎◌, List, IfOk, IfErr, MatchResult, length};
@@ -50,8 +50,9 @@ pub fn lex(alloc: Global, src: &str) -> Result<Vec<Token<'_>>, LexFault>
     Ok(tokens)
 }
 
-/// The law that a text has one cut or one refusal at most, and not both.
+/// The law that each text has either one cut or one refusal.
 pub fn one_reading()
+    ensures always { IsAlwaysRead }
     ensures one_cut { HasOneCut }
     ensures cut_or_refused { IsCutOrRefused }
     ensures one_refusal { HasOneRefusal }
