@@ -47,11 +47,11 @@ find_solidus : (cs : List ℕ) → Found (47 ∷ cs)
 find_solidus [] = Next (Word _) (47 ∷ []) [] (next_solidus [] tt tt)
 find_solidus (d ∷ cs) =
     elim (cases_eq d 47) [
-      inl line ↦
-        let (front, next) = line_read (47 ∷ d ∷ cs) cs (after_run (λ c. not (c == 10)) cs) (ap (λ x. 47 ∷ x ∷ cs) line) refl in
-        Next Gap front (after_run (λ c. not (c == 10)) cs) next
+      | inl line ↦
+          let (front, next) = line_read (47 ∷ d ∷ cs) cs (after_run (λ c. not (c == 10)) cs) (ap (λ x. 47 ∷ x ∷ cs) line) refl in
+          Next Gap front (after_run (λ c. not (c == 10)) cs) next
       | inr no_line ↦ elim (cases_eq d 42) [
-        inl block ↦ subst (λ x. Found (47 ∷ x ∷ cs)) (sym block) (find_comment cs (after_close false cs) refl)
+        | inl block ↦ subst (λ x. Found (47 ∷ x ∷ cs)) (sym block) (find_comment cs (after_close false cs) refl)
         | inr no_block ↦ Next (Word _) (47 ∷ []) (d ∷ cs) (next_solidus (d ∷ cs) no_line no_block)
       ]
     ]
@@ -60,26 +60,26 @@ find_literal : (c : ℕ) (cs : List ℕ) → is_ascii_digit c ≡ true → Found
 find_literal c cs digit =
     let (front, run) = run_parts is_ascii_digit cs in
     Next _ (c ∷ front) (after_run is_ascii_digit cs)
-      (moved _ _ _ _ _ _ _ _ (ap (λ t. c ∷ t) (sym run.parts)) refl refl refl
-        (next_literal c front (after_run is_ascii_digit cs) digit run.passes run.stops))
+    (moved _ _ _ _ _ _ _ _ (ap (λ t. c ∷ t) (sym run.parts)) refl refl refl
+    (next_literal c front (after_run is_ascii_digit cs) digit run.passes run.stops))
 
 find_word : (c : ℕ) (cs : List ℕ) → may_begin c ≡ true → Found (c ∷ cs)
 find_word c cs begins =
     let (front, run) = run_parts may_continue cs in
     Next _ (c ∷ front) (after_run may_continue cs)
-      (moved _ _ _ _ _ _ _ _ (ap (λ t. c ∷ t) (sym run.parts)) refl refl refl
-        (next_word c front (after_run may_continue cs) begins run.passes run.stops))
+    (moved _ _ _ _ _ _ _ _ (ap (λ t. c ∷ t) (sym run.parts)) refl refl refl
+    (next_word c front (after_run may_continue cs) begins run.passes run.stops))
 
 found : (c : ℕ) (cs : List ℕ) → Found (c ∷ cs)
 found c cs =
     elim (cases_Bool (is_white_space c)) [
-      inl white ↦ Next Gap (c ∷ []) cs (next_white c cs white)
+      | inl white ↦ Next Gap (c ∷ []) cs (next_white c cs white)
       | inr dark ↦ elim (cases_Bool (is_ascii_digit c)) [
-        inl digit ↦ find_literal c cs digit
+        | inl digit ↦ find_literal c cs digit
         | inr plain ↦ elim (cases_Bool (may_begin c)) [
-          inl begins ↦ find_word c cs begins
+          | inl begins ↦ find_word c cs begins
           | inr other ↦ elim (cases_Bool (c == 47)) [
-            inl solidus ↦ subst (λ x. Found (x ∷ cs)) (sym (eqb-true c 47 solidus)) (find_solidus cs)
+            | inl solidus ↦ subst (λ x. Found (x ∷ cs)) (sym (eqb-true c 47 solidus)) (find_solidus cs)
             | inr sign ↦ find_sign c cs (class-sign c (not_from_false _ (or_from _ _ (or_from _ _ (or_from _ _ dark plain) other) sign)))
           ]
         ]
@@ -137,9 +137,9 @@ cutting fuel start [] short = record { words = []; end = start; rest = []; cuts 
 cutting zero start (c ∷ cs) short = absurd (omega arith)
 cutting (suc fuel) start (c ∷ cs) short =
     elim (found c cs) [
-      Next lexeme front left next ↦
-        let less = shorter lexeme (c ∷ cs) front left next in
-        from_next start (c ∷ cs) lexeme front left next (cutting fuel (start + size front) left (omega arith))
+      | Next lexeme front left next ↦
+          let less = shorter lexeme (c ∷ cs) front left next in
+          from_next start (c ∷ cs) lexeme front left next (cutting fuel (start + size front) left (omega arith))
       | Absent none ↦ stuck start (c ∷ cs) (NoToken start) (refl, none)
     ]
 
@@ -149,17 +149,19 @@ whole text utf8 c e =
     let n = cut_size 0 (chars text) c.words c.end c.rest c.cuts in
     let m = ap length (encodes-chars text utf8) in
     let k = ap size e in
-    let all : c.end ≡ length text = omega arith in
-    (c.words ++ terminal_at (length text) End [] ∷ [], record {
-      words = c.words;
-      cuts = subst (λ p. Cuts 0 (chars text) c.words p []) all (subst (λ r. Cuts 0 (chars text) c.words c.end r) e c.cuts);
-      ended = refl;
-    })
+    let all : c.end ≡ length text = omega arith in (
+      c.words ++ terminal_at (length text) End [] ∷ [],
+      record {
+        words = c.words;
+        cuts = subst (λ p. Cuts 0 (chars text) c.words p []) all (subst (λ r. Cuts 0 (chars text) c.words c.end r) e c.cuts);
+        ended = refl;
+      },
+    )
 
 pub is_always_read : IsAlwaysRead
 is_always_read text utf8 =
     let c = cutting (length (chars text)) 0 (chars text) (omega arith) in
     elim c.stops [
-      inl e ↦ inl (whole text utf8 c e)
+      | inl e ↦ inl (whole text utf8 c e)
       | inr refusal ↦ inr (refusal.0, record { words = c.words; place = c.end; rest = c.rest; cuts = c.cuts; stuck = refusal.1 })
     ]

@@ -26,10 +26,13 @@ terminal_at start kind cs = record { kind = kind; text = encode_utf8_all cs; sta
 
 -- `text` begins at the byte `start`; its front is cut into `tokens`; `rest` is left, and begins at the byte `end`
 pub data Cuts : ℕ → List ℕ → List Terminal → ℕ → List ℕ → Type 0 where
+  -- nothing is cut off
   Nothing : (start : ℕ) (text : List ℕ) → Cuts start text [] start text
+  -- the next lexeme is a token, and the cut goes on behind it
   Token : (start : ℕ) (text : List ℕ) (kind : Kind) (front left : List ℕ) (tokens : List Terminal) (end : ℕ)
       (rest : List ℕ) → IsNext text (Word kind) front left → Cuts (start + size front) left tokens end rest
       → Cuts start text (terminal_at start kind front ∷ tokens) end rest
+  -- the next lexeme gives no token, and the cut goes on behind it
   Between : (start : ℕ) (text front left : List ℕ) (tokens : List Terminal) (end : ℕ) (rest : List ℕ)
       → IsNext text Gap front left → Cuts (start + size front) left tokens end rest → Cuts start text tokens end rest
 

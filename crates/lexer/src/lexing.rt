@@ -1,6 +1,6 @@
 ghost use Rattle.lexer.specs.Cut.{IsCut, IsRefused};
 ghost use Rattle.lexer.specs.Laws.{IsAlwaysRead, HasOneCut, IsCutOrRefused, HasOneRefusal};
-ghost use Rattle.lexer.specs.Listing.{IsInOrder, IsSliceOf, IsSpelled};
+ghost use Rattle.lexer.specs.Listing.{IsAtCharacter, IsFaultAtCharacter, IsInOrder, IsSliceOf, IsSpelled};
 ghost use Rattle.lexer.specs.Terminal.{Terminal, terminals_of, IsTerminated};
 ghost use Rattle.std.specs.Prelude.{◌≡◌, ◌≤◌, ◌+◌, ◌⊎◌, List, IfOk, IfErr, MatchResult, length};
 ghost use Rattle.std.specs.List.{All};
@@ -23,6 +23,8 @@ pub fn lex(alloc: Global, src: &str) -> Result<Vec<Token<'_>>, LexFault>
     ensures in_order { IfOk result (λ tokens. IsInOrder 0 (terminals_of tokens.items) (length src.now)) }
     ensures slices { IfOk result (λ tokens. All (IsSliceOf src.now) (terminals_of tokens.items)) }
     ensures spelled { IfOk result (λ tokens. All IsSpelled (terminals_of tokens.items)) }
+    ensures at_characters { IfOk result (λ tokens. All (IsAtCharacter src.now) (terminals_of tokens.items)) }
+    ensures fault_at_character { IfErr result (IsFaultAtCharacter src.now) }
     ensures count { IfOk result (λ tokens. length (terminals_of tokens.items) ≤ length src.now + 1) }
 {
     let mut tokens = Vec::new(alloc);

@@ -1,4 +1,7 @@
-//! Tokens of a text by longest match, and places in it.
+//! Tokens of a text by longest match, names, and places in a text.
+//!
+//! [`lex`] cuts a text into tokens or tells its first refusal; [`is_name`] tests a whole text for
+//! one name; [`place`] tells the line and the column of a byte.
 #![tactic(auto)]
 
 pub mod fault;

@@ -1,4 +1,4 @@
-//! The next lexeme of a text.
+//! The next lexeme of a text. A private part of the lexer.
 ghost use Rattle.lexer.specs.Cut.{IsStuck, HasNoLexeme};
 ghost use Rattle.lexer.specs.Lexeme.{sign_of};
 ghost use Rattle.lexer.specs.Scan.{holds, after_run, after_close, begins_sign, IsDouble, IsNoDouble, IsTail, Reads};

@@ -4,12 +4,13 @@ use Rattle.std.specs.Str.{chars, IsUtf8}
 use Rattle.lexer.specs.declared.token.Kind.{Kind}
 use Rattle.lexer.specs.declared.fault.LexFault.{LexFault}
 use Rattle.lexer.specs.declared.fault.LexFault.TheVariants.{NoMemory}
-use Rattle.std.specs.Result.{MatchResult}
+use Rattle.std.specs.Result.{MatchResult, IfErr}
 use Rattle.lexer.specs.Cut.{IsCut, IsRefused}
+use Rattle.lexer.specs.Listing.{IsFaultAtCharacter}
 use Rattle.lexer.specs.Scan.{Reads}
 use Rattle.lexer.specs.Terminal.{Terminal, terminal_of, terminals_of}
 use Rattle.lexer.proofs.Growing.{IsCutSoFar, GrowsBy, begin, gap, token, shorter_by, refused, whole}
-use Rattle.lexer.proofs.Listed.{Listed, listed}
+use Rattle.lexer.proofs.Listed.{Listed, listed, refused_at}
 use Rattle.lexer.proofs.Cutting.{has_one_cut, is_cut_or_refused, has_one_refusal}
 use Rattle.lexer.proofs.lexing.lex.Goals as goal
 
@@ -63,6 +64,9 @@ at_err : {X : Type 0} (r : Result X LexFault) (fault other : LexFault) → r ≡
 at_err (Ok x) fault other e h = absurd cc
 at_err (Err told) fault other e h = let same : told ≡ fault = cc in inl (same ∙ h)
 
+placed : {X : Type 0} (r : Result X LexFault) (fault : LexFault) (P : LexFault → Type 0) → r ≡ Err fault → P fault → IfErr r P
+placed {X} r fault P e h = let Q : Result X LexFault → Type 0 = λ x. IfErr x P in subst Q (sym e) h
+
 -- the refusal that is told
 told : (c : goal.After-drop-tokens) → IsRefused c.args.src.now c.in_err-kind.field-0.0
 told c =
@@ -75,6 +79,12 @@ pub returns-in_err-kind-clause-first : goal.returns-in_err-kind-clause-first
 returns-in_err-kind-clause-first c = λ fault refusal.
     let e : c.from_residual.result ≡ Err c.in_err-kind.field-0.0 = search rules in
     at_err c.from_residual.result c.in_err-kind.field-0.0 fault e (has_one_refusal c.args.src.now c.in_err-kind.field-0.0 fault (told c) refusal)
+
+pub returns-in_err-kind-clause-fault_at_character : goal.returns-in_err-kind-clause-fault_at_character
+returns-in_err-kind-clause-fault_at_character c =
+    let e : c.from_residual.result ≡ Err c.in_err-kind.field-0.0 = search rules in
+    placed c.from_residual.result c.in_err-kind.field-0.0 (IsFaultAtCharacter c.args.src.now) e
+    (refused_at c.args.src.now c.in_err-kind.field-0.0 c.utf8.src (told c))
 
 -- the whole cut
 ended : (c : goal.In_ok-push-2) → IsCut c.args.src.now (terminals_of c.push-2.new.self.items)
@@ -109,3 +119,6 @@ returns-clause-spelled c = (all c).spelled
 
 pub returns-clause-count : goal.returns-clause-count
 returns-clause-count c = (all c).count
+
+pub returns-clause-at_characters : goal.returns-clause-at_characters
+returns-clause-at_characters c = (all c).at_characters
