@@ -1,9 +1,9 @@
 -- Cuts of a text, one behind another, and why there is one at most.
-use Rattle.std.proofs.Common.{◌≡◌, ℕ, ◌+◌, ◌<◌, ◌≤◌, List, [], ◌∷◌, ◌++◌, Option, Some, None, length, refl, sym, ap, subst, ◌∙◌, arith, append_assoc, append-nil}
-use Rattle.std.specs.Str.{chars, encode_utf8_all}
+use Rattle.std.proofs.Common.{◌≡◌, ℕ, ◌+◌, List, [], ◌∷◌, ◌++◌, length, refl, sym, ap, subst, ◌∙◌}
+use Rattle.std.specs.Str.{chars}
 use Rattle.lexer.specs.Terminal.{Terminal}
-use Rattle.lexer.specs.Lexeme.{Lexeme, Word, Gap, LargeLiteral, OpenComment, IsLexeme}
-use Rattle.lexer.specs.Cut.{Cuts, Nothing, Token, Between, IsNext, IsCut, IsRefused, IsStuck, HasNoLexeme, terminal_at, size}
+use Rattle.lexer.specs.Lexeme.{Lexeme, Word, Gap, LargeLiteral, OpenComment}
+use Rattle.lexer.specs.Cut.{Cuts, Nothing, Token, Between, IsNext, IsStuck, terminal_at, size}
 use Rattle.lexer.specs.Laws.{HasOneCut, IsCutOrRefused, HasOneRefusal}
 use Rattle.lexer.specs.declared.token.Kind.{Kind}
 use Rattle.lexer.specs.declared.token.Kind.TheVariants.{End}

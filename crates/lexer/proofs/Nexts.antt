@@ -1,17 +1,17 @@
 -- The next lexeme of a text, by what the text begins with; there is at most one.
-use Rattle.std.proofs.Common.{◌≡◌, ◌⊎◌, ℕ, suc, ◌<◌, ◌≤◌, ◌==◌, Bool, true, false, not, cond, List, [], ◌∷◌, ◌++◌, Option, Some, None, length, codes, refl, sym, ap, subst, ◌∙◌, inl, inr, arith, unwrap_or, is_some, append_assoc, append-nil}
+use Rattle.std.proofs.Common.{◌≡◌, ℕ, suc, ◌≤◌, ◌==◌, true, not, List, [], ◌∷◌, ◌++◌, Option, Some, None, length, codes, refl, sym, ap, subst, ◌∙◌, inl, inr, arith, unwrap_or, is_some, append_assoc, append-nil}
 use Rattle.std.proofs.lemmas.Bool.{cases_Bool, cases_lt, and_from, leb-true, leb-false, cond-true, cond-false}
 use Rattle.std.specs.Char.{is_ascii_digit}
 use Rattle.std.specs.List.{list_all}
 use Rattle.std.specs.Prelude.{nat_le}
 use Rattle.std.specs.Str.Parse.{digits_value}
-use Rattle.lexer.specs.Words.{is_white_space, is_identifier, is_name, may_begin, may_continue, keyword_of}
-use Rattle.lexer.specs.Lexeme.{Lexeme, Word, Gap, LargeLiteral, OpenComment, IsLexeme, Blank, LineComment, BlockComment, Unended, Keyword, Identifier, Literal, TooLarge, Sign, IsInLine, IsOpen, IsClosed, IsNumeral, sign_of, greatest_literal}
+use Rattle.lexer.specs.Words.{is_white_space, is_identifier, may_begin, may_continue, keyword_of}
+use Rattle.lexer.specs.Lexeme.{Lexeme, Word, Gap, OpenComment, IsLexeme, Blank, LineComment, BlockComment, Unended, Keyword, Identifier, Literal, TooLarge, Sign, IsInLine, IsOpen, IsClosed, IsNumeral, sign_of, greatest_literal}
 use Rattle.lexer.specs.Cut.{IsNext, HasNoLexeme}
 use Rattle.lexer.specs.Scan.{IsNoDouble}
 use Rattle.lexer.specs.declared.token.Kind.{Kind}
-use Rattle.lexer.specs.declared.token.Kind.TheVariants.{Slash, Name, Integer}
-use Rattle.lexer.proofs.Letters.{Class, White, Digit, Letter, Solidus, Other, class_of, class-White, class-Digit, class-Letter, class-Solidus, class-Other}
+use Rattle.lexer.specs.declared.token.Kind.TheVariants.{Slash, Name}
+use Rattle.lexer.proofs.Letters.{Class, White, Digit, Letter, Solidus, Other, class_of, class-White, class-Digit, class-Letter, class-Solidus}
 use Rattle.lexer.proofs.Fronts.{Front, AfterSolidus, Alone, Line, Block, Unclosed, word_kind, literal_of, shape, nonempty}
 use Rattle.lexer.proofs.Runs.{Stops, run_longest, longer_front, same_front, whole_longest}
 

@@ -1,22 +1,22 @@
 -- Each text is cut, or it is refused.
-use Rattle.std.proofs.Common.{◌≡◌, ◌⊎◌, ℕ, zero, suc, ◌+◌, ◌<◌, ◌≤◌, ◌==◌, ◌&&◌, ◌||◌, Bool, true, false, not, List, [], ◌∷◌, ◌++◌, Option, Some, None, length, refl, sym, ap, subst, ◌∙◌, arith, inl, inr, length-append}
-use Rattle.std.proofs.lemmas.Bool.{cases_Bool, cases_eq, eqb-true, eqb-false, or_from, not_from_false}
+use Rattle.std.proofs.Common.{◌≡◌, ◌⊎◌, ℕ, zero, suc, ◌+◌, ◌<◌, ◌≤◌, ◌==◌, true, false, not, List, [], ◌∷◌, ◌++◌, Option, Some, None, length, refl, sym, ap, subst, arith, inl, inr, length-append}
+use Rattle.std.proofs.lemmas.Bool.{cases_Bool, cases_eq, eqb-true, or_from, not_from_false}
 use Rattle.std.proofs.lemmas.Str.{encodes-chars}
 use Rattle.std.specs.Char.{is_ascii_digit}
-use Rattle.std.specs.Str.{chars, IsUtf8, encode_utf8_all}
+use Rattle.std.specs.Str.{chars, IsUtf8}
 use Rattle.lexer.specs.Terminal.{Terminal}
 use Rattle.lexer.specs.Words.{is_white_space, may_begin, may_continue}
 use Rattle.lexer.specs.Lexeme.{Lexeme, Word, Gap, LargeLiteral, OpenComment, sign_of}
-use Rattle.lexer.specs.Cut.{Cuts, Nothing, Token, Between, IsNext, IsCut, IsRefused, IsStuck, HasNoLexeme, terminal_at, size}
+use Rattle.lexer.specs.Cut.{Cuts, Nothing, Token, Between, IsNext, IsCut, IsStuck, HasNoLexeme, terminal_at, size}
 use Rattle.lexer.specs.Laws.{IsAlwaysRead}
-use Rattle.lexer.specs.Scan.{after_close, after_run, begins_sign, IsNoDouble}
+use Rattle.lexer.specs.Scan.{after_close, after_run, IsNoDouble}
 use Rattle.lexer.specs.declared.token.Kind.{Kind}
 use Rattle.lexer.specs.declared.token.Kind.TheVariants.{End}
 use Rattle.lexer.specs.declared.fault.LexFault.{LexFault}
 use Rattle.lexer.specs.declared.fault.LexFault.TheVariants.{NoToken, LiteralTooLarge, UnclosedComment}
 use Rattle.lexer.proofs.Letters.{class_of, Other}
 use Rattle.lexer.proofs.Fronts.{nonempty}
-use Rattle.lexer.proofs.Nexts.{next_white, next_literal, next_word, next_solidus, next_double, next_single, none_next, IsNotFirst}
+use Rattle.lexer.proofs.Nexts.{next_white, next_literal, next_word, next_solidus, next_double, next_single, none_next}
 use Rattle.lexer.proofs.Reading.{moved, run_parts, line_read, block_read, open_read, class-sign}
 use Rattle.lexer.proofs.Listed.{cut_size}
 

@@ -7,7 +7,7 @@
 pub mod fault;
 pub mod lexing;
 pub mod names;
-pub mod pieces;
+mod pieces;
 pub mod places;
 pub mod token;
 

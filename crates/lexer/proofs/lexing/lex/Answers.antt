@@ -1,4 +1,4 @@
-use Rattle.std.proofs.Common.{◌≡◌, ◌⊎◌, inl, ◌∷◌, ◌++◌, ◌<◌, ℕ, List, Option, Result, [], Some, None, Ok, Err, length, refl, sym, ap, subst, ◌∙◌, arith, rules}
+use Rattle.std.proofs.Common.{◌≡◌, ◌⊎◌, inl, Option, Result, Some, None, Ok, Err, refl, sym, ap, subst, ◌∙◌, arith, rules}
 use Rattle.std.proofs.lemmas.List.{map-append}
 use Rattle.std.specs.Str.{chars, IsUtf8}
 use Rattle.lexer.specs.declared.token.Kind.{Kind}
@@ -8,7 +8,7 @@ use Rattle.std.specs.Result.{MatchResult, IfErr}
 use Rattle.lexer.specs.Cut.{IsCut, IsRefused}
 use Rattle.lexer.specs.Listing.{IsFaultAtCharacter}
 use Rattle.lexer.specs.Scan.{Reads}
-use Rattle.lexer.specs.Terminal.{Terminal, terminal_of, terminals_of}
+use Rattle.lexer.specs.Terminal.{terminal_of, terminals_of}
 use Rattle.lexer.proofs.Growing.{IsCutSoFar, GrowsBy, begin, gap, token, shorter_by, refused, whole}
 use Rattle.lexer.proofs.Listed.{Listed, listed, refused_at}
 use Rattle.lexer.proofs.Cutting.{has_one_cut, is_cut_or_refused, has_one_refusal}

@@ -1,8 +1,7 @@
-use Rattle.std.proofs.Common.{◌≡◌, ◌<◌, ℕ, refl, sym, ap, subst, ◌∙◌, arith}
+use Rattle.std.proofs.Common.{◌<◌, refl, subst}
 use Rattle.std.specs.Char.{is_ascii_digit}
 use Rattle.std.specs.Str.{chars}
 use Rattle.std.specs.Str.Parse.{digits_value}
-use Rattle.lexer.specs.Lexeme.{Word}
 use Rattle.lexer.proofs.Reading.{moved, run_tail, literal_read, literal_small, literal_large, parsed_ok, parsed_err}
 use Rattle.lexer.proofs.pieces.literal.Goals as goal
 use Rattle.lexer.proofs.pieces.literal.Goals.{in_default-via-in-Ok+else-value-le-GREATEST_LITERAL, in_default-via-in_default}

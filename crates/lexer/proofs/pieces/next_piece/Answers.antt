@@ -1,4 +1,4 @@
-use Rattle.std.proofs.Common.{◌≡◌, ◌∷◌, [], refl, sym, ◌∙◌}
+use Rattle.std.proofs.Common.{◌∷◌, [], refl, sym, ◌∙◌}
 use Rattle.std.specs.Str.{chars}
 use Rattle.lexer.proofs.Nexts.{next_white}
 use Rattle.lexer.proofs.Reading.{moved}
