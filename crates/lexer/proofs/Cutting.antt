@@ -4,7 +4,7 @@ use Rattle.std.specs.Str.{chars}
 use Rattle.lexer.specs.Terminal.{Terminal}
 use Rattle.lexer.specs.Lexeme.{Lexeme, Word, Gap, LargeLiteral, OpenComment}
 use Rattle.lexer.specs.Cut.{Cuts, Nothing, Token, Between, IsNext, IsStuck, terminal_at, size}
-use Rattle.lexer.specs.Laws.{HasOneCut, IsCutOrRefused, HasOneRefusal}
+use Rattle.lexer.specs.Laws.{HasOneCut, IsNotCutAndRefused, HasOneRefusal}
 use Rattle.lexer.specs.declared.token.Kind.{Kind}
 use Rattle.lexer.specs.declared.token.Kind.TheVariants.{End}
 use Rattle.lexer.specs.declared.fault.LexFault.{LexFault}
@@ -144,8 +144,8 @@ has_one_cut text tokens others h k =
     let same = one_way 0 (chars text) h.words (length text) [] k.words (length text) [] h.cuts halts_nil k.cuts halts_nil in
     h.ended ∙ (ap (λ ws. ws ++ terminal_at (length text) End [] ∷ []) same.tokens_same ∙ sym k.ended)
 
-pub is_cut_or_refused : IsCutOrRefused
-is_cut_or_refused text tokens fault h k =
+pub not_cut_and_refused : IsNotCutAndRefused
+not_cut_and_refused text tokens fault h k =
     let same = one_way 0 (chars text) h.words (length text) [] k.words k.place k.rest h.cuts halts_nil k.cuts (halts_stuck k.place k.rest fault k.stuck) in
     some_stuck k.place k.rest fault k.stuck (sym same.rest_same)
 

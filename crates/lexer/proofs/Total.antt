@@ -8,7 +8,7 @@ use Rattle.lexer.specs.Terminal.{Terminal}
 use Rattle.lexer.specs.Words.{is_white_space, may_begin, may_continue}
 use Rattle.lexer.specs.Lexeme.{Lexeme, Word, Gap, LargeLiteral, OpenComment, sign_of}
 use Rattle.lexer.specs.Cut.{Cuts, Nothing, Token, Between, IsNext, IsCut, IsStuck, HasNoLexeme, terminal_at, size}
-use Rattle.lexer.specs.Laws.{IsAlwaysRead}
+use Rattle.lexer.specs.Laws.{IsCutOrRefused}
 use Rattle.lexer.specs.Scan.{after_close, after_run, IsNoDouble}
 use Rattle.lexer.specs.declared.token.Kind.{Kind}
 use Rattle.lexer.specs.declared.token.Kind.TheVariants.{End}
@@ -158,8 +158,8 @@ whole text utf8 c e =
       },
     )
 
-pub is_always_read : IsAlwaysRead
-is_always_read text utf8 =
+pub is_cut_or_refused : IsCutOrRefused
+is_cut_or_refused text utf8 =
     let c = cutting (length (chars text)) 0 (chars text) (omega arith) in
     elim c.stops [
       | inl e ↦ inl (whole text utf8 c e)

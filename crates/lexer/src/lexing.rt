@@ -1,5 +1,5 @@
 ghost use Rattle.lexer.specs.Cut.{IsCut, IsRefused};
-ghost use Rattle.lexer.specs.Laws.{IsAlwaysRead, HasOneCut, IsCutOrRefused, HasOneRefusal};
+ghost use Rattle.lexer.specs.Laws.{IsCutOrRefused, HasOneCut, IsNotCutAndRefused, HasOneRefusal};
 ghost use Rattle.lexer.specs.Listing.{IsAtCharacter, IsFaultAtCharacter, IsInOrder, IsSliceOf, IsSpelled};
 ghost use Rattle.lexer.specs.Terminal.{Terminal, terminals_of, IsTerminated};
 ghost use Rattle.std.specs.Prelude.{◌≡◌, ◌≤◌, ◌+◌, ◌⊎◌, List, IfOk, IfErr, MatchResult, length};
@@ -54,8 +54,8 @@ pub fn lex(alloc: Global, src: &str) -> Result<Vec<Token<'_>>, LexFault>
 
 /// The law that each text has either one cut or one refusal.
 pub fn one_reading()
-    ensures always { IsAlwaysRead }
-    ensures one_cut { HasOneCut }
     ensures cut_or_refused { IsCutOrRefused }
+    ensures one_cut { HasOneCut }
+    ensures not_both { IsNotCutAndRefused }
     ensures one_refusal { HasOneRefusal }
 {}

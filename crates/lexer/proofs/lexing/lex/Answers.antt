@@ -11,7 +11,7 @@ use Rattle.lexer.specs.Scan.{Reads}
 use Rattle.lexer.specs.Terminal.{terminal_of, terminals_of}
 use Rattle.lexer.proofs.Growing.{IsCutSoFar, GrowsBy, begin, gap, token, shorter_by, refused, whole}
 use Rattle.lexer.proofs.Listed.{Listed, listed, refused_at}
-use Rattle.lexer.proofs.Cutting.{has_one_cut, is_cut_or_refused, has_one_refusal}
+use Rattle.lexer.proofs.Cutting.{has_one_cut, not_cut_and_refused, has_one_refusal}
 use Rattle.lexer.proofs.lexing.lex.Goals as goal
 
 pub loop-first-init : goal.loop-first-init
@@ -73,7 +73,7 @@ told c =
     refused c.args.src.now c.loop-first.rest.now (terminals_of c.loop-first.tokens.items) c.in_err-kind.field-0.0 c.loop-first.invariant.1 c.in_err-kind.ensures
 
 pub returns-in_err-kind-clause-only : goal.returns-in_err-kind-clause-only
-returns-in_err-kind-clause-only c = λ tokens cut. absurd (is_cut_or_refused c.args.src.now tokens c.in_err-kind.field-0.0 cut (told c))
+returns-in_err-kind-clause-only c = λ tokens cut. absurd (not_cut_and_refused c.args.src.now tokens c.in_err-kind.field-0.0 cut (told c))
 
 pub returns-in_err-kind-clause-first : goal.returns-in_err-kind-clause-first
 returns-in_err-kind-clause-first c = λ fault refusal.
@@ -103,7 +103,7 @@ pub returns-clause-only : goal.returns-clause-only
 returns-clause-only c = λ tokens cut. has_one_cut c.args.src.now (terminals_of c.push-2.new.self.items) tokens (ended c) cut
 
 pub returns-clause-first : goal.returns-clause-first
-returns-clause-first c = λ fault refusal. is_cut_or_refused c.args.src.now (terminals_of c.push-2.new.self.items) fault (ended c) refusal
+returns-clause-first c = λ fault refusal. not_cut_and_refused c.args.src.now (terminals_of c.push-2.new.self.items) fault (ended c) refusal
 
 pub returns-clause-terminated : goal.returns-clause-terminated
 returns-clause-terminated c = (all c).terminated
