@@ -1,0 +1,10 @@
+pub mod Closure
+mod Bits
+mod Paths
+mod Rows
+pub mod Names
+mod Inclusion
+mod Automaton
+mod Building
+mod Uniqueness
+mod Spots
