@@ -1,2 +1,3 @@
 pub mod Label
+pub mod Lattice
 pub mod Sent
