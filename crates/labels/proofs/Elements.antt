@@ -1,5 +1,5 @@
 -- `All` and `Any` of a list, in the words of its elements.
-use Rattle.std.proofs.Common.{ℕ, List, ◌++◌, ⊎_elim, ◌⊎◌}
+use Rattle.std.proofs.Common.{List}
 use Rattle.std.specs.Prelude.{All, Any, Contains}
 use Rattle.std.proofs.lemmas.List.Elements.{Contains-get_or, All-contains}
 

@@ -1,2 +1,4 @@
 pub mod Elements
 pub mod Flow
+pub mod FlowTests
+pub mod Tests

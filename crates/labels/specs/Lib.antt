@@ -1,3 +1,5 @@
+pub use Rattle.principals.specs.ActsFor
 pub mod Label
 pub mod Lattice
 pub mod Sent
+pub mod Sets
