@@ -1,3 +1,4 @@
+pub mod Ascending
 pub mod Elements
 pub mod Flow
 pub mod FlowTests

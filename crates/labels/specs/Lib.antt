@@ -1,4 +1,6 @@
 pub use Rattle.principals.specs.ActsFor
+
+pub mod Canonical
 pub mod Label
 pub mod Lattice
 pub mod Sent
