@@ -1,5 +1,5 @@
 -- Ascending lists as sets: what `ascending_set` keeps, and that a set has one ascending list.
-use Rattle.std.proofs.Common.{◌≡◌, ℕ, Bool, true, false, List, [], ◌∷◌, ◌++◌, ◌⊎◌, ◌↔◌, refl, sym, ap, ◌∙◌, subst, inl, inr, ⊎_elim, arith}
+use Rattle.std.proofs.Common.{◌≡◌, ℕ, zero, suc, drop, Bool, true, false, List, [], ◌∷◌, ◌++◌, ◌⊎◌, ◌↔◌, refl, sym, ap, ◌∙◌, subst, inl, inr, ⊎_elim, arith}
 use Rattle.std.specs.Prelude.{All, Contains}
 use Rattle.std.specs.List.{AllByRecursion}
 use Rattle.std.specs.List.Sorted.{IsStrictlySortedBy}
@@ -8,7 +8,7 @@ use Rattle.std.specs.Cmp.{IsTotalOrder}
 use Rattle.std.specs.declared.cmp.Ordering.{Ordering}
 use Rattle.std.specs.declared.cmp.Ordering.TheVariants.{Less, Equal, Greater}
 use Rattle.std.proofs.lemmas.Cmp.{tied_itself}
-use Rattle.std.proofs.lemmas.List.Elements.{All-from_recursion, recursion_from_All, All-contains, All-nil}
+use Rattle.std.proofs.lemmas.List.Elements.{All-from_recursion, recursion_from_All, All-contains, Contains-append_left, Contains-append_right, Contains-append_cases}
 use Rattle.std.proofs.lemmas.Map.Keys.{sorted_head, sorted_tail}
 use Rattle.std.proofs.lemmas.Map.Lookups.{CmpEqualImpliesEq}
 use Rattle.principals.proofs.Closure.{none_in_nil, Contains-cons_cases, Contains-later, Contains-first}
@@ -186,3 +186,75 @@ ascending_set-least {cmp = cmp} order exact x xs all below same =
     ascending_set-unique order exact all (x ∷ ascending_set cmp xs)
         (sorted_cons cmp x (ascending_set cmp xs) (λ y c. below y ((kept y).0 c)) (ascending_set-sorted order xs))
         (SameSet-trans (x ∷ ascending_set cmp xs) (x ∷ xs) all (SameSet-cons x (ascending_set cmp xs) xs kept) same)
+
+-- ---- the union of two ascending lists, from the front
+
+pub union_of_less : {X : Type 0} {cmp : X → X → Ordering} → IsTotalOrder cmp → CmpEqualImpliesEq cmp → (x : X) (xs : List X) (y : X) (ys : List X) →
+    IsStrictlySortedBy cmp (x ∷ xs) → IsStrictlySortedBy cmp (y ∷ ys) → cmp x y ≡ Less →
+    x ∷ ascending_set cmp (xs ++ y ∷ ys) ≡ ascending_set cmp ((x ∷ xs) ++ y ∷ ys)
+union_of_less {cmp = cmp} order exact x xs y ys left right less =
+    ascending_set-least order exact x (xs ++ y ∷ ys) ((x ∷ xs) ++ y ∷ ys)
+        (λ z contained. ⊎_elim (below_later cmp x xs left z)
+            (λ on_right. first_or_later (λ w. cmp x w ≡ Less) y ys z on_right less
+                (λ later. order.trans x y z less (below_later cmp y ys right z later)))
+            (Contains-append_cases xs (y ∷ ys) z contained))
+        (λ z. (λ c. c, λ c. c))
+
+pub union_of_equal : {X : Type 0} {cmp : X → X → Ordering} → IsTotalOrder cmp → CmpEqualImpliesEq cmp → (x : X) (xs : List X) (y : X) (ys : List X) →
+    IsStrictlySortedBy cmp (x ∷ xs) → IsStrictlySortedBy cmp (y ∷ ys) → cmp x y ≡ Equal →
+    x ∷ ascending_set cmp (xs ++ ys) ≡ ascending_set cmp ((x ∷ xs) ++ y ∷ ys)
+union_of_equal {cmp = cmp} order exact x xs y ys left right tie =
+    let same : x ≡ y = exact x y tie in
+    ascending_set-least order exact x (xs ++ ys) ((x ∷ xs) ++ y ∷ ys)
+        (λ z contained. ⊎_elim (below_later cmp x xs left z)
+            (λ on_right. subst (λ w. cmp w z ≡ Less) (sym same) (below_later cmp y ys right z on_right))
+            (Contains-append_cases xs ys z contained))
+        (λ z. (λ c. first_or_later (λ w. Contains ((x ∷ xs) ++ y ∷ ys) w) x (xs ++ ys) z c
+                (Contains-first x (xs ++ y ∷ ys))
+                (λ later. ⊎_elim
+                    (λ on_left. Contains-later x (xs ++ y ∷ ys) z (Contains-append_left xs (y ∷ ys) z on_left))
+                    (λ on_right. Contains-later x (xs ++ y ∷ ys) z (Contains-append_right xs (y ∷ ys) z (Contains-later y ys z on_right)))
+                    (Contains-append_cases xs ys z later)),
+            λ c. first_or_later (λ w. Contains (x ∷ (xs ++ ys)) w) x (xs ++ y ∷ ys) z c
+                (Contains-first x (xs ++ ys))
+                (λ later. ⊎_elim
+                    (λ on_left. Contains-later x (xs ++ ys) z (Contains-append_left xs ys z on_left))
+                    (λ on_right. first_or_later (λ w. Contains (x ∷ (xs ++ ys)) w) y ys z on_right
+                        (subst (λ w. Contains (x ∷ (xs ++ ys)) w) same (Contains-first x (xs ++ ys)))
+                        (λ k. Contains-later x (xs ++ ys) z (Contains-append_right xs ys z k)))
+                    (Contains-append_cases xs (y ∷ ys) z later))))
+
+pub union_of_greater : {X : Type 0} {cmp : X → X → Ordering} → IsTotalOrder cmp → CmpEqualImpliesEq cmp → (x : X) (xs : List X) (y : X) (ys : List X) →
+    IsStrictlySortedBy cmp (x ∷ xs) → IsStrictlySortedBy cmp (y ∷ ys) → cmp x y ≡ Greater →
+    y ∷ ascending_set cmp ((x ∷ xs) ++ ys) ≡ ascending_set cmp ((x ∷ xs) ++ y ∷ ys)
+union_of_greater {cmp = cmp} order exact x xs y ys left right greater =
+    let less : cmp y x ≡ Less = less_from_greater order x y greater in
+    ascending_set-least order exact y ((x ∷ xs) ++ ys) ((x ∷ xs) ++ y ∷ ys)
+        (λ z contained. ⊎_elim
+            (λ on_left. first_or_later (λ w. cmp y w ≡ Less) x xs z on_left less
+                (λ later. order.trans y x z less (below_later cmp x xs left z later)))
+            (below_later cmp y ys right z)
+            (Contains-append_cases (x ∷ xs) ys z contained))
+        (λ z. (λ c. first_or_later (λ w. Contains ((x ∷ xs) ++ y ∷ ys) w) y ((x ∷ xs) ++ ys) z c
+                (Contains-append_right (x ∷ xs) (y ∷ ys) y (Contains-first y ys))
+                (λ later. ⊎_elim (Contains-append_left (x ∷ xs) (y ∷ ys) z)
+                    (λ on_right. Contains-append_right (x ∷ xs) (y ∷ ys) z (Contains-later y ys z on_right))
+                    (Contains-append_cases (x ∷ xs) ys z later)),
+            λ c. ⊎_elim
+                (λ on_left. Contains-later y ((x ∷ xs) ++ ys) z (Contains-append_left (x ∷ xs) ys z on_left))
+                (λ on_right. first_or_later (λ w. Contains (y ∷ ((x ∷ xs) ++ ys)) w) y ys z on_right
+                    (Contains-first y ((x ∷ xs) ++ ys))
+                    (λ later. Contains-later y ((x ∷ xs) ++ ys) z (Contains-append_right (x ∷ xs) ys z later)))
+                (Contains-append_cases (x ∷ xs) (y ∷ ys) z c)))
+
+-- an ascending list is its own ascending set
+pub ascending_set-itself : {X : Type 0} {cmp : X → X → Ordering} → IsTotalOrder cmp → CmpEqualImpliesEq cmp → (xs : List X) →
+    IsStrictlySortedBy cmp xs → ascending_set cmp xs ≡ xs
+ascending_set-itself order exact xs sorted = sym (ascending_set-unique order exact xs xs sorted (λ z. (λ c. c, λ c. c)))
+
+-- ---- what is left of an ascending list
+
+pub sorted_drop : {X : Type 0} (cmp : X → X → Ordering) (n : ℕ) (xs : List X) → IsStrictlySortedBy cmp xs → IsStrictlySortedBy cmp (drop n xs)
+sorted_drop cmp zero xs sorted = sorted
+sorted_drop cmp (suc n) [] sorted = sorted
+sorted_drop cmp (suc n) (x ∷ xs) sorted = sorted_drop cmp n xs (sorted_tail cmp x xs sorted)

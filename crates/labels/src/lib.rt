@@ -1,7 +1,13 @@
 //! Labels of the decentralized label model: who may read what, and what may flow where.
 #![tactic(auto)]
 
+pub mod joins;
+pub mod label_sets;
 pub mod laws;
+pub mod policies;
 pub mod sent;
 
+pub use joins::join;
+pub use label_sets::Label;
+pub use policies::Policy;
 pub use sent::Pair;

@@ -1,0 +1,7 @@
+use Rattle.std.proofs.Common.{◌≡◌, sym, subst}
+use Rattle.std.specs.Prelude.{IsTrue, Bool, ◌↔◌}
+use Rattle.labels.proofs.Written.{label_eq-decides}
+use Rattle.labels.proofs.label_sets.LabelPartialEq.eq.Goals as goal
+
+pub returns-clause-same : goal.returns-clause-same
+returns-clause-same c = rw (c.eq.ensures, c.self.view_is, c.other.view_is) (label_eq-decides c.args.self.now c.args.other.now)
