@@ -1,8 +1,8 @@
 -- What a written policy and a written label come to: they are canonical, and sorting and dropping what stands twice makes them.
-use Rattle.std.proofs.Common.{◌≡◌, ℕ, Bool, true, false, List, [], ◌∷◌, ◌++◌, ◌⊎◌, ◌↔◌, ◌≢◌, refl, sym, ap, ◌∙◌, subst, not, eqb, arith, rules}
-use Rattle.std.specs.Prelude.{All, Contains, filter, IsTrue, ◌==◌}
+use Rattle.std.proofs.Common.{◌≡◌, ℕ, Bool, true, List, [], ◌++◌, ◌↔◌, refl, sym, subst, not, arith}
+use Rattle.std.specs.Prelude.{All, Contains, IsTrue, ◌==◌}
 use Rattle.std.specs.List.{dedup}
-use Rattle.std.specs.List.Sorted.{IsPermutation, IsSorted, IsStrictlySortedBy, IsStrictlyIncreasing}
+use Rattle.std.specs.List.Sorted.{IsPermutation, IsSorted}
 use Rattle.std.specs.Cmp.{IsTotalOrder, IsEquivalence, Equal-is}
 use Rattle.std.specs.Cmp.Lexicographic.{pointwise_decides}
 use Rattle.std.specs.Ordering.{nat_cmp, eq_by_cmp, is_eq}
@@ -30,8 +30,10 @@ pub dedup-sorted : {X : Type 0} {cmp : X → X → Ordering} → IsTotalOrder cm
     (xs ys : List X) → IsPermutation xs ys → IsSorted cmp ys → dedup same ys ≡ ascending_set cmp xs
 dedup-sorted order exact same equivalence ties equal xs ys moved sorted =
     ascending_set-unique order exact xs (dedup same ys) (IsStrictlySortedBy-dedup order ties ys sorted)
-        (λ z. (λ c. Contains-permutation ys xs z (IsPermutation-sym xs ys moved) (Contains-from_dedup same ys z c),
-            λ c. Contains-dedup equivalence equal ys z (Contains-permutation xs ys z moved c)))
+    (λ z. (
+      λ c. Contains-permutation ys xs z (IsPermutation-sym xs ys moved) (Contains-from_dedup same ys z c),
+      λ c. Contains-dedup equivalence equal ys z (Contains-permutation xs ys z moved c),
+    ))
 
 nat_eq-ties : (x y : ℕ) → (x == y) ≡ eq_by_cmp nat_cmp x y
 nat_eq-ties x y = grind (arith, nat_tests)
@@ -59,17 +61,17 @@ dedup-sorted_policies = dedup-sorted policy_cmp-total policy_cmp-exact policy_eq
 pub readers_beside-owner : (owner : ℕ) (readers : List ℕ) → ¬ Contains (readers_beside owner readers) owner
 readers_beside-owner owner readers contained =
     let passes : not (owner == owner) ≡ true =
-        All-contains (λ reader. not (reader == owner) ≡ true) (readers_beside owner readers) owner
-            (filter_passes (λ reader. not (reader == owner)) (ascending_set nat_cmp readers)) contained in
+    All-contains (λ reader. not (reader == owner) ≡ true) (readers_beside owner readers) owner
+    (filter_passes (λ reader. not (reader == owner)) (ascending_set nat_cmp readers)) contained in
     let same = eq-eqb owner owner refl in
     absurd (cc)
 
 pub IsCanonicalPolicy-written : (owner : ℕ) (readers : List ℕ) → IsCanonicalPolicy (written_policy owner readers)
 IsCanonicalPolicy-written owner readers = record {
   readers_ascend =
-    IsStrictlyIncreasing-from_sorted (readers_beside owner readers)
-        (IsStrictlySortedBy-filter nat_cmp (λ reader. not (reader == owner)) (ascending_set nat_cmp readers) (ascending_set-sorted nat_cmp_total readers));
-  owner_left_out = readers_beside-owner owner readers
+      IsStrictlyIncreasing-from_sorted (readers_beside owner readers)
+      (IsStrictlySortedBy-filter nat_cmp (λ reader. not (reader == owner)) (ascending_set nat_cmp readers) (ascending_set-sorted nat_cmp_total readers));
+  owner_left_out = readers_beside-owner owner readers;
 }
 
 -- ---- a written label
@@ -78,8 +80,8 @@ pub IsCanonicalLabel-written : (policies : List ReaderPolicy) → All IsCanonica
 IsCanonicalLabel-written policies each = record {
   policies_ascend = ascending_set-sorted policy_cmp-total policies;
   each_canonical =
-    All-from_each IsCanonicalPolicy (written_label policies)
-        (λ policy contained. each_from_All IsCanonicalPolicy policies each policy ((ascending_set-SameSet policy_cmp-exact policies policy).0 contained))
+      All-from_each IsCanonicalPolicy (written_label policies)
+      (λ policy contained. each_from_All IsCanonicalPolicy policies each policy ((ascending_set-SameSet policy_cmp-exact policies policy).0 contained));
 }
 
 -- a set of policies is one canonical label

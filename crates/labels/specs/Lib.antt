@@ -1,5 +1,4 @@
 pub use Rattle.principals.specs.ActsFor
-
 pub mod Canonical
 pub mod Label
 pub mod Lattice

@@ -1,6 +1,6 @@
 -- The laws of the order of policies, which the comparisons of `Policy` and `Label` have to show.
 -- Source: our own.
-use Rattle.std.specs.Prelude.{Bool, List, ◌≡◌}
+use Rattle.std.specs.Prelude.{Bool}
 use Rattle.std.proofs.Common.{refl}
 use Rattle.std.specs.Cmp.{IsTotalOrder, IsPartialOrder, IsEquivalence, IsPartialEquivalence, partial_order_from_agreeing_total, partial_equiv_from_equiv}
 use Rattle.std.specs.Cmp.Lexicographic.{pointwise}

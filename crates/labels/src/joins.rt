@@ -4,11 +4,10 @@ ghost use Rattle.labels.specs.Sets.{SameSet};
 ghost use Rattle.std.specs.List.Sorted.{IsStrictlySortedBy};
 ghost use Rattle.std.specs.Prelude.{IfOk, OnOk, ◌++◌, ◌≡◌};
 
-use std::alloc::{AllocError, Global};
-use std::cmp::Ordering;
-
 use crate::label_sets::Label;
 use crate::policies::Policy;
+use std::alloc::{AllocError, Global};
+use std::cmp::Ordering;
 
 /// The join of two labels: the policies of both and no other ones.
 pub fn join(alloc: Global, left: &Label, right: &Label) -> Result<Label, AllocError>

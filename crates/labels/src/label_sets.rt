@@ -4,10 +4,9 @@ ghost use Rattle.labels.specs.PolicyOrder.{label_eq, label_eq-equivalence, label
 ghost use Rattle.std.specs.List.Sorted.{IsStrictlySortedBy};
 ghost use Rattle.std.specs.Prelude.{All, IsTrue, [], ◌↔◌, ◌≡◌};
 
+use crate::policies::Policy;
 use std::alloc::{AllocError, Global};
 use std::marker::Model;
-
-use crate::policies::Policy;
 
 /// A set of policies, in ascending order by owner and then by the list of readers, each policy once.
 #[derive(Debug, Drop)]

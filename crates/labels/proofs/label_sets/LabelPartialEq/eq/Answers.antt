@@ -1,5 +1,3 @@
-use Rattle.std.proofs.Common.{◌≡◌, sym, subst}
-use Rattle.std.specs.Prelude.{IsTrue, Bool, ◌↔◌}
 use Rattle.labels.proofs.Written.{label_eq-decides}
 use Rattle.labels.proofs.label_sets.LabelPartialEq.eq.Goals as goal
 
