@@ -84,6 +84,9 @@ IsCanonicalLabel-written policies each = record {
       (λ policy contained. each_from_All IsCanonicalPolicy policies each policy ((ascending_set-SameSet policy_cmp-exact policies policy).0 contained));
 }
 
+pub SameSet-written : (policies : List ReaderPolicy) → SameSet (written_label policies) policies
+SameSet-written policies = ascending_set-SameSet policy_cmp-exact policies
+
 -- a set of policies is one canonical label
 pub IsCanonicalLabel-unique : (a b : Label) → IsCanonicalLabel a → IsCanonicalLabel b → SameSet a b → a ≡ b
 IsCanonicalLabel-unique a b left right same = sorted_unique policy_cmp-total a b left.policies_ascend right.policies_ascend same

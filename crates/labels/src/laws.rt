@@ -1,10 +1,11 @@
 //! Laws of reading and of flow, over all hierarchies and all labels: each stated of the relations and of the tests.
 
+ghost use Rattle.labels.specs.Canonical.{IsCanonicalLabel, IsCanonicalPolicy, joined, written_label, written_policy};
 ghost use Rattle.labels.specs.Label.{Allows, Covers, FlowsTo, Label, MayRead, PolicyFlowsTo, ReaderPolicy, covers, flows, may_read, policy_allows, policy_flows};
 ghost use Rattle.labels.specs.Lattice.{IsLattice};
 ghost use Rattle.labels.specs.Sets.{SameSet};
 ghost use Rattle.principals.specs.ActsFor.{PrincipalHierarchy};
-ghost use Rattle.std.specs.Prelude.{IsTrue, [], ℕ, ◌&&◌, ◌++◌, ◌↔◌, ◌≡◌};
+ghost use Rattle.std.specs.Prelude.{All, Contains, IsTrue, List, [], ℕ, ◌&&◌, ◌++◌, ◌↔◌, ◌≡◌, ◌≢◌};
 
 /// Each test answers yes exactly where its relation holds.
 pub fn tests_decide()
@@ -49,4 +50,26 @@ pub fn only_the_set_of_policies_counts()
     ensures flow_relation { (h : PrincipalHierarchy) (a b c d : Label) → SameSet a b → SameSet c d →
         FlowsTo h a c ↔ FlowsTo h b d }
     ensures flow_test { (h : PrincipalHierarchy) (a b c d : Label) → SameSet a b → SameSet c d → flows h a c ≡ flows h b d }
+{}
+
+/// A written policy is kept without a loss: it has the readers that are written but its owner, allows whom the policy as it is
+/// written allows, and each of the two flows to the other.
+pub fn written_policy_keeps_its_meaning()
+    ensures readers { (owner : ℕ) (readers : List ℕ) (reader : ℕ) →
+        Contains (written_policy owner readers).readers reader ↔ (Contains readers reader × (reader ≢ owner)) }
+    ensures canonical { (owner : ℕ) (readers : List ℕ) → IsCanonicalPolicy (written_policy owner readers) }
+    ensures allows { (h : PrincipalHierarchy) (owner : ℕ) (readers : List ℕ) (p : ℕ) →
+        Allows h (written_policy owner readers) p ↔ Allows h (record { owner = owner; readers = readers }) p }
+    ensures flow { (h : PrincipalHierarchy) (owner : ℕ) (readers : List ℕ) →
+        PolicyFlowsTo h (written_policy owner readers) (record { owner = owner; readers = readers })
+        × PolicyFlowsTo h (record { owner = owner; readers = readers }) (written_policy owner readers) }
+{}
+
+/// A written label is kept without a loss, and so is a join: each is the set of the policies that it is made of. Two canonical
+/// labels that are the same set are equal.
+pub fn written_label_keeps_its_policies()
+    ensures written { (policies : List ReaderPolicy) → SameSet (written_label policies) policies }
+    ensures joined { (left right : Label) → SameSet (joined left right) (left ++ right) }
+    ensures canonical { (policies : List ReaderPolicy) → All IsCanonicalPolicy policies → IsCanonicalLabel (written_label policies) }
+    ensures unique { (a b : Label) → IsCanonicalLabel a → IsCanonicalLabel b → SameSet a b → a ≡ b }
 {}
