@@ -55,7 +55,7 @@ impl Label {
     {
         policies.sort_unstable();
         policies.dedup();
-        Label { policies }
+        Label::of(policies)
     }
 
     /// The policies, in ascending order.
