@@ -7,12 +7,12 @@ use Rattle.std.proofs.lemmas.List.Elements.{All-contains, All-contains_itself, A
 use Rattle.std.proofs.lemmas.Map.Lookups.{exact_unsigned}
 use Rattle.principals.specs.ActsFor.{PrincipalHierarchy, ActsFor, itself}
 use Rattle.principals.proofs.Closure.{none_in_nil, Contains-cons_cases, Contains-later, Contains-first}
-use Rattle.labels.specs.Label.{ReaderPolicy, Allows, PolicyFlowsTo}
+use Rattle.labels.specs.Label.{ReaderPolicy, PolicyAllows, PolicyFlowsTo}
 use Rattle.labels.specs.Sets.{ascending_set}
 use Rattle.labels.specs.Canonical.{readers_beside, written_policy}
 use Rattle.labels.proofs.Ascending.{ascending_set-SameSet}
 use Rattle.labels.proofs.Elements.{All-from_each, Any-from_some, Any-elim}
-use Rattle.labels.proofs.Flow.{Allows-reader}
+use Rattle.labels.proofs.Flow.{PolicyAllows-reader}
 use Rattle.labels.proofs.Written.{readers_beside-owner}
 
 -- a filter keeps what passes
@@ -65,13 +65,13 @@ owner_or_beside owner readers reader contained =
           (λ same. let equal : eqb reader owner ≡ true = eq-eqb reader owner same in absurd (cc)))
     ] refl
 
-pub Allows-written : (h : PrincipalHierarchy) (owner : ℕ) (readers : List ℕ) (p : ℕ) → Allows h (written_policy owner readers) p ↔ Allows h (as_written owner readers) p
-Allows-written h owner readers p = (
+pub PolicyAllows-written : (h : PrincipalHierarchy) (owner : ℕ) (readers : List ℕ) (p : ℕ) → PolicyAllows h p (written_policy owner readers) ↔ PolicyAllows h p (as_written owner readers)
+PolicyAllows-written h owner readers p = (
   ⊎_elim inl
-      (λ some. Any-elim (λ r. ActsFor h.pairs p r) (readers_beside owner readers) (Allows h (as_written owner readers) p) some
+      (λ some. Any-elim (λ r. ActsFor h.pairs p r) (readers_beside owner readers) (PolicyAllows h p (as_written owner readers)) some
       (λ reader contained acts. inr (Any-from_some (λ r. ActsFor h.pairs p r) readers reader (readers_beside-from owner readers reader contained) acts))),
   ⊎_elim inl
-      (λ some. Any-elim (λ r. ActsFor h.pairs p r) readers (Allows h (written_policy owner readers) p) some
+      (λ some. Any-elim (λ r. ActsFor h.pairs p r) readers (PolicyAllows h p (written_policy owner readers)) some
       (λ reader contained acts. ⊎_elim
       (λ same. inl (subst (λ r. ActsFor h.pairs p r) same acts))
       (λ beside. inr (Any-from_some (λ r. ActsFor h.pairs p r) (readers_beside owner readers) reader beside acts))
@@ -84,12 +84,12 @@ pub PolicyFlowsTo-written : (h : PrincipalHierarchy) (owner : ℕ) (readers : Li
 PolicyFlowsTo-written h owner readers = (
   (
     itself owner,
-    All-from_each (λ r. Allows h (written_policy owner readers) r) readers
-        (λ reader contained. (Allows-written h owner readers reader).1 (Allows-reader h (as_written owner readers) reader contained)),
+    All-from_each (λ r. PolicyAllows h r (written_policy owner readers)) readers
+        (λ reader contained. (PolicyAllows-written h owner readers reader).1 (PolicyAllows-reader h (as_written owner readers) reader contained)),
   ),
   (
     itself owner,
-    All-from_each (λ r. Allows h (as_written owner readers) r) (readers_beside owner readers)
-        (λ reader contained. (Allows-written h owner readers reader).0 (Allows-reader h (written_policy owner readers) reader contained)),
+    All-from_each (λ r. PolicyAllows h r (as_written owner readers)) (readers_beside owner readers)
+        (λ reader contained. (PolicyAllows-written h owner readers reader).0 (PolicyAllows-reader h (written_policy owner readers) reader contained)),
   ),
 )

@@ -16,16 +16,16 @@ abbrev pub Label : Type 0
 Label = List ReaderPolicy
 
 -- a policy allows a principal: it acts for the policy's owner or for some of its readers
-abbrev pub Allows : PrincipalHierarchy → ReaderPolicy → ℕ → Type 0
-Allows h policy p = ActsFor h.pairs p policy.owner ⊎ Any (λ reader. ActsFor h.pairs p reader) policy.readers
+abbrev pub PolicyAllows : PrincipalHierarchy → ℕ → ReaderPolicy → Type 0
+PolicyAllows h p policy = ActsFor h.pairs p policy.owner ⊎ Any (λ reader. ActsFor h.pairs p reader) policy.readers
 
 -- a principal may read what a label guards: each policy of the label allows it
 abbrev pub MayRead : PrincipalHierarchy → ℕ → Label → Type 0
-MayRead h p label = All (λ policy. Allows h policy p) label
+MayRead h p label = All (λ policy. PolicyAllows h p policy) label
 
 -- a policy flows to another one: the other one's owner acts for its owner, and it allows each of the other one's readers
 abbrev pub PolicyFlowsTo : PrincipalHierarchy → ReaderPolicy → ReaderPolicy → Type 0
-PolicyFlowsTo h from to = ActsFor h.pairs to.owner from.owner × All (λ reader. Allows h from reader) to.readers
+PolicyFlowsTo h from to = ActsFor h.pairs to.owner from.owner × All (λ reader. PolicyAllows h reader from) to.readers
 
 -- a label covers a policy: the policy flows to some policy of the label
 abbrev pub Covers : PrincipalHierarchy → Label → ReaderPolicy → Type 0

@@ -1,7 +1,7 @@
 //! Laws of reading and of flow, over all hierarchies and all labels: each stated of the relations and of the tests.
 
 ghost use Rattle.labels.specs.Canonical.{IsCanonicalLabel, IsCanonicalPolicy, joined, written_label, written_policy};
-ghost use Rattle.labels.specs.Label.{Allows, Covers, FlowsTo, Label, MayRead, PolicyFlowsTo, ReaderPolicy, covers, flows, may_read, policy_allows, policy_flows};
+ghost use Rattle.labels.specs.Label.{Covers, FlowsTo, Label, MayRead, PolicyAllows, PolicyFlowsTo, ReaderPolicy, covers, flows, may_read, policy_allows, policy_flows};
 ghost use Rattle.labels.specs.Lattice.{IsLattice};
 ghost use Rattle.labels.specs.Sets.{SameSet};
 ghost use Rattle.principals.specs.ActsFor.{PrincipalHierarchy};
@@ -10,7 +10,7 @@ ghost use Rattle.std.specs.Prelude.{All, Contains, IsTrue, List, [], ℕ, ◌&&�
 /// Each test answers yes exactly where its relation holds.
 pub fn tests_decide()
     ensures allows { (h : PrincipalHierarchy) (p : ℕ) (policy : ReaderPolicy) →
-        IsTrue (policy_allows h p policy) ↔ Allows h policy p }
+        IsTrue (policy_allows h p policy) ↔ PolicyAllows h p policy }
     ensures reads { (h : PrincipalHierarchy) (p : ℕ) (label : Label) → IsTrue (may_read h p label) ↔ MayRead h p label }
     ensures policy { (h : PrincipalHierarchy) (from to : ReaderPolicy) →
         IsTrue (policy_flows h from to) ↔ PolicyFlowsTo h from to }
@@ -59,7 +59,7 @@ pub fn written_policy_keeps_its_meaning()
         Contains (written_policy owner readers).readers reader ↔ (Contains readers reader × (reader ≢ owner)) }
     ensures canonical { (owner : ℕ) (readers : List ℕ) → IsCanonicalPolicy (written_policy owner readers) }
     ensures allows { (h : PrincipalHierarchy) (owner : ℕ) (readers : List ℕ) (p : ℕ) →
-        Allows h (written_policy owner readers) p ↔ Allows h (record { owner = owner; readers = readers }) p }
+        PolicyAllows h p (written_policy owner readers) ↔ PolicyAllows h p (record { owner = owner; readers = readers }) }
     ensures flow { (h : PrincipalHierarchy) (owner : ℕ) (readers : List ℕ) →
         PolicyFlowsTo h (written_policy owner readers) (record { owner = owner; readers = readers })
         × PolicyFlowsTo h (record { owner = owner; readers = readers }) (written_policy owner readers) }

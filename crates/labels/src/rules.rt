@@ -1,5 +1,5 @@
 //! Who may read what a label guards, and what may flow where.
-ghost use Rattle.labels.specs.Label.{Allows, Covers, FlowsTo, MayRead, PolicyFlowsTo, covers, flows, may_read, policy_allows, policy_flows};
+ghost use Rattle.labels.specs.Label.{Covers, FlowsTo, MayRead, PolicyAllows, PolicyFlowsTo, covers, flows, may_read, policy_allows, policy_flows};
 ghost use Rattle.principals.specs.ActsFor.{acts_for};
 ghost use Rattle.std.specs.List.{list_all, list_any};
 ghost use Rattle.std.specs.Prelude.{IsTrue, ◌↔◌, ◌≡◌};
@@ -38,7 +38,7 @@ fn covers_each(hierarchy: &Hierarchy, label: &Label, policies: &[Policy]) -> boo
 impl Policy {
     /// Whether the policy allows a principal to read: it acts for the owner or for some reader. It takes no memory.
     pub fn allows(&self, hierarchy: &Hierarchy, principal: u32) -> bool
-        ensures allows { IsTrue result ↔ Allows hierarchy.now self.now principal }
+        ensures allows { IsTrue result ↔ PolicyAllows hierarchy.now principal self.now }
         ensures test { result ≡ policy_allows hierarchy.now principal self.now }
     {
         hierarchy.acts_for(principal, self.owner())
