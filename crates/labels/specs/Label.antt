@@ -1,6 +1,8 @@
 -- Labels, who may read what they guard, and what may flow where: the decentralized label model with its complete relabelling
 -- rule. Each definition stands twice: as a relation, to be read and believed, and as a test that computes its answer. The
 -- contracts of `flows` and `may_read` state both, and `tests_decide` in src/laws.rt proves that the two say the same.
+-- With Alice, Bob and Carol, of whom Carol acts for Bob, `{Alice: Bob}` is one policy, whose owner is Alice and whose one reader
+-- is Bob. Alice, Bob and Carol may read it, and Alice alone may read `{Alice:}`; `{Alice: Bob}` flows to `{Alice:}` and not back.
 -- Source: Myers and Liskov 1997 and 2000.
 use Rattle.std.specs.Prelude.{ℕ, ◌⊎◌, List, Bool, ◌&&◌, ◌||◌, All, Any}
 use Rattle.std.specs.List.{list_any, list_all}
