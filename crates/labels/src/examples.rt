@@ -3,14 +3,16 @@ ghost use Rattle.labels.specs.Canonical.{IsCanonicalPolicy};
 ghost use Rattle.std.specs.Prelude.{All, IfOk};
 
 use super::*;
-
 use std::alloc::{AllocError, Global};
 use std::cmp::Ordering;
 use std::test::Fail;
 
 const ALICE: u32 = 0;
+
 const BOB: u32 = 1;
+
 const CAROL: u32 = 2;
+
 fn policy(alloc: Global, owner: u32, readers: &[u32]) -> Result<Policy, AllocError>
     ensures { IfOk result IsCanonicalPolicy }
 {
@@ -38,7 +40,10 @@ fn what_is_kept(rt: HostRuntime) -> Result<(), Fail> {
     let copy = with_owner.clone()?;
     assert!(rt; copy == with_owner);
     let begins = policy(alloc, ALICE, &[BOB])?;
-    assert!(rt; begins < with_owner, "a list that begins another is the smaller");
+    assert!(rt;
+        begins < with_owner,
+        "a list that begins another is the smaller"
+    );
     assert_eq!(rt; with_owner.cmp(&policy(alloc, BOB, &[])?), Ordering::Less);
 
     let written = label(alloc, &[(BOB, &[]), (ALICE, &[CAROL]), (BOB, &[BOB])])?;
@@ -56,7 +61,10 @@ fn what_is_joined(rt: HostRuntime) -> Result<(), Fail> {
     let alloc = rt.alloc();
     let left = label(alloc, &[(ALICE, &[BOB]), (CAROL, &[])])?;
     let right = label(alloc, &[(ALICE, &[BOB]), (ALICE, &[]), (BOB, &[])])?;
-    let all = label(alloc, &[(ALICE, &[]), (ALICE, &[BOB]), (BOB, &[]), (CAROL, &[])])?;
+    let all = label(
+        alloc,
+        &[(ALICE, &[]), (ALICE, &[BOB]), (BOB, &[]), (CAROL, &[])],
+    )?;
     assert!(rt; join(alloc, &left, &right)? == all);
     assert!(rt; join(alloc, &right, &left)? == all);
     assert!(rt; join(alloc, &left, &Label::least(alloc))? == left);
@@ -73,5 +81,14 @@ fn the_laws_are_called(rt: HostRuntime) {
     laws::only_the_set_of_policies_counts();
     laws::written_policy_keeps_its_meaning();
     laws::written_label_keeps_its_policies();
-    assert_eq!(rt; Pair { channel: 1, number: 7 }, Pair { channel: 1, number: 7 });
+    assert_eq!(rt;
+        Pair {
+            channel: 1,
+            number: 7
+        },
+        Pair {
+            channel: 1,
+            number: 7
+        }
+    );
 }

@@ -20,10 +20,12 @@ pub fn tests_decide()
 {}
 
 /// Under each hierarchy flow is reflexive and transitive, the union is a least upper bound of two labels, and the empty label
-/// flows everywhere.
+/// flows everywhere. So too with the join in canonical form.
 pub fn labels_form_a_lattice()
     ensures relation { (h : PrincipalHierarchy) → IsLattice (FlowsTo h) ◌++◌ [] }
     ensures test { (h : PrincipalHierarchy) → IsLattice (λ a b. IsTrue (flows h a b)) ◌++◌ [] }
+    ensures canonical_relation { (h : PrincipalHierarchy) → IsLattice (FlowsTo h) joined [] }
+    ensures canonical_test { (h : PrincipalHierarchy) → IsLattice (λ a b. IsTrue (flows h a b)) joined [] }
 {}
 
 /// The soundness of the whole model: where a label flows to another one, every reader of the other one reads it.
@@ -40,6 +42,8 @@ pub fn join_is_read_by_readers_of_both()
         MayRead h p (a ++ b) ↔ (MayRead h p a × MayRead h p b) }
     ensures test { (h : PrincipalHierarchy) (p : ℕ) (a b : Label) →
         may_read h p (a ++ b) ≡ (may_read h p a && may_read h p b) }
+    ensures canonical { (h : PrincipalHierarchy) (p : ℕ) (a b : Label) →
+        MayRead h p (joined a b) ↔ (MayRead h p a × MayRead h p b) }
     ensures least { (h : PrincipalHierarchy) (p : ℕ) → MayRead h p [] }
 {}
 
