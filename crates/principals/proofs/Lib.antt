@@ -3,3 +3,7 @@ mod Bits
 mod Paths
 mod Rows
 pub mod Names
+mod Inclusion
+mod Automaton
+mod Building
+mod Uniqueness
