@@ -3,6 +3,7 @@ ghost use Rattle.labels.specs.Canonical.{IsCanonicalPolicy};
 ghost use Rattle.std.specs.Prelude.{All, IfOk};
 
 use super::*;
+use principals::Hierarchy;
 use std::alloc::{AllocError, Global};
 use std::cmp::Ordering;
 use std::test::Fail;
@@ -12,6 +13,13 @@ const ALICE: u32 = 0;
 const BOB: u32 = 1;
 
 const CAROL: u32 = 2;
+
+const NOBODY: u32 = 7;
+
+// Three principals, of whom Carol acts for Bob.
+const THREE: &str = "principal Alice, Bob, Carol;\nCarol actsfor Bob;";
+// Two principals who act for each other.
+const CYCLE: &str = "principal Alice, Bob;\nAlice actsfor Bob; Bob actsfor Alice;";
 
 fn policy(alloc: Global, owner: u32, readers: &[u32]) -> Result<Policy, AllocError>
     ensures { IfOk result IsCanonicalPolicy }
@@ -26,6 +34,86 @@ fn label(alloc: Global, written: &[(u32, &[u32])]) -> Result<Label, AllocError> 
         policies.push(policy(alloc, *owner, *readers)?)?;
     }
     Ok(Label::written(policies))
+}
+
+#[test]
+fn who_reads(rt: HostRuntime) -> Result<(), Fail> {
+    let alloc = rt.alloc();
+    let hierarchy = Hierarchy::read(alloc, THREE)?;
+    let shared = label(alloc, &[(ALICE, &[BOB])])?;
+    let own = label(alloc, &[(ALICE, &[])])?;
+    let least = Label::least(alloc);
+    for (principal, reads_shared, reads_own) in [
+        (ALICE, true, true),
+        (BOB, true, false),
+        (CAROL, true, false),
+        (NOBODY, false, false),
+    ] {
+        assert_eq!(rt;
+            may_read(&hierarchy, principal, &shared),
+            reads_shared,
+            "{principal} reads {{Alice: Bob}}"
+        );
+        assert_eq!(rt;
+            may_read(&hierarchy, principal, &own),
+            reads_own,
+            "{principal} reads {{Alice:}}"
+        );
+        assert!(rt;
+            may_read(&hierarchy, principal, &least),
+            "{principal} reads {{}}"
+        );
+    }
+    let by_alice = policy(alloc, ALICE, &[BOB])?;
+    assert!(rt; by_alice.allows(&hierarchy, CAROL));
+    assert!(rt; !policy(alloc, ALICE, &[])?.allows(&hierarchy, CAROL));
+    Ok(())
+}
+
+#[test]
+fn what_flows(rt: HostRuntime) -> Result<(), Fail> {
+    let alloc = rt.alloc();
+    let hierarchy = Hierarchy::read(alloc, THREE)?;
+    let shared = label(alloc, &[(ALICE, &[BOB])])?;
+    let own = label(alloc, &[(ALICE, &[])])?;
+    let bobs = label(alloc, &[(BOB, &[])])?;
+    let carols = label(alloc, &[(CAROL, &[])])?;
+    let both = label(alloc, &[(ALICE, &[]), (BOB, &[])])?;
+    let least = Label::least(alloc);
+    for (from, to, answer) in [
+        (&shared, &own, true),
+        (&own, &shared, false),
+        (&bobs, &carols, true),
+        (&carols, &bobs, false),
+        (&own, &both, true),
+        (&both, &own, false),
+        (&least, &own, true),
+        (&own, &least, false),
+        (&least, &least, true),
+    ] {
+        assert_eq!(rt; flows(&hierarchy, from, to), answer, "{from:?} to {to:?}");
+    }
+    let by_alice = policy(alloc, ALICE, &[BOB])?;
+    assert!(rt; by_alice.flows_to(&hierarchy, &policy(alloc, ALICE, &[])?));
+    assert!(rt; own.covers(&hierarchy, &by_alice));
+    assert!(rt; !bobs.covers(&hierarchy, &by_alice));
+    Ok(())
+}
+
+#[test]
+fn what_flows_round_a_cycle(rt: HostRuntime) -> Result<(), Fail> {
+    let alloc = rt.alloc();
+    let hierarchy = Hierarchy::read(alloc, CYCLE)?;
+    let alices = label(alloc, &[(ALICE, &[])])?;
+    let bobs = label(alloc, &[(BOB, &[])])?;
+    assert!(rt; flows(&hierarchy, &alices, &bobs));
+    assert!(rt; flows(&hierarchy, &bobs, &alices));
+    assert!(rt; may_read(&hierarchy, BOB, &alices));
+    assert!(rt;
+        alices != bobs,
+        "labels that flow both ways need not be equal"
+    );
+    Ok(())
 }
 
 #[test]
@@ -69,6 +157,28 @@ fn what_is_joined(rt: HostRuntime) -> Result<(), Fail> {
     assert!(rt; join(alloc, &right, &left)? == all);
     assert!(rt; join(alloc, &left, &Label::least(alloc))? == left);
     assert!(rt; join(alloc, &Label::least(alloc), &left)? == left);
+    Ok(())
+}
+
+#[test]
+fn what_is_printed(rt: HostRuntime) -> Result<(), Fail> {
+    let alloc = rt.alloc();
+    let hierarchy = Hierarchy::read(alloc, THREE)?;
+    for (label, text) in [
+        (label(alloc, &[])?, "{}"),
+        (label(alloc, &[(ALICE, &[])])?, "{Alice:}"),
+        (
+            label(alloc, &[(BOB, &[]), (ALICE, &[CAROL, BOB])])?,
+            "{Alice: Bob, Carol; Bob:}",
+        ),
+        (label(alloc, &[(NOBODY, &[CAROL])])?, "{7: Carol}"),
+    ] {
+        let printed = PrintedLabel {
+            hierarchy: &hierarchy,
+            label: &label,
+        };
+        assert_eq!(rt; format!(in alloc; "{printed}")?.as_str(), text);
+    }
     Ok(())
 }
 
