@@ -10,8 +10,8 @@ use std::alloc::AllocError;
 use std::cmp::Ordering;
 use std::marker::Model;
 
-/// An owner, and the readers whom it allows beside itself. The readers ascend, each once, and leave out the owner, who reads
-/// anyway.
+/// A policy of the decentralized label model (Myers and Liskov 1997): an owner, and the readers whom it allows beside itself,
+/// by the numbers of principals. The readers ascend, each once, and leave out the owner, who reads anyway.
 #[derive(Debug, Drop)]
 pub struct Policy {
     owner: u32,

@@ -68,7 +68,8 @@ impl Label {
     }
 }
 
-/// Whether a label flows to another one: the other one covers each of its policies. It takes no memory.
+/// Whether a label flows to another one: the other one covers each of its policies. It takes no memory. This is the complete
+/// relabelling rule of the decentralized label model (Myers and Liskov 2000).
 pub fn flows(hierarchy: &Hierarchy, from: &Label, to: &Label) -> bool
     ensures flows { IsTrue result ↔ FlowsTo hierarchy.now from.now to.now }
     ensures test { result ≡ flows hierarchy.now from.now to.now }
@@ -76,7 +77,8 @@ pub fn flows(hierarchy: &Hierarchy, from: &Label, to: &Label) -> bool
     covers_each(hierarchy, to, from.policies())
 }
 
-/// Whether a principal may read what a label guards: each policy of the label allows it. It takes no memory.
+/// Whether a principal may read what a label guards: each policy of the label allows it. It takes no memory. A number that is
+/// no principal acts for itself alone (Myers and Liskov 1997).
 pub fn may_read(hierarchy: &Hierarchy, principal: u32, label: &Label) -> bool
     ensures reads { IsTrue result ↔ MayRead hierarchy.now principal label.now }
     ensures test { result ≡ may_read hierarchy.now principal label.now }
