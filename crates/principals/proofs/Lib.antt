@@ -7,3 +7,4 @@ mod Inclusion
 mod Automaton
 mod Building
 mod Uniqueness
+mod Spots

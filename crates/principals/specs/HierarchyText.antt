@@ -1,5 +1,5 @@
 -- The text of a principal hierarchy: its form, what it declares and writes, and the first refusal in it. Our own.
-use Rattle.std.specs.Prelude.{◌≡◌, ◌≢◌, ◌⊎◌, ℕ, ◌<◌, ◌≤◌, List, [], ◌∷◌, ◌++◌, length, codes, Contains}
+use Rattle.std.specs.Prelude.{◌≡◌, ◌≢◌, ◌⊎◌, ℕ, ◌<◌, ◌≤◌, List, [], ◌∷◌, ◌++◌, length, codes, Contains, IsCharBoundary}
 use Rattle.std.specs.List.{AllZip}
 use Rattle.lexer.specs.Cut.{IsCut, IsRefused}
 use Rattle.lexer.specs.Terminal.{Terminal}
@@ -150,3 +150,12 @@ IsRefusedText text NoMemory = ⊥
 IsRefusedText text TooLong = greatest_text < length text
 IsRefusedText text (Syntax at) = (length text ≤ greatest_text) × IsSyntaxFault text at
 IsRefusedText text fault = (entries : List Entry) × Says text entries × IsFirstRefusal entries fault
+
+-- the place of a fault is a character boundary of the text, so that its line and its column can be told
+abbrev pub HasBoundary : List ℕ → HierFault → Type 0
+HasBoundary text NoMemory = Unit {0}
+HasBoundary text TooLong = Unit {0}
+HasBoundary text (Syntax at) = IsCharBoundary text at
+HasBoundary text (DeclaredTwice at) = IsCharBoundary text at
+HasBoundary text (UnknownPrincipal at) = IsCharBoundary text at
+HasBoundary text (TooManyPrincipals at) = IsCharBoundary text at

@@ -1,7 +1,7 @@
 //! A hierarchy out of its text.
 
 ghost use Rattle.principals.specs.ActsFor.{IsHierarchy, PrincipalHierarchy};
-ghost use Rattle.principals.specs.HierarchyText.{IsHierarchyOf, IsRefusedText};
+ghost use Rattle.principals.specs.HierarchyText.{HasBoundary, IsHierarchyOf, IsRefusedText};
 ghost use Rattle.principals.specs.Reading.{IsReadFault};
 ghost use Rattle.principals.specs.declared.fault.HierFault.{HierFault};
 ghost use Rattle.std.specs.Prelude.{IfErr, IfOk, MatchResult, ◌≡◌, ◌⊎◌};
@@ -32,6 +32,9 @@ impl Hierarchy {
         ensures refused { IfErr result (λ fault. (fault ≡ HierFault.NoMemory) ⊎ IsRefusedText text.now fault) }
         ensures first { (fault : HierFault) → IsRefusedText text.now fault →
             MatchResult result (λ _. ⊥) (λ told. (told ≡ fault) ⊎ (told ≡ HierFault.NoMemory)) }
+
+        // The line and the column of a fault can be told.
+        ensures boundary { IfErr result (HasBoundary text.now) }
     {
         read_text(alloc, text)
     }
