@@ -49,11 +49,14 @@ pub fn join_is_read_by_readers_of_both()
 
 /// Only the set of a label's policies counts, not their order and not how often each stands there.
 pub fn only_the_set_of_policies_counts()
-    ensures reads_relation { (h : PrincipalHierarchy) (p : ℕ) (a b : Label) → SameSet a b → MayRead h p a ↔ MayRead h p b }
-    ensures reads_test { (h : PrincipalHierarchy) (p : ℕ) (a b : Label) → SameSet a b → may_read h p a ≡ may_read h p b }
+    ensures reads_relation { (h : PrincipalHierarchy) (p : ℕ) (a b : Label) → SameSet a b →
+        MayRead h p a ↔ MayRead h p b }
+    ensures reads_test { (h : PrincipalHierarchy) (p : ℕ) (a b : Label) → SameSet a b →
+        may_read h p a ≡ may_read h p b }
     ensures flow_relation { (h : PrincipalHierarchy) (a b c d : Label) → SameSet a b → SameSet c d →
         FlowsTo h a c ↔ FlowsTo h b d }
-    ensures flow_test { (h : PrincipalHierarchy) (a b c d : Label) → SameSet a b → SameSet c d → flows h a c ≡ flows h b d }
+    ensures flow_test { (h : PrincipalHierarchy) (a b c d : Label) → SameSet a b → SameSet c d →
+        flows h a c ≡ flows h b d }
 {}
 
 /// A written policy is kept without a loss: it has the readers that are written but its owner, allows whom the policy as it is
@@ -74,6 +77,7 @@ pub fn written_policy_keeps_its_meaning()
 pub fn written_label_keeps_its_policies()
     ensures written { (policies : List ReaderPolicy) → SameSet (written_label policies) policies }
     ensures joined { (left right : Label) → SameSet (joined left right) (left ++ right) }
-    ensures canonical { (policies : List ReaderPolicy) → All IsCanonicalPolicy policies → IsCanonicalLabel (written_label policies) }
+    ensures canonical { (policies : List ReaderPolicy) → All IsCanonicalPolicy policies →
+        IsCanonicalLabel (written_label policies) }
     ensures unique { (a b : Label) → IsCanonicalLabel a → IsCanonicalLabel b → SameSet a b → a ≡ b }
 {}
