@@ -1,0 +1,6 @@
+//! The resolved tree: a program of the whole language with its names as numbers.
+#![tactic(auto)]
+
+pub mod expression;
+pub mod program;
+pub mod statement;

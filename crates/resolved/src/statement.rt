@@ -1,0 +1,48 @@
+//! Statements and handlers.
+
+use crate::expression::{Expr, Variable};
+
+/// A way out of a statement. Exceptions 0, 1 and 2 are `Arith`, `Bounds` and `End`, the declared ones follow in order.
+#[derive(Clone, Copy, Debug, PartialEq, Eq)]
+pub enum Exit {
+    Normal,
+    Return,
+    Break,
+    Continue,
+    Throw(u32),
+}
+
+/// A statement. Its first number is the byte at which its first token begins in the source.
+#[cycle(ast)]
+#[derive(Drop)]
+pub enum Stmt {
+    /// `x = e;`, also as a declaration.
+    Assign(usize, Variable, Expr),
+    /// The declaration of the array in a slot of the frame, which clears it.
+    Clear(usize, u32),
+    /// `a[i] = e;`: the array, its declared length, the index and the value.
+    Store(usize, Variable, u32, Expr, Expr),
+    /// `x = receive c;`, or `receive c;` without a target.
+    Receive(usize, u32, Option<Variable>),
+    /// `send c, e;`
+    Send(usize, u32, Expr),
+    /// `x = f(..);`, or `f(..);` without a target.
+    Call(usize, u32, Vec<Expr>, Option<Variable>),
+    If(usize, Expr, Vec<Stmt>, Vec<Stmt>),
+    /// A loop with its number among the loops of the procedure, in the order of the text.
+    While(usize, u32, Expr, Vec<Stmt>),
+    /// `break;`, `continue;` or `throw E;`, by the exit that it takes.
+    Leave(usize, Exit),
+    Return(usize, Option<Expr>),
+    Try(usize, Vec<Stmt>, Vec<Catch>),
+    Nested(usize, Vec<Stmt>),
+}
+
+/// A handler: the byte at which the name of its exception begins, the exception, and the body.
+#[cycle(ast)]
+#[derive(Drop)]
+pub struct Catch {
+    pub at: usize,
+    pub exception: u32,
+    pub body: Vec<Stmt>,
+}
