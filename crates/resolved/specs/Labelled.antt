@@ -136,13 +136,13 @@ abbrev mutual
   statement_rule scope pc (Call at procedure arguments target) exit =
       call_marks (procedure_at scope.program procedure) (own_label scope pc (Call at procedure arguments target)) exit
   statement_rule scope pc (If at e yes_block no_block) exit =
-      let q : Label = pc ++ raise_label scope e in
+      let q : Label = own_label scope pc (If at e yes_block no_block) in
       let branch : Label = q ++ value_label scope e in
       raised_marks e q exit
       ++ at_ends (block_ends scope.program yes_block) branch (block_rule scope branch yes_block) exit
       ++ at_ends (block_ends scope.program no_block) branch (block_rule scope branch no_block) exit
   statement_rule scope pc (While at loop e body) exit =
-      let q : Label = scope.labelling.loop_label loop ++ raise_label scope e in
+      let q : Label = own_label scope pc (While at loop e body) in
       let b : Label = q ++ value_label scope e in
       raised_marks e q exit
       ++ loop_marks b (at_ends (block_ends scope.program body) b (block_rule scope b body)) exit
@@ -217,11 +217,11 @@ abbrev mutual
       ++ argument_demands scope at q callee 0 arguments
       ++ target_demand scope at 6 (call_marks callee q Normal ++ result_label callee.result) target
   statement_demands scope pc (If at e yes_block no_block) =
-      let branch : Label = pc ++ raise_label scope e ++ value_label scope e in
+      let branch : Label = own_label scope pc (If at e yes_block no_block) ++ value_label scope e in
       block_demands scope branch yes_block ++ block_demands scope branch no_block
   statement_demands scope pc (While at loop e body) =
       let l : Label = scope.labelling.loop_label loop in
-      let b : Label = l ++ raise_label scope e ++ value_label scope e in
+      let b : Label = own_label scope pc (While at loop e body) ++ value_label scope e in
       let x : Marks = block_marks scope b body in
       demand at 8 pc l ++ block_demands scope b body ++ demand at 8 (x Normal ++ x Continue) l
   statement_demands scope pc (Leave at exit) = []

@@ -59,7 +59,7 @@ pub enum Connective {
 
 /// An expression. Parentheses leave no trace.
 #[derive(Debug, PartialEq, Eq, Drop)]
-pub enum Expr {
+pub enum Expression {
     /// A number that is written out.
     Integer(u32),
     /// `true` or `false`.
@@ -67,8 +67,8 @@ pub enum Expr {
     /// The value of a scalar.
     Read(Variable),
     /// An element: the array, its declared length, and the index.
-    Element(Variable, u32, Box<Expr>),
-    Unary(Prefix, Box<Expr>),
-    Binary(Operator, Box<Expr>, Box<Expr>),
-    Short(Connective, Box<Expr>, Box<Expr>),
+    Element(Variable, u32, Box<Expression>),
+    Unary(Prefix, Box<Expression>),
+    Binary(Operator, Box<Expression>, Box<Expression>),
+    Short(Connective, Box<Expression>, Box<Expression>),
 }

@@ -1,6 +1,6 @@
 //! Statements and handlers.
 
-use crate::expression::{Expr, Variable};
+use crate::expression::{Expression, Variable};
 
 /// A way out of a statement. Exceptions 0, 1 and 2 are `Arith`, `Bounds` and `End`, the declared ones follow in order.
 #[derive(Clone, Copy, Debug, PartialEq, Eq)]
@@ -15,34 +15,34 @@ pub enum Exit {
 /// A statement. Its first number is the byte at which its first token begins in the source.
 #[cycle(ast)]
 #[derive(Drop)]
-pub enum Stmt {
+pub enum Statement {
     /// `x = e;`, also as a declaration.
-    Assign(usize, Variable, Expr),
+    Assign(usize, Variable, Expression),
     /// The declaration of the array in a slot of the frame, which clears it.
     Clear(usize, u32),
     /// `a[i] = e;`: the array, its declared length, the index and the value.
-    Store(usize, Variable, u32, Expr, Expr),
+    Store(usize, Variable, u32, Expression, Expression),
     /// `x = receive c;`, or `receive c;` without a target.
     Receive(usize, u32, Option<Variable>),
     /// `send c, e;`
-    Send(usize, u32, Expr),
+    Send(usize, u32, Expression),
     /// `x = f(..);`, or `f(..);` without a target.
-    Call(usize, u32, Vec<Expr>, Option<Variable>),
-    If(usize, Expr, Vec<Stmt>, Vec<Stmt>),
+    Call(usize, u32, Vec<Expression>, Option<Variable>),
+    If(usize, Expression, Vec<Statement>, Vec<Statement>),
     /// A loop with its number among the loops of the procedure, in the order of the text.
-    While(usize, u32, Expr, Vec<Stmt>),
+    While(usize, u32, Expression, Vec<Statement>),
     /// `break;`, `continue;` or `throw E;`, by the exit that it takes.
     Leave(usize, Exit),
-    Return(usize, Option<Expr>),
-    Try(usize, Vec<Stmt>, Vec<Catch>),
-    Nested(usize, Vec<Stmt>),
+    Return(usize, Option<Expression>),
+    Try(usize, Vec<Statement>, Vec<Handler>),
+    Nested(usize, Vec<Statement>),
 }
 
 /// A handler: the byte at which the name of its exception begins, the exception, and the body.
 #[cycle(ast)]
 #[derive(Drop)]
-pub struct Catch {
+pub struct Handler {
     pub at: usize,
     pub exception: u32,
-    pub body: Vec<Stmt>,
+    pub body: Vec<Statement>,
 }
