@@ -1,0 +1,5 @@
+pub mod Closure
+mod Bits
+mod Paths
+mod Rows
+pub mod Names
