@@ -4,3 +4,4 @@
 pub mod expression;
 pub mod program;
 pub mod statement;
+pub mod tables;
