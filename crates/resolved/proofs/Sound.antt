@@ -1,2 +1,5 @@
-use Rattle.resolved.specs.WellFormed.{well_formed}
-use Rattle.resolved.specs.CoreOf.{program_of}
+-- Values keep the base types of the tables.
+pub mod Values
+pub mod States
+pub mod Meanings
+pub mod Runs

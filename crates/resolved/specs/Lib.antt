@@ -11,3 +11,4 @@ pub mod TreeOf
 pub mod ProgramOf
 pub mod CoreOf
 pub mod WellFormed
+pub mod Kinds
