@@ -1,0 +1,4 @@
+pub mod Among
+pub mod Declared
+pub mod Grows
+pub mod Longer
