@@ -389,7 +389,7 @@ mutual
       (λ onward. handlers-among rest program calls k h ends x s onward (λ exit f. more exit (any-right (same_exit exit) (block_ends program body) (handlers_ends program rest) f)))
 
 -- a procedure that may end so does
-all-has : (p : Exit → Bool) (ends : List Exit) (exit : Exit) → list_all p ends ≡ true → has_end ends exit ≡ true → p exit ≡ true
+pub all-has : (p : Exit → Bool) (ends : List Exit) (exit : Exit) → list_all p ends ≡ true → has_end ends exit ≡ true → p exit ≡ true
 all-has p [] exit h f = let e : true ≡ false = sym f in absurd (cc)
 all-has p (first ∷ rest) exit h f =
     let parts = and_parts (p first) (list_all p rest) h in

@@ -1,4 +1,10 @@
 pub mod Among
+pub mod Closed
+pub mod Confined
 pub mod Declared
 pub mod Grows
+pub mod Kept
 pub mod Longer
+pub mod Observer
+pub mod Related
+pub mod Values
