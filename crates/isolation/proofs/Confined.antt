@@ -29,12 +29,12 @@ use Rattle.isolation.proofs.Closed.{read_marks, kept-closed}
 pub fits-left : (h : PrincipalHierarchy) (xs ys : List Demand) → Fits h (xs ++ ys) → Fits h xs
 fits-left h xs ys fits =
     (and_parts (list_all (λ (d : Demand). flows h d.left d.right) xs) (list_all (λ (d : Demand). flows h d.left d.right) ys)
-        (sym (list_all-append (λ (d : Demand). flows h d.left d.right) xs ys) ∙ fits)).0
+    (sym (list_all-append (λ (d : Demand). flows h d.left d.right) xs ys) ∙ fits)).0
 
 pub fits-right : (h : PrincipalHierarchy) (xs ys : List Demand) → Fits h (xs ++ ys) → Fits h ys
 fits-right h xs ys fits =
     (and_parts (list_all (λ (d : Demand). flows h d.left d.right) xs) (list_all (λ (d : Demand). flows h d.left d.right) ys)
-        (sym (list_all-append (λ (d : Demand). flows h d.left d.right) xs ys) ∙ fits)).1
+    (sym (list_all-append (λ (d : Demand). flows h d.left d.right) xs ys) ∙ fits)).1
 
 pub fits-one : (h : PrincipalHierarchy) (at rule : ℕ) (left right : Label) → Fits h (demand at rule left right) → IsTrue (flows h left right)
 fits-one h at rule left right fits = (and_parts (flows h left right) true fits).0
@@ -123,7 +123,7 @@ own-unread reader scope pc (Assign at x e) fits unread = unread-left reader pc (
 own-unread reader scope pc (Clear at slot) fits unread = unread
 own-unread reader scope pc (Store at array len index e) fits unread =
     unread-left reader (pc ++ raise_label scope index ++ raise_label scope e) (label_if (index_can_raise index len) (value_label scope index))
-        (unread-left reader (pc ++ raise_label scope index) (raise_label scope e) (unread-left reader pc (raise_label scope index) unread))
+    (unread-left reader (pc ++ raise_label scope index) (raise_label scope e) (unread-left reader pc (raise_label scope index) unread))
 own-unread reader scope pc (Receive at channel target) fits unread = unread-left reader pc (channel_label scope.program channel) unread
 own-unread reader scope pc (Send at channel e) fits unread = unread-left reader pc (raise_label scope e) unread
 own-unread reader scope pc (Call at f arguments target) fits unread = unread-left reader pc (raise_labels scope arguments) unread
@@ -133,7 +133,7 @@ own-unread {h} reader scope pc (While at loop e body) fits unread =
     let b : Label = own_label scope pc (While at loop e body) ++ value_label scope e in
     let x : Marks = block_marks scope b body in
     unread-left reader l (raise_label scope e)
-        (unread-demand reader at 8 pc l (fits-left h (demand at 8 pc l) (block_demands scope b body) (fits-left h (demand at 8 pc l ++ block_demands scope b body) (demand at 8 (x Normal ++ x Continue) l) fits)) unread)
+    (unread-demand reader at 8 pc l (fits-left h (demand at 8 pc l) (block_demands scope b body) (fits-left h (demand at 8 pc l ++ block_demands scope b body) (demand at 8 (x Normal ++ x Continue) l) fits)) unread)
 own-unread reader scope pc (Leave at exit) fits unread = unread
 own-unread reader scope pc (ReturnWith at None) fits unread = unread
 own-unread reader scope pc (ReturnWith at (Some e)) fits unread = unread-left reader pc (raise_label scope e) unread
@@ -192,7 +192,7 @@ module _ (h : PrincipalHierarchy) (reader : Reader h) (scope : Scope) (calls : C
         let q = own_label scope pc (Store at array len index e) in
         let marks = read_marks reader (statement_rule scope pc (Store at array len index e)) in
         let unread_array : reader.reads (variable_label scope array) ≡ false = unread-demand reader at 3 (q ++ value_label scope index ++ value_label scope e) (variable_label scope array) fits
-                (unread-left reader (q ++ value_label scope index) (value_label scope e) (unread-left reader q (value_label scope index) unread)) in
+        (unread-left reader (q ++ value_label scope index) (value_label scope e) (unread-left reader q (value_label scope index) unread)) in
         kept-evaluated view value marks s (value_of s index) _ (λ y f. unread) (λ v f.
         kept-evaluated view value marks s (value_of s e) _ (λ y g. unread) (λ w g.
         kept-evaluated view value marks s (checked_index v len) (λ i. normally (stored s array i w)) (λ y g. unread) (λ i j.
@@ -204,8 +204,8 @@ module _ (h : PrincipalHierarchy) (reader : Reader h) (scope : Scope) (calls : C
         let q = pc ++ c in
         let marks = read_marks reader (statement_rule scope pc (Receive at channel target)) in
         kept-received view value marks channel target s (s.inputs channel) (λ exit. unread)
-            (unread-above reader pc c (fits-one h at 4 pc c (fits-left h (demand at 4 pc c) (target_demand scope at 4 q target) fits)) unread)
-            (unread-target reader scope at 4 q target (fits-right h (demand at 4 pc c) (target_demand scope at 4 q target) fits) unread)
+        (unread-above reader pc c (fits-one h at 4 pc c (fits-left h (demand at 4 pc c) (target_demand scope at 4 q target) fits)) unread)
+        (unread-target reader scope at 4 q target (fits-right h (demand at 4 pc c) (target_demand scope at 4 q target) fits) unread)
     statement-kept (Send at channel e) pc fits unread s =
         let view = view_of reader scope in
         let value = reads_result reader scope.procedure in
@@ -228,9 +228,9 @@ module _ (h : PrincipalHierarchy) (reader : Reader h) (scope : Scope) (calls : C
         kept-evaluated view value marks s (values_of s arguments) (λ vs. returned_to target (calls f vs s)) (λ y g. each (Throw y)) (λ vs g.
         let call = confines.kept f vs s unread_begin in
         kept-from view value marks s (state_after (calls f vs s)) (returned_to target (calls f vs s)) call.agree
-            (kept-returned_to view (reads_result reader callee) value unread_marks marks target (calls f vs s) call.hidden (λ exit m. each exit)
-                (λ m. unread-target reader scope at 6 (call_marks callee q Normal ++ result_label callee.result) target (fits-right h (demand at 6 q callee.begin_label ++ ds) ts fits)
-                    (unread-left reader (call_marks callee q Normal) (result_label callee.result) (each Normal)))))
+        (kept-returned_to view (reads_result reader callee) value unread_marks marks target (calls f vs s) call.hidden (λ exit m. each exit)
+        (λ m. unread-target reader scope at 6 (call_marks callee q Normal ++ result_label callee.result) target (fits-right h (demand at 6 q callee.begin_label ++ ds) ts fits)
+        (unread-left reader (call_marks callee q Normal) (result_label callee.result) (each Normal)))))
     statement-kept (If at e yes_block no_block) pc fits unread s =
         let view = view_of reader scope in
         let value = reads_result reader scope.procedure in
@@ -243,19 +243,19 @@ module _ (h : PrincipalHierarchy) (reader : Reader h) (scope : Scope) (calls : C
         let yes_marks : Marks = at_ends yes_ends b (block_rule scope b yes_block) in
         let no_marks : Marks = at_ends no_ends b (block_rule scope b no_block) in
         kept-evaluated view value marks s (value_of s e) (λ v. if truth_in v then block_meaning calls k yes_block s else block_meaning calls k no_block s)
-            (λ y f. unread-left reader (raised_marks e q (Throw y) ++ yes_marks (Throw y)) (no_marks (Throw y))
-                (unread-left reader (raised_marks e q (Throw y)) (yes_marks (Throw y)) (unread-raised reader s e q y f unread))) (λ v f.
+        (λ y f. unread-left reader (raised_marks e q (Throw y) ++ yes_marks (Throw y)) (no_marks (Throw y))
+        (unread-left reader (raised_marks e q (Throw y)) (yes_marks (Throw y)) (unread-raised reader s e q y f unread))) (λ v f.
         kept-if view value marks s (truth_in v) (block_meaning calls k yes_block s) (block_meaning calls k no_block s)
-            (kept-weaker view value (read_marks reader yes_marks) marks s (block_meaning calls k yes_block s)
-                (kept-closed reader view value yes_ends b (block_rule scope b yes_block) s (block_meaning calls k yes_block s) unread_b
-                    (block-among yes_block scope.program calls k confines.among s)
-                    (block-kept yes_block b (fits-left h (block_demands scope b yes_block) (block_demands scope b no_block) fits) unread_b s))
-                (λ exit m. unread-left reader (raised_marks e q exit ++ yes_marks exit) (no_marks exit) (unread-right reader (raised_marks e q exit) (yes_marks exit) m)))
-            (kept-weaker view value (read_marks reader no_marks) marks s (block_meaning calls k no_block s)
-                (kept-closed reader view value no_ends b (block_rule scope b no_block) s (block_meaning calls k no_block s) unread_b
-                    (block-among no_block scope.program calls k confines.among s)
-                    (block-kept no_block b (fits-right h (block_demands scope b yes_block) (block_demands scope b no_block) fits) unread_b s))
-                (λ exit m. unread-right reader (raised_marks e q exit ++ yes_marks exit) (no_marks exit) m)))
+        (kept-weaker view value (read_marks reader yes_marks) marks s (block_meaning calls k yes_block s)
+        (kept-closed reader view value yes_ends b (block_rule scope b yes_block) s (block_meaning calls k yes_block s) unread_b
+        (block-among yes_block scope.program calls k confines.among s)
+        (block-kept yes_block b (fits-left h (block_demands scope b yes_block) (block_demands scope b no_block) fits) unread_b s))
+        (λ exit m. unread-left reader (raised_marks e q exit ++ yes_marks exit) (no_marks exit) (unread-right reader (raised_marks e q exit) (yes_marks exit) m)))
+        (kept-weaker view value (read_marks reader no_marks) marks s (block_meaning calls k no_block s)
+        (kept-closed reader view value no_ends b (block_rule scope b no_block) s (block_meaning calls k no_block s) unread_b
+        (block-among no_block scope.program calls k confines.among s)
+        (block-kept no_block b (fits-right h (block_demands scope b yes_block) (block_demands scope b no_block) fits) unread_b s))
+        (λ exit m. unread-right reader (raised_marks e q exit ++ yes_marks exit) (no_marks exit) m)))
     statement-kept (While at loop e body) pc fits unread s =
         let view = view_of reader scope in
         let value = reads_result reader scope.procedure in
@@ -268,12 +268,12 @@ module _ (h : PrincipalHierarchy) (reader : Reader h) (scope : Scope) (calls : C
         let marks = read_marks reader (statement_rule scope pc (While at loop e body)) in
         let front = fits-left h (demand at 8 pc l ++ block_demands scope b body) (demand at 8 (x Normal ++ x Continue) l) fits in
         kept-turns view value (read_marks reader x) marks k (λ t. value_of t e) (block_meaning calls k body)
-            (λ t y f. unread-left reader (raised_marks e q (Throw y)) (loop_marks b x (Throw y)) (unread-raised reader t e q y f unread))
-            (unread-right reader (raised_marks e q Normal) (b ++ x Break) (unread-left reader b (x Break) unread_b))
-            (loop-read reader (raised_marks e q) b x)
-            (λ t. kept-closed reader view value ends b (block_rule scope b body) t (block_meaning calls k body t) unread_b
-                (block-among body scope.program calls k confines.among t)
-                (block-kept body b (fits-right h (demand at 8 pc l) (block_demands scope b body) front) unread_b t)) s
+        (λ t y f. unread-left reader (raised_marks e q (Throw y)) (loop_marks b x (Throw y)) (unread-raised reader t e q y f unread))
+        (unread-right reader (raised_marks e q Normal) (b ++ x Break) (unread-left reader b (x Break) unread_b))
+        (loop-read reader (raised_marks e q) b x)
+        (λ t. kept-closed reader view value ends b (block_rule scope b body) t (block_meaning calls k body t) unread_b
+        (block-among body scope.program calls k confines.among t)
+        (block-kept body b (fits-right h (demand at 8 pc l) (block_demands scope b body) front) unread_b t)) s
     statement-kept (Leave at exit) pc fits unread s =
         kept-end (view_of reader scope) (reads_result reader scope.procedure) (read_marks reader (statement_rule scope pc (Leave at exit))) s exit unread
     statement-kept (ReturnWith at None) pc fits unread s =
@@ -293,18 +293,18 @@ module _ (h : PrincipalHierarchy) (reader : Reader h) (scope : Scope) (calls : C
         let x : Marks = at_ends ends pc (block_rule scope pc block) in
         let marks = read_marks reader (statement_rule scope pc (Try at block handlers)) in
         let inner = kept-closed reader view value ends pc (block_rule scope pc block) s (block_meaning calls k block s) unread
-                (block-among block scope.program calls k confines.among s)
-                (block-kept block pc (fits-left h (block_demands scope pc block) (handlers_demands scope x handlers) fits) unread s) in
+        (block-among block scope.program calls k confines.among s)
+        (block-kept block pc (fits-left h (block_demands scope pc block) (handlers_demands scope x handlers) fits) unread s) in
         let others : (exit : Exit) → passes handlers exit ≡ true → reader.reads (x exit) ≡ false → marks exit ≡ false = λ exit passing m. unread-left reader (label_if (passes handlers exit) (x exit)) (handlers_rule scope x handlers exit) (unread-label_if reader (passes handlers exit) (x exit) passing m) in
         kept-from view value marks s (state_after (block_meaning calls k block s)) (caught (block_meaning calls k block s) (handlers_meaning calls k handlers)) inner.agree
-            (kept-caught view value handlers (read_marks reader x) marks (block_meaning calls k block s) (handlers_meaning calls k handlers) inner.hidden others
-                (λ y t m. handlers-kept handlers x (fits-right h (block_demands scope pc block) (handlers_demands scope x handlers) fits) y t m marks
-                    (λ exit n. unread-right reader (label_if (passes handlers exit) (x exit)) (handlers_rule scope x handlers exit) n)
-                    (λ none. others (Throw y) (rw none refl) m)))
+        (kept-caught view value handlers (read_marks reader x) marks (block_meaning calls k block s) (handlers_meaning calls k handlers) inner.hidden others
+        (λ y t m. handlers-kept handlers x (fits-right h (block_demands scope pc block) (handlers_demands scope x handlers) fits) y t m marks
+        (λ exit n. unread-right reader (label_if (passes handlers exit) (x exit)) (handlers_rule scope x handlers exit) n)
+        (λ none. others (Throw y) (rw none refl) m)))
     statement-kept (Nested at block) pc fits unread s =
         kept-closed reader (view_of reader scope) (reads_result reader scope.procedure) (block_ends scope.program block) pc (block_rule scope pc block) s (block_meaning calls k block s) unread
-            (block-among block scope.program calls k confines.among s)
-            (block-kept block pc fits unread s)
+        (block-among block scope.program calls k confines.among s)
+        (block-kept block pc fits unread s)
 
     pub block-kept : (block : Block) (pc : Label) → Fits h (block_demands scope pc block) → reader.reads pc ≡ false → (s : State) → Kept (view_of reader scope) (reads_result reader scope.procedure) (read_marks reader (block_rule scope pc block)) s (block_meaning calls k block s)
     block-kept Empty pc fits unread s = kept-end (view_of reader scope) (reads_result reader scope.procedure) (read_marks reader (block_rule scope pc Empty)) s Normal unread
@@ -316,15 +316,15 @@ module _ (h : PrincipalHierarchy) (reader : Reader h) (scope : Scope) (calls : C
         let marks = read_marks reader (block_rule scope pc (Then statement rest)) in
         let here = fits-left h (statement_demands scope pc statement) (block_demands scope (x Normal) rest) fits in
         let first = kept-closed reader view value ends pc (statement_rule scope pc statement) s (statement_meaning calls k statement s) unread
-                (statement-among statement scope.program calls k confines.among s)
-                (statement-kept statement pc here (own-unread reader scope pc statement here unread) s) in
+        (statement-among statement scope.program calls k confines.among s)
+        (statement-kept statement pc here (own-unread reader scope pc statement here unread) s) in
         kept-from view value marks s (state_after (statement_meaning calls k statement s)) (after (statement_meaning calls k statement s) (block_meaning calls k rest)) first.agree
-            (kept-after view value (read_marks reader x) marks (statement_meaning calls k statement s) (block_meaning calls k rest) first.hidden
-                (λ exit other m. unread-left reader (label_if (not (same_exit Normal exit)) (x exit)) (block_rule scope (x Normal) rest exit)
-                    (unread-label_if reader (not (same_exit Normal exit)) (x exit) (ap not other) m))
-                (λ t m. kept-weaker view value (read_marks reader (block_rule scope (x Normal) rest)) marks t (block_meaning calls k rest t)
-                    (block-kept rest (x Normal) (fits-right h (statement_demands scope pc statement) (block_demands scope (x Normal) rest) fits) m t)
-                    (λ exit n. unread-right reader (label_if (not (same_exit Normal exit)) (x exit)) (block_rule scope (x Normal) rest exit) n)))
+        (kept-after view value (read_marks reader x) marks (statement_meaning calls k statement s) (block_meaning calls k rest) first.hidden
+        (λ exit other m. unread-left reader (label_if (not (same_exit Normal exit)) (x exit)) (block_rule scope (x Normal) rest exit)
+        (unread-label_if reader (not (same_exit Normal exit)) (x exit) (ap not other) m))
+        (λ t m. kept-weaker view value (read_marks reader (block_rule scope (x Normal) rest)) marks t (block_meaning calls k rest t)
+        (block-kept rest (x Normal) (fits-right h (statement_demands scope pc statement) (block_demands scope (x Normal) rest) fits) m t)
+        (λ exit n. unread-right reader (label_if (not (same_exit Normal exit)) (x exit)) (block_rule scope (x Normal) rest exit) n)))
 
     pub handlers-kept : (handlers : Handlers) (x : Marks) → Fits h (handlers_demands scope x handlers) → (exception : ℕ) (s : State) → reader.reads (x (Throw exception)) ≡ false → (more : Exit → Bool) → ((exit : Exit) → reader.reads (handlers_rule scope x handlers exit) ≡ false → more exit ≡ false) → (handles handlers exception ≡ false → more (Throw exception) ≡ false) → Kept (view_of reader scope) (reads_result reader scope.procedure) more s (handlers_meaning calls k handlers exception s)
     handlers-kept NoMore x fits exception s unread more weaker passing =
@@ -336,13 +336,13 @@ module _ (h : PrincipalHierarchy) (reader : Reader h) (scope : Scope) (calls : C
         let pc : Label = x (Throw handled) in
         let body_marks : Marks = at_ends ends pc (block_rule scope pc body) in
         kept-handler view value more exception handled s (block_meaning calls k body s) (handlers_meaning calls k rest exception s)
-            (λ same.
-                let unread_pc : reader.reads pc ≡ false = ap (λ y. reader.reads (x (Throw y))) (sym same) ∙ unread in
-                kept-weaker view value (read_marks reader body_marks) more s (block_meaning calls k body s)
-                    (kept-closed reader view value ends pc (block_rule scope pc body) s (block_meaning calls k body s) unread_pc
-                        (block-among body scope.program calls k confines.among s)
-                        (block-kept body pc (fits-left h (block_demands scope pc body) (handlers_demands scope x rest) fits) unread_pc s))
-                    (λ exit m. weaker exit (unread-left reader (body_marks exit) (handlers_rule scope x rest exit) m)))
-            (λ other. handlers-kept rest x (fits-right h (block_demands scope pc body) (handlers_demands scope x rest) fits) exception s unread more
-                (λ exit m. weaker exit (unread-right reader (body_marks exit) (handlers_rule scope x rest exit) m))
-                (λ none. passing (rw (other, none) refl)))
+        (λ same.
+        let unread_pc : reader.reads pc ≡ false = ap (λ y. reader.reads (x (Throw y))) (sym same) ∙ unread in
+        kept-weaker view value (read_marks reader body_marks) more s (block_meaning calls k body s)
+        (kept-closed reader view value ends pc (block_rule scope pc body) s (block_meaning calls k body s) unread_pc
+        (block-among body scope.program calls k confines.among s)
+        (block-kept body pc (fits-left h (block_demands scope pc body) (handlers_demands scope x rest) fits) unread_pc s))
+        (λ exit m. weaker exit (unread-left reader (body_marks exit) (handlers_rule scope x rest exit) m)))
+        (λ other. handlers-kept rest x (fits-right h (block_demands scope pc body) (handlers_demands scope x rest) fits) exception s unread more
+        (λ exit m. weaker exit (unread-right reader (body_marks exit) (handlers_rule scope x rest exit) m))
+        (λ none. passing (rw (other, none) refl)))

@@ -83,9 +83,9 @@ pub kept-turn_suc : (view : View) (value : Bool) (inner more : Exit → Bool) (k
 kept-turn_suc view value inner more k condition body s raised over loop once normal continued =
     kept-evaluated view value more s (condition s) (λ v. if truth_in v then looped (body s) (turns k condition body) else normally s) raised (λ v e.
     kept-if view value more s (truth_in v) (looped (body s) (turns k condition body)) (normally s)
-        (kept-from view value more s (state_after (body s)) (looped (body s) (turns k condition body)) once.agree
-            (kept-looped view value inner more (body s) (turns k condition body) once.hidden loop normal continued))
-        (kept-end view value more s Normal over))
+    (kept-from view value more s (state_after (body s)) (looped (body s) (turns k condition body)) once.agree
+    (kept-looped view value inner more (body s) (turns k condition body) once.hidden loop normal continued))
+    (kept-end view value more s Normal over))
 
 -- a loop of which nothing is seen, its condition included
 pub kept-turns : (view : View) (value : Bool) (inner more : Exit → Bool) (k : ℕ) (condition : State → Evaluated Value) (body : State → Outcome) → ((t : State) (x : ℕ) → condition t ≡ Raises x → more (Throw x) ≡ false) → more Normal ≡ false → LoopMarks inner more → ((t : State) → Kept view value inner t (body t)) → (s : State) → Kept view value more s (turns k condition body s)
@@ -93,8 +93,8 @@ kept-turns view value inner more zero condition body raised over loop each s =
     kept-turn_zero view value more condition body s (raised s) over
 kept-turns view value inner more (suc k) condition body raised over loop each s =
     kept-turn_suc view value inner more k condition body s (raised s) over loop (each s)
-        (λ t m. kept-turns view value inner more k condition body raised over loop each t)
-        (λ t m. kept-turns view value inner more k condition body raised over loop each t)
+    (λ t m. kept-turns view value inner more k condition body raised over loop each t)
+    (λ t m. kept-turns view value inner more k condition body raised over loop each t)
 
 pub kept-caught : (view : View) (value : Bool) (handlers : Handlers) (inner more : Exit → Bool) (o : Outcome) (handle : ℕ → State → Outcome) → Hidden value inner o → ((exit : Exit) → passes handlers exit ≡ true → inner exit ≡ false → more exit ≡ false) → ((x : ℕ) (t : State) → inner (Throw x) ≡ false → Kept view value more t (handle x t)) → Kept view value more (state_after o) (caught o handle)
 kept-caught view value handlers inner more o handle (hidden_end Normal t m) others rest = kept-end view value more t Normal (others Normal refl m)

@@ -1,4 +1,5 @@
 pub mod Among
+pub mod Calls
 pub mod Closed
 pub mod Confined
 pub mod Declared
@@ -7,4 +8,5 @@ pub mod Kept
 pub mod Longer
 pub mod Observer
 pub mod Related
+pub mod Secure
 pub mod Values

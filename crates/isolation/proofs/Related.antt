@@ -35,10 +35,10 @@ shown-begins view xs ys h =
     (shown view h.0, sym (filter-append (λ (pair : Pair). view.channel pair.channel) xs h.0) ∙ ap (λ l. shown view l) h.1)
 
 -- a stop begins what the other run goes on to send
-stopped-begins : (view : View) (s : State) (p q : Outcome) → Begins (shown view s.sent) (shown view (state_after p).sent) → Grows (state_after p) q → Begins (shown view s.sent) (shown view (state_after q).sent)
+pub stopped-begins : (view : View) (s : State) (p q : Outcome) → Begins (shown view s.sent) (shown view (state_after p).sent) → Grows (state_after p) q → Begins (shown view s.sent) (shown view (state_after q).sent)
 stopped-begins view s p q h grows =
     Begins-through (shown view s.sent) (shown view (state_after p).sent) (shown view (state_after q).sent) h
-        (shown-begins view (state_after p).sent (state_after q).sent grows.sent)
+    (shown-begins view (state_after p).sent (state_after q).sent grows.sent)
 
 pub agree-begins : (view : View) (s t : State) → AgreeFor view s t → Begins (shown view s.sent) (shown view t.sent)
 agree-begins view s t h = ([], append-nil (shown view s.sent) ∙ h.sent)
@@ -90,8 +90,8 @@ related-after view value marks more o p next further (same_end (Throw x) s t h) 
 related-after view value marks more o p next further (same_return r q s t h i) others first second ways = same_return r q s t h i
 related-after view value marks more o p next further (apart _ _ h i j) others first second ways =
     both-kept view value more (state_after o) (state_after p) (after o next) (after p further) j
-        (kept-after view value marks more o next h others (λ t m. first m t))
-        (kept-after view value marks more p further i others (λ t m. second m t))
+    (kept-after view value marks more o next h others (λ t m. first m t))
+    (kept-after view value marks more p further i others (λ t m. second m t))
 related-after view value marks more o p next further (first_stops stop s _ h) others first second ways =
     first_stops stop s (after p further) (stopped-begins view s p (after p further) h (grown-after p further ways.grows_second))
 related-after view value marks more o p next further (second_stops _ stop t h) others first second ways =
@@ -110,8 +110,8 @@ related-looped view value inner more o p again further (same_end (Throw x) s t h
 related-looped view value inner more o p again further (same_return r q s t h i) loop normal continued ways = same_return r q s t h i
 related-looped view value inner more o p again further (apart _ _ h i j) loop normal continued ways =
     both-kept view value more (state_after o) (state_after p) (looped o again) (looped p further) j
-        (kept-looped view value inner more o again h loop (λ t m. absurd (normal m)) (λ t m. absurd (continued m)))
-        (kept-looped view value inner more p further i loop (λ t m. absurd (normal m)) (λ t m. absurd (continued m)))
+    (kept-looped view value inner more o again h loop (λ t m. absurd (normal m)) (λ t m. absurd (continued m)))
+    (kept-looped view value inner more p further i loop (λ t m. absurd (normal m)) (λ t m. absurd (continued m)))
 related-looped view value inner more o p again further (first_stops stop s _ h) loop normal continued ways =
     first_stops stop s (looped p further) (stopped-begins view s p (looped p further) h (grown-looped p further ways.grows_second))
 related-looped view value inner more o p again further (second_stops _ stop t h) loop normal continued ways =
@@ -137,37 +137,37 @@ pub record LoopRead (view : View) (value : Bool) (inner more : Exit → Bool) (c
 pub related-turns : (view : View) (value : Bool) (inner more : Exit → Bool) (condition : State → Evaluated Value) (body further : State → Outcome) → LoopRead view value inner more condition body further → (k m : ℕ) (s t : State) → AgreeFor view s t → Related view value more (turns k condition body s) (turns m condition further t)
 related-turns view value inner more condition body further h zero zero s t agree =
     related-evaluated (SameIf true) view value more s t (condition s) (condition t)
-        (λ v. if truth_in v then Stopped OutOfTurns s else normally s) (λ v. if truth_in v then Stopped OutOfTurns t else normally t)
-        agree (h.condition_alike s t agree) (λ v w e f same.
+    (λ v. if truth_in v then Stopped OutOfTurns s else normally s) (λ v. if truth_in v then Stopped OutOfTurns t else normally t)
+    agree (h.condition_alike s t agree) (λ v w e f same.
     related-if view value more (truth_in v) (truth_in w) (Stopped OutOfTurns s) (normally s) (Stopped OutOfTurns t) (normally t) (ap (λ x. truth_in x) (same refl))
-        (out-first view value more s t (Stopped OutOfTurns t) agree (grows-itself t t refl (Stopped OutOfTurns t) refl))
-        (same_end Normal s t agree))
+    (out-first view value more s t (Stopped OutOfTurns t) agree (grows-itself t t refl (Stopped OutOfTurns t) refl))
+    (same_end Normal s t agree))
 related-turns view value inner more condition body further h zero (suc m) s t agree =
     related-evaluated (SameIf true) view value more s t (condition s) (condition t)
-        (λ v. if truth_in v then Stopped OutOfTurns s else normally s) (λ v. if truth_in v then looped (further t) (turns m condition further) else normally t)
-        agree (h.condition_alike s t agree) (λ v w e f same.
+    (λ v. if truth_in v then Stopped OutOfTurns s else normally s) (λ v. if truth_in v then looped (further t) (turns m condition further) else normally t)
+    agree (h.condition_alike s t agree) (λ v w e f same.
     related-if view value more (truth_in v) (truth_in w) (Stopped OutOfTurns s) (normally s) (looped (further t) (turns m condition further)) (normally t) (ap (λ x. truth_in x) (same refl))
-        (out-first view value more s t (looped (further t) (turns m condition further)) agree (grows-looped t (further t) (turns m condition further) (h.ways.grows_second t) (grows-turns m condition further h.ways.grows_second)))
-        (same_end Normal s t agree))
+    (out-first view value more s t (looped (further t) (turns m condition further)) agree (grows-looped t (further t) (turns m condition further) (h.ways.grows_second t) (grows-turns m condition further h.ways.grows_second)))
+    (same_end Normal s t agree))
 related-turns view value inner more condition body further h (suc k) zero s t agree =
     related-evaluated (SameIf true) view value more s t (condition s) (condition t)
-        (λ v. if truth_in v then looped (body s) (turns k condition body) else normally s) (λ v. if truth_in v then Stopped OutOfTurns t else normally t)
-        agree (h.condition_alike s t agree) (λ v w e f same.
+    (λ v. if truth_in v then looped (body s) (turns k condition body) else normally s) (λ v. if truth_in v then Stopped OutOfTurns t else normally t)
+    agree (h.condition_alike s t agree) (λ v w e f same.
     related-if view value more (truth_in v) (truth_in w) (looped (body s) (turns k condition body)) (normally s) (Stopped OutOfTurns t) (normally t) (ap (λ x. truth_in x) (same refl))
-        (out-second view value more s t (looped (body s) (turns k condition body)) agree (grows-looped s (body s) (turns k condition body) (h.ways.grows_first s) (grows-turns k condition body h.ways.grows_first)))
-        (same_end Normal s t agree))
+    (out-second view value more s t (looped (body s) (turns k condition body)) agree (grows-looped s (body s) (turns k condition body) (h.ways.grows_first s) (grows-turns k condition body h.ways.grows_first)))
+    (same_end Normal s t agree))
 related-turns view value inner more condition body further h (suc k) (suc m) s t agree =
     related-evaluated (SameIf true) view value more s t (condition s) (condition t)
-        (λ v. if truth_in v then looped (body s) (turns k condition body) else normally s) (λ v. if truth_in v then looped (further t) (turns m condition further) else normally t)
-        agree (h.condition_alike s t agree) (λ v w e f same.
+    (λ v. if truth_in v then looped (body s) (turns k condition body) else normally s) (λ v. if truth_in v then looped (further t) (turns m condition further) else normally t)
+    agree (h.condition_alike s t agree) (λ v w e f same.
     related-if view value more (truth_in v) (truth_in w) (looped (body s) (turns k condition body)) (normally s) (looped (further t) (turns m condition further)) (normally t) (ap (λ x. truth_in x) (same refl))
-        (related-looped view value inner more (body s) (further t) (turns k condition body) (turns m condition further) (h.ways.related s t agree) h.loop h.normal h.continued
-            (record {
-              related = related-turns view value inner more condition body further h k m;
-              grows_first = grows-turns k condition body h.ways.grows_first;
-              grows_second = grows-turns m condition further h.ways.grows_second;
-            }))
-        (same_end Normal s t agree))
+    (related-looped view value inner more (body s) (further t) (turns k condition body) (turns m condition further) (h.ways.related s t agree) h.loop h.normal h.continued
+    (record {
+      related = related-turns view value inner more condition body further h k m;
+      grows_first = grows-turns k condition body h.ways.grows_first;
+      grows_second = grows-turns m condition further h.ways.grows_second;
+    }))
+    (same_end Normal s t agree))
 
 -- a loop whose condition the observer does not read although it reads the loop's label and whether the condition raises an
 -- exception: its body cannot come back
@@ -183,7 +183,7 @@ kept-once view value inner more b condition body h zero s v e =
     kept-turn_zero view value more condition body s (λ x f. absurd (cc)) h.over
 kept-once view value inner more b condition body h (suc k) s v e =
     kept-turn_suc view value inner more k condition body s (λ x f. absurd (cc)) h.over h.loop (h.each s)
-        (λ t m. absurd (h.normal m)) (λ t m. absurd (h.continued m))
+    (λ t m. absurd (h.normal m)) (λ t m. absurd (h.continued m))
 
 turns-raised : (k : ℕ) (condition : State → Evaluated Value) (body : State → Outcome) (s : State) (x : ℕ) → condition s ≡ Raises x → turns k condition body s ≡ thrown x s
 turns-raised zero condition body s x e = rw e refl
@@ -195,7 +195,7 @@ related-once view value inner more b condition body further h i k m s t agree al
     go : (o p : Evaluated Value) → condition s ≡ o → condition t ≡ p → Alike (SameIf b) o p → Related view value more (turns k condition body s) (turns m condition further t)
     go o p e f (both_give v w same) =
         both-kept view value more s t (turns k condition body s) (turns m condition further t) agree
-            (kept-once view value inner more b condition body h k s v e) (kept-once view value inner more b condition further i m t w f)
+        (kept-once view value inner more b condition body h k s v e) (kept-once view value inner more b condition further i m t w f)
     go o p e f (both_raise x) =
         rw (turns-raised k condition body s x e, turns-raised m condition further t x f) (same_end (Throw x) s t agree)
 
@@ -217,8 +217,8 @@ related-caught view value handlers inner more o p handle further (same_end (Thro
 related-caught view value handlers inner more o p handle further (same_return r q s t h i) others first second ways = same_return r q s t h i
 related-caught view value handlers inner more o p handle further (apart _ _ h i j) others first second ways =
     both-kept view value more (state_after o) (state_after p) (caught o handle) (caught p further) j
-        (kept-caught view value handlers inner more o handle h others first)
-        (kept-caught view value handlers inner more p further i others second)
+    (kept-caught view value handlers inner more o handle h others first)
+    (kept-caught view value handlers inner more p further i others second)
 related-caught view value handlers inner more o p handle further (first_stops stop s _ h) others first second ways =
     first_stops stop s (caught p further) (stopped-begins view s p (caught p further) h (grown-caught p further ways.grows_second))
 related-caught view value handlers inner more o p handle further (second_stops _ stop t h) others first second ways =

@@ -37,10 +37,10 @@ alike-weaker P Q o p weaker (both_give v w h) = both_give v w (weaker v w h)
 alike-weaker P Q o p weaker (both_raise x) = both_raise x
 
 -- a label under a test that holds
-read-label_if : {h : PrincipalHierarchy} (reader : Reader h) (test : Bool) (label : Label) → reader.reads (label_if test label) ≡ true → test ≡ true → reader.reads label ≡ true
+pub read-label_if : {h : PrincipalHierarchy} (reader : Reader h) (test : Bool) (label : Label) → reader.reads (label_if test label) ≡ true → test ≡ true → reader.reads label ≡ true
 read-label_if reader test label h e = rw e at h
 
-index-alike : (s t : State) (index : Expression) (len : ℕ) (b : Bool) (v w : Value) → (index_can_raise index len ≡ true → b ≡ true) → value_of s index ≡ Gives v → value_of t index ≡ Gives w → SameIf b v w → Alike (SameIf b) (checked_index v len) (checked_index w len)
+pub index-alike : (s t : State) (index : Expression) (len : ℕ) (b : Bool) (v w : Value) → (index_can_raise index len ≡ true → b ≡ true) → value_of s index ≡ Gives v → value_of t index ≡ Gives w → SameIf b v w → Alike (SameIf b) (checked_index v len) (checked_index w len)
 index-alike s t index len b v w covered f g same = go (index_can_raise index len) refl
   where
     reflexive : (v : Value) → Alike (SameIf b) (checked_index v len) (checked_index v len)
@@ -49,6 +49,7 @@ index-alike s t index len b v w covered f g same = go (index_can_raise index len
         cases : (c : Bool) → in_range (number_in v) len ≡ c → Alike (SameIf b) (checked_index v len) (checked_index v len)
         cases true e = rw e (both_give (position_of (number_in v)) (position_of (number_in v)) (λ i. refl))
         cases false e = rw e (both_raise bounds_exception)
+
     go : (c : Bool) → index_can_raise index len ≡ c → Alike (SameIf b) (checked_index v len) (checked_index w len)
     go true e = rw (same (covered e)) (reflexive w)
     go false e =
@@ -107,9 +108,9 @@ short-alike connective true c xs v w o p same covered more h i alike = rw (same 
     go false = alike
 short-alike connective false c xs v w o p same covered more h i alike =
     alike-gives (SameIf c) (if decides connective v then Gives v else o) (if decides connective w then Gives w else p)
-        (short-gives (decides connective v) v o (gives-value xs o (none (any_of xs) refl) h))
-        (short-gives (decides connective w) w p (gives-value xs p (none (any_of xs) refl) i))
-        (λ x y j. let k : false ≡ true = more j in absurd (cc))
+    (short-gives (decides connective v) v o (gives-value xs o (none (any_of xs) refl) h))
+    (short-gives (decides connective w) w p (gives-value xs p (none (any_of xs) refl) i))
+    (λ x y j. let k : false ≡ true = more j in absurd (cc))
   where
     none : (d : Bool) → any_of xs ≡ d → any_of xs ≡ false
     none true e = let k : false ≡ true = covered e in absurd (cc)
@@ -126,16 +127,16 @@ expression-alike reader scope s t agree (Element array len index) reads =
     let test : Bool = index_can_raise index len in
     let covered : test ≡ true → reader.reads l ≡ true = read-label_if reader test l (read-right reader (raise_label scope index) (label_if test l) reads) in
     alike-then (SameIf (reader.reads l)) (SameIf (reader.reads (c ++ l))) (value_of s index) (value_of t index)
-        (λ v. then_with (checked_index v len) (λ i. Gives (cell_at (cells s array) i))) (λ v. then_with (checked_index v len) (λ i. Gives (cell_at (cells t array) i)))
-        (expression-alike reader scope s t agree index (read-left reader (raise_label scope index) (label_if test l) reads)) (λ v w f g same.
+    (λ v. then_with (checked_index v len) (λ i. Gives (cell_at (cells s array) i))) (λ v. then_with (checked_index v len) (λ i. Gives (cell_at (cells t array) i)))
+    (expression-alike reader scope s t agree index (read-left reader (raise_label scope index) (label_if test l) reads)) (λ v w f g same.
     alike-then (SameIf (reader.reads l)) (SameIf (reader.reads (c ++ l))) (checked_index v len) (checked_index w len)
-        (λ i. Gives (cell_at (cells s array) i)) (λ i. Gives (cell_at (cells t array) i))
-        (index-alike s t index len (reader.reads l) v w covered f g same) (λ i j p q same_index.
+    (λ i. Gives (cell_at (cells s array) i)) (λ i. Gives (cell_at (cells t array) i))
+    (index-alike s t index len (reader.reads l) v w covered f g same) (λ i j p q same_index.
     both_give (cell_at (cells s array) i) (cell_at (cells t array) j) (λ all.
-        rw (same_index (read-right reader c l all)) (ap (λ xs. cell_at xs j) (agree.variables array (read-left reader c l all))))))
+    rw (same_index (read-right reader c l all)) (ap (λ xs. cell_at xs j) (agree.variables array (read-left reader c l all))))))
 expression-alike reader scope s t agree (Unary prefix e) reads =
     alike-then (SameIf (reader.reads (value_label scope e))) (SameIf (reader.reads (value_label scope e))) (value_of s e) (value_of t e)
-        (λ v. Gives (prefix_value prefix v)) (λ v. Gives (prefix_value prefix v)) (expression-alike reader scope s t agree e reads) (λ v w f g same.
+    (λ v. Gives (prefix_value prefix v)) (λ v. Gives (prefix_value prefix v)) (expression-alike reader scope s t agree e reads) (λ v w f g same.
     both_give (prefix_value prefix v) (prefix_value prefix w) (λ i. ap (λ x. prefix_value prefix x) (same i)))
 expression-alike reader scope s t agree (Binary operator d e) reads =
     let rd : Label = raise_label scope d in
@@ -146,14 +147,14 @@ expression-alike reader scope s t agree (Binary operator d e) reads =
     let both : reader.reads (rd ++ re) ≡ true = read-left reader (rd ++ re) (label_if test ve) reads in
     let covered : test ≡ true → reader.reads ve ≡ true = read-label_if reader test ve (read-right reader (rd ++ re) (label_if test ve) reads) in
     alike-then (SameIf (reader.reads vd)) (SameIf (reader.reads (vd ++ ve))) (value_of s d) (value_of t d)
-        (λ v. then_with (value_of s e) (λ w. operator_value operator v w)) (λ v. then_with (value_of t e) (λ w. operator_value operator v w))
-        (expression-alike reader scope s t agree d (read-left reader rd re both)) (λ v v' f f' same.
+    (λ v. then_with (value_of s e) (λ w. operator_value operator v w)) (λ v. then_with (value_of t e) (λ w. operator_value operator v w))
+    (expression-alike reader scope s t agree d (read-left reader rd re both)) (λ v v' f f' same.
     alike-then (SameIf (reader.reads ve)) (SameIf (reader.reads (vd ++ ve))) (value_of s e) (value_of t e)
-        (λ w. operator_value operator v w) (λ w. operator_value operator v' w)
-        (expression-alike reader scope s t agree e (read-right reader rd re both)) (λ w w' g g' same_right.
+    (λ w. operator_value operator v w) (λ w. operator_value operator v' w)
+    (expression-alike reader scope s t agree e (read-right reader rd re both)) (λ w w' g g' same_right.
     operator-alike (reader.reads (vd ++ ve)) operator v w v' w'
-        (λ division. divisor-alike s t e (reader.reads ve) w w' (λ can. covered (rw (division, can) refl)) g g' same_right)
-        (λ all. same (read-left reader vd ve all)) (λ all. same_right (read-right reader vd ve all))))
+    (λ division. divisor-alike s t e (reader.reads ve) w w' (λ can. covered (rw (division, can) refl)) g g' same_right)
+    (λ all. same (read-left reader vd ve all)) (λ all. same_right (read-right reader vd ve all))))
 expression-alike reader scope s t agree (Short connective d e) reads =
     let rd : Label = raise_label scope d in
     let re : Label = raise_label scope e in
@@ -163,12 +164,12 @@ expression-alike reader scope s t agree (Short connective d e) reads =
     let both : reader.reads (rd ++ re) ≡ true = read-left reader (rd ++ re) (label_if test vd) reads in
     let covered : test ≡ true → reader.reads vd ≡ true = read-label_if reader test vd (read-right reader (rd ++ re) (label_if test vd) reads) in
     alike-then (SameIf (reader.reads vd)) (SameIf (reader.reads (vd ++ ve))) (value_of s d) (value_of t d)
-        (λ v. if decides connective v then Gives v else value_of s e) (λ v. if decides connective v then Gives v else value_of t e)
-        (expression-alike reader scope s t agree d (read-left reader rd re both)) (λ v w f g same.
+    (λ v. if decides connective v then Gives v else value_of s e) (λ v. if decides connective v then Gives v else value_of t e)
+    (expression-alike reader scope s t agree d (read-left reader rd re both)) (λ v w f g same.
     short-alike connective (reader.reads vd) (reader.reads (vd ++ ve)) (raises e) v w (value_of s e) (value_of t e) same covered (read-left reader vd ve)
-        (expression-raises s e) (expression-raises t e)
-        (alike-weaker (SameIf (reader.reads ve)) (SameIf (reader.reads (vd ++ ve))) (value_of s e) (value_of t e) (λ x y same_right all. same_right (read-right reader vd ve all))
-            (expression-alike reader scope s t agree e (read-right reader rd re both))))
+    (expression-raises s e) (expression-raises t e)
+    (alike-weaker (SameIf (reader.reads ve)) (SameIf (reader.reads (vd ++ ve))) (value_of s e) (value_of t e) (λ x y same_right all. same_right (read-right reader vd ve all))
+    (expression-alike reader scope s t agree e (read-right reader rd re both))))
 
 -- the values of arguments, each the same where its label is read
 pub data ArgumentsAlike {h : PrincipalHierarchy} (reader : Reader h) (scope : Scope) : List Expression → List Value → List Value → Type 0 where
@@ -179,9 +180,9 @@ pub arguments-alike : {h : PrincipalHierarchy} (reader : Reader h) (scope : Scop
 arguments-alike reader scope s t agree [] reads = both_give [] [] no_arguments
 arguments-alike reader scope s t agree (e ∷ rest) reads =
     alike-then (SameIf (reader.reads (value_label scope e))) (ArgumentsAlike reader scope (e ∷ rest)) (value_of s e) (value_of t e)
-        (λ v. then_with (values_of s rest) (λ vs. Gives (v ∷ vs))) (λ v. then_with (values_of t rest) (λ vs. Gives (v ∷ vs)))
-        (expression-alike reader scope s t agree e (read-left reader (raise_label scope e) (raise_labels scope rest) reads)) (λ v w f g same.
+    (λ v. then_with (values_of s rest) (λ vs. Gives (v ∷ vs))) (λ v. then_with (values_of t rest) (λ vs. Gives (v ∷ vs)))
+    (expression-alike reader scope s t agree e (read-left reader (raise_label scope e) (raise_labels scope rest) reads)) (λ v w f g same.
     alike-then (ArgumentsAlike reader scope rest) (ArgumentsAlike reader scope (e ∷ rest)) (values_of s rest) (values_of t rest)
-        (λ vs. Gives (v ∷ vs)) (λ vs. Gives (w ∷ vs))
-        (arguments-alike reader scope s t agree rest (read-right reader (raise_label scope e) (raise_labels scope rest) reads)) (λ vs ws i j more.
+    (λ vs. Gives (v ∷ vs)) (λ vs. Gives (w ∷ vs))
+    (arguments-alike reader scope s t agree rest (read-right reader (raise_label scope e) (raise_labels scope rest) reads)) (λ vs ws i j more.
     both_give (v ∷ vs) (w ∷ ws) (one_more e rest v w vs ws same more)))
