@@ -7,3 +7,8 @@ pub mod Ends
 pub mod EndFaults
 pub mod Labelled
 pub mod Isolated
+pub mod TreeOf
+pub mod ProgramOf
+pub mod CoreOf
+pub mod WellFormed
+pub mod Kinds

@@ -8,10 +8,10 @@ use Rattle.resolved.specs.declared.expression.Value.{Value}
 use Rattle.resolved.specs.declared.expression.Value.TheVariants.{Number}
 use Rattle.resolved.specs.declared.statement.Exit.{Exit}
 use Rattle.resolved.specs.declared.statement.Exit.TheVariants.{Normal, Return, Break, Continue, Throw}
-use Rattle.resolved.specs.declared.program.Direction.{Direction}
-use Rattle.resolved.specs.declared.program.Direction.TheVariants.{Input, Output}
+use Rattle.resolved.specs.declared.tables.Direction.{Direction}
+use Rattle.resolved.specs.declared.tables.Direction.TheVariants.{Input, Output}
 use Rattle.resolved.specs.Tree.{Statement, Assign, Clear, Store, Receive, Send, Call, If, While, Leave, ReturnWith, Try, Nested, Block, Empty, Then, Handlers, NoMore, Catch}
-use Rattle.resolved.specs.Program.{Program, ChannelEntry, GlobalEntry, SlotEntry, procedure_at}
+use Rattle.resolved.specs.Program.{Program, ChannelEntry, GlobalEntry, SlotEntry, ProcedureEntry, procedure_at}
 use Rattle.resolved.specs.Value.{Evaluated, Gives, Raises, number_in, truth_in, zero_value, checked_index, end_exception}
 use Rattle.resolved.specs.State.{World, State, updated, assigned, stored, cleared, value_of, values_of}
 
@@ -166,13 +166,17 @@ slot_cells (Some slot) None = cells_of slot.size (zero_value slot.base)
 abbrev pub frame_of : List SlotEntry → List Value → ℕ → List Value
 frame_of slots arguments n = slot_cells (slice_get slots n) (slice_get arguments n)
 
+-- the state at the begin of a call: the frame is new
+abbrev pub entering : ProcedureEntry → List Value → State → State
+entering callee arguments s = record s { locals = frame_of callee.slots arguments }
+
 -- the calls of a program where so many more frames may be made; a call beyond them is deep
 abbrev pub calls_with : Program → (k frames : ℕ) → Calls
 calls_with program k zero procedure arguments s = Stopped Deep s
 calls_with program k (suc frames) procedure arguments s =
     leaving (λ t. record t { locals = s.locals })
     (block_meaning (calls_with program k frames) k (procedure_at program procedure).body
-    (record s { locals = frame_of (procedure_at program procedure).slots arguments }))
+    (entering (procedure_at program procedure) arguments s))
 
 -- the cells of a global at first: its first value, or 0 or `false` in each element
 abbrev pub global_cells : Option GlobalEntry → List Value

@@ -2,5 +2,8 @@
 #![tactic(auto)]
 
 pub mod expression;
+pub mod laws;
+pub mod lookup;
 pub mod program;
 pub mod statement;
+pub mod tables;

@@ -1,5 +1,9 @@
 //! Statements and handlers.
 
+ghost use Rattle.resolved.specs.Tree.{place_of};
+ghost use Rattle.resolved.specs.TreeOf.{statement_of};
+ghost use Rattle.std.specs.Prelude.{◌≡◌};
+
 use crate::expression::{Expression, Variable};
 
 /// A way out of a statement. Exceptions 0, 1 and 2 are `Arith`, `Bounds` and `End`, the declared ones follow in order.
@@ -45,4 +49,26 @@ pub struct Handler {
     pub at: usize,
     pub exception: u32,
     pub body: Vec<Statement>,
+}
+
+impl Statement {
+    /// The byte at which the statement begins in the source.
+    pub fn at(&self) -> usize
+        ensures { result ≡ place_of (statement_of self.now) }
+    {
+        match self {
+            Statement::Assign(at, _, _) => *at,
+            Statement::Clear(at, _) => *at,
+            Statement::Store(at, _, _, _, _) => *at,
+            Statement::Receive(at, _, _) => *at,
+            Statement::Send(at, _, _) => *at,
+            Statement::Call(at, _, _, _) => *at,
+            Statement::If(at, _, _, _) => *at,
+            Statement::While(at, _, _, _) => *at,
+            Statement::Leave(at, _) => *at,
+            Statement::Return(at, _) => *at,
+            Statement::Try(at, _, _) => *at,
+            Statement::Nested(at, _) => *at,
+        }
+    }
 }

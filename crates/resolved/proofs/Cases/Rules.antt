@@ -211,13 +211,31 @@ block_refused : (labelling : ℕ → Labelling) → fits (program (record (proce
 unfolding int_wrap
 block_refused labelling = refl
 
--- the rule of the single path is not for the rest of a block: `try { if (x > 0) { throw Oops; } x = 1; send pub, 1; } catch (Oops) { }`,
--- where each part of the rest has one end
+-- `try { if (x > 0) { throw Oops; } x = 1; send pub, 1; } catch (Oops) { }`: the `if` has two ends, and all that follows in the block
+-- is reached at the label of its normal end
 rest_refused : (labelling : ℕ → Labelling) → fits (secret_program [] (
     try_to (if_then (positive (var 0)) (Leave 0 (Throw oops) ∷ []) ∷ set_to 0 (int 1) ∷ send_public (int 1) ∷ []) (on oops []) ∷ []))
     labelling ≡ false
 unfolding int_wrap
 rest_refused labelling = refl
+
+-- with a public y, `try { if (y > 0) { return; } if (x > 0) { throw Oops; } throw Oops; } catch (Oops) { send pub, 1; }`: the rest of the
+-- block, which has one end, is no statement of its own and so no single path
+no_single_path : (labelling : ℕ → Labelling) → fits (secret_program (int_slot [] ∷ []) (
+    try_to (
+    if_then (positive (var 1)) (ReturnWith 0 None ∷ []) ∷ if_then (positive (var 0)) (Leave 0 (Throw oops) ∷ []) ∷ Leave 0 (Throw oops) ∷ [])
+    (on oops (send_public (int 1) ∷ [])) ∷ [])) labelling ≡ false
+unfolding int_wrap
+no_single_path labelling = refl
+
+-- the same with the rest in braces, which is a statement
+single_path_fits : fits (secret_program (int_slot [] ∷ []) (
+    try_to (
+    if_then (positive (var 1)) (ReturnWith 0 None ∷ [])
+    ∷ Nested 0 (block (if_then (positive (var 0)) (Leave 0 (Throw oops) ∷ []) ∷ Leave 0 (Throw oops) ∷ [])) ∷ [])
+    (on oops (send_public (int 1) ∷ [])) ∷ [])) all_written ≡ true
+unfolding int_wrap
+single_path_fits = refl
 
 -- ---- calls. `void f{begin}() { .. }` and `if (x > 0) { f(); }`
 calling : Label → List Statement → Program

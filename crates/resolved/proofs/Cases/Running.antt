@@ -77,11 +77,12 @@ short_circuit : run 1 0 (main_program [] (
 unfolding int_wrap
 short_circuit = refl
 
--- an array declaration in a loop clears the array in each turn, and an index past the end raises
+-- `while (i < 3) { int{} a[2]; a[i] = a[0] + 5; send pub, a[i]; i = i + 1; }`: the array is cleared in each turn, and an index past
+-- its end raises
 cleared_each_turn : run 1 3 (main_program (array_slot 2 [] ∷ int_slot [] ∷ []) (
     set_to 1 (int 0)
     ∷ while_loop (Binary LessThan (var 1) (int 3)) (
-    Clear 0 0 ∷ Store 0 (Local 0) 2 (var 1) (Binary Add (Element (Local 0) 2 (var 1)) (int 5))
+    Clear 0 0 ∷ Store 0 (Local 0) 2 (var 1) (Binary Add (Element (Local 0) 2 (int 0)) (int 5))
     ∷ send_public (Element (Local 0) 2 (var 1)) ∷ set_to 1 (Binary Add (var 1) (int 1)) ∷ []) ∷ [])) silence
     ≡ (pos 5 ∷ pos 5 ∷ [], threw bounds)
 unfolding int_wrap
