@@ -4,6 +4,7 @@ pub mod Closed
 pub mod Confined
 pub mod Declared
 pub mod Grows
+pub mod Isolated
 pub mod Kept
 pub mod Longer
 pub mod Observer
