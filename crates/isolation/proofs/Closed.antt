@@ -29,7 +29,7 @@ one-same (first ∷ rest) a b one h i = sym (each a h) ∙ each b i
     each : (e : Exit) → has_end (first ∷ rest) e ≡ true → first ≡ e
     each e f = ⊎_elim (λ g. sym (same-exit e first g)) (λ g. same-exit first e (all-has (same_exit first) rest e one g)) (or_cases (same_exit e first) (has_end rest e) f)
 
-closed-unread : {h : PrincipalHierarchy} (reader : Reader h) (ends : List Exit) (pc : Label) (marks : Marks) (exit : Exit) → (one_end ends ≡ true → reader.reads pc ≡ false) → has_end ends exit ≡ true → reader.reads (marks exit) ≡ false → reader.reads (at_ends ends pc marks exit) ≡ false
+pub closed-unread : {h : PrincipalHierarchy} (reader : Reader h) (ends : List Exit) (pc : Label) (marks : Marks) (exit : Exit) → (one_end ends ≡ true → reader.reads pc ≡ false) → has_end ends exit ≡ true → reader.reads (marks exit) ≡ false → reader.reads (at_ends ends pc marks exit) ≡ false
 closed-unread reader ends pc marks exit single among unread = go (one_end ends) refl
   where
     go : (b : Bool) → one_end ends ≡ b → reader.reads (at_ends ends pc marks exit) ≡ false

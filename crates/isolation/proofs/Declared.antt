@@ -10,11 +10,11 @@ use Rattle.resolved.specs.EndFaults.{EndRefusal, NoValueReturned, Undeclared, fa
 use Rattle.isolation.proofs.Among.{EndsAsDeclared}
 
 -- of an empty list both parts are empty
-append-empty : {A : Type 0} (xs ys : List A) → xs ++ ys ≡ [] → (xs ≡ []) × (ys ≡ [])
+pub append-empty : {A : Type 0} (xs ys : List A) → xs ++ ys ≡ [] → (xs ≡ []) × (ys ≡ [])
 append-empty [] ys h = (refl, h)
 append-empty (x ∷ xs) ys h = absurd (cc)
 
-no_fault-test : (test : Bool) (refusal : EndRefusal) (at : ℕ) → fault_unless test refusal at ≡ [] → test ≡ true
+pub no_fault-test : (test : Bool) (refusal : EndRefusal) (at : ℕ) → fault_unless test refusal at ≡ [] → test ≡ true
 no_fault-test true refusal at h = refl
 no_fault-test false refusal at h = absurd (cc)
 

@@ -6,8 +6,11 @@ pub mod Declared
 pub mod Grows
 pub mod Isolated
 pub mod Kept
+pub mod Laws
 pub mod Longer
 pub mod Observer
+pub mod Readers
 pub mod Related
 pub mod Secure
+pub mod Unread
 pub mod Values

@@ -1,0 +1,34 @@
+//! Isolation: what a principal sees of the outputs tells it nothing of the inputs that it may not read.
+
+ghost use Rattle.isolation.specs.Larger.{FlowsAreKept, IsolatedCarried, KeepsActsFor, NamesKeepActsFor, number_by_name};
+ghost use Rattle.principals.specs.ActsFor.{ContainsHierarchy, IsHierarchy, PrincipalHierarchy};
+ghost use Rattle.resolved.specs.EndFaults.{end_faults};
+ghost use Rattle.resolved.specs.Isolated.{Isolated};
+ghost use Rattle.resolved.specs.Labelled.{Labelled};
+ghost use Rattle.resolved.specs.Program.{Program};
+ghost use Rattle.std.specs.Prelude.{[], ℕ, ◌≡◌};
+
+/// Every labelled program without a fault of its ends is isolated: for every principal, all worlds that agree for it and all two
+/// bounds on the turns of loops, one of the lists that it sees begins the other.
+pub fn labelled_programs_are_isolated()
+    ensures { (program : Program) → end_faults program ≡ [] → Labelled program → Isolated program }
+{}
+
+/// The same where readers, agreement and observers are taken under another hierarchy that keeps the acts-for of the program's own:
+/// under every renumbering of principals that does, and by name under every hierarchy that contains the program's own.
+pub fn labelled_programs_stay_isolated()
+    ensures renumbered { (program : Program) (whole : PrincipalHierarchy) (carry : ℕ → ℕ) →
+        end_faults program ≡ [] → Labelled program → KeepsActsFor program.hierarchy whole carry →
+        IsolatedCarried program whole carry }
+    ensures by_name { (program : Program) (whole : PrincipalHierarchy) →
+        end_faults program ≡ [] → Labelled program →
+        IsHierarchy program.hierarchy → IsHierarchy whole → ContainsHierarchy whole program.hierarchy →
+        IsolatedCarried program whole (number_by_name program.hierarchy whole) }
+{}
+
+/// A flow that holds under a hierarchy holds under each one that keeps its acts-for, and a hierarchy that contains it does so by
+/// name.
+pub fn flows_are_kept()
+    ensures renumbered { (part whole : PrincipalHierarchy) (carry : ℕ → ℕ) → FlowsAreKept part whole carry }
+    ensures by_name { (part whole : PrincipalHierarchy) → NamesKeepActsFor part whole }
+{}
