@@ -14,3 +14,4 @@ pub mod Related
 pub mod Secure
 pub mod Unread
 pub mod Values
+pub mod Waiting

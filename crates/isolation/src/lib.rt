@@ -3,5 +3,6 @@
 #![tactic(auto)]
 
 pub mod confinement;
+pub mod examples;
 pub mod noninterference;
 pub mod runs;
