@@ -3,3 +3,4 @@ pub mod Kit
 pub mod Running
 pub mod Ends
 pub mod Rules
+pub mod Fitting

@@ -101,7 +101,6 @@ at_ends ends pc marks exit = label_if (has_end ends exit) (if one_end ends then 
 -- with the loop's own label
 abbrev pub own_label : Scope → (pc : Label) → Statement → Label
 own_label scope pc (Assign at x e) = pc ++ raise_label scope e
-own_label scope pc (Clear at slot) = pc
 own_label scope pc (Store at array length index e) =
     pc ++ raise_label scope index ++ raise_label scope e ++ label_if (index_can_raise index length) (value_label scope index)
 own_label scope pc (Receive at channel target) = pc ++ channel_label scope.program channel
@@ -109,11 +108,8 @@ own_label scope pc (Send at channel e) = pc ++ raise_label scope e
 own_label scope pc (Call at procedure arguments target) = pc ++ raise_labels scope arguments
 own_label scope pc (If at e yes_block no_block) = pc ++ raise_label scope e
 own_label scope pc (While at loop e body) = scope.labelling.loop_label loop ++ raise_label scope e
-own_label scope pc (Leave at exit) = pc
-own_label scope pc (ReturnWith at None) = pc
 own_label scope pc (ReturnWith at (Some e)) = pc ++ raise_label scope e
-own_label scope pc (Try at block handlers) = pc
-own_label scope pc (Nested at block) = pc
+own_label scope pc _ = pc
 
 -- the marks of what an expression raises at q
 abbrev pub raised_marks : Expression → (q : Label) → Marks

@@ -7,3 +7,5 @@ pub mod lookup;
 pub mod program;
 pub mod statement;
 pub mod tables;
+#[cfg(test)]
+mod tests;

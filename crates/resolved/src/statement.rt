@@ -18,7 +18,7 @@ pub enum Exit {
 
 /// A statement. Its first number is the byte at which its first token begins in the source.
 #[cycle(ast)]
-#[derive(Drop)]
+#[derive(Debug, PartialEq, Eq, Drop)]
 pub enum Statement {
     /// `x = e;`, also as a declaration.
     Assign(usize, Variable, Expression),
@@ -44,7 +44,7 @@ pub enum Statement {
 
 /// A handler: the byte at which the name of its exception begins, the exception, and the body.
 #[cycle(ast)]
-#[derive(Drop)]
+#[derive(Debug, PartialEq, Eq, Drop)]
 pub struct Handler {
     pub at: usize,
     pub exception: u32,
