@@ -1,17 +1,15 @@
 -- The rule of the single path: what a rule says of the ends becomes the labels of the possible ends.
-use Rattle.std.proofs.Common.{◌≡◌, refl, sym, ap, ◌∙◌, ℕ, Bool, true, false, List, [], ◌∷◌, ◌||◌, ◌&&◌, ⊎_elim}
-use Rattle.std.specs.Prelude.{Option, Some, None, if◌then◌else◌}
-use Rattle.std.specs.List.{list_all}
+use Rattle.std.proofs.Common.{◌≡◌, refl, sym, ◌∙◌, Bool, true, false, List, [], ◌∷◌, ⊎_elim}
+use Rattle.std.specs.Prelude.{None}
 use Rattle.std.proofs.lemmas.Bool.{or_cases}
 use Rattle.principals.specs.ActsFor.{PrincipalHierarchy}
 use Rattle.labels.specs.Label.{Label}
-use Rattle.resolved.specs.declared.expression.Value.{Value}
 use Rattle.resolved.specs.declared.statement.Exit.{Exit}
-use Rattle.resolved.specs.declared.statement.Exit.TheVariants.{Normal, Return, Break, Continue, Throw}
+use Rattle.resolved.specs.declared.statement.Exit.TheVariants.{Return}
 use Rattle.resolved.specs.State.{State}
-use Rattle.resolved.specs.Meaning.{Stop, Outcome, Ended, Stopped, state_after}
+use Rattle.resolved.specs.Meaning.{Outcome, state_after}
 use Rattle.resolved.specs.Ends.{same_exit, has_end, one_end}
-use Rattle.resolved.specs.Labelled.{Marks, at_ends, label_if}
+use Rattle.resolved.specs.Labelled.{Marks, at_ends}
 use Rattle.isolation.proofs.Among.{Among, same-exit, all-has}
 use Rattle.isolation.proofs.Observer.{Reader, View, AgreeFor, agree-back}
 use Rattle.isolation.proofs.Kept.{Hidden, hidden_end, hidden_return, hidden_stop, Kept}

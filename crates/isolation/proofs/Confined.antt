@@ -1,28 +1,28 @@
 -- Confinement: where an observer does not read the label at which a labelled statement has evaluated its own expressions, nothing
 -- of its run is seen, and it ends at labels that the observer does not read.
-use Rattle.std.proofs.Common.{arith, ◌≡◌, refl, sym, ap, ◌∙◌, ℕ, zero, suc, Bool, true, false, not, List, [], ◌∷◌, ◌++◌, ◌&&◌, ◌||◌, ℤ, ⊎_elim}
+use Rattle.std.proofs.Common.{arith, ◌≡◌, refl, sym, ap, ◌∙◌, ℕ, Bool, true, false, not, List, [], ◌∷◌, ◌++◌, ℤ}
 use Rattle.std.specs.Prelude.{Option, Some, None, if◌then◌else◌, ◌==◌, IsTrue}
 use Rattle.std.specs.List.{list_all}
-use Rattle.std.proofs.lemmas.Bool.{and_parts, eq-eqb}
+use Rattle.std.proofs.lemmas.Bool.{and_parts}
 use Rattle.std.proofs.lemmas.List.Folds.{list_all-append}
 use Rattle.principals.specs.ActsFor.{PrincipalHierarchy}
 use Rattle.labels.specs.Label.{Label, flows}
 use Rattle.resolved.specs.declared.expression.Variable.{Variable}
-use Rattle.resolved.specs.declared.expression.Variable.TheVariants.{Global, Local}
+use Rattle.resolved.specs.declared.expression.Variable.TheVariants.{Local}
 use Rattle.resolved.specs.declared.expression.Value.{Value}
 use Rattle.resolved.specs.declared.expression.Value.TheVariants.{Number}
 use Rattle.resolved.specs.declared.statement.Exit.{Exit}
 use Rattle.resolved.specs.declared.statement.Exit.TheVariants.{Normal, Return, Break, Continue, Throw}
 use Rattle.resolved.specs.Tree.{Expression, Statement, Assign, Clear, Store, Receive, Send, Call, If, While, Leave, ReturnWith, Try, Nested, Block, Empty, Then, Handlers, NoMore, Catch}
-use Rattle.resolved.specs.Program.{Program, ProcedureEntry, procedure_at}
-use Rattle.resolved.specs.Value.{Evaluated, Gives, Raises, truth_in, checked_index, end_exception}
-use Rattle.resolved.specs.State.{State, with_cells, assigned, stored, cleared, cells, value_of, values_of}
-use Rattle.resolved.specs.Meaning.{Stop, Outcome, Ended, Stopped, normally, thrown, after, evaluated, turns, caught, kept_in, received, sending, returned_to, Calls, statement_meaning, block_meaning, handlers_meaning, state_after}
-use Rattle.resolved.specs.Ends.{same_exit, has_end, one_end, raises, thrown_ends, leaves_loop, handles, passes, statement_ends, block_ends, index_can_raise}
-use Rattle.resolved.specs.Labelled.{Scope, Marks, Demand, demand, Fits, variable_label, channel_label, result_label, value_label, raise_label, raise_labels, label_if, at_ends, own_label, raised_marks, call_marks, any_of, thrown_label, loop_marks, statement_rule, block_rule, handlers_rule, statement_marks, block_marks, target_demand, argument_demands, statement_demands, block_demands, handlers_demands}
-use Rattle.isolation.proofs.Among.{Among, CallsAmong, expression-raises, thrown-among, statement-among, block-among}
-use Rattle.isolation.proofs.Observer.{Reader, View, view_of, AgreeFor, agree-itself, agree-through, agree-unread, agree-unread_input, agree-unread_sending, with_input, read-left, read-right, unread-left, unread-right, unread-flowing}
-use Rattle.isolation.proofs.Kept.{Hidden, hidden_end, hidden_return, hidden_stop, Kept, LoopMarks, kept-weaker, kept-from, kept-end, kept-stop, kept-evaluated, kept-if, kept-after, kept-turns, kept-caught}
+use Rattle.resolved.specs.Program.{ProcedureEntry, procedure_at}
+use Rattle.resolved.specs.Value.{Raises, truth_in, checked_index, end_exception}
+use Rattle.resolved.specs.State.{State, assigned, stored, cleared, value_of, values_of}
+use Rattle.resolved.specs.Meaning.{Stop, Outcome, Ended, Stopped, normally, after, caught, kept_in, received, sending, returned_to, Calls, statement_meaning, block_meaning, handlers_meaning, state_after}
+use Rattle.resolved.specs.Ends.{same_exit, has_end, raises, thrown_ends, leaves_loop, handles, passes, statement_ends, block_ends, index_can_raise}
+use Rattle.resolved.specs.Labelled.{Scope, Marks, Demand, demand, Fits, variable_label, channel_label, result_label, value_label, raise_label, raise_labels, label_if, at_ends, own_label, raised_marks, call_marks, any_of, thrown_label, loop_marks, statement_rule, block_rule, handlers_rule, block_marks, target_demand, argument_demands, statement_demands, block_demands, handlers_demands}
+use Rattle.isolation.proofs.Among.{CallsAmong, expression-raises, thrown-among, statement-among, block-among}
+use Rattle.isolation.proofs.Observer.{Reader, View, view_of, AgreeFor, agree-itself, agree-through, agree-unread, agree-unread_input, agree-unread_sending, with_input, unread-left, unread-right, unread-flowing}
+use Rattle.isolation.proofs.Kept.{hidden_end, hidden_return, Kept, LoopMarks, kept-weaker, kept-from, kept-end, kept-stop, kept-evaluated, kept-if, kept-after, kept-turns, kept-caught}
 use Rattle.isolation.proofs.Closed.{read_marks, kept-closed}
 
 -- demands that hold hold in both parts of their list

@@ -1,5 +1,5 @@
 -- Isolation, by recursion on the frames: what the calls of a labelled program do, and what an observer sees of two of its runs.
-use Rattle.std.proofs.Common.{arith, ◌≡◌, refl, sym, ap, ◌∙◌, ℕ, zero, suc, ◌+◌, ◌<◌, Bool, true, false, List, [], ◌∷◌, ◌++◌, ◌⊎◌, inl, inr, length, ℤ}
+use Rattle.std.proofs.Common.{arith, ◌≡◌, refl, ap, ℕ, zero, suc, ◌+◌, ◌<◌, Bool, true, List, [], ◌∷◌, ◌⊎◌, inl, inr, length, ℤ}
 use Rattle.std.specs.Prelude.{Option, Some, None, slice_get, slice_index_or}
 use Rattle.principals.specs.ActsFor.{PrincipalHierarchy}
 use Rattle.labels.specs.Label.{Label}
@@ -10,18 +10,18 @@ use Rattle.resolved.specs.declared.expression.Value.{Value}
 use Rattle.resolved.specs.declared.statement.Exit.{Exit}
 use Rattle.resolved.specs.declared.tables.Direction.{Direction}
 use Rattle.resolved.specs.declared.tables.Direction.TheVariants.{Input, Output}
-use Rattle.resolved.specs.Tree.{Block, Empty}
-use Rattle.resolved.specs.Program.{Program, ChannelEntry, ProcedureEntry, SlotEntry, procedure_at, channel_at, slot_at}
+use Rattle.resolved.specs.Tree.{Empty}
+use Rattle.resolved.specs.Program.{Program, ChannelEntry, ProcedureEntry, procedure_at, channel_at, slot_at}
 use Rattle.resolved.specs.State.{State, World, cells}
-use Rattle.resolved.specs.Meaning.{Stop, Deep, Outcome, Ended, Stopped, leaving, entering, frame_of, slot_cells, block_meaning, calls_with, first_state, channel_numbers, numbers_by, run_within, state_after}
+use Rattle.resolved.specs.Meaning.{Deep, Outcome, Stopped, entering, slot_cells, block_meaning, calls_with, first_state, channel_numbers, numbers_by, run_within, state_after}
 use Rattle.resolved.specs.Ends.{block_ends}
-use Rattle.resolved.specs.Labelled.{Scope, Labelling, Marks, Demand, Fits, label_or, variable_label, channel_label, parameter_label, block_rule, block_marks, block_demands, end_demands, procedure_demands, demands_from, program_demands}
+use Rattle.resolved.specs.Labelled.{Scope, Labelling, Fits, label_or, channel_label, block_rule, block_marks, block_demands, end_demands, procedure_demands, demands_from, program_demands}
 use Rattle.isolation.proofs.Grows.{calls-grow}
 use Rattle.isolation.proofs.Among.{EndsAsDeclared, calls-among, block-among}
 use Rattle.isolation.proofs.Observer.{Reader, View, view_of, shown, AgreeFor, agree-itself}
 use Rattle.isolation.proofs.Related.{agree-begins}
 use Rattle.isolation.proofs.Closed.{read_marks, related-closed}
-use Rattle.isolation.proofs.Confined.{Confines, KeptCall, call_stop, reads_result, fits-left, fits-right, block-kept}
+use Rattle.isolation.proofs.Confined.{Confines, call_stop, reads_result, fits-left, fits-right, block-kept}
 use Rattle.isolation.proofs.Calls.{RelatedCall, same_call, same_thrown, apart_calls, first_call_stops, second_call_stops, declared_label, home, agree-home, kept-leaving, related-leaving}
 use Rattle.isolation.proofs.Secure.{Secures, ParametersAlike, block-secure}
 

@@ -1,23 +1,17 @@
 -- The laws of confinement and isolation for principals.
-use Rattle.std.proofs.Common.{◌≡◌, refl, ℕ, ◌<◌, length, Bool, true, false, List, [], ◌⊎◌}
-use Rattle.std.specs.Prelude.{IsFalse, IsTrue}
+use Rattle.std.proofs.Common.{◌≡◌, ℕ, Bool, []}
 use Rattle.principals.specs.ActsFor.{PrincipalHierarchy}
-use Rattle.labels.specs.Label.{Label, may_read}
-use Rattle.resolved.specs.declared.statement.Exit.{Exit}
-use Rattle.resolved.specs.declared.statement.Exit.TheVariants.{Normal, Return}
-use Rattle.resolved.specs.Tree.{Statement}
 use Rattle.resolved.specs.Program.{Program}
-use Rattle.resolved.specs.State.{World, State}
-use Rattle.resolved.specs.Meaning.{Outcome, Ended, Stopped, statement_meaning, calls_with, frame_limit}
+use Rattle.resolved.specs.Meaning.{Outcome, statement_meaning, calls_with, frame_limit}
 use Rattle.resolved.specs.Ends.{statement_ends}
 use Rattle.resolved.specs.EndFaults.{end_faults}
-use Rattle.resolved.specs.Labelled.{Scope, Labelling, Marks, Fits, Labelled, channel_label, statement_rule, statement_marks, statement_demands}
+use Rattle.resolved.specs.Labelled.{Scope, Marks, Labelled, statement_rule, statement_marks}
 use Rattle.resolved.specs.Isolated.{Isolated}
-use Rattle.isolation.specs.Confinement.{SameFor, UnreadEnd, StatementsAreConfined, PossibleEndsAreUnread}
+use Rattle.isolation.specs.Confinement.{UnreadEnd, StatementsAreConfined, PossibleEndsAreUnread}
 use Rattle.isolation.specs.Larger.{KeepsActsFor, IsolatedCarried}
 use Rattle.isolation.proofs.Among.{statement-among}
 use Rattle.isolation.proofs.Declared.{ends-as-declared}
-use Rattle.isolation.proofs.Observer.{Reader, view_of}
+use Rattle.isolation.proofs.Observer.{view_of}
 use Rattle.isolation.proofs.Kept.{Hidden, hidden_end, hidden_return, hidden_stop}
 use Rattle.isolation.proofs.Closed.{read_marks, closed-unread, kept-closed}
 use Rattle.isolation.proofs.Confined.{reads_result, own-unread, statement-kept}

@@ -1,6 +1,6 @@
 -- An observer, apart from principals: a reader of labels, what it reads of a state, and states that are the same for it.
 use Rattle.std.proofs.Common.{◌≡◌, refl, sym, ap, ◌∙◌, ℕ, Bool, true, false, ◌&&◌, List, [], ◌∷◌, ◌++◌, filter, arith}
-use Rattle.std.specs.Prelude.{IsTrue, if◌then◌else◌, ◌==◌, ℤ}
+use Rattle.std.specs.Prelude.{IsTrue, ◌==◌, ℤ}
 use Rattle.std.proofs.lemmas.Bool.{and_parts}
 use Rattle.std.proofs.lemmas.List.{append-nil}
 use Rattle.std.proofs.lemmas.List.Elements.{filter-append}
@@ -13,7 +13,7 @@ use Rattle.resolved.specs.declared.expression.Value.{Value}
 use Rattle.resolved.specs.State.{State, cells, with_cells, updated}
 use Rattle.resolved.specs.Value.{number_in}
 use Rattle.resolved.specs.Meaning.{sending}
-use Rattle.resolved.specs.Labelled.{Scope, variable_label, channel_label, label_if}
+use Rattle.resolved.specs.Labelled.{Scope, variable_label, channel_label}
 
 -- who reads labels: a test that the empty label passes, and a join where both its sides do. Where a label flows to another one,
 -- a reader of the other one reads it

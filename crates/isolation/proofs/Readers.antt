@@ -1,14 +1,14 @@
 -- The readers of labels that the laws are about: a principal under a hierarchy, also one to which the labels are carried over.
-use Rattle.std.proofs.Common.{arith, ◌≡◌, refl, sym, ap, ◌∙◌, ℕ, ◌<◌, Bool, true, false, List, [], ◌∷◌, ◌++◌, map, length, get_or, ◌⊎◌, inl, inr, ⊎_elim}
-use Rattle.std.specs.Prelude.{Option, Some, None, IsTrue, All, Any, Contains, slice_get, position, bytes_eq, option_and_then, unwrap_or}
+use Rattle.std.proofs.Common.{◌≡◌, refl, ap, ◌∙◌, ℕ, ◌<◌, List, [], map, length, get_or, inl, inr, ⊎_elim}
+use Rattle.std.specs.Prelude.{Any, Contains}
 use Rattle.std.proofs.lemmas.List.{length-map, get_or-map, map-append}
-use Rattle.std.proofs.lemmas.List.Elements.{All-map, Contains-get_or}
+use Rattle.std.proofs.lemmas.List.Elements.{All-map}
 use Rattle.std.proofs.lemmas.Option.{slice_get-get_or}
-use Rattle.principals.specs.ActsFor.{PrincipalHierarchy, IsHierarchy, ActsFor, itself, written, through, HasName, number_of, ActsForByName, ContainsHierarchy}
-use Rattle.principals.proofs.Names.{one_number, position_of_name}
-use Rattle.labels.specs.Label.{ReaderPolicy, Label, Allows, PolicyFlowsTo, FlowsTo, flows, may_read}
+use Rattle.principals.specs.ActsFor.{PrincipalHierarchy, IsHierarchy, ActsFor, itself, written, through, HasName}
+use Rattle.principals.proofs.Names.{position_of_name}
+use Rattle.labels.specs.Label.{ReaderPolicy, Allows, PolicyFlowsTo, may_read}
 use Rattle.labels.proofs.Elements.{All-from_each, each_from_All, Any-from_some, Any-elim}
-use Rattle.labels.proofs.Flow.{FlowsTo-from_each, FlowsTo-elim}
+use Rattle.labels.proofs.Flow.{FlowsTo-elim}
 use Rattle.labels.proofs.Tests.{flows-decides}
 use Rattle.labels.proofs.FlowTests.{may_read-flowing, may_read-join, may_read-least}
 use Rattle.isolation.specs.Larger.{KeepsActsFor, carried_policy, carried_label, number_by_name, FlowsAreKept, NamesKeepActsFor}

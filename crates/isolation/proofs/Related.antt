@@ -1,9 +1,7 @@
 -- Two runs from states that are the same for an observer: they end in the same way in such states, or it reads the label of
 -- neither end; and what it sees of a run that was stopped begins what it sees of the other.
-use Rattle.std.proofs.Common.{◌≡◌, refl, sym, ap, ◌∙◌, ℕ, zero, suc, Bool, true, false, List, [], ◌∷◌, ◌++◌, ◌⊎◌, inl, inr, ⊎_elim}
-use Rattle.std.specs.Prelude.{Option, Some, None, if◌then◌else◌, ◌==◌}
-use Rattle.std.specs.List.{list_all}
-use Rattle.std.proofs.lemmas.Bool.{or_cases, and_parts}
+use Rattle.std.proofs.Common.{◌≡◌, refl, sym, ap, ◌∙◌, ℕ, zero, suc, Bool, true, false, List, [], ◌⊎◌, inl, inr}
+use Rattle.std.specs.Prelude.{Option, None, if◌then◌else◌}
 use Rattle.std.proofs.lemmas.List.{append-nil}
 use Rattle.std.proofs.lemmas.List.Elements.{filter-append}
 use Rattle.labels.specs.declared.sent.Pair.{Pair}
@@ -15,12 +13,11 @@ use Rattle.resolved.specs.Tree.{Handlers}
 use Rattle.resolved.specs.Value.{Evaluated, Gives, Raises, truth_in}
 use Rattle.resolved.specs.State.{State}
 use Rattle.resolved.specs.Meaning.{Stop, OutOfTurns, Outcome, Ended, Stopped, normally, thrown, after, evaluated, looped, turns, caught, state_after}
-use Rattle.resolved.specs.Ends.{same_exit, has_end, one_end, leaves_loop, passes}
+use Rattle.resolved.specs.Ends.{same_exit, passes}
 use Rattle.isolation.proofs.Grows.{Begins-through, Grows, grows-itself, grows-after, grows-looped, grows-turns, grows-caught}
-use Rattle.isolation.proofs.Among.{Among, same-exit, all-has}
 use Rattle.isolation.proofs.Observer.{View, shown, AgreeFor, agree-across, agree-back}
 use Rattle.isolation.proofs.Values.{Alike, both_give, both_raise, SameIf}
-use Rattle.isolation.proofs.Kept.{Hidden, hidden_end, hidden_return, hidden_stop, hidden-weaker, Kept, LoopMarks, kept-after, kept-looped, kept-turns, kept-turn_zero, kept-turn_suc, kept-caught}
+use Rattle.isolation.proofs.Kept.{Hidden, hidden-weaker, Kept, LoopMarks, kept-after, kept-looped, kept-turn_zero, kept-turn_suc, kept-caught}
 
 pub data Related (view : View) (value : Bool) (marks : Exit → Bool) : Outcome → Outcome → Type 0 where
   same_end : (exit : Exit) (s t : State) → AgreeFor view s t → Related view value marks (Ended exit None s) (Ended exit None t)

@@ -1,30 +1,29 @@
 -- Two runs of a labelled statement from states that are the same for an observer are related, at whatever label they begin.
-use Rattle.std.proofs.Common.{arith, ◌≡◌, refl, sym, ap, ◌∙◌, ℕ, zero, suc, ◌+◌, Bool, true, false, not, List, [], ◌∷◌, ◌++◌, ◌&&◌, ◌||◌, ℤ}
-use Rattle.std.specs.Prelude.{Option, Some, None, if◌then◌else◌, ◌==◌, IsTrue, slice_get, slice_set, map}
-use Rattle.std.proofs.lemmas.Bool.{and_parts}
+use Rattle.std.proofs.Common.{arith, ◌≡◌, refl, sym, ap, ◌∙◌, ℕ, zero, suc, ◌+◌, Bool, true, false, not, List, [], ◌∷◌, ◌++◌, ℤ}
+use Rattle.std.specs.Prelude.{Option, Some, None, if◌then◌else◌, ◌==◌, slice_get, slice_set, map}
 use Rattle.principals.specs.ActsFor.{PrincipalHierarchy}
-use Rattle.labels.specs.Label.{Label, flows}
+use Rattle.labels.specs.Label.{Label}
 use Rattle.resolved.specs.declared.expression.Variable.{Variable}
-use Rattle.resolved.specs.declared.expression.Variable.TheVariants.{Global, Local}
+use Rattle.resolved.specs.declared.expression.Variable.TheVariants.{Local}
 use Rattle.resolved.specs.declared.expression.Value.{Value}
 use Rattle.resolved.specs.declared.expression.Value.TheVariants.{Number}
 use Rattle.resolved.specs.declared.statement.Exit.{Exit}
 use Rattle.resolved.specs.declared.statement.Exit.TheVariants.{Normal, Return, Break, Continue, Throw}
 use Rattle.resolved.specs.Tree.{Expression, Statement, Assign, Clear, Store, Receive, Send, Call, If, While, Leave, ReturnWith, Try, Nested, Block, Empty, Then, Handlers, NoMore, Catch}
-use Rattle.resolved.specs.Program.{Program, ProcedureEntry, procedure_at}
-use Rattle.resolved.specs.Value.{Evaluated, Gives, Raises, truth_in, checked_index, end_exception, zero_value, base_of}
-use Rattle.resolved.specs.State.{State, with_cells, assigned, stored, cleared, cells, value_of, values_of}
-use Rattle.resolved.specs.Meaning.{Stop, Outcome, Ended, Stopped, normally, thrown, after, evaluated, turns, caught, kept_in, received, sending, returned_to, Calls, statement_meaning, block_meaning, handlers_meaning, state_after}
-use Rattle.resolved.specs.Ends.{same_exit, has_end, one_end, raises, thrown_ends, leaves_loop, handles, passes, statement_ends, block_ends, index_can_raise}
-use Rattle.resolved.specs.Labelled.{Scope, Marks, Demand, demand, Fits, variable_label, channel_label, parameter_label, result_label, value_label, raise_label, raise_labels, label_if, at_ends, own_label, raised_marks, call_marks, loop_marks, statement_rule, block_rule, handlers_rule, target_demand, argument_demands, statement_demands, block_demands, handlers_demands}
+use Rattle.resolved.specs.Program.{ProcedureEntry, procedure_at}
+use Rattle.resolved.specs.Value.{truth_in, checked_index, end_exception, zero_value, base_of}
+use Rattle.resolved.specs.State.{State, assigned, stored, cleared, cells, value_of, values_of}
+use Rattle.resolved.specs.Meaning.{Ended, normally, kept_in, received, sending, returned_to, Calls, statement_meaning, block_meaning, handlers_meaning}
+use Rattle.resolved.specs.Ends.{same_exit, passes, statement_ends, block_ends, index_can_raise}
+use Rattle.resolved.specs.Labelled.{Scope, Marks, demand, Fits, variable_label, channel_label, parameter_label, result_label, value_label, raise_label, raise_labels, label_if, at_ends, own_label, raised_marks, call_marks, statement_rule, block_rule, handlers_rule, target_demand, argument_demands, statement_demands, block_demands, handlers_demands}
 use Rattle.isolation.proofs.Grows.{CallsGrow, block-grows, handlers-grow}
-use Rattle.isolation.proofs.Among.{Among, statement-among, block-among}
-use Rattle.isolation.proofs.Observer.{Reader, View, view_of, AgreeFor, agree-itself, agree-with_cells, agree-with_input, agree-sending, with_input, read-left, read-right, unread-left, unread-right}
-use Rattle.isolation.proofs.Values.{Alike, both_give, both_raise, SameIf, index-alike, expression-alike, ArgumentsAlike, no_arguments, one_more, arguments-alike, read-label_if}
-use Rattle.isolation.proofs.Kept.{Kept, LoopMarks, kept-weaker, kept-if}
-use Rattle.isolation.proofs.Related.{Related, same_end, same_return, apart, first_stops, second_stops, both-kept, related-evaluated, related-if, related-weaker, WaysOn, related-after, LoopRead, related-turns, LoopUnread, related-once, HandlersOn, related-caught}
+use Rattle.isolation.proofs.Among.{statement-among, block-among}
+use Rattle.isolation.proofs.Observer.{Reader, View, view_of, AgreeFor, agree-with_cells, agree-with_input, agree-sending, with_input, read-left, read-right, unread-left, unread-right}
+use Rattle.isolation.proofs.Values.{SameIf, index-alike, expression-alike, ArgumentsAlike, no_arguments, one_more, arguments-alike, read-label_if}
+use Rattle.isolation.proofs.Kept.{kept-weaker, kept-if}
+use Rattle.isolation.proofs.Related.{Related, same_end, same_return, both-kept, related-evaluated, related-if, related-weaker, related-after, related-turns, related-once, related-caught}
 use Rattle.isolation.proofs.Closed.{read_marks, kept-closed, related-closed}
-use Rattle.isolation.proofs.Confined.{Confines, reads_result, fits-left, fits-right, fits-one, unread-demand, unread-label_if, unread-raised, unread-target, unread-call, own-unread, loop-read, statement-kept, block-kept, handlers-kept}
+use Rattle.isolation.proofs.Confined.{Confines, reads_result, fits-left, fits-right, fits-one, unread-label_if, unread-target, loop-read, statement-kept, block-kept, handlers-kept}
 use Rattle.isolation.proofs.Calls.{RelatedCall, related-returned_to, declared_label}
 
 -- what flows to a label that is read is read

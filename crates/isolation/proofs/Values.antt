@@ -1,13 +1,11 @@
 -- Expressions in two states that are the same for an observer: who reads the raise label finds the same exception in both or none
 -- in both, and who reads the value label too finds the same value.
-use Rattle.std.proofs.Common.{◌≡◌, refl, sym, ap, ◌∙◌, ℕ, zero, suc, Bool, true, false, not, ◌&&◌, List, [], ◌∷◌, ◌++◌, ℤ, is_some}
-use Rattle.std.specs.Prelude.{IsTrue, if◌then◌else◌, slice_get, Option, Some, None}
+use Rattle.std.proofs.Common.{◌≡◌, refl, sym, ap, ◌∙◌, ℕ, Bool, true, false, ◌&&◌, List, [], ◌∷◌, ◌++◌, ℤ}
+use Rattle.std.specs.Prelude.{if◌then◌else◌}
 use Rattle.principals.specs.ActsFor.{PrincipalHierarchy}
 use Rattle.labels.specs.Label.{Label}
-use Rattle.resolved.specs.declared.expression.Variable.{Variable}
 use Rattle.resolved.specs.declared.expression.Value.{Value}
 use Rattle.resolved.specs.declared.expression.Value.TheVariants.{Number, Truth}
-use Rattle.resolved.specs.declared.expression.Prefix.{Prefix}
 use Rattle.resolved.specs.declared.expression.Operator.{Operator}
 use Rattle.resolved.specs.declared.expression.Operator.TheVariants.{Add, Subtract, Multiply, Divide, Remainder, LessThan, AtMost, GreaterThan, AtLeast, Equal, Unequal, Same, Different}
 use Rattle.resolved.specs.declared.expression.Connective.{Connective}
@@ -17,7 +15,7 @@ use Rattle.resolved.specs.State.{State, cells, cell_at, value_of, values_of}
 use Rattle.resolved.specs.Ends.{index_can_raise, divisor_can_raise, is_division, raises}
 use Rattle.resolved.specs.Labelled.{Scope, variable_label, value_label, raise_label, raise_labels, label_if, any_of}
 use Rattle.isolation.proofs.Among.{RaisesAmong, expression-raises, index-in_range, divisor-not_zero}
-use Rattle.isolation.proofs.Observer.{Reader, View, view_of, AgreeFor, read-left, read-right}
+use Rattle.isolation.proofs.Observer.{Reader, view_of, AgreeFor, read-left, read-right}
 
 -- two evaluations: both give values that are related, or both raise the same exception
 pub data Alike {A B : Type 0} (P : A → B → Type 0) : Evaluated A → Evaluated B → Type 0 where

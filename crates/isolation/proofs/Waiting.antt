@@ -1,5 +1,5 @@
 -- A loop whose condition stays true and whose body changes nothing never comes to an end.
-use Rattle.std.proofs.Common.{◌≡◌, refl, ◌∙◌, ap, ℕ, zero, suc, true}
+use Rattle.std.proofs.Common.{◌≡◌, refl, ℕ, zero, suc, true}
 use Rattle.resolved.specs.declared.expression.Value.{Value}
 use Rattle.resolved.specs.declared.expression.Value.TheVariants.{Truth}
 use Rattle.resolved.specs.Value.{Evaluated, Gives}

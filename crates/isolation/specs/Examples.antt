@@ -1,7 +1,7 @@
 -- Programs that show what the laws are about: one that is labelled and sends what it received, the same with another label on its
 -- output, which is refused, and one of which two runs that agree for a principal show it lists of different lengths.
 -- Source: our own.
-use Rattle.std.specs.Prelude.{◌≡◌, ℕ, zero, suc, List, [], ◌∷◌, ℤ, pos, Some, None, ◌⊎◌}
+use Rattle.std.specs.Prelude.{ℕ, zero, suc, List, [], ◌∷◌, ℤ, Some, None}
 use Rattle.principals.specs.ActsFor.{PrincipalHierarchy}
 use Rattle.labels.specs.declared.sent.Pair.{Pair}
 use Rattle.labels.specs.Label.{Label}
@@ -11,13 +11,11 @@ use Rattle.resolved.specs.declared.expression.Variable.TheVariants.{Local}
 use Rattle.resolved.specs.declared.expression.Operator.TheVariants.{GreaterThan}
 use Rattle.resolved.specs.declared.tables.Direction.TheVariants.{Input, Output}
 use Rattle.resolved.specs.Tree.{Integer, Read, Binary, Assign, Receive, Send, While, Try, Block, Empty, Then, NoMore, Catch}
-use Rattle.resolved.specs.Program.{Program, ProcedureEntry, ThrownEntry}
+use Rattle.resolved.specs.Program.{Program, ThrownEntry}
 use Rattle.resolved.specs.Value.{end_exception}
 use Rattle.resolved.specs.State.{World}
 use Rattle.resolved.specs.Meaning.{sent_by}
-use Rattle.resolved.specs.EndFaults.{end_faults}
-use Rattle.resolved.specs.Labelled.{Labelled, channel_label}
-use Rattle.resolved.specs.Isolated.{Agree, Isolated}
+use Rattle.resolved.specs.Labelled.{channel_label}
 
 -- `principal Alice, Bob;`
 abbrev pub two_principals : PrincipalHierarchy

@@ -1,11 +1,10 @@
 -- Hierarchies that have grown: what the labels of one hierarchy are in another, and isolation there.
 -- Source: our own; a flow holds on in every hierarchy that has more acts-for relations (Myers and Liskov 2000).
-use Rattle.std.specs.Prelude.{◌≡◌, ℕ, List, [], map, slice_get, option_and_then, unwrap_or}
-use Rattle.principals.specs.ActsFor.{PrincipalHierarchy, IsHierarchy, ActsFor, HasName, number_of, ContainsHierarchy}
+use Rattle.std.specs.Prelude.{ℕ, map, slice_get, option_and_then, unwrap_or}
+use Rattle.principals.specs.ActsFor.{PrincipalHierarchy, IsHierarchy, ActsFor, number_of, ContainsHierarchy}
 use Rattle.labels.specs.Label.{Label, ReaderPolicy, FlowsTo}
 use Rattle.resolved.specs.Program.{Program}
-use Rattle.resolved.specs.EndFaults.{end_faults}
-use Rattle.resolved.specs.Labelled.{Labelled, channel_label}
+use Rattle.resolved.specs.Labelled.{channel_label}
 use Rattle.resolved.specs.Isolated.{IsolatedUnder}
 
 -- a renumbering of principals keeps acts-for: what acts for another in the first hierarchy does so in the second

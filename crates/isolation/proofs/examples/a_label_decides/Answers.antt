@@ -1,4 +1,4 @@
-use Rattle.std.proofs.Common.{arith, ◌≡◌, refl, ap, ℕ, zero, suc, List, [], ◌∷◌, ◌++◌, true, false, ℤ, pos, negsuc, ⊎_elim}
+use Rattle.std.proofs.Common.{arith, ◌≡◌, refl, ap, ℕ, zero, suc, List, [], ◌∷◌, true, false, ℤ, pos, negsuc, ⊎_elim}
 use Rattle.labels.specs.declared.sent.Pair.{Pair}
 use Rattle.labels.specs.Sent.{Begins}
 use Rattle.resolved.specs.Meaning.{frame_limit}
