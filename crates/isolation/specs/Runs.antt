@@ -1,13 +1,15 @@
 -- What the laws of runs say: which ends a statement comes to, and how a run goes on with more turns.
 -- Source: our own.
-use Rattle.std.specs.Prelude.{◌≡◌, ℕ, ◌≤◌, List, [], IsTrue}
+use Rattle.std.specs.Prelude.{◌≡◌, ℕ, ◌≤◌, List, [], ◌∷◌, IsTrue}
 use Rattle.labels.specs.Sent.{Begins}
+use Rattle.resolved.specs.declared.expression.Value.{Value}
 use Rattle.resolved.specs.declared.statement.Exit.{Exit}
+use Rattle.resolved.specs.declared.statement.Exit.TheVariants.{Normal}
 use Rattle.resolved.specs.Tree.{Statement, Block}
-use Rattle.resolved.specs.Program.{Program}
+use Rattle.resolved.specs.Program.{Program, procedure_at}
 use Rattle.resolved.specs.State.{World, State}
 use Rattle.resolved.specs.Meaning.{Outcome, Ended, Stopped, OutOfTurns, Deep, state_after, statement_meaning, block_meaning, calls_with, run_within, sent_by}
-use Rattle.resolved.specs.Ends.{has_end, statement_ends, block_ends}
+use Rattle.resolved.specs.Ends.{has_end, thrown_ends, declared_by, statement_ends, block_ends}
 use Rattle.resolved.specs.EndFaults.{end_faults}
 
 -- the end that was reached, if one was, is one of these
@@ -25,6 +27,12 @@ abbrev pub BlocksEndAsTheyMay : Program → Type 0
 BlocksEndAsTheyMay program =
     end_faults program ≡ [] → (frames k : ℕ) (block : Block) (s : State)
     → EndsAmong (block_ends program block) (block_meaning (calls_with program k frames) k block s)
+
+-- and a call ends normally or by an exception that its procedure declares
+abbrev pub CallsEndAsDeclared : Program → Type 0
+CallsEndAsDeclared program =
+    end_faults program ≡ [] → (frames k f : ℕ) (arguments : List Value) (s : State)
+    → EndsAmong (Normal ∷ thrown_ends (declared_by (procedure_at program f).throws)) (calls_with program k frames f arguments s)
 
 -- what was sent before a statement stays sent, and what it sends comes after it
 abbrev pub SentStaysSent : Program → Type 0

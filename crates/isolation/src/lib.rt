@@ -18,6 +18,7 @@ mod tests {
         runs::more_turns_go_on();
         confinement::statements_are_confined();
         confinement::possible_ends_are_unread();
+        noninterference::two_runs_agree();
         noninterference::labelled_programs_are_isolated();
         noninterference::labelled_programs_stay_isolated();
         noninterference::flows_are_kept();

@@ -1,12 +1,20 @@
 //! Isolation: what a principal sees of the outputs tells it nothing of the inputs that it may not read.
 
+ghost use Rattle.isolation.specs.TwoRuns.{StatementsAgree};
 ghost use Rattle.isolation.specs.Larger.{FlowsAreKept, IsolatedCarried, KeepsActsFor, NamesKeepActsFor, number_by_name};
 ghost use Rattle.principals.specs.ActsFor.{ContainsHierarchy, IsHierarchy, PrincipalHierarchy};
 ghost use Rattle.resolved.specs.EndFaults.{end_faults};
 ghost use Rattle.resolved.specs.Isolated.{Isolated};
-ghost use Rattle.resolved.specs.Labelled.{Labelled};
+ghost use Rattle.resolved.specs.Labelled.{Labelled, Scope};
 ghost use Rattle.resolved.specs.Program.{Program};
 ghost use Rattle.std.specs.Prelude.{[], ℕ, ◌≡◌};
+
+/// Two runs of a labelled statement from states that are the same for a principal agree for it, at whatever label the statement is
+/// reached and with whatever turns: where both end, their states are the same for it, and where it may read the label of either
+/// end, both ended so; where one is stopped, what the principal sees of it begins what it sees of the other.
+pub fn two_runs_agree()
+    ensures { (scope : Scope) → StatementsAgree scope }
+{}
 
 /// Every labelled program without a fault of its ends is isolated: for every principal, all worlds that agree for it and all two
 /// bounds on the turns of loops, one of the lists that it sees begins the other.

@@ -1,13 +1,15 @@
 //! Laws of runs: how they end, and how they go on with more turns.
 
-ghost use Rattle.isolation.specs.Runs.{BlocksEndAsTheyMay, RunsGoOn, SentOnlyGrows, SentStaysSent, StatementsEndAsTheyMay};
+ghost use Rattle.isolation.specs.Runs.{BlocksEndAsTheyMay, CallsEndAsDeclared, RunsGoOn, SentOnlyGrows, SentStaysSent, StatementsEndAsTheyMay};
 ghost use Rattle.resolved.specs.Program.{Program};
 
 /// Each way out that the meaning gives a statement or a block is one of its possible ends, in every program without a fault of its
-/// ends, from every state, with every number of turns and of frames.
+/// ends, from every state, with every number of turns and of frames. A call ends normally or by an exception that its procedure
+/// declares.
 pub fn ends_are_possible()
     ensures statements { (program : Program) → StatementsEndAsTheyMay program }
     ensures blocks { (program : Program) → BlocksEndAsTheyMay program }
+    ensures calls { (program : Program) → CallsEndAsDeclared program }
 {}
 
 /// Nothing that was sent is taken back: what was sent before a statement begins what is sent after it.

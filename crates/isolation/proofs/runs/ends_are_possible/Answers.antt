@@ -10,3 +10,6 @@ returns-clause-statements c program h frames k statement s =
 pub returns-clause-blocks : goal.returns-clause-blocks
 returns-clause-blocks c program h frames k block s =
     (block-among block program (calls_with program k frames) k (calls-among program k frames (ends-as-declared program h)) s).among
+
+pub returns-clause-calls : goal.returns-clause-calls
+returns-clause-calls c program h frames k f arguments s = (calls-among program k frames (ends-as-declared program h) f arguments s).among
