@@ -75,7 +75,8 @@ raises-none xs v = record { among = λ x e. absurd (cc) }
 raises-this : {A : Type 0} (xs : List ℕ) (y : ℕ) → raised_in xs y ≡ true → RaisesAmong {A = A} xs (Raises y)
 raises-this xs y h = record { among = λ x e. let f : y ≡ x = cc in rw (← f) h }
 
-raises-then : {A B : Type 0} (xs ys : List ℕ) (o : Evaluated A) (next : A → Evaluated B) → RaisesAmong xs o → ((v : A) → o ≡ Gives v → RaisesAmong ys (next v)) → RaisesAmong (xs ++ ys) (then_with o next)
+raises-then : {A B : Type 0} (xs ys : List ℕ) (o : Evaluated A) (next : A → Evaluated B) → RaisesAmong xs o →
+    ((v : A) → o ≡ Gives v → RaisesAmong ys (next v)) → RaisesAmong (xs ++ ys) (then_with o next)
 raises-then xs ys (Gives v) next h rest = record { among = λ x e. any-right (λ y. x == y) xs ys ((rest v refl).among x e) }
 raises-then xs ys (Raises z) next h rest = raises-this (xs ++ ys) z (any-left (λ y. z == y) xs ys (h.among z refl))
 
@@ -86,7 +87,8 @@ raises-last : {A : Type 0} (xs ys : List ℕ) (o : Evaluated A) → RaisesAmong 
 raises-last xs ys o h = record { among = λ x e. any-right (λ y. x == y) xs ys (h.among x e) }
 
 -- an index that cannot raise is in range
-pub index-in_range : (s : State) (index : Expression) (length : ℕ) (v : Value) → index_can_raise index length ≡ false → value_of s index ≡ Gives v → in_range (number_in v) length ≡ true
+pub index-in_range : (s : State) (index : Expression) (length : ℕ) (v : Value) → index_can_raise index length ≡ false →
+    value_of s index ≡ Gives v → in_range (number_in v) length ≡ true
 index-in_range s (Integer n) length v h e = go (in_range (literal_number n) length) refl
   where
     go : (b : Bool) → in_range (literal_number n) length ≡ b → in_range (number_in v) length ≡ true
@@ -107,7 +109,8 @@ negated-zero z h =
     let right : int_wrap w32 (y +ℤ int_wrap w32 (neg_ℤ y)) ≡ int_wrap w32 (y +ℤ neg_ℤ y) = int_wrap-add_right w32 y (neg_ℤ y) in
     sym fits ∙ sym (ap (λ a. int_wrap w32 a) (ap (λ b. y +ℤ b) h ∙ +ℤ_idr y)) ∙ right ∙ ap (λ a. int_wrap w32 a) (+ℤ_invr y)
 
-pub divisor-not_zero : (s : State) (e : Expression) (w : Value) → divisor_can_raise e ≡ false → value_of s e ≡ Gives w → is_zero (number_in w) ≡ false
+pub divisor-not_zero : (s : State) (e : Expression) (w : Value) → divisor_can_raise e ≡ false → value_of s e ≡ Gives w →
+    is_zero (number_in w) ≡ false
 divisor-not_zero s (Integer n) w h e =
     let g : Number (literal_number n) ≡ w = cc in rw (← g) h
 divisor-not_zero s (Unary Negate (Integer n)) w h e = go (is_zero (wrapped (neg_ℤ (literal_number n)))) refl
@@ -119,23 +122,28 @@ divisor-not_zero s (Unary Negate (Integer n)) w h e = go (is_zero (wrapped (neg_
         let i : true ≡ false = sym (ap is_zero zero) ∙ h in absurd (cc)
 divisor-not_zero s other w h e = let i : true ≡ false = h in absurd (cc)
 
-raises-checked_index : (s : State) (index : Expression) (length : ℕ) (v : Value) → value_of s index ≡ Gives v → RaisesAmong (index_raises index length) (checked_index v length)
+raises-checked_index : (s : State) (index : Expression) (length : ℕ) (v : Value) → value_of s index ≡ Gives v →
+    RaisesAmong (index_raises index length) (checked_index v length)
 raises-checked_index s index length v e = go (index_can_raise index length) refl (in_range (number_in v) length) refl
   where
-    go : (b : Bool) → index_can_raise index length ≡ b → (c : Bool) → in_range (number_in v) length ≡ c → RaisesAmong (index_raises index length) (checked_index v length)
+    go : (b : Bool) → index_can_raise index length ≡ b → (c : Bool) → in_range (number_in v) length ≡ c →
+        RaisesAmong (index_raises index length) (checked_index v length)
     go b f true g = rw g (raises-none (index_raises index length) (position_of (number_in v)))
     go true f false g = rw (f, g) (raises-this (bounds_exception ∷ []) bounds_exception refl)
     go false f false g = let i : true ≡ false = sym (index-in_range s index length v f e) ∙ g in absurd (cc)
 
-raises-division : (s : State) (e : Expression) (w : Value) (result : ℤ) → value_of s e ≡ Gives w → RaisesAmong (if divisor_can_raise e then arith_exception ∷ [] else []) (unless_zero (number_in w) result)
+raises-division : (s : State) (e : Expression) (w : Value) (result : ℤ) → value_of s e ≡ Gives w →
+    RaisesAmong (if divisor_can_raise e then arith_exception ∷ [] else []) (unless_zero (number_in w) result)
 raises-division s e w result f = go (divisor_can_raise e) refl (is_zero (number_in w)) refl
   where
-    go : (b : Bool) → divisor_can_raise e ≡ b → (c : Bool) → is_zero (number_in w) ≡ c → RaisesAmong (if divisor_can_raise e then arith_exception ∷ [] else []) (unless_zero (number_in w) result)
+    go : (b : Bool) → divisor_can_raise e ≡ b → (c : Bool) → is_zero (number_in w) ≡ c →
+        RaisesAmong (if divisor_can_raise e then arith_exception ∷ [] else []) (unless_zero (number_in w) result)
     go b g false h = rw h (raises-none (if divisor_can_raise e then arith_exception ∷ [] else []) (Number (wrapped result)))
     go true g true h = rw (g, h) (raises-this (arith_exception ∷ []) arith_exception refl)
     go false g true h = let i : true ≡ false = sym h ∙ divisor-not_zero s e w g f in absurd (cc)
 
-raises-operator : (s : State) (operator : Operator) (e : Expression) (v w : Value) → value_of s e ≡ Gives w → RaisesAmong (operator_raises operator e) (operator_value operator v w)
+raises-operator : (s : State) (operator : Operator) (e : Expression) (v w : Value) → value_of s e ≡ Gives w →
+    RaisesAmong (operator_raises operator e) (operator_value operator v w)
 raises-operator s Divide e v w f = raises-division s e w _ f
 raises-operator s Remainder e v w f = raises-division s e w _ f
 raises-operator s Add e v w f = raises-none [] _
@@ -150,7 +158,8 @@ raises-operator s Unequal e v w f = raises-none [] _
 raises-operator s Same e v w f = raises-none [] _
 raises-operator s Different e v w f = raises-none [] _
 
-raises-if : {A : Type 0} (xs : List ℕ) (b : Bool) (o p : Evaluated A) → RaisesAmong xs o → RaisesAmong xs p → RaisesAmong xs (if b then o else p)
+raises-if : {A : Type 0} (xs : List ℕ) (b : Bool) (o p : Evaluated A) → RaisesAmong xs o → RaisesAmong xs p →
+    RaisesAmong xs (if b then o else p)
 raises-if xs true o p h i = h
 raises-if xs false o p h i = i
 
@@ -182,7 +191,8 @@ expressions-raise s (e ∷ rest) =
 pub record Among (ends : List Exit) (o : Outcome) : Type 0 where
   pub among : EndsAmong ends o
 
-among-more : (xs ys : List Exit) (o : Outcome) → ((exit : Exit) → has_end xs exit ≡ true → has_end ys exit ≡ true) → Among xs o → Among ys o
+among-more : (xs ys : List Exit) (o : Outcome) → ((exit : Exit) → has_end xs exit ≡ true → has_end ys exit ≡ true) → Among xs o →
+    Among ys o
 among-more xs ys (Ended exit r s) more h = record { among = more exit h.among }
 among-more xs ys (Stopped stop s) more h = record { among = tt }
 
@@ -201,7 +211,9 @@ among-rest exit rest o h = among-more rest (exit ∷ rest) o (λ e f. or_right (
 among-thrown : (xs : List ℕ) (x : ℕ) (s : State) → raised_in xs x ≡ true → Among (thrown_ends xs) (thrown x s)
 among-thrown xs x s h = record { among = thrown-among xs x h }
 
-among-evaluated : {A : Type 0} (xs : List ℕ) (ends : List Exit) (e : Evaluated A) (s : State) (next : A → Outcome) → RaisesAmong xs e → ((exit : Exit) → has_end (thrown_ends xs) exit ≡ true → has_end ends exit ≡ true) → ((v : A) → e ≡ Gives v → Among ends (next v)) → Among ends (evaluated e s next)
+among-evaluated : {A : Type 0} (xs : List ℕ) (ends : List Exit) (e : Evaluated A) (s : State) (next : A → Outcome) →
+    RaisesAmong xs e → ((exit : Exit) → has_end (thrown_ends xs) exit ≡ true → has_end ends exit ≡ true) →
+    ((v : A) → e ≡ Gives v → Among ends (next v)) → Among ends (evaluated e s next)
 among-evaluated xs ends (Gives v) s next h more rest = rest v refl
 among-evaluated xs ends (Raises x) s next h more rest = record { among = more (Throw x) (thrown-among xs x (h.among x refl)) }
 
@@ -210,7 +222,8 @@ among-if ends true x y h i = h
 among-if ends false x y h i = i
 
 -- an end other than the normal one is an end of what follows too
-then-other : (first rest : List Exit) (exit : Exit) → same_exit Normal exit ≡ false → has_end first exit ≡ true → has_end (then_ends first rest) exit ≡ true
+then-other : (first rest : List Exit) (exit : Exit) → same_exit Normal exit ≡ false → has_end first exit ≡ true →
+    has_end (then_ends first rest) exit ≡ true
 then-other first rest exit other h = go (has_end first Normal) refl
   where
     go : (b : Bool) → has_end first Normal ≡ b → has_end (then_ends first rest) exit ≡ true
@@ -221,7 +234,8 @@ then-other first rest exit other h = go (has_end first Normal) refl
 then-normal : (first rest : List Exit) (o : Outcome) → has_end first Normal ≡ true → Among rest o → Among (then_ends first rest) o
 then-normal first rest o h among = rw h (among-right (filter (λ x. not (same_exit Normal x)) first) rest o among)
 
-among-after : (first rest : List Exit) (o : Outcome) (next : State → Outcome) → Among first o → ((t : State) → Among rest (next t)) → Among (then_ends first rest) (after o next)
+among-after : (first rest : List Exit) (o : Outcome) (next : State → Outcome) → Among first o →
+    ((t : State) → Among rest (next t)) → Among (then_ends first rest) (after o next)
 among-after first rest (Ended Normal r s) next h onward = then-normal first rest (next s) h.among (onward s)
 among-after first rest (Ended Return r s) next h onward = record { among = then-other first rest Return refl h.among }
 among-after first rest (Ended Break r s) next h onward = record { among = then-other first rest Break refl h.among }
@@ -233,12 +247,14 @@ among-after first rest (Stopped stop s) next h onward = record { among = tt }
 abbrev loop_ends : List ℕ → List Exit → List Exit
 loop_ends xs body = Normal ∷ (thrown_ends xs ++ filter leaves_loop body)
 
-loop-leaving : (xs : List ℕ) (body : List Exit) (exit : Exit) → leaves_loop exit ≡ true → has_end body exit ≡ true → has_end (loop_ends xs body) exit ≡ true
+loop-leaving : (xs : List ℕ) (body : List Exit) (exit : Exit) → leaves_loop exit ≡ true → has_end body exit ≡ true →
+    has_end (loop_ends xs body) exit ≡ true
 loop-leaving xs body exit leaves h =
     or_right (same_exit exit Normal) (has_end (thrown_ends xs ++ filter leaves_loop body) exit)
     (any-right (same_exit exit) (thrown_ends xs) (filter leaves_loop body) (end-filter leaves_loop body exit ∙ rw (leaves, h) refl))
 
-among-looped : (xs : List ℕ) (body : List Exit) (o : Outcome) (again : State → Outcome) → Among body o → ((t : State) → Among (loop_ends xs body) (again t)) → Among (loop_ends xs body) (looped o again)
+among-looped : (xs : List ℕ) (body : List Exit) (o : Outcome) (again : State → Outcome) → Among body o →
+    ((t : State) → Among (loop_ends xs body) (again t)) → Among (loop_ends xs body) (looped o again)
 among-looped xs body (Ended Normal r s) again h onward = onward s
 among-looped xs body (Ended Return r s) again h onward = record { among = loop-leaving xs body Return refl h.among }
 among-looped xs body (Ended Break r s) again h onward = record { among = refl }
@@ -246,12 +262,15 @@ among-looped xs body (Ended Continue r s) again h onward = onward s
 among-looped xs body (Ended (Throw x) r s) again h onward = record { among = loop-leaving xs body (Throw x) refl h.among }
 among-looped xs body (Stopped stop s) again h onward = record { among = tt }
 
-loop-thrown : (xs : List ℕ) (body : List Exit) (exit : Exit) → has_end (thrown_ends xs) exit ≡ true → has_end (loop_ends xs body) exit ≡ true
+loop-thrown : (xs : List ℕ) (body : List Exit) (exit : Exit) → has_end (thrown_ends xs) exit ≡ true →
+    has_end (loop_ends xs body) exit ≡ true
 loop-thrown xs body exit h =
     or_right (same_exit exit Normal) (has_end (thrown_ends xs ++ filter leaves_loop body) exit)
     (any-left (same_exit exit) (thrown_ends xs) (filter leaves_loop body) h)
 
-among-turns : (k : ℕ) (xs : List ℕ) (ends : List Exit) (condition : State → Evaluated Value) (body : State → Outcome) → ((t : State) → RaisesAmong xs (condition t)) → ((t : State) → Among ends (body t)) → (s : State) → Among (loop_ends xs ends) (turns k condition body s)
+among-turns : (k : ℕ) (xs : List ℕ) (ends : List Exit) (condition : State → Evaluated Value) (body : State → Outcome) →
+    ((t : State) → RaisesAmong xs (condition t)) → ((t : State) → Among ends (body t)) → (s : State) →
+    Among (loop_ends xs ends) (turns k condition body s)
 among-turns zero xs ends condition body raised h s =
     among-evaluated xs (loop_ends xs ends) (condition s) s (λ v. if truth_in v then Stopped OutOfTurns s else normally s) (raised s) (loop-thrown xs ends) (λ v e.
     among-if (loop_ends xs ends) (truth_in v) (Stopped OutOfTurns s) (normally s) (record { among = tt }) (record { among = refl }))
@@ -262,11 +281,14 @@ among-turns (suc k) xs ends condition body raised h s =
     (record { among = refl }))
 
 -- an end that passes the handlers
-try-passing : (handlers : Handlers) (block others : List Exit) (exit : Exit) → passes handlers exit ≡ true → has_end block exit ≡ true → has_end (filter (passes handlers) block ++ others) exit ≡ true
+try-passing : (handlers : Handlers) (block others : List Exit) (exit : Exit) → passes handlers exit ≡ true →
+    has_end block exit ≡ true → has_end (filter (passes handlers) block ++ others) exit ≡ true
 try-passing handlers block others exit passing h =
     any-left (same_exit exit) (filter (passes handlers) block) others (end-filter (passes handlers) block exit ∙ rw (passing, h) refl)
 
-among-caught : (handlers : Handlers) (block others : List Exit) (o : Outcome) (handle : ℕ → State → Outcome) → Among block o → ((x : ℕ) (t : State) → has_end block (Throw x) ≡ true → Among (filter (passes handlers) block ++ others) (handle x t)) → Among (filter (passes handlers) block ++ others) (caught o handle)
+among-caught : (handlers : Handlers) (block others : List Exit) (o : Outcome) (handle : ℕ → State → Outcome) → Among block o →
+    ((x : ℕ) (t : State) → has_end block (Throw x) ≡ true → Among (filter (passes handlers) block ++ others) (handle x t)) →
+    Among (filter (passes handlers) block ++ others) (caught o handle)
 among-caught handlers block others (Ended (Throw x) r s) handle h onward = onward x s h.among
 among-caught handlers block others (Ended Normal r s) handle h onward = record { among = try-passing handlers block others Normal refl h.among }
 among-caught handlers block others (Ended Return r s) handle h onward = record { among = try-passing handlers block others Return refl h.among }
@@ -285,16 +307,19 @@ thrown-both : (xs ys : List ℕ) → thrown_ends (xs ++ ys) ≡ thrown_ends xs +
 thrown-both [] ys = refl
 thrown-both (x ∷ xs) ys = ap (λ l. Throw x ∷ l) (thrown-both xs ys)
 
-pub thrown-left : (xs ys : List ℕ) (exit : Exit) → has_end (thrown_ends xs) exit ≡ true → has_end (thrown_ends (xs ++ ys)) exit ≡ true
+pub thrown-left : (xs ys : List ℕ) (exit : Exit) → has_end (thrown_ends xs) exit ≡ true →
+    has_end (thrown_ends (xs ++ ys)) exit ≡ true
 thrown-left xs ys exit h = rw (thrown-both xs ys) (any-left (same_exit exit) (thrown_ends xs) (thrown_ends ys) h)
 
-pub thrown-right : (xs ys : List ℕ) (exit : Exit) → has_end (thrown_ends ys) exit ≡ true → has_end (thrown_ends (xs ++ ys)) exit ≡ true
+pub thrown-right : (xs ys : List ℕ) (exit : Exit) → has_end (thrown_ends ys) exit ≡ true →
+    has_end (thrown_ends (xs ++ ys)) exit ≡ true
 thrown-right xs ys exit h = rw (thrown-both xs ys) (any-right (same_exit exit) (thrown_ends xs) (thrown_ends ys) h)
 
 pub behind : (first : Exit) (rest : List Exit) (exit : Exit) → has_end rest exit ≡ true → has_end (first ∷ rest) exit ≡ true
 behind first rest exit h = or_right (same_exit exit first) (has_end rest exit) h
 
-among-returned_to : (ends : List Exit) (target : Option Variable) (o : Outcome) → Among (Normal ∷ ends) o → Among (Normal ∷ ends) (returned_to target o)
+among-returned_to : (ends : List Exit) (target : Option Variable) (o : Outcome) → Among (Normal ∷ ends) o →
+    Among (Normal ∷ ends) (returned_to target o)
 among-returned_to ends (Some x) (Ended Normal (Some v) t) h = record { among = refl }
 among-returned_to ends (Some x) (Ended Normal None t) h = record { among = refl }
 among-returned_to ends (Some x) (Ended Return r t) h = record { among = h.among }
@@ -309,12 +334,14 @@ among-returned_to ends None (Ended Continue r t) h = record { among = h.among }
 among-returned_to ends None (Ended (Throw e) r t) h = record { among = h.among }
 among-returned_to ends None (Stopped stop t) h = record { among = tt }
 
-among-received : (numbers : List ℤ) (channel : ℕ) (target : Option Variable) (s : State) → Among (Normal ∷ Throw end_exception ∷ []) (received numbers channel target s)
+among-received : (numbers : List ℤ) (channel : ℕ) (target : Option Variable) (s : State) →
+    Among (Normal ∷ Throw end_exception ∷ []) (received numbers channel target s)
 among-received [] channel target s = record { among = refl }
 among-received (z ∷ rest) channel target s = record { among = refl }
 
 -- what is the normal end or declared stays so in a longer list
-call-more : (xs ys : List ℕ) (exit : Exit) → ((e : Exit) → has_end (thrown_ends xs) e ≡ true → has_end (thrown_ends ys) e ≡ true) → has_end (Normal ∷ thrown_ends xs) exit ≡ true → has_end (Normal ∷ thrown_ends ys) exit ≡ true
+call-more : (xs ys : List ℕ) (exit : Exit) → ((e : Exit) → has_end (thrown_ends xs) e ≡ true → has_end (thrown_ends ys) e ≡ true) →
+    has_end (Normal ∷ thrown_ends xs) exit ≡ true → has_end (Normal ∷ thrown_ends ys) exit ≡ true
 call-more xs ys Normal more h = refl
 call-more xs ys Return more h = more Return h
 call-more xs ys Break more h = more Break h
@@ -322,12 +349,14 @@ call-more xs ys Continue more h = more Continue h
 call-more xs ys (Throw x) more h = more (Throw x) h
 
 -- one handler and those after it
-handler-among : (ends : List Exit) (here later : Bool) (x y : Outcome) (P : Type 0) → ((here || later) ≡ false → P) → Among ends x → ((later ≡ false → P) → Among ends y) → Among ends (if here then x else y)
+handler-among : (ends : List Exit) (here later : Bool) (x y : Outcome) (P : Type 0) → ((here || later) ≡ false → P) → Among ends x →
+    ((later ≡ false → P) → Among ends y) → Among ends (if here then x else y)
 handler-among ends true later x y P passing h rest = h
 handler-among ends false later x y P passing h rest = rest passing
 
 mutual
-  pub statement-among : (statement : Statement) (program : Program) (calls : Calls) (k : ℕ) → CallsAmong program calls → (s : State) → Among (statement_ends program statement) (statement_meaning calls k statement s)
+  pub statement-among : (statement : Statement) (program : Program) (calls : Calls) (k : ℕ) → CallsAmong program calls →
+      (s : State) → Among (statement_ends program statement) (statement_meaning calls k statement s)
   statement-among (Assign at x e) program calls k h s =
       among-evaluated (raises e) (Normal ∷ thrown_ends (raises e)) (value_of s e) s (λ v. normally (assigned s x v)) (expression-raises s e) (behind Normal (thrown_ends (raises e))) (λ v f.
       among-first Normal (thrown_ends (raises e)) None (assigned s x v))
@@ -376,12 +405,16 @@ mutual
       (λ exit g. any-right (same_exit exit) (filter (passes handlers) ends) (handlers_ends program handlers) g))
   statement-among (Nested at block) program calls k h s = block-among block program calls k h s
 
-  pub block-among : (block : Block) (program : Program) (calls : Calls) (k : ℕ) → CallsAmong program calls → (s : State) → Among (block_ends program block) (block_meaning calls k block s)
+  pub block-among : (block : Block) (program : Program) (calls : Calls) (k : ℕ) → CallsAmong program calls → (s : State) →
+      Among (block_ends program block) (block_meaning calls k block s)
   block-among Empty program calls k h s = among-first Normal [] None s
   block-among (Then statement rest) program calls k h s =
       among-after (statement_ends program statement) (block_ends program rest) (statement_meaning calls k statement s) (block_meaning calls k rest) (statement-among statement program calls k h s) (block-among rest program calls k h)
 
-  handlers-among : (handlers : Handlers) (program : Program) (calls : Calls) (k : ℕ) → CallsAmong program calls → (ends : List Exit) (x : ℕ) (s : State) → (handles handlers x ≡ false → has_end ends (Throw x) ≡ true) → ((exit : Exit) → has_end (handlers_ends program handlers) exit ≡ true → has_end ends exit ≡ true) → Among ends (handlers_meaning calls k handlers x s)
+  handlers-among : (handlers : Handlers) (program : Program) (calls : Calls) (k : ℕ) → CallsAmong program calls →
+      (ends : List Exit) (x : ℕ) (s : State) → (handles handlers x ≡ false → has_end ends (Throw x) ≡ true) →
+      ((exit : Exit) → has_end (handlers_ends program handlers) exit ≡ true → has_end ends exit ≡ true) →
+      Among ends (handlers_meaning calls k handlers x s)
   handlers-among NoMore program calls k h ends x s passing more = record { among = passing refl }
   handlers-among (Catch at handled body rest) program calls k h ends x s passing more =
       handler-among ends (x == handled) (handles rest x) (block_meaning calls k body s) (handlers_meaning calls k rest x s) (has_end ends (Throw x) ≡ true) passing
@@ -399,7 +432,8 @@ all-has p (first ∷ rest) exit h f =
 abbrev pub EndsAsDeclared : Program → Type 0
 EndsAsDeclared program = (f : ℕ) → list_all (may_end (procedure_at program f)) (block_ends program (procedure_at program f).body) ≡ true
 
-among-leaving : (program : Program) (f : ℕ) (back : State → State) (o : Outcome) → EndsAsDeclared program → Among (block_ends program (procedure_at program f).body) o → Among (call_ends program f) (leaving back o)
+among-leaving : (program : Program) (f : ℕ) (back : State → State) (o : Outcome) → EndsAsDeclared program →
+    Among (block_ends program (procedure_at program f).body) o → Among (call_ends program f) (leaving back o)
 among-leaving program f back (Ended Normal r s) declared h = record { among = refl }
 among-leaving program f back (Ended Return r s) declared h = record { among = refl }
 among-leaving program f back (Ended Break r s) declared h =

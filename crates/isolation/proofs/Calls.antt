@@ -27,24 +27,32 @@ use Rattle.isolation.proofs.Confined.{KeptCall, HiddenCall, call_end, call_throw
 
 -- two calls: they end in the same way, or the observer reads the label of neither end; and a stopped one begins the other
 pub data RelatedCall (view : View) (value : Bool) (marks : Exit → Bool) : Outcome → Outcome → Type 0 where
-  same_call : (r q : Option Value) (s t : State) → AgreeFor view s t → (value ≡ true → r ≡ q) → RelatedCall view value marks (Ended Normal r s) (Ended Normal q t)
-  same_thrown : (x : ℕ) (s t : State) → AgreeFor view s t → RelatedCall view value marks (Ended (Throw x) None s) (Ended (Throw x) None t)
-  apart_calls : (o p : Outcome) → HiddenCall value marks o → HiddenCall value marks p → AgreeFor view (state_after o) (state_after p) → RelatedCall view value marks o p
-  first_call_stops : (stop : Stop) (s : State) (p : Outcome) → Begins (shown view s.sent) (shown view (state_after p).sent) → RelatedCall view value marks (Stopped stop s) p
-  second_call_stops : (o : Outcome) (stop : Stop) (t : State) → Begins (shown view t.sent) (shown view (state_after o).sent) → RelatedCall view value marks o (Stopped stop t)
+  same_call : (r q : Option Value) (s t : State) → AgreeFor view s t → (value ≡ true → r ≡ q) →
+      RelatedCall view value marks (Ended Normal r s) (Ended Normal q t)
+  same_thrown : (x : ℕ) (s t : State) → AgreeFor view s t →
+      RelatedCall view value marks (Ended (Throw x) None s) (Ended (Throw x) None t)
+  apart_calls : (o p : Outcome) → HiddenCall value marks o → HiddenCall value marks p →
+      AgreeFor view (state_after o) (state_after p) → RelatedCall view value marks o p
+  first_call_stops : (stop : Stop) (s : State) (p : Outcome) → Begins (shown view s.sent) (shown view (state_after p).sent) →
+      RelatedCall view value marks (Stopped stop s) p
+  second_call_stops : (o : Outcome) (stop : Stop) (t : State) → Begins (shown view t.sent) (shown view (state_after o).sent) →
+      RelatedCall view value marks o (Stopped stop t)
 
 grown-returned_to : (target : Option Variable) (o : Outcome) → Grows (state_after o) (returned_to target o)
 grown-returned_to target o = grows-returned_to (state_after o) target o (grows-itself (state_after o) (state_after o) refl o refl)
 
 -- a target of which the value is the same where it is read
-target-unread : (view : View) (result : Bool) (x : Variable) (r q : Option Value) → (view.variable x ≡ true → result ≡ true) → (result ≡ true → r ≡ q) → (r ≡ q → ⊥) → view.variable x ≡ false
+target-unread : (view : View) (result : Bool) (x : Variable) (r q : Option Value) → (view.variable x ≡ true → result ≡ true) →
+    (result ≡ true → r ≡ q) → (r ≡ q → ⊥) → view.variable x ≡ false
 target-unread view result x r q read same differ = go (view.variable x) refl
   where
     go : (b : Bool) → view.variable x ≡ b → view.variable x ≡ false
     go true e = absurd (differ (same (read e)))
     go false e = e
 
-returned-same : (view : View) (result value : Bool) (more : Exit → Bool) (x : Variable) (r q : Option Value) (s t : State) → AgreeFor view s t → (view.variable x ≡ true → result ≡ true) → (result ≡ true → r ≡ q) → Related view value more (returned_to (Some x) (Ended Normal r s)) (returned_to (Some x) (Ended Normal q t))
+returned-same : (view : View) (result value : Bool) (more : Exit → Bool) (x : Variable) (r q : Option Value) (s t : State) →
+    AgreeFor view s t → (view.variable x ≡ true → result ≡ true) → (result ≡ true → r ≡ q) →
+    Related view value more (returned_to (Some x) (Ended Normal r s)) (returned_to (Some x) (Ended Normal q t))
 returned-same view result value more x None None s t agree read same = same_end Normal s t agree
 returned-same view result value more x (Some v) (Some w) s t agree read same =
     same_end Normal (assigned s x v) (assigned t x w) (agree-with_cells view s t x (v ∷ []) (w ∷ []) agree (λ e.
@@ -57,7 +65,12 @@ returned-same view result value more x None (Some w) s t agree read same =
     let unread = target-unread view result x None (Some w) read same (λ e. cc) in
     same_end Normal s (assigned t x w) (agree-through view s t (assigned t x w) agree (agree-unread view t x (w ∷ []) unread))
 
-pub related-returned_to : (view : View) (result value : Bool) (marks more : Exit → Bool) (target : Option Variable) (o p : Outcome) → RelatedCall view result marks o p → ((exit : Exit) → marks exit ≡ false → more exit ≡ false) → (marks Normal ≡ false → (x : Variable) → target ≡ Some x → view.variable x ≡ false) → ((x : Variable) → target ≡ Some x → view.variable x ≡ true → result ≡ true) → Related view value more (returned_to target o) (returned_to target p)
+pub related-returned_to : (view : View) (result value : Bool) (marks more : Exit →
+    Bool) (target : Option Variable) (o p : Outcome) → RelatedCall view result marks o p →
+    ((exit : Exit) → marks exit ≡ false → more exit ≡ false) →
+    (marks Normal ≡ false → (x : Variable) → target ≡ Some x → view.variable x ≡ false) →
+    ((x : Variable) → target ≡ Some x → view.variable x ≡ true → result ≡ true) →
+    Related view value more (returned_to target o) (returned_to target p)
 related-returned_to view result value marks more None o p (same_call r q s t h i) weaker unread read = same_end Normal s t h
 related-returned_to view result value marks more (Some x) o p (same_call r q s t h i) weaker unread read = returned-same view result value more x r q s t h (read x refl) i
 related-returned_to view result value marks more None o p (same_thrown y s t h) weaker unread read = same_end (Throw y) s t h
@@ -108,7 +121,8 @@ thrown-not_continue (x ∷ xs) h = thrown-not_continue xs h
 
 -- a body that ends as it may, of which nothing is seen
 module _ (callee : ProcedureEntry) (ends : List Exit) (declared : list_all (may_end callee) ends ≡ true) (back : State → State) (value : Bool) where
-  pub hidden-shape : (marks : Exit → Bool) (o : Outcome) → Among ends o → Hidden value marks o → HiddenCall value unread_marks (leaving back o)
+  pub hidden-shape : (marks : Exit → Bool) (o : Outcome) → Among ends o → Hidden value marks o →
+      HiddenCall value unread_marks (leaving back o)
   hidden-shape marks o among (hidden_end Normal t m) = call_end None (back t) refl (λ e. refl)
   hidden-shape marks o among (hidden_end Return t m) = call_end None (back t) refl (λ e. refl)
   hidden-shape marks o among (hidden_end Break t m) = absurd (thrown-not_break (declared_by callee.throws) (all-has (may_end callee) ends Break declared among.among))
@@ -122,7 +136,9 @@ as_one-has : (ends : List Exit) (exit : Exit) → has_end ends exit ≡ true →
 as_one-has [] exit h = h
 as_one-has (first ∷ rest) exit h = go (same_exit exit first) refl (as_one-has rest exit)
   where
-    go : (b : Bool) → same_exit exit first ≡ b → (has_end rest exit ≡ true → has_end (map as_one_end rest) (as_one_end exit) ≡ true) → (same_exit (as_one_end exit) (as_one_end first) || has_end (map as_one_end rest) (as_one_end exit)) ≡ true
+    go : (b : Bool) → same_exit exit first ≡ b → (has_end rest exit ≡ true →
+        has_end (map as_one_end rest) (as_one_end exit) ≡ true) →
+        (same_exit (as_one_end exit) (as_one_end first) || has_end (map as_one_end rest) (as_one_end exit)) ≡ true
     go true e later = rw (same-exit exit first e, same_exit-itself (as_one_end first)) refl
     go false e later = or_right (same_exit (as_one_end exit) (as_one_end first)) (has_end (map as_one_end rest) (as_one_end exit)) (later (rw e at h))
 
@@ -135,7 +151,9 @@ among-as_one ends back (Ended (Throw x) r s) h = record { among = as_one-has end
 among-as_one ends back (Stopped stop s) h = record { among = tt }
 
 -- two hidden calls that have one end only
-calls-one : (view : View) (value : Bool) (marks more : Exit → Bool) (ends : List Exit) (o p : Outcome) → one_end ends ≡ true → Among ends o → Among ends p → HiddenCall value marks o → HiddenCall value marks p → AgreeFor view (state_after o) (state_after p) → RelatedCall view value more o p
+calls-one : (view : View) (value : Bool) (marks more : Exit → Bool) (ends : List Exit) (o p : Outcome) → one_end ends ≡ true →
+    Among ends o → Among ends p → HiddenCall value marks o → HiddenCall value marks p →
+    AgreeFor view (state_after o) (state_after p) → RelatedCall view value more o p
 calls-one view value marks more ends o p one among among' (call_end r s m none) (call_end q t m' none') agree =
     same_call r q s t agree (λ e. none e ∙ sym (none' e))
 calls-one view value marks more ends o p one among among' (call_end r s m none) (call_thrown x t m') agree =
@@ -151,13 +169,15 @@ calls-one view value marks more ends o p one among among' h (call_stop stop t) a
     second_call_stops o stop t (agree-begins view t (state_after o) (agree-back view (state_after o) t agree))
 
 -- where no exception is declared, a body that ends as it may has one end only
-no_throws-one : (callee : ProcedureEntry) (ends : List Exit) → any_of callee.throws ≡ false → list_all (may_end callee) ends ≡ true → list_all (same_exit Normal) (map as_one_end ends) ≡ true
+no_throws-one : (callee : ProcedureEntry) (ends : List Exit) → any_of callee.throws ≡ false →
+    list_all (may_end callee) ends ≡ true → list_all (same_exit Normal) (map as_one_end ends) ≡ true
 no_throws-one callee [] none declared = refl
 no_throws-one callee (first ∷ rest) none declared =
     let parts = and_parts (may_end callee first) (list_all (may_end callee) rest) declared in
     and_from (same_exit Normal (as_one_end first)) (list_all (same_exit Normal) (map as_one_end rest)) (one first parts.0) (no_throws-one callee rest none parts.1)
   where
-    nothing : (throws : List ThrownEntry) (exit : Exit) → any_of throws ≡ false → has_end (thrown_ends (declared_by throws)) exit ≡ true → ⊥
+    nothing : (throws : List ThrownEntry) (exit : Exit) → any_of throws ≡ false →
+        has_end (thrown_ends (declared_by throws)) exit ≡ true → ⊥
     nothing [] exit e f = let i : true ≡ false = sym f in cc
     nothing (entry ∷ more) exit e f = let i : true ≡ false = e in cc
 
@@ -168,7 +188,8 @@ no_throws-one callee (first ∷ rest) none declared =
     one Continue e = absurd (nothing callee.throws Continue none e)
     one (Throw x) e = absurd (nothing callee.throws (Throw x) none e)
 
-some-throws : (callee : ProcedureEntry) (ends : List Exit) (exit : Exit) → list_all (may_end callee) ends ≡ true → has_end ends exit ≡ true → one_end (map as_one_end ends) ≡ false → any_of callee.throws ≡ true
+some-throws : (callee : ProcedureEntry) (ends : List Exit) (exit : Exit) → list_all (may_end callee) ends ≡ true →
+    has_end ends exit ≡ true → one_end (map as_one_end ends) ≡ false → any_of callee.throws ≡ true
 some-throws callee [] exit declared h several = let i : true ≡ false = sym h in absurd (cc)
 some-throws callee (first ∷ rest) exit declared h several = go (any_of callee.throws) refl
   where
@@ -184,7 +205,9 @@ some-throws callee (first ∷ rest) exit declared h several = go (any_of callee.
         let i : true ≡ false = sym single ∙ several in absurd (cc)
 
 -- the label that is declared of an exception which is not read
-unread-thrown : {h : PrincipalHierarchy} (reader : Reader h) (at : ℕ) (x : Marks) (throws : List ThrownEntry) (y : ℕ) → Fits h (flat_map (λ (entry : ThrownEntry). demand at 13 (x (Throw entry.exception)) entry.label) throws) → raised_in (declared_by throws) y ≡ true → reader.reads (x (Throw y)) ≡ false → reader.reads (thrown_label throws y) ≡ false
+unread-thrown : {h : PrincipalHierarchy} (reader : Reader h) (at : ℕ) (x : Marks) (throws : List ThrownEntry) (y : ℕ) →
+    Fits h (flat_map (λ (entry : ThrownEntry). demand at 13 (x (Throw entry.exception)) entry.label) throws) →
+    raised_in (declared_by throws) y ≡ true → reader.reads (x (Throw y)) ≡ false → reader.reads (thrown_label throws y) ≡ false
 unread-thrown reader at x [] y fits declared unread = let i : true ≡ false = sym declared in absurd (cc)
 unread-thrown {h} reader at x (entry ∷ rest) y fits declared unread = go (y == entry.exception) refl (unread-thrown reader at x rest y (fits-right h first others fits))
   where
@@ -194,24 +217,29 @@ unread-thrown {h} reader at x (entry ∷ rest) y fits declared unread = go (y ==
     others : List Demand
     others = flat_map (λ (entry : ThrownEntry). demand at 13 (x (Throw entry.exception)) entry.label) rest
 
-    go : (b : Bool) → (y == entry.exception) ≡ b → (raised_in (declared_by rest) y ≡ true → reader.reads (x (Throw y)) ≡ false → reader.reads (thrown_label rest y) ≡ false) → reader.reads (thrown_label (entry ∷ rest) y) ≡ false
+    go : (b : Bool) → (y == entry.exception) ≡ b → (raised_in (declared_by rest) y ≡ true → reader.reads (x (Throw y)) ≡ false →
+        reader.reads (thrown_label rest y) ≡ false) → reader.reads (thrown_label (entry ∷ rest) y) ≡ false
     go true e later =
         let same : y ≡ entry.exception = grind (arith, e) in
         rw e (unread-demand reader at 13 (x (Throw entry.exception)) entry.label (fits-left h first others fits) (ap (λ z. reader.reads (x (Throw z))) (sym same) ∙ unread))
     go false e later = rw e (later (rw e at declared) unread)
 
 -- the demands on the ends of a procedure that has several
-several-demands : (h : PrincipalHierarchy) (callee : ProcedureEntry) (ends : List Exit) (x : Marks) → one_end (map as_one_end ends) ≡ false → Fits h (end_demands callee ends x) → Fits h (demand callee.at 13 (x Normal ++ x Return) callee.end_label ++ flat_map (λ (entry : ThrownEntry). demand callee.at 13 (x (Throw entry.exception)) entry.label) callee.throws)
+several-demands : (h : PrincipalHierarchy) (callee : ProcedureEntry) (ends : List Exit) (x : Marks) →
+    one_end (map as_one_end ends) ≡ false → Fits h (end_demands callee ends x) →
+    Fits h (demand callee.at 13 (x Normal ++ x Return) callee.end_label ++ flat_map (λ (entry : ThrownEntry). demand callee.at 13 (x (Throw entry.exception)) entry.label) callee.throws)
 several-demands h callee ends x several fits = rw several at fits
 
 module _ {h : PrincipalHierarchy} (reader : Reader h) (callee : ProcedureEntry) (ends : List Exit) (declared : list_all (may_end callee) ends ≡ true) (x : Marks) (fits : Fits h (end_demands callee ends x)) (back : State → State) (value : Bool) where
-  normal-unread : one_end (map as_one_end ends) ≡ false → (exit : Exit) → has_end ends exit ≡ true → reader.reads (x Normal ++ x Return) ≡ false → reader.reads (declared_label callee Normal) ≡ false
+  normal-unread : one_end (map as_one_end ends) ≡ false → (exit : Exit) → has_end ends exit ≡ true →
+      reader.reads (x Normal ++ x Return) ≡ false → reader.reads (declared_label callee Normal) ≡ false
   normal-unread several exit among unread =
       let front = fits-left h (demand callee.at 13 (x Normal ++ x Return) callee.end_label) (flat_map (λ (entry : ThrownEntry). demand callee.at 13 (x (Throw entry.exception)) entry.label) callee.throws) (several-demands h callee ends x several fits) in
       unread-label_if reader (any_of callee.throws) callee.end_label (some-throws callee ends exit declared among several)
       (unread-demand reader callee.at 13 (x Normal ++ x Return) callee.end_label front unread)
 
-  hidden-leaving : (o : Outcome) → one_end (map as_one_end ends) ≡ false → Among ends o → Hidden value (read_marks reader x) o → HiddenCall value (read_marks reader (declared_label callee)) (leaving back o)
+  hidden-leaving : (o : Outcome) → one_end (map as_one_end ends) ≡ false → Among ends o → Hidden value (read_marks reader x) o →
+      HiddenCall value (read_marks reader (declared_label callee)) (leaving back o)
   hidden-leaving o several among (hidden_end Normal t m) =
       call_end None (back t) (normal-unread several Normal among.among (unread-left reader (x Normal) (x Return) m)) (λ e. refl)
   hidden-leaving o several among (hidden_end Return t m) =
@@ -234,11 +262,15 @@ after-leaving back (Ended Continue r s) = refl
 after-leaving back (Ended (Throw x) r s) = refl
 after-leaving back (Stopped stop s) = refl
 
-begins-outside : (inner outer : View) (xs ys : List Pair) → ((zs : List Pair) → shown inner zs ≡ shown outer zs) → Begins (shown inner xs) (shown inner ys) → Begins (shown outer xs) (shown outer ys)
+begins-outside : (inner outer : View) (xs ys : List Pair) → ((zs : List Pair) → shown inner zs ≡ shown outer zs) →
+    Begins (shown inner xs) (shown inner ys) → Begins (shown outer xs) (shown outer ys)
 begins-outside inner outer xs ys same h = (h.0, ap (λ l. l ++ h.0) (sym (same xs)) ∙ h.1 ∙ same ys)
 
 -- one run of a body of which nothing is seen, for the caller
-pub kept-leaving : (callee : ProcedureEntry) (ends : List Exit) (inner outer : View) (value : Bool) (marks : Exit → Bool) (s u : State) (o : Outcome) → list_all (may_end callee) ends ≡ true → ((t' : State) → AgreeFor inner u t' → AgreeFor outer s (home s t')) → Among ends o → Kept inner value marks u o → KeptCall outer value unread_marks s (leaving (home s) o)
+pub kept-leaving : (callee : ProcedureEntry) (ends : List Exit) (inner outer : View) (value : Bool) (marks : Exit →
+    Bool) (s u : State) (o : Outcome) → list_all (may_end callee) ends ≡ true →
+    ((t' : State) → AgreeFor inner u t' → AgreeFor outer s (home s t')) → Among ends o → Kept inner value marks u o →
+    KeptCall outer value unread_marks s (leaving (home s) o)
 kept-leaving callee ends inner outer value marks s u o declared back among h = record {
   agree = rw (after-leaving (home s) o) (back (state_after o) h.agree);
   hidden = hidden-shape callee ends declared (home s) value marks o among h.hidden;
@@ -259,7 +291,8 @@ related-leaving reader callee ends x inner outer value s t o p declared fits bac
     agree : AgreeFor outer (state_after (leaving (home s) o)) (state_after (leaving (home t) p))
     agree = rw (after-leaving (home s) o, after-leaving (home t) p) (back (state_after o) (state_after p) j)
 
-    go : (b : Bool) → one_end (map as_one_end ends) ≡ b → RelatedCall outer value (read_marks reader (declared_label callee)) (leaving (home s) o) (leaving (home t) p)
+    go : (b : Bool) → one_end (map as_one_end ends) ≡ b →
+        RelatedCall outer value (read_marks reader (declared_label callee)) (leaving (home s) o) (leaving (home t) p)
     go true e = calls-one outer value unread_marks (read_marks reader (declared_label callee)) (map as_one_end ends) (leaving (home s) o) (leaving (home t) p) e
         (among-as_one ends (home s) o among) (among-as_one ends (home t) p among')
         (hidden-shape callee ends declared (home s) value (read_marks reader x) o among h)

@@ -27,7 +27,9 @@ one-same (first ∷ rest) a b one h i = sym (each a h) ∙ each b i
     each : (e : Exit) → has_end (first ∷ rest) e ≡ true → first ≡ e
     each e f = ⊎_elim (λ g. sym (same-exit e first g)) (λ g. same-exit first e (all-has (same_exit first) rest e one g)) (or_cases (same_exit e first) (has_end rest e) f)
 
-pub closed-unread : {h : PrincipalHierarchy} (reader : Reader h) (ends : List Exit) (pc : Label) (marks : Marks) (exit : Exit) → (one_end ends ≡ true → reader.reads pc ≡ false) → has_end ends exit ≡ true → reader.reads (marks exit) ≡ false → reader.reads (at_ends ends pc marks exit) ≡ false
+pub closed-unread : {h : PrincipalHierarchy} (reader : Reader h) (ends : List Exit) (pc : Label) (marks : Marks) (exit : Exit) →
+    (one_end ends ≡ true → reader.reads pc ≡ false) → has_end ends exit ≡ true → reader.reads (marks exit) ≡ false →
+    reader.reads (at_ends ends pc marks exit) ≡ false
 closed-unread reader ends pc marks exit single among unread = go (one_end ends) refl
   where
     go : (b : Bool) → one_end ends ≡ b → reader.reads (at_ends ends pc marks exit) ≡ false
@@ -46,7 +48,9 @@ kept-closed reader view value ends pc marks s o unread among h =
     record { agree = h.agree; hidden = hidden-closed reader value ends pc marks o (λ one. unread) among h.hidden }
 
 -- two hidden ends of a list of one
-related-one : (view : View) (value : Bool) (marks more : Exit → Bool) (ends : List Exit) (o p : Outcome) → one_end ends ≡ true → Among ends o → Among ends p → Hidden value marks o → Hidden value marks p → AgreeFor view (state_after o) (state_after p) → Related view value more o p
+related-one : (view : View) (value : Bool) (marks more : Exit → Bool) (ends : List Exit) (o p : Outcome) → one_end ends ≡ true →
+    Among ends o → Among ends p → Hidden value marks o → Hidden value marks p → AgreeFor view (state_after o) (state_after p) →
+    Related view value more o p
 related-one view value marks more ends o p one among among' (hidden_end exit s m) (hidden_end exit' t m') agree =
     rw (one-same ends exit exit' one among.among among'.among) (same_end exit' s t agree)
 related-one view value marks more ends o p one among among' (hidden_end exit s m) (hidden_return r t m' none) agree =

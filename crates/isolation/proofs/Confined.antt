@@ -36,19 +36,23 @@ fits-right h xs ys fits =
     (and_parts (list_all (λ (d : Demand). flows h d.left d.right) xs) (list_all (λ (d : Demand). flows h d.left d.right) ys)
     (sym (list_all-append (λ (d : Demand). flows h d.left d.right) xs ys) ∙ fits)).1
 
-pub fits-one : (h : PrincipalHierarchy) (at rule : ℕ) (left right : Label) → Fits h (demand at rule left right) → IsTrue (flows h left right)
+pub fits-one : (h : PrincipalHierarchy) (at rule : ℕ) (left right : Label) → Fits h (demand at rule left right) →
+    IsTrue (flows h left right)
 fits-one h at rule left right fits = (and_parts (flows h left right) true fits).0
 
 -- what an observer does not read flows only to what it does not read
-pub unread-demand : {h : PrincipalHierarchy} (reader : Reader h) (at rule : ℕ) (left right : Label) → Fits h (demand at rule left right) → reader.reads left ≡ false → reader.reads right ≡ false
+pub unread-demand : {h : PrincipalHierarchy} (reader : Reader h) (at rule : ℕ) (left right : Label) →
+    Fits h (demand at rule left right) → reader.reads left ≡ false → reader.reads right ≡ false
 unread-demand {h} reader at rule left right fits unread = unread-flowing reader left right (fits-one h at rule left right fits) unread
 
 -- a label under a test that holds
-pub unread-label_if : {h : PrincipalHierarchy} (reader : Reader h) (test : Bool) (label : Label) → test ≡ true → reader.reads label ≡ false → reader.reads (label_if test label) ≡ false
+pub unread-label_if : {h : PrincipalHierarchy} (reader : Reader h) (test : Bool) (label : Label) → test ≡ true →
+    reader.reads label ≡ false → reader.reads (label_if test label) ≡ false
 unread-label_if reader test label e unread = rw e unread
 
 -- what is raised is raised at q
-pub unread-raised : {h : PrincipalHierarchy} (reader : Reader h) (s : State) (e : Expression) (q : Label) (x : ℕ) → value_of s e ≡ Raises x → reader.reads q ≡ false → reader.reads (raised_marks e q (Throw x)) ≡ false
+pub unread-raised : {h : PrincipalHierarchy} (reader : Reader h) (s : State) (e : Expression) (q : Label) (x : ℕ) →
+    value_of s e ≡ Raises x → reader.reads q ≡ false → reader.reads (raised_marks e q (Throw x)) ≡ false
 unread-raised reader s e q x f unread =
     unread-label_if reader (has_end (thrown_ends (raises e)) (Throw x)) q (thrown-among (raises e) x ((expression-raises s e).among x f)) unread
 
@@ -59,7 +63,8 @@ reads_result reader procedure = reader.reads (result_label procedure.result)
 -- A call ends normally, perhaps with a value, or by an exception; of one of which the observer does not read the label of the end,
 -- no value is seen
 pub data HiddenCall (value : Bool) (marks : Exit → Bool) : Outcome → Type 0 where
-  call_end : (r : Option Value) (t : State) → marks Normal ≡ false → (value ≡ true → r ≡ None) → HiddenCall value marks (Ended Normal r t)
+  call_end : (r : Option Value) (t : State) → marks Normal ≡ false → (value ≡ true → r ≡ None) →
+      HiddenCall value marks (Ended Normal r t)
   call_thrown : (x : ℕ) (t : State) → marks (Throw x) ≡ false → HiddenCall value marks (Ended (Throw x) None t)
   call_stop : (stop : Stop) (t : State) → HiddenCall value marks (Stopped stop t)
 
@@ -74,10 +79,14 @@ unread_marks exit = false
 -- what the calls of a program do: they end as declared, and at a begin label that the observer does not read nothing is seen
 pub record Confines {h : PrincipalHierarchy} (reader : Reader h) (scope : Scope) (calls : Calls) : Type 0 where
   pub among : CallsAmong scope.program calls
-  pub kept : (f : ℕ) (vs : List Value) (s : State) → reader.reads (procedure_at scope.program f).begin_label ≡ false → KeptCall (view_of reader scope) (reads_result reader (procedure_at scope.program f)) unread_marks s (calls f vs s)
+  pub kept : (f : ℕ) (vs : List Value) (s : State) → reader.reads (procedure_at scope.program f).begin_label ≡ false →
+      KeptCall (view_of reader scope) (reads_result reader (procedure_at scope.program f)) unread_marks s (calls f vs s)
 
 -- the value of such a call goes to a target that the observer does not read
-pub kept-returned_to : (view : View) (result value : Bool) (marks more : Exit → Bool) (target : Option Variable) (o : Outcome) → HiddenCall result marks o → ((exit : Exit) → marks exit ≡ false → more exit ≡ false) → (marks Normal ≡ false → (x : Variable) → target ≡ Some x → view.variable x ≡ false) → Kept view value more (state_after o) (returned_to target o)
+pub kept-returned_to : (view : View) (result value : Bool) (marks more : Exit → Bool) (target : Option Variable) (o : Outcome) →
+    HiddenCall result marks o → ((exit : Exit) → marks exit ≡ false → more exit ≡ false) →
+    (marks Normal ≡ false → (x : Variable) → target ≡ Some x → view.variable x ≡ false) →
+    Kept view value more (state_after o) (returned_to target o)
 kept-returned_to view result value marks more None o (call_end r t m none) weaker unread = kept-end view value more t Normal (weaker Normal m)
 kept-returned_to view result value marks more None o (call_thrown x t m) weaker unread = kept-end view value more t (Throw x) (weaker (Throw x) m)
 kept-returned_to view result value marks more None o (call_stop stop t) weaker unread = kept-stop view value more t stop
@@ -93,11 +102,15 @@ unread-target reader scope at rule left None fits unread x e = absurd (cc)
 unread-target reader scope at rule left (Some y) fits unread x e =
     let same : y ≡ x = cc in rw (← same) (unread-demand reader at rule left (variable_label scope y) fits unread)
 
-kept-kept_in : (view : View) (target : Option Variable) (v : Value) (s : State) → ((x : Variable) → target ≡ Some x → view.variable x ≡ false) → AgreeFor view s (kept_in target v s)
+kept-kept_in : (view : View) (target : Option Variable) (v : Value) (s : State) →
+    ((x : Variable) → target ≡ Some x → view.variable x ≡ false) → AgreeFor view s (kept_in target v s)
 kept-kept_in view None v s unread = agree-itself view s
 kept-kept_in view (Some x) v s unread = agree-unread view s x (v ∷ []) (unread x refl)
 
-kept-received : (view : View) (value : Bool) (marks : Exit → Bool) (channel : ℕ) (target : Option Variable) (s : State) (numbers : List ℤ) → ((exit : Exit) → marks exit ≡ false) → view.channel channel ≡ false → ((x : Variable) → target ≡ Some x → view.variable x ≡ false) → Kept view value marks s (received numbers channel target s)
+kept-received : (view : View) (value : Bool) (marks : Exit →
+    Bool) (channel : ℕ) (target : Option Variable) (s : State) (numbers : List ℤ) → ((exit : Exit) → marks exit ≡ false) →
+    view.channel channel ≡ false → ((x : Variable) → target ≡ Some x → view.variable x ≡ false) →
+    Kept view value marks s (received numbers channel target s)
 kept-received view value marks channel target s [] unread unread_channel unread_target = kept-end view value marks s (Throw end_exception) (unread (Throw end_exception))
 kept-received view value marks channel target s (z ∷ rest) unread unread_channel unread_target =
     record {
@@ -108,7 +121,8 @@ kept-received view value marks channel target s (z ∷ rest) unread unread_chann
     }
 
 -- a label that is above one which, joined with it, is not read
-unread-above : {h : PrincipalHierarchy} (reader : Reader h) (a b : Label) → IsTrue (flows h a b) → reader.reads (a ++ b) ≡ false → reader.reads b ≡ false
+unread-above : {h : PrincipalHierarchy} (reader : Reader h) (a b : Label) → IsTrue (flows h a b) → reader.reads (a ++ b) ≡ false →
+    reader.reads b ≡ false
 unread-above reader a b flow unread = go (reader.reads b) refl
   where
     go : (x : Bool) → reader.reads b ≡ x → reader.reads b ≡ false
@@ -118,7 +132,8 @@ unread-above reader a b flow unread = go (reader.reads b) refl
         let i : true ≡ false = sym both ∙ unread in absurd (cc)
 
 -- where the label of the way to a statement is not read, neither is its own
-pub own-unread : {h : PrincipalHierarchy} (reader : Reader h) (scope : Scope) (pc : Label) (statement : Statement) → Fits h (statement_demands scope pc statement) → reader.reads pc ≡ false → reader.reads (own_label scope pc statement) ≡ false
+pub own-unread : {h : PrincipalHierarchy} (reader : Reader h) (scope : Scope) (pc : Label) (statement : Statement) →
+    Fits h (statement_demands scope pc statement) → reader.reads pc ≡ false → reader.reads (own_label scope pc statement) ≡ false
 own-unread reader scope pc (Assign at x e) fits unread = unread-left reader pc (raise_label scope e) unread
 own-unread reader scope pc (Clear at slot) fits unread = unread
 own-unread reader scope pc (Store at array len index e) fits unread =
@@ -141,13 +156,15 @@ own-unread reader scope pc (Try at block handlers) fits unread = unread
 own-unread reader scope pc (Nested at block) fits unread = unread
 
 -- the marks of a loop by those of its body
-pub loop-read : {h : PrincipalHierarchy} (reader : Reader h) (raised : Marks) (b : Label) (x : Marks) → LoopMarks (read_marks reader x) (λ exit. reader.reads (raised exit ++ loop_marks b x exit))
+pub loop-read : {h : PrincipalHierarchy} (reader : Reader h) (raised : Marks) (b : Label) (x : Marks) →
+    LoopMarks (read_marks reader x) (λ exit. reader.reads (raised exit ++ loop_marks b x exit))
 loop-read reader raised b x = record {
   leaving = leaving;
   broken = λ m. unread-right reader (raised Normal) (b ++ x Break) (unread-right reader b (x Break) m);
 }
   where
-    leaving : (exit : Exit) → leaves_loop exit ≡ true → reader.reads (x exit) ≡ false → reader.reads (raised exit ++ loop_marks b x exit) ≡ false
+    leaving : (exit : Exit) → leaves_loop exit ≡ true → reader.reads (x exit) ≡ false →
+        reader.reads (raised exit ++ loop_marks b x exit) ≡ false
     leaving Normal e m = let i : true ≡ false = sym e in absurd (cc)
     leaving Return e m = unread-right reader (raised Return) (x Return) m
     leaving Break e m = let i : true ≡ false = sym e in absurd (cc)
@@ -155,7 +172,9 @@ loop-read reader raised b x = record {
     leaving (Throw y) e m = unread-right reader (raised (Throw y)) (x (Throw y)) m
 
 -- one handler and those after it
-kept-handler : (view : View) (value : Bool) (more : Exit → Bool) (exception handled : ℕ) (s : State) (x y : Outcome) → (exception ≡ handled → Kept view value more s x) → ((exception == handled) ≡ false → Kept view value more s y) → Kept view value more s (if exception == handled then x else y)
+kept-handler : (view : View) (value : Bool) (more : Exit → Bool) (exception handled : ℕ) (s : State) (x y : Outcome) →
+    (exception ≡ handled → Kept view value more s x) → ((exception == handled) ≡ false → Kept view value more s y) →
+    Kept view value more s (if exception == handled then x else y)
 kept-handler view value more exception handled s x y h i = go (exception == handled) refl
   where
     go : (b : Bool) → (exception == handled) ≡ b → Kept view value more s (if exception == handled then x else y)
@@ -163,7 +182,8 @@ kept-handler view value more exception handled s x y h i = go (exception == hand
     go false e = rw e (i e)
 
 -- each end of a call is above q
-pub unread-call : {h : PrincipalHierarchy} (reader : Reader h) (callee : ProcedureEntry) (q : Label) → reader.reads q ≡ false → (exit : Exit) → reader.reads (call_marks callee q exit) ≡ false
+pub unread-call : {h : PrincipalHierarchy} (reader : Reader h) (callee : ProcedureEntry) (q : Label) → reader.reads q ≡ false →
+    (exit : Exit) → reader.reads (call_marks callee q exit) ≡ false
 unread-call reader callee q unread Normal = unread-left reader q (label_if (any_of callee.throws) callee.end_label) unread
 unread-call reader callee q unread Return = unread
 unread-call reader callee q unread Break = unread
@@ -172,7 +192,9 @@ unread-call reader callee q unread (Throw x) = unread-left reader q (thrown_labe
 
 module _ (h : PrincipalHierarchy) (reader : Reader h) (scope : Scope) (calls : Calls) (k : ℕ) (confines : Confines reader scope calls) where
   mutual
-    pub statement-kept : (statement : Statement) (pc : Label) → Fits h (statement_demands scope pc statement) → reader.reads (own_label scope pc statement) ≡ false → (s : State) → Kept (view_of reader scope) (reads_result reader scope.procedure) (read_marks reader (statement_rule scope pc statement)) s (statement_meaning calls k statement s)
+    pub statement-kept : (statement : Statement) (pc : Label) → Fits h (statement_demands scope pc statement) →
+        reader.reads (own_label scope pc statement) ≡ false → (s : State) →
+        Kept (view_of reader scope) (reads_result reader scope.procedure) (read_marks reader (statement_rule scope pc statement)) s (statement_meaning calls k statement s)
     statement-kept (Assign at x e) pc fits unread s =
         let view = view_of reader scope in
         let value = reads_result reader scope.procedure in
@@ -306,7 +328,8 @@ module _ (h : PrincipalHierarchy) (reader : Reader h) (scope : Scope) (calls : C
         (block-among block scope.program calls k confines.among s)
         (block-kept block pc fits unread s)
 
-    pub block-kept : (block : Block) (pc : Label) → Fits h (block_demands scope pc block) → reader.reads pc ≡ false → (s : State) → Kept (view_of reader scope) (reads_result reader scope.procedure) (read_marks reader (block_rule scope pc block)) s (block_meaning calls k block s)
+    pub block-kept : (block : Block) (pc : Label) → Fits h (block_demands scope pc block) → reader.reads pc ≡ false → (s : State) →
+        Kept (view_of reader scope) (reads_result reader scope.procedure) (read_marks reader (block_rule scope pc block)) s (block_meaning calls k block s)
     block-kept Empty pc fits unread s = kept-end (view_of reader scope) (reads_result reader scope.procedure) (read_marks reader (block_rule scope pc Empty)) s Normal unread
     block-kept (Then statement rest) pc fits unread s =
         let view = view_of reader scope in
@@ -326,7 +349,11 @@ module _ (h : PrincipalHierarchy) (reader : Reader h) (scope : Scope) (calls : C
         (block-kept rest (x Normal) (fits-right h (statement_demands scope pc statement) (block_demands scope (x Normal) rest) fits) m t)
         (λ exit n. unread-right reader (label_if (not (same_exit Normal exit)) (x exit)) (block_rule scope (x Normal) rest exit) n)))
 
-    pub handlers-kept : (handlers : Handlers) (x : Marks) → Fits h (handlers_demands scope x handlers) → (exception : ℕ) (s : State) → reader.reads (x (Throw exception)) ≡ false → (more : Exit → Bool) → ((exit : Exit) → reader.reads (handlers_rule scope x handlers exit) ≡ false → more exit ≡ false) → (handles handlers exception ≡ false → more (Throw exception) ≡ false) → Kept (view_of reader scope) (reads_result reader scope.procedure) more s (handlers_meaning calls k handlers exception s)
+    pub handlers-kept : (handlers : Handlers) (x : Marks) → Fits h (handlers_demands scope x handlers) →
+        (exception : ℕ) (s : State) → reader.reads (x (Throw exception)) ≡ false → (more : Exit → Bool) →
+        ((exit : Exit) → reader.reads (handlers_rule scope x handlers exit) ≡ false → more exit ≡ false) →
+        (handles handlers exception ≡ false → more (Throw exception) ≡ false) →
+        Kept (view_of reader scope) (reads_result reader scope.procedure) more s (handlers_meaning calls k handlers exception s)
     handlers-kept NoMore x fits exception s unread more weaker passing =
         kept-end (view_of reader scope) (reads_result reader scope.procedure) more s (Throw exception) (passing refl)
     handlers-kept (Catch at handled body rest) x fits exception s unread more weaker passing =

@@ -18,7 +18,8 @@ pub no_fault-test : (test : Bool) (refusal : EndRefusal) (at : ℕ) → fault_un
 no_fault-test true refusal at h = refl
 no_fault-test false refusal at h = absurd (cc)
 
-procedure-ends : (program : Program) (procedure : ProcedureEntry) → procedure_faults program procedure ≡ [] → list_all (may_end procedure) (block_ends program procedure.body) ≡ true
+procedure-ends : (program : Program) (procedure : ProcedureEntry) → procedure_faults program procedure ≡ [] →
+    list_all (may_end procedure) (block_ends program procedure.body) ≡ true
 procedure-ends program procedure h =
     let ends = block_ends program procedure.body in
     let parts = append-empty
@@ -26,7 +27,9 @@ procedure-ends program procedure h =
     (fault_unless (list_all (may_end procedure) ends) Undeclared procedure.at) h in
     no_fault-test (list_all (may_end procedure) ends) Undeclared procedure.at parts.1
 
-each-ends : (program : Program) (none : ProcedureEntry) → list_all (may_end none) (block_ends program none.body) ≡ true → (procedures : List ProcedureEntry) → flat_map (procedure_faults program) procedures ≡ [] → (f : ℕ) → list_all (may_end (slice_index_or procedures f none)) (block_ends program (slice_index_or procedures f none).body) ≡ true
+each-ends : (program : Program) (none : ProcedureEntry) → list_all (may_end none) (block_ends program none.body) ≡ true →
+    (procedures : List ProcedureEntry) → flat_map (procedure_faults program) procedures ≡ [] → (f : ℕ) →
+    list_all (may_end (slice_index_or procedures f none)) (block_ends program (slice_index_or procedures f none).body) ≡ true
 each-ends program none h [] faults f = h
 each-ends program none h (procedure ∷ rest) faults zero =
     procedure-ends program procedure (append-empty (procedure_faults program procedure) (flat_map (procedure_faults program) rest) faults).0

@@ -26,7 +26,8 @@ Begins-through xs ys zs first second =
 pub record Grows (s : State) (o : Outcome) : Type 0 where
   pub sent : Begins s.sent (state_after o).sent
 
-pub grows-after : (s : State) (o : Outcome) (next : State → Outcome) → Grows s o → ((t : State) → Grows t (next t)) → Grows s (after o next)
+pub grows-after : (s : State) (o : Outcome) (next : State → Outcome) → Grows s o → ((t : State) → Grows t (next t)) →
+    Grows s (after o next)
 grows-after s (Ended Normal r t) next h rest = record { sent = Begins-through s.sent t.sent (state_after (next t)).sent h.sent (rest t).sent }
 grows-after s (Ended Return r t) next h rest = record { sent = h.sent }
 grows-after s (Ended Break r t) next h rest = record { sent = h.sent }
@@ -37,7 +38,8 @@ grows-after s (Stopped stop t) next h rest = record { sent = h.sent }
 pub grows-itself : (s t : State) → s.sent ≡ t.sent → (o : Outcome) → t.sent ≡ (state_after o).sent → Grows s o
 grows-itself s t e o f = record { sent = ([], append-nil s.sent ∙ e ∙ f) }
 
-pub grows-evaluated : {A : Type 0} (s : State) (e : Evaluated A) (next : A → Outcome) → ((v : A) → Grows s (next v)) → Grows s (evaluated e s next)
+pub grows-evaluated : {A : Type 0} (s : State) (e : Evaluated A) (next : A → Outcome) → ((v : A) → Grows s (next v)) →
+    Grows s (evaluated e s next)
 grows-evaluated s (Gives v) next h = h v
 grows-evaluated s (Raises x) next h = grows-itself s s refl (thrown x s) refl
 
@@ -45,7 +47,8 @@ pub grows-if : (s : State) (b : Bool) (x y : Outcome) → Grows s x → Grows s 
 grows-if s true x y h i = h
 grows-if s false x y h i = i
 
-pub grows-looped : (s : State) (o : Outcome) (again : State → Outcome) → Grows s o → ((t : State) → Grows t (again t)) → Grows s (looped o again)
+pub grows-looped : (s : State) (o : Outcome) (again : State → Outcome) → Grows s o → ((t : State) → Grows t (again t)) →
+    Grows s (looped o again)
 grows-looped s (Ended Normal r t) again h rest = record { sent = Begins-through s.sent t.sent (state_after (again t)).sent h.sent (rest t).sent }
 grows-looped s (Ended Return r t) again h rest = record { sent = h.sent }
 grows-looped s (Ended Break r t) again h rest = record { sent = h.sent }
@@ -53,7 +56,8 @@ grows-looped s (Ended Continue r t) again h rest = record { sent = Begins-throug
 grows-looped s (Ended (Throw x) r t) again h rest = record { sent = h.sent }
 grows-looped s (Stopped stop t) again h rest = record { sent = h.sent }
 
-pub grows-turns : (k : ℕ) (condition : State → Evaluated Value) (body : State → Outcome) → ((t : State) → Grows t (body t)) → (s : State) → Grows s (turns k condition body s)
+pub grows-turns : (k : ℕ) (condition : State → Evaluated Value) (body : State → Outcome) → ((t : State) → Grows t (body t)) →
+    (s : State) → Grows s (turns k condition body s)
 grows-turns zero condition body h s =
     grows-evaluated s (condition s) (λ v. if truth_in v then Stopped OutOfTurns s else normally s) (λ v.
     grows-if s (truth_in v) (Stopped OutOfTurns s) (normally s) (grows-itself s s refl (Stopped OutOfTurns s) refl) (grows-itself s s refl (normally s) refl))
@@ -63,7 +67,8 @@ grows-turns (suc k) condition body h s =
     (grows-looped s (body s) (turns k condition body) (h s) (grows-turns k condition body h))
     (grows-itself s s refl (normally s) refl))
 
-pub grows-caught : (s : State) (o : Outcome) (handle : ℕ → State → Outcome) → Grows s o → ((x : ℕ) (t : State) → Grows t (handle x t)) → Grows s (caught o handle)
+pub grows-caught : (s : State) (o : Outcome) (handle : ℕ → State → Outcome) → Grows s o →
+    ((x : ℕ) (t : State) → Grows t (handle x t)) → Grows s (caught o handle)
 grows-caught s (Ended (Throw x) r t) handle h rest = record { sent = Begins-through s.sent t.sent (state_after (handle x t)).sent h.sent (rest x t).sent }
 grows-caught s (Ended Normal r t) handle h rest = record { sent = h.sent }
 grows-caught s (Ended Return r t) handle h rest = record { sent = h.sent }
@@ -79,13 +84,15 @@ sent-kept_in : (target : Option Variable) (v : Value) (s : State) → s.sent ≡
 sent-kept_in None v s = refl
 sent-kept_in (Some x) v s = sent-with_cells s x (v ∷ [])
 
-pub grows-received : (numbers : List ℤ) (channel : ℕ) (target : Option Variable) (s : State) → Grows s (received numbers channel target s)
+pub grows-received : (numbers : List ℤ) (channel : ℕ) (target : Option Variable) (s : State) →
+    Grows s (received numbers channel target s)
 grows-received [] channel target s = grows-itself s s refl (received [] channel target s) refl
 grows-received (z ∷ rest) channel target s =
     grows-itself s (record s { inputs = updated s.inputs channel rest }) refl (received (z ∷ rest) channel target s)
     (sent-kept_in target (Number z) (record s { inputs = updated s.inputs channel rest }))
 
-pub grows-leaving : (s : State) (back : State → State) (o : Outcome) → ((t : State) → t.sent ≡ (back t).sent) → Grows s o → Grows s (leaving back o)
+pub grows-leaving : (s : State) (back : State → State) (o : Outcome) → ((t : State) → t.sent ≡ (back t).sent) → Grows s o →
+    Grows s (leaving back o)
 grows-leaving s back (Ended Normal r t) e h = record { sent = (h.sent.0, h.sent.1 ∙ e t) }
 grows-leaving s back (Ended Return r t) e h = record { sent = (h.sent.0, h.sent.1 ∙ e t) }
 grows-leaving s back (Ended Break r t) e h = record { sent = (h.sent.0, h.sent.1 ∙ e t) }
@@ -113,7 +120,8 @@ abbrev pub CallsGrow : Calls → Type 0
 CallsGrow calls = (f : ℕ) (vs : List Value) (s : State) → Grows s (calls f vs s)
 
 mutual
-  pub statement-grows : (statement : Statement) (calls : Calls) (k : ℕ) → CallsGrow calls → (s : State) → Grows s (statement_meaning calls k statement s)
+  pub statement-grows : (statement : Statement) (calls : Calls) (k : ℕ) → CallsGrow calls → (s : State) →
+      Grows s (statement_meaning calls k statement s)
   statement-grows (Assign at x e) calls k h s =
       grows-evaluated s (value_of s e) (λ v. normally (assigned s x v)) (λ v. grows-itself s s refl (normally (assigned s x v)) (sent-with_cells s x (v ∷ [])))
   statement-grows (Clear at slot) calls k h s = grows-itself s s refl (normally (cleared s slot)) refl
@@ -141,12 +149,14 @@ mutual
       grows-caught s (block_meaning calls k block s) (handlers_meaning calls k handlers) (block-grows block calls k h s) (handlers-grow handlers calls k h)
   statement-grows (Nested at block) calls k h s = block-grows block calls k h s
 
-  pub block-grows : (block : Block) (calls : Calls) (k : ℕ) → CallsGrow calls → (s : State) → Grows s (block_meaning calls k block s)
+  pub block-grows : (block : Block) (calls : Calls) (k : ℕ) → CallsGrow calls → (s : State) →
+      Grows s (block_meaning calls k block s)
   block-grows Empty calls k h s = grows-itself s s refl (normally s) refl
   block-grows (Then statement rest) calls k h s =
       grows-after s (statement_meaning calls k statement s) (block_meaning calls k rest) (statement-grows statement calls k h s) (block-grows rest calls k h)
 
-  pub handlers-grow : (handlers : Handlers) (calls : Calls) (k : ℕ) → CallsGrow calls → (x : ℕ) (s : State) → Grows s (handlers_meaning calls k handlers x s)
+  pub handlers-grow : (handlers : Handlers) (calls : Calls) (k : ℕ) → CallsGrow calls → (x : ℕ) (s : State) →
+      Grows s (handlers_meaning calls k handlers x s)
   handlers-grow NoMore calls k h x s = grows-itself s s refl (thrown x s) refl
   handlers-grow (Catch at handled body rest) calls k h x s =
       grows-if s (x == handled) (block_meaning calls k body s) (handlers_meaning calls k rest x s) (block-grows body calls k h s) (handlers-grow rest calls k h x s)

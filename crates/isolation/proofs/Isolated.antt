@@ -31,7 +31,11 @@ pub record Accepted (program : Program) (labelling : ℕ → Labelling) : Type 0
   pub fits : (f : ℕ) → Fits program.hierarchy (procedure_demands program (labelling f) (procedure_at program f))
 
 -- the demands of one procedure among those of all
-demands-at : (program : Program) (labelling : ℕ → Labelling) (none : ProcedureEntry) → ((n : ℕ) → Fits program.hierarchy (procedure_demands program (labelling n) none)) → (procedures : List ProcedureEntry) (i f n : ℕ) → n ≡ i + f → Fits program.hierarchy (demands_from program labelling i procedures) → Fits program.hierarchy (procedure_demands program (labelling n) (slice_index_or procedures f none))
+demands-at : (program : Program) (labelling : ℕ → Labelling) (none : ProcedureEntry) →
+    ((n : ℕ) → Fits program.hierarchy (procedure_demands program (labelling n) none)) →
+    (procedures : List ProcedureEntry) (i f n : ℕ) → n ≡ i + f →
+    Fits program.hierarchy (demands_from program labelling i procedures) →
+    Fits program.hierarchy (procedure_demands program (labelling n) (slice_index_or procedures f none))
 demands-at program labelling none absent [] i f n e fits = absent n
 demands-at program labelling none absent (procedure ∷ rest) i zero n e fits =
     let here : n ≡ i = omega arith in
@@ -40,7 +44,8 @@ demands-at program labelling none absent (procedure ∷ rest) i (suc f) n e fits
     demands-at program labelling none absent rest (suc i) f n (omega arith)
     (fits-right program.hierarchy (procedure_demands program (labelling i) procedure) (demands_from program labelling (suc i) rest) fits)
 
-pub procedure-fits : (program : Program) (labelling : ℕ → Labelling) → Fits program.hierarchy (program_demands program labelling) → (f : ℕ) → Fits program.hierarchy (procedure_demands program (labelling f) (procedure_at program f))
+pub procedure-fits : (program : Program) (labelling : ℕ → Labelling) → Fits program.hierarchy (program_demands program labelling) →
+    (f : ℕ) → Fits program.hierarchy (procedure_demands program (labelling f) (procedure_at program f))
 procedure-fits program labelling fits f = demands-at program labelling (record {
   at = 0;
   name = [];
@@ -62,7 +67,8 @@ agree-entering reader program caller callee labels inner vs ws s t agree same = 
   sent = agree.sent;
 }
   where
-    parameter : (written : Option Label) (n : ℕ) → reader.reads (label_or written (inner.local_label n)) ≡ true → reader.reads (label_or written []) ≡ true
+    parameter : (written : Option Label) (n : ℕ) → reader.reads (label_or written (inner.local_label n)) ≡ true →
+        reader.reads (label_or written []) ≡ true
     parameter (Some label) n e = e
     parameter None n e = reader.nothing
 
@@ -98,7 +104,8 @@ module _ (program : Program) (labelling : ℕ → Labelling) (accepted : Accepte
       (end_demands (procedure_at program f) (block_ends program (procedure_at program f).body) (block_marks (inside f) (procedure_at program f).begin_label (procedure_at program f).body)) (accepted.fits f)
 
   -- calls at a begin label that the observer does not read
-  pub calls-confine : (k frames : ℕ) (caller : ProcedureEntry) (labels : Labelling) → Confines reader (record { program = program; procedure = caller; labelling = labels }) (calls_with program k frames)
+  pub calls-confine : (k frames : ℕ) (caller : ProcedureEntry) (labels : Labelling) →
+      Confines reader (record { program = program; procedure = caller; labelling = labels }) (calls_with program k frames)
   calls-confine k zero caller labels = record {
     among = calls-among program k zero accepted.declared;
     kept = λ f vs s unread. record { agree = agree-itself (view_of reader (record { program = program; procedure = caller; labelling = labels })) s; hidden = call_stop Deep s };
@@ -117,7 +124,8 @@ module _ (program : Program) (labelling : ℕ → Labelling) (accepted : Accepte
   }
 
   -- two calls, with any numbers of turns and as many frames
-  pub calls-secure : (k m frames : ℕ) (caller : ProcedureEntry) (labels : Labelling) → Secures reader (record { program = program; procedure = caller; labelling = labels }) (calls_with program k frames) (calls_with program m frames)
+  pub calls-secure : (k m frames : ℕ) (caller : ProcedureEntry) (labels : Labelling) →
+      Secures reader (record { program = program; procedure = caller; labelling = labels }) (calls_with program k frames) (calls_with program m frames)
   calls-secure k m zero caller labels = record {
     first = calls-confine k zero caller labels;
     second = calls-confine m zero caller labels;
@@ -153,7 +161,9 @@ module _ (program : Program) (labelling : ℕ → Labelling) (accepted : Accepte
   }
 
 -- the numbers of a channel at first, which are those of the world where the channel is an input
-numbers-alike : (channels : List ChannelEntry) (none : ChannelEntry) (n : ℕ) (first second : List ℤ) → (n < length channels → (slice_index_or channels n none).direction ≡ Input → first ≡ second) → channel_numbers (slice_get channels n) first ≡ channel_numbers (slice_get channels n) second
+numbers-alike : (channels : List ChannelEntry) (none : ChannelEntry) (n : ℕ) (first second : List ℤ) →
+    (n < length channels → (slice_index_or channels n none).direction ≡ Input → first ≡ second) →
+    channel_numbers (slice_get channels n) first ≡ channel_numbers (slice_get channels n) second
 numbers-alike [] none n first second same = refl
 numbers-alike (channel ∷ rest) none zero first second same = go channel.direction refl
   where
@@ -164,7 +174,8 @@ numbers-alike (channel ∷ rest) none (suc n) first second same =
     numbers-alike rest none n first second (λ h e. same (omega (arith, h)) e)
 
 -- what an observer sees of calls of which one is stopped, or which end in the same way, or at labels that it does not read
-related_call-begins : (view : View) (value : Bool) (marks : Exit → Bool) (o p : Outcome) → RelatedCall view value marks o p → Begins (shown view (state_after o).sent) (shown view (state_after p).sent) ⊎ Begins (shown view (state_after p).sent) (shown view (state_after o).sent)
+related_call-begins : (view : View) (value : Bool) (marks : Exit → Bool) (o p : Outcome) → RelatedCall view value marks o p →
+    Begins (shown view (state_after o).sent) (shown view (state_after p).sent) ⊎ Begins (shown view (state_after p).sent) (shown view (state_after o).sent)
 related_call-begins view value marks o p (same_call r q s t h i) = inl (agree-begins view s t h)
 related_call-begins view value marks o p (same_thrown x s t h) = inl (agree-begins view s t h)
 related_call-begins view value marks o p (apart_calls _ _ h i j) = inl (agree-begins view (state_after o) (state_after p) j)
@@ -176,19 +187,24 @@ module _ (program : Program) (labelling : ℕ → Labelling) (accepted : Accepte
   abbrev outside : View
   outside = view_of reader (record { program = program; procedure = procedure_at program program.main; labelling = labelling program.main })
 
-  first-alike : (first second : World) → ((n : ℕ) → n < length program.channels → (channel_at program n).direction ≡ Input → reader.reads (channel_label program n) ≡ true → first n ≡ second n) → AgreeFor outside (first_state program first) (first_state program second)
+  first-alike : (first second : World) → ((n : ℕ) → n < length program.channels → (channel_at program n).direction ≡ Input →
+      reader.reads (channel_label program n) ≡ true → first n ≡ second n) →
+      AgreeFor outside (first_state program first) (first_state program second)
   first-alike first second same = record {
     variables = variables;
     inputs = λ n e. numbers-alike program.channels (record { direction = Output; name = []; label = [] }) n (first n) (second n) (λ h d. same n h d e);
     sent = refl;
   }
     where
-      variables : (x : Variable) → outside.variable x ≡ true → cells (first_state program first) x ≡ cells (first_state program second) x
+      variables : (x : Variable) → outside.variable x ≡ true →
+          cells (first_state program first) x ≡ cells (first_state program second) x
       variables (Global n) e = refl
       variables (Local n) e = refl
 
   -- two runs on worlds in which the inputs that the observer reads are the same
-  pub runs-begin : (first second : World) → ((n : ℕ) → n < length program.channels → (channel_at program n).direction ≡ Input → reader.reads (channel_label program n) ≡ true → first n ≡ second n) → (frames k m : ℕ) → Begins (shown outside (state_after (run_within frames program first k)).sent) (shown outside (state_after (run_within frames program second m)).sent) ⊎ Begins (shown outside (state_after (run_within frames program second m)).sent) (shown outside (state_after (run_within frames program first k)).sent)
+  pub runs-begin : (first second : World) → ((n : ℕ) → n < length program.channels → (channel_at program n).direction ≡ Input →
+      reader.reads (channel_label program n) ≡ true → first n ≡ second n) → (frames k m : ℕ) →
+      Begins (shown outside (state_after (run_within frames program first k)).sent) (shown outside (state_after (run_within frames program second m)).sent) ⊎ Begins (shown outside (state_after (run_within frames program second m)).sent) (shown outside (state_after (run_within frames program first k)).sent)
   runs-begin first second same frames k m =
       let callee : ProcedureEntry = procedure_at program program.main in
       related_call-begins outside (reads_result reader callee) (read_marks reader (declared_label callee)) (run_within frames program first k) (run_within frames program second m)

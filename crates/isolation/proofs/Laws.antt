@@ -30,7 +30,8 @@ accepted-from program faults labelled = record {
   fits = procedure-fits program labelled.0 labelled.1;
 }
 
-unread-end : (scope : Scope) (p : ℕ) (marks : Marks) (value : Bool) (o : Outcome) → Hidden value (read_marks (principal-reader scope.program.hierarchy p) marks) o → UnreadEnd scope p marks o
+unread-end : (scope : Scope) (p : ℕ) (marks : Marks) (value : Bool) (o : Outcome) →
+    Hidden value (read_marks (principal-reader scope.program.hierarchy p) marks) o → UnreadEnd scope p marks o
 unread-end scope p marks value o (hidden_end exit t m) = m
 unread-end scope p marks value o (hidden_return r t m none) = m
 unread-end scope p marks value o (hidden_stop stop t) = tt
@@ -53,7 +54,8 @@ pub isolated : (program : Program) → end_faults program ≡ [] → Labelled pr
 isolated program faults labelled p first second agree k m =
     runs-begin program labelled.0 (accepted-from program faults labelled) (principal-reader program.hierarchy p) first second agree frame_limit k m
 
-pub isolated-carried : (program : Program) (whole : PrincipalHierarchy) (carry : ℕ → ℕ) → end_faults program ≡ [] → Labelled program → KeepsActsFor program.hierarchy whole carry → IsolatedCarried program whole carry
+pub isolated-carried : (program : Program) (whole : PrincipalHierarchy) (carry : ℕ → ℕ) → end_faults program ≡ [] →
+    Labelled program → KeepsActsFor program.hierarchy whole carry → IsolatedCarried program whole carry
 isolated-carried program whole carry faults labelled keeps p first second agree k m =
     runs-begin program labelled.0 (accepted-from program faults labelled) (carried-reader program.hierarchy whole carry keeps p) first second agree frame_limit k m
 
@@ -64,14 +66,21 @@ ends-unread scope p pc unread in_loop statement faults fits exit among =
     (statement-ends-unread scope.program.hierarchy reader scope statement pc in_loop faults fits unread exit among)
 
 -- from what is read as a test to the same for a principal, and back
-same-from : (scope : Scope) (p : ℕ) (s t : State) → AgreeFor (view_of (principal-reader scope.program.hierarchy p) scope) s t → SameFor scope p s t
+same-from : (scope : Scope) (p : ℕ) (s t : State) → AgreeFor (view_of (principal-reader scope.program.hierarchy p) scope) s t →
+    SameFor scope p s t
 same-from scope p s t agree = record { variables = agree.variables; inputs = agree.inputs; sent = agree.sent }
 
-agree-from : (scope : Scope) (p : ℕ) (s t : State) → SameFor scope p s t → AgreeFor (view_of (principal-reader scope.program.hierarchy p) scope) s t
+agree-from : (scope : Scope) (p : ℕ) (s t : State) → SameFor scope p s t →
+    AgreeFor (view_of (principal-reader scope.program.hierarchy p) scope) s t
 agree-from scope p s t same = record { variables = same.variables; inputs = same.inputs; sent = same.sent }
 
 -- two outcomes of which the principal reads the label of neither end
-apart-agree : (scope : Scope) (p : ℕ) (marks : Marks) (value : Bool) → value ≡ may_read scope.program.hierarchy p (result_label scope.procedure.result) → (o q : Outcome) → Hidden value (read_marks (principal-reader scope.program.hierarchy p) marks) o → Hidden value (read_marks (principal-reader scope.program.hierarchy p) marks) q → AgreeFor (view_of (principal-reader scope.program.hierarchy p) scope) (state_after o) (state_after q) → OutcomesAgree scope p marks o q
+apart-agree : (scope : Scope) (p : ℕ) (marks : Marks) (value : Bool) →
+    value ≡ may_read scope.program.hierarchy p (result_label scope.procedure.result) → (o q : Outcome) →
+    Hidden value (read_marks (principal-reader scope.program.hierarchy p) marks) o →
+    Hidden value (read_marks (principal-reader scope.program.hierarchy p) marks) q →
+    AgreeFor (view_of (principal-reader scope.program.hierarchy p) scope) (state_after o) (state_after q) →
+    OutcomesAgree scope p marks o q
 apart-agree scope p marks value is o q (hidden_end exit s m) (hidden_end other t n) agree =
     (same-from scope p s t agree, λ reads. let i : true ≡ false = sym reads ∙ m in absurd (cc), λ reads. let i : true ≡ false = sym reads ∙ n in absurd (cc), λ reads. refl)
 apart-agree scope p marks value is o q (hidden_end exit s m) (hidden_return r t n none) agree =
@@ -89,7 +98,8 @@ apart-agree scope p marks value is o q (hidden_return r s m none) (hidden_stop s
 apart-agree scope p marks value is o q (hidden_stop stop s) (hidden_stop other t) agree =
     inl (agree-begins (view_of (principal-reader scope.program.hierarchy p) scope) s t agree)
 
-outcomes-agree : (scope : Scope) (p : ℕ) (marks : Marks) (o q : Outcome) → Related (view_of (principal-reader scope.program.hierarchy p) scope) (reads_result (principal-reader scope.program.hierarchy p) scope.procedure) (read_marks (principal-reader scope.program.hierarchy p) marks) o q → OutcomesAgree scope p marks o q
+outcomes-agree : (scope : Scope) (p : ℕ) (marks : Marks) (o q : Outcome) →
+    Related (view_of (principal-reader scope.program.hierarchy p) scope) (reads_result (principal-reader scope.program.hierarchy p) scope.procedure) (read_marks (principal-reader scope.program.hierarchy p) marks) o q → OutcomesAgree scope p marks o q
 outcomes-agree scope p marks o q (same_end exit s t agree) = (same-from scope p s t agree, λ reads. refl, λ reads. refl, λ reads. refl)
 outcomes-agree scope p marks o q (same_return r r' s t agree same) = (same-from scope p s t agree, λ reads. refl, λ reads. refl, same)
 outcomes-agree scope p marks o q (apart _ _ h i agree) =

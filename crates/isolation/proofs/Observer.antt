@@ -96,11 +96,13 @@ agree-through view s t u h i = record {
 }
 
 -- two runs that leave states alone
-pub agree-across : (view : View) (s t s' t' : State) → AgreeFor view s t → AgreeFor view s s' → AgreeFor view t t' → AgreeFor view s' t'
+pub agree-across : (view : View) (s t s' t' : State) → AgreeFor view s t → AgreeFor view s s' → AgreeFor view t t' →
+    AgreeFor view s' t'
 agree-across view s t s' t' h i j =
     agree-through view s' s t' (agree-back view s s' i) (agree-through view s t t' h j)
 
-updated-alike : {A : Type 0} (f g : ℕ → A) (n : ℕ) (a b : A) (m : ℕ) → (m ≡ n → a ≡ b) → f m ≡ g m → updated f n a m ≡ updated g n b m
+updated-alike : {A : Type 0} (f g : ℕ → A) (n : ℕ) (a b : A) (m : ℕ) → (m ≡ n → a ≡ b) → f m ≡ g m →
+    updated f n a m ≡ updated g n b m
 updated-alike f g n a b m here there = go (m == n) refl
   where
     go : (x : Bool) → (m == n) ≡ x → updated f n a m ≡ updated g n b m
@@ -114,7 +116,9 @@ updated-elsewhere f n a m h = go (m == n) refl
     go true e = let same : m ≡ n = grind (arith, e) in absurd (h same)
     go false e = rw e refl
 
-cells-alike : (view : View) (s t : State) (x : Variable) (vs ws : List Value) → AgreeFor view s t → (view.variable x ≡ true → vs ≡ ws) → (y : Variable) → view.variable y ≡ true → cells (with_cells s x vs) y ≡ cells (with_cells t x ws) y
+cells-alike : (view : View) (s t : State) (x : Variable) (vs ws : List Value) → AgreeFor view s t →
+    (view.variable x ≡ true → vs ≡ ws) → (y : Variable) → view.variable y ≡ true →
+    cells (with_cells s x vs) y ≡ cells (with_cells t x ws) y
 cells-alike view s t (Global n) vs ws h same (Global m) e =
     updated-alike s.globals t.globals n vs ws m (λ here. same (rw (← here) e)) (h.variables (Global m) e)
 cells-alike view s t (Local n) vs ws h same (Local m) e =
@@ -123,7 +127,8 @@ cells-alike view s t (Global n) vs ws h same (Local m) e = h.variables (Local m)
 cells-alike view s t (Local n) vs ws h same (Global m) e = h.variables (Global m) e
 
 -- the same variable has other cells in both, the same ones if the observer reads it
-pub agree-with_cells : (view : View) (s t : State) (x : Variable) (vs ws : List Value) → AgreeFor view s t → (view.variable x ≡ true → vs ≡ ws) → AgreeFor view (with_cells s x vs) (with_cells t x ws)
+pub agree-with_cells : (view : View) (s t : State) (x : Variable) (vs ws : List Value) → AgreeFor view s t →
+    (view.variable x ≡ true → vs ≡ ws) → AgreeFor view (with_cells s x vs) (with_cells t x ws)
 agree-with_cells view s t (Global n) vs ws h same = record {
   variables = cells-alike view s t (Global n) vs ws h same;
   inputs = h.inputs;
@@ -135,7 +140,8 @@ agree-with_cells view s t (Local n) vs ws h same = record {
   sent = h.sent;
 }
 
-cells-kept : (view : View) (s : State) (x : Variable) (vs : List Value) → view.variable x ≡ false → (y : Variable) → view.variable y ≡ true → cells s y ≡ cells (with_cells s x vs) y
+cells-kept : (view : View) (s : State) (x : Variable) (vs : List Value) → view.variable x ≡ false → (y : Variable) →
+    view.variable y ≡ true → cells s y ≡ cells (with_cells s x vs) y
 cells-kept view s (Global n) vs unread (Global m) e =
     updated-elsewhere s.globals n vs m (λ here. let i : true ≡ false = sym (rw (← here) e) ∙ unread in absurd (cc))
 cells-kept view s (Local n) vs unread (Local m) e =
@@ -144,7 +150,8 @@ cells-kept view s (Global n) vs unread (Local m) e = refl
 cells-kept view s (Local n) vs unread (Global m) e = refl
 
 -- a variable that the observer does not read has other cells
-pub agree-unread : (view : View) (s : State) (x : Variable) (vs : List Value) → view.variable x ≡ false → AgreeFor view s (with_cells s x vs)
+pub agree-unread : (view : View) (s : State) (x : Variable) (vs : List Value) → view.variable x ≡ false →
+    AgreeFor view s (with_cells s x vs)
 agree-unread view s (Global n) vs unread = record {
   variables = cells-kept view s (Global n) vs unread;
   inputs = λ m e. refl;
@@ -160,40 +167,48 @@ agree-unread view s (Local n) vs unread = record {
 abbrev pub with_input : State → ℕ → List ℤ → State
 with_input s channel numbers = record s { inputs = updated s.inputs channel numbers }
 
-pub agree-with_input : (view : View) (s t : State) (channel : ℕ) (numbers : List ℤ) → AgreeFor view s t → AgreeFor view (with_input s channel numbers) (with_input t channel numbers)
+pub agree-with_input : (view : View) (s t : State) (channel : ℕ) (numbers : List ℤ) → AgreeFor view s t →
+    AgreeFor view (with_input s channel numbers) (with_input t channel numbers)
 agree-with_input view s t channel numbers h = record {
   variables = λ where_ e. same-variables view s t h channel numbers where_ e;
   inputs = λ m e. updated-alike s.inputs t.inputs channel numbers numbers m (λ here. refl) (h.inputs m e);
   sent = h.sent;
 }
   where
-    same-variables : (view : View) (s t : State) → AgreeFor view s t → (channel : ℕ) (numbers : List ℤ) (x : Variable) → view.variable x ≡ true → cells (with_input s channel numbers) x ≡ cells (with_input t channel numbers) x
+    same-variables : (view : View) (s t : State) → AgreeFor view s t → (channel : ℕ) (numbers : List ℤ) (x : Variable) →
+        view.variable x ≡ true → cells (with_input s channel numbers) x ≡ cells (with_input t channel numbers) x
     same-variables view s t h channel numbers (Global n) e = h.variables (Global n) e
     same-variables view s t h channel numbers (Local n) e = h.variables (Local n) e
 
-pub agree-unread_input : (view : View) (s : State) (channel : ℕ) (numbers : List ℤ) → view.channel channel ≡ false → AgreeFor view s (with_input s channel numbers)
+pub agree-unread_input : (view : View) (s : State) (channel : ℕ) (numbers : List ℤ) → view.channel channel ≡ false →
+    AgreeFor view s (with_input s channel numbers)
 agree-unread_input view s channel numbers unread = record {
   variables = kept s channel numbers;
   inputs = λ m e. updated-elsewhere s.inputs channel numbers m (λ here. let i : true ≡ false = sym (rw (← here) e) ∙ unread in absurd (cc));
   sent = refl;
 }
   where
-    kept : (s : State) (channel : ℕ) (numbers : List ℤ) (x : Variable) → view.variable x ≡ true → cells s x ≡ cells (with_input s channel numbers) x
+    kept : (s : State) (channel : ℕ) (numbers : List ℤ) (x : Variable) → view.variable x ≡ true →
+        cells s x ≡ cells (with_input s channel numbers) x
     kept s channel numbers (Global n) e = refl
     kept s channel numbers (Local n) e = refl
 
-shown-one : (view : View) (channel : ℕ) (v w : Value) → (view.channel channel ≡ true → v ≡ w) → shown view (record { channel = channel; number = number_in v } ∷ []) ≡ shown view (record { channel = channel; number = number_in w } ∷ [])
+shown-one : (view : View) (channel : ℕ) (v w : Value) → (view.channel channel ≡ true → v ≡ w) →
+    shown view (record { channel = channel; number = number_in v } ∷ []) ≡ shown view (record { channel = channel; number = number_in w } ∷ [])
 shown-one view channel v w same = go (view.channel channel) refl
   where
-    go : (b : Bool) → view.channel channel ≡ b → shown view (record { channel = channel; number = number_in v } ∷ []) ≡ shown view (record { channel = channel; number = number_in w } ∷ [])
+    go : (b : Bool) → view.channel channel ≡ b →
+        shown view (record { channel = channel; number = number_in v } ∷ []) ≡ shown view (record { channel = channel; number = number_in w } ∷ [])
     go true e = rw (same e) refl
     go false e = rw e refl
 
-shown-none : (view : View) (channel : ℕ) (v : Value) → view.channel channel ≡ false → shown view (record { channel = channel; number = number_in v } ∷ []) ≡ []
+shown-none : (view : View) (channel : ℕ) (v : Value) → view.channel channel ≡ false →
+    shown view (record { channel = channel; number = number_in v } ∷ []) ≡ []
 shown-none view channel v unread = rw unread refl
 
 -- a pair is sent in both, the same one if the observer reads its channel
-pub agree-sending : (view : View) (s t : State) (channel : ℕ) (v w : Value) → AgreeFor view s t → (view.channel channel ≡ true → v ≡ w) → AgreeFor view (sending channel v s) (sending channel w t)
+pub agree-sending : (view : View) (s t : State) (channel : ℕ) (v w : Value) → AgreeFor view s t →
+    (view.channel channel ≡ true → v ≡ w) → AgreeFor view (sending channel v s) (sending channel w t)
 agree-sending view s t channel v w h same = record {
   variables = variables-kept (sending channel v s) (sending channel w t);
   inputs = h.inputs;
@@ -204,11 +219,13 @@ agree-sending view s t channel v w h same = record {
       ∙ sym (filter-append (λ (pair : Pair). view.channel pair.channel) t.sent (record { channel = channel; number = number_in w } ∷ []));
 }
   where
-    variables-kept : (s' t' : State) → (x : Variable) → view.variable x ≡ true → cells (sending channel v s) x ≡ cells (sending channel w t) x
+    variables-kept : (s' t' : State) → (x : Variable) → view.variable x ≡ true →
+        cells (sending channel v s) x ≡ cells (sending channel w t) x
     variables-kept s' t' (Global n) e = h.variables (Global n) e
     variables-kept s' t' (Local n) e = h.variables (Local n) e
 
-pub agree-unread_sending : (view : View) (s : State) (channel : ℕ) (v : Value) → view.channel channel ≡ false → AgreeFor view s (sending channel v s)
+pub agree-unread_sending : (view : View) (s : State) (channel : ℕ) (v : Value) → view.channel channel ≡ false →
+    AgreeFor view s (sending channel v s)
 agree-unread_sending view s channel v unread = record {
   variables = variables-kept;
   inputs = λ m e. refl;

@@ -28,7 +28,8 @@ contained-map : {X Y : Type 0} (f : X → Y) (xs : List X) (x : X) → Contains 
 contained-map f xs x h =
     (h.0, rw length-map h.1, get_or-map f xs h.0 x (f x) h.1 ∙ ap f h.2)
 
-carried-allows : (part whole : PrincipalHierarchy) (carry : ℕ → ℕ) → KeepsActsFor part whole carry → (policy : ReaderPolicy) (p : ℕ) → Allows part policy p → Allows whole (carried_policy carry policy) (carry p)
+carried-allows : (part whole : PrincipalHierarchy) (carry : ℕ → ℕ) → KeepsActsFor part whole carry →
+    (policy : ReaderPolicy) (p : ℕ) → Allows part policy p → Allows whole (carried_policy carry policy) (carry p)
 carried-allows part whole carry keeps policy p allowed =
     ⊎_elim
     (λ owner. inl (keeps p policy.owner owner))
@@ -36,7 +37,8 @@ carried-allows part whole carry keeps policy p allowed =
     (λ reader contained acts. inr (Any-from_some (λ r. ActsFor whole.pairs (carry p) r) (map carry policy.readers) (carry reader) (contained-map carry policy.readers reader contained) (keeps p reader acts))))
     allowed
 
-carried-policy_flow : (part whole : PrincipalHierarchy) (carry : ℕ → ℕ) → KeepsActsFor part whole carry → (from to : ReaderPolicy) → PolicyFlowsTo part from to → PolicyFlowsTo whole (carried_policy carry from) (carried_policy carry to)
+carried-policy_flow : (part whole : PrincipalHierarchy) (carry : ℕ → ℕ) → KeepsActsFor part whole carry → (from to : ReaderPolicy) →
+    PolicyFlowsTo part from to → PolicyFlowsTo whole (carried_policy carry from) (carried_policy carry to)
 carried-policy_flow part whole carry keeps from to flow = (
   keeps to.owner from.owner flow.0,
   All-map (λ reader. Allows whole (carried_policy carry from) reader) carry to.readers
@@ -53,7 +55,8 @@ carried-flow part whole carry keeps from to flow =
     (contained-map (carried_policy carry) to found.0 found.1) (carried-policy_flow part whole carry keeps policy found.0 found.2)))
 
 -- a principal of another hierarchy, to which labels are carried over
-abbrev pub carried-reader : (part whole : PrincipalHierarchy) (carry : ℕ → ℕ) → KeepsActsFor part whole carry → (p : ℕ) → Reader part
+abbrev pub carried-reader : (part whole : PrincipalHierarchy) (carry : ℕ → ℕ) → KeepsActsFor part whole carry → (p : ℕ) →
+    Reader part
 carried-reader part whole carry keeps p = record {
   reads = λ label. may_read whole p (carried_label carry label);
   nothing = may_read-least whole p;
@@ -64,7 +67,8 @@ carried-reader part whole carry keeps p = record {
 }
 
 -- by name
-named : (part whole : PrincipalHierarchy) → IsHierarchy whole → (a : ℕ) (name : List ℕ) (b : ℕ) → HasName part a name → HasName whole b name → number_by_name part whole a ≡ b
+named : (part whole : PrincipalHierarchy) → IsHierarchy whole → (a : ℕ) (name : List ℕ) (b : ℕ) → HasName part a name →
+    HasName whole b name → number_by_name part whole a ≡ b
 named part whole is a name b here there =
     rw (here, position_of_name whole.names is.different name b there) refl
 

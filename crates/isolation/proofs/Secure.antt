@@ -27,7 +27,8 @@ use Rattle.isolation.proofs.Confined.{Confines, reads_result, fits-left, fits-ri
 use Rattle.isolation.proofs.Calls.{RelatedCall, related-returned_to, declared_label}
 
 -- what flows to a label that is read is read
-pub read-demand : {h : PrincipalHierarchy} (reader : Reader h) (at rule : ℕ) (left right : Label) → Fits h (demand at rule left right) → reader.reads right ≡ true → reader.reads left ≡ true
+pub read-demand : {h : PrincipalHierarchy} (reader : Reader h) (at rule : ℕ) (left right : Label) →
+    Fits h (demand at rule left right) → reader.reads right ≡ true → reader.reads left ≡ true
 read-demand {h} reader at rule left right fits e = reader.flowing left right (fits-one h at rule left right fits) e
 
 -- arguments that are the same where the label of their parameter is read
@@ -50,14 +51,17 @@ pub record Secures {h : PrincipalHierarchy} (reader : Reader h) (scope : Scope) 
   pub second : Confines reader scope further
   pub grows_first : CallsGrow calls
   pub grows_second : CallsGrow further
-  pub related : (f : ℕ) (vs ws : List Value) (s t : State) → AgreeFor (view_of reader scope) s t → ParametersAlike reader (procedure_at scope.program f) vs ws → RelatedCall (view_of reader scope) (reads_result reader (procedure_at scope.program f)) (read_marks reader (declared_label (procedure_at scope.program f))) (calls f vs s) (further f ws t)
+  pub related : (f : ℕ) (vs ws : List Value) (s t : State) → AgreeFor (view_of reader scope) s t →
+      ParametersAlike reader (procedure_at scope.program f) vs ws →
+      RelatedCall (view_of reader scope) (reads_result reader (procedure_at scope.program f)) (read_marks reader (declared_label (procedure_at scope.program f))) (calls f vs s) (further f ws t)
 
 by-reading : {P : Type 0} (b : Bool) → (b ≡ false → P) → (b ≡ true → P) → P
 by-reading true unread read = read refl
 by-reading false unread read = unread refl
 
 -- the marks that a callee declares are among those of the call
-unread-declared : {h : PrincipalHierarchy} (reader : Reader h) (callee : ProcedureEntry) (q : Label) (exit : Exit) → reader.reads (declared_label callee exit) ≡ false → reader.reads (call_marks callee q exit) ≡ false
+unread-declared : {h : PrincipalHierarchy} (reader : Reader h) (callee : ProcedureEntry) (q : Label) (exit : Exit) →
+    reader.reads (declared_label callee exit) ≡ false → reader.reads (call_marks callee q exit) ≡ false
 unread-declared reader callee q Normal m = unread-right reader q (declared_label callee Normal) m
 unread-declared reader callee q Return m = let i : true ≡ false = sym reader.nothing ∙ m in absurd (cc)
 unread-declared reader callee q Break m = let i : true ≡ false = sym reader.nothing ∙ m in absurd (cc)
@@ -65,16 +69,21 @@ unread-declared reader callee q Continue m = let i : true ≡ false = sym reader
 unread-declared reader callee q (Throw x) m = unread-right reader q (declared_label callee (Throw x)) m
 
 -- a target that is read has a read label demanded of what goes to it
-target-read : {h : PrincipalHierarchy} (reader : Reader h) (scope : Scope) (at rule : ℕ) (left : Label) (target : Option Variable) → Fits h (target_demand scope at rule left target) → (x : Variable) → target ≡ Some x → reader.reads (variable_label scope x) ≡ true → reader.reads left ≡ true
+target-read : {h : PrincipalHierarchy} (reader : Reader h) (scope : Scope) (at rule : ℕ) (left : Label) (target : Option Variable) →
+    Fits h (target_demand scope at rule left target) → (x : Variable) → target ≡ Some x →
+    reader.reads (variable_label scope x) ≡ true → reader.reads left ≡ true
 target-read reader scope at rule left None fits x e reads = absurd (cc)
 target-read reader scope at rule left (Some y) fits x e reads =
     let same : y ≡ x = cc in read-demand reader at rule left (variable_label scope y) fits (rw same reads)
 
-agree-kept_in : (view : View) (target : Option Variable) (v : Value) (s t : State) → AgreeFor view s t → AgreeFor view (kept_in target v s) (kept_in target v t)
+agree-kept_in : (view : View) (target : Option Variable) (v : Value) (s t : State) → AgreeFor view s t →
+    AgreeFor view (kept_in target v s) (kept_in target v t)
 agree-kept_in view None v s t agree = agree
 agree-kept_in view (Some x) v s t agree = agree-with_cells view s t x (v ∷ []) (v ∷ []) agree (λ e. refl)
 
-related-received : (view : View) (value : Bool) (marks : Exit → Bool) (channel : ℕ) (target : Option Variable) (s t : State) (numbers others : List ℤ) → numbers ≡ others → AgreeFor view s t → Related view value marks (received numbers channel target s) (received others channel target t)
+related-received : (view : View) (value : Bool) (marks : Exit →
+    Bool) (channel : ℕ) (target : Option Variable) (s t : State) (numbers others : List ℤ) → numbers ≡ others → AgreeFor view s t →
+    Related view value marks (received numbers channel target s) (received others channel target t)
 related-received view value marks channel target s t numbers [] e agree = rw e (same_end (Throw end_exception) s t agree)
 related-received view value marks channel target s t numbers (z ∷ rest) e agree =
     rw e (same_end Normal (kept_in target (Number z) (with_input s channel rest)) (kept_in target (Number z) (with_input t channel rest))
@@ -82,14 +91,18 @@ related-received view value marks channel target s t numbers (z ∷ rest) e agre
 
 module _ (h : PrincipalHierarchy) (reader : Reader h) (scope : Scope) (calls further : Calls) (k m : ℕ) (secures : Secures reader scope calls further) where
   -- where the own label of a statement is not read nothing is seen of either run
-  both-hidden : (statement : Statement) (pc : Label) → Fits h (statement_demands scope pc statement) → (s t : State) → AgreeFor (view_of reader scope) s t → reader.reads (own_label scope pc statement) ≡ false → Related (view_of reader scope) (reads_result reader scope.procedure) (read_marks reader (statement_rule scope pc statement)) (statement_meaning calls k statement s) (statement_meaning further m statement t)
+  both-hidden : (statement : Statement) (pc : Label) → Fits h (statement_demands scope pc statement) → (s t : State) →
+      AgreeFor (view_of reader scope) s t → reader.reads (own_label scope pc statement) ≡ false →
+      Related (view_of reader scope) (reads_result reader scope.procedure) (read_marks reader (statement_rule scope pc statement)) (statement_meaning calls k statement s) (statement_meaning further m statement t)
   both-hidden statement pc fits s t agree unread =
       both-kept (view_of reader scope) (reads_result reader scope.procedure) (read_marks reader (statement_rule scope pc statement)) s t (statement_meaning calls k statement s) (statement_meaning further m statement t) agree
       (statement-kept h reader scope calls k secures.first statement pc fits unread s)
       (statement-kept h reader scope further m secures.second statement pc fits unread t)
 
   mutual
-    pub statement-secure : (statement : Statement) (pc : Label) → Fits h (statement_demands scope pc statement) → (s t : State) → AgreeFor (view_of reader scope) s t → Related (view_of reader scope) (reads_result reader scope.procedure) (read_marks reader (statement_rule scope pc statement)) (statement_meaning calls k statement s) (statement_meaning further m statement t)
+    pub statement-secure : (statement : Statement) (pc : Label) → Fits h (statement_demands scope pc statement) → (s t : State) →
+        AgreeFor (view_of reader scope) s t →
+        Related (view_of reader scope) (reads_result reader scope.procedure) (read_marks reader (statement_rule scope pc statement)) (statement_meaning calls k statement s) (statement_meaning further m statement t)
     statement-secure (Assign at x e) pc fits s t agree =
         let view = view_of reader scope in
         let value = reads_result reader scope.procedure in
@@ -272,7 +285,9 @@ module _ (h : PrincipalHierarchy) (reader : Reader h) (scope : Scope) (calls fur
         related-closed reader (view_of reader scope) (reads_result reader scope.procedure) (block_ends scope.program block) pc (block_rule scope pc block) (block_meaning calls k block s) (block_meaning further m block t)
         (block-among block scope.program calls k secures.first.among s) (block-among block scope.program further m secures.second.among t) (block-secure block pc fits s t agree)
 
-    pub block-secure : (block : Block) (pc : Label) → Fits h (block_demands scope pc block) → (s t : State) → AgreeFor (view_of reader scope) s t → Related (view_of reader scope) (reads_result reader scope.procedure) (read_marks reader (block_rule scope pc block)) (block_meaning calls k block s) (block_meaning further m block t)
+    pub block-secure : (block : Block) (pc : Label) → Fits h (block_demands scope pc block) → (s t : State) →
+        AgreeFor (view_of reader scope) s t →
+        Related (view_of reader scope) (reads_result reader scope.procedure) (read_marks reader (block_rule scope pc block)) (block_meaning calls k block s) (block_meaning further m block t)
     block-secure Empty pc fits s t agree = same_end Normal s t agree
     block-secure (Then statement rest) pc fits s t agree =
         let view = view_of reader scope in
@@ -294,7 +309,10 @@ module _ (h : PrincipalHierarchy) (reader : Reader h) (scope : Scope) (calls fur
           grows_second = block-grows rest further m secures.grows_second;
         })
 
-    pub handlers-secure : (handlers : Handlers) (x : Marks) → Fits h (handlers_demands scope x handlers) → (exception : ℕ) (s t : State) → AgreeFor (view_of reader scope) s t → (marks : Exit → Bool) → ((exit : Exit) → reader.reads (handlers_rule scope x handlers exit) ≡ false → marks exit ≡ false) → Related (view_of reader scope) (reads_result reader scope.procedure) marks (handlers_meaning calls k handlers exception s) (handlers_meaning further m handlers exception t)
+    pub handlers-secure : (handlers : Handlers) (x : Marks) → Fits h (handlers_demands scope x handlers) →
+        (exception : ℕ) (s t : State) → AgreeFor (view_of reader scope) s t → (marks : Exit → Bool) →
+        ((exit : Exit) → reader.reads (handlers_rule scope x handlers exit) ≡ false → marks exit ≡ false) →
+        Related (view_of reader scope) (reads_result reader scope.procedure) marks (handlers_meaning calls k handlers exception s) (handlers_meaning further m handlers exception t)
     handlers-secure NoMore x fits exception s t agree marks more = same_end (Throw exception) s t agree
     handlers-secure (Catch at handled body rest) x fits exception s t agree marks more =
         let view = view_of reader scope in

@@ -19,23 +19,28 @@ use Rattle.isolation.proofs.Observer.{Reader, unread-left, unread-right}
 use Rattle.isolation.proofs.Closed.{closed-unread}
 use Rattle.isolation.proofs.Confined.{fits-left, fits-right, unread-label_if, unread-call, own-unread}
 
-either-end : (xs ys : List Exit) (exit : Exit) → has_end (xs ++ ys) exit ≡ true → (has_end xs exit ≡ true) ⊎ (has_end ys exit ≡ true)
+either-end : (xs ys : List Exit) (exit : Exit) → has_end (xs ++ ys) exit ≡ true →
+    (has_end xs exit ≡ true) ⊎ (has_end ys exit ≡ true)
 either-end xs ys exit h = or_cases (has_end xs exit) (has_end ys exit) (sym (list_any-append (same_exit exit) xs ys) ∙ h)
 
-filtered-end : (p : Exit → Bool) (ends : List Exit) (exit : Exit) → has_end (filter p ends) exit ≡ true → (p exit ≡ true) × (has_end ends exit ≡ true)
+filtered-end : (p : Exit → Bool) (ends : List Exit) (exit : Exit) → has_end (filter p ends) exit ≡ true →
+    (p exit ≡ true) × (has_end ends exit ≡ true)
 filtered-end p ends exit h = and_parts (p exit) (has_end ends exit) (sym (end-filter p ends exit) ∙ h)
 
 -- the ends of a first part and of what follows
-then-cases : (first rest : List Exit) (exit : Exit) → has_end (then_ends first rest) exit ≡ true → ((not (same_exit Normal exit) ≡ true) × (has_end first exit ≡ true)) ⊎ ((has_end first Normal ≡ true) × (has_end rest exit ≡ true))
+then-cases : (first rest : List Exit) (exit : Exit) → has_end (then_ends first rest) exit ≡ true →
+    ((not (same_exit Normal exit) ≡ true) × (has_end first exit ≡ true)) ⊎ ((has_end first Normal ≡ true) × (has_end rest exit ≡ true))
 then-cases first rest exit h = go (has_end first Normal) refl
   where
-    other : (b : Bool) → same_exit Normal exit ≡ b → has_end first Normal ≡ false → has_end first exit ≡ true → not (same_exit Normal exit) ≡ true
+    other : (b : Bool) → same_exit Normal exit ≡ b → has_end first Normal ≡ false → has_end first exit ≡ true →
+        not (same_exit Normal exit) ≡ true
     other true e none f =
         let same : Normal ≡ exit = same-exit Normal exit e in
         let i : true ≡ false = sym (rw same f) ∙ none in absurd (cc)
     other false e none f = ap not e
 
-    go : (b : Bool) → has_end first Normal ≡ b → ((not (same_exit Normal exit) ≡ true) × (has_end first exit ≡ true)) ⊎ ((has_end first Normal ≡ true) × (has_end rest exit ≡ true))
+    go : (b : Bool) → has_end first Normal ≡ b →
+        ((not (same_exit Normal exit) ≡ true) × (has_end first exit ≡ true)) ⊎ ((has_end first Normal ≡ true) × (has_end rest exit ≡ true))
     go true e =
         ⊎_elim
         (λ f. inl (filtered-end (λ x. not (same_exit Normal x)) first exit f))
@@ -45,10 +50,12 @@ then-cases first rest exit h = go (has_end first Normal) refl
 
 module _ (h : PrincipalHierarchy) (reader : Reader h) (scope : Scope) where
   -- what is raised, and what leaves a loop
-  raised-end : (xs : List ℕ) (q : Label) (exit : Exit) → reader.reads q ≡ false → has_end (thrown_ends xs) exit ≡ true → reader.reads (label_if (has_end (thrown_ends xs) exit) q) ≡ false
+  raised-end : (xs : List ℕ) (q : Label) (exit : Exit) → reader.reads q ≡ false → has_end (thrown_ends xs) exit ≡ true →
+      reader.reads (label_if (has_end (thrown_ends xs) exit) q) ≡ false
   raised-end xs q exit unread e = unread-label_if reader (has_end (thrown_ends xs) exit) q e unread
 
-  loop-end : (b : Label) (x : Marks) (exit : Exit) → leaves_loop exit ≡ true → reader.reads (x exit) ≡ false → reader.reads (loop_marks b x exit) ≡ false
+  loop-end : (b : Label) (x : Marks) (exit : Exit) → leaves_loop exit ≡ true → reader.reads (x exit) ≡ false →
+      reader.reads (loop_marks b x exit) ≡ false
   loop-end b x Normal e unread = let i : true ≡ false = sym e in absurd (cc)
   loop-end b x Return e unread = unread
   loop-end b x Break e unread = let i : true ≡ false = sym e in absurd (cc)
@@ -56,7 +63,10 @@ module _ (h : PrincipalHierarchy) (reader : Reader h) (scope : Scope) where
   loop-end b x (Throw y) e unread = unread
 
   mutual
-    pub statement-ends-unread : (statement : Statement) (pc : Label) (in_loop : Bool) → inner_faults scope.program in_loop statement ≡ [] → Fits h (statement_demands scope pc statement) → reader.reads pc ≡ false → (exit : Exit) → has_end (statement_ends scope.program statement) exit ≡ true → reader.reads (statement_rule scope pc statement exit) ≡ false
+    pub statement-ends-unread : (statement : Statement) (pc : Label) (in_loop : Bool) →
+        inner_faults scope.program in_loop statement ≡ [] → Fits h (statement_demands scope pc statement) →
+        reader.reads pc ≡ false → (exit : Exit) → has_end (statement_ends scope.program statement) exit ≡ true →
+        reader.reads (statement_rule scope pc statement exit) ≡ false
     statement-ends-unread (Call at f arguments target) pc in_loop faults fits unread exit among =
         unread-call reader (procedure_at scope.program f) (own_label scope pc (Call at f arguments target)) (own-unread reader scope pc (Call at f arguments target) fits unread) exit
     statement-ends-unread (If at e yes_block no_block) pc in_loop faults fits unread exit among =
@@ -116,7 +126,9 @@ module _ (h : PrincipalHierarchy) (reader : Reader h) (scope : Scope) where
     statement-ends-unread (ReturnWith at (Some e)) pc in_loop faults fits unread exit among = own-unread reader scope pc (ReturnWith at (Some e)) fits unread
     statement-ends-unread other pc in_loop faults fits unread exit among = own-unread reader scope pc other fits unread
 
-    pub block-ends-unread : (block : Block) (pc : Label) (in_loop reached : Bool) → block_faults scope.program in_loop reached block ≡ [] → Fits h (block_demands scope pc block) → reader.reads pc ≡ false → (exit : Exit) → has_end (block_ends scope.program block) exit ≡ true → reader.reads (block_rule scope pc block exit) ≡ false
+    pub block-ends-unread : (block : Block) (pc : Label) (in_loop reached : Bool) →
+        block_faults scope.program in_loop reached block ≡ [] → Fits h (block_demands scope pc block) → reader.reads pc ≡ false →
+        (exit : Exit) → has_end (block_ends scope.program block) exit ≡ true → reader.reads (block_rule scope pc block exit) ≡ false
     block-ends-unread Empty pc in_loop reached faults fits unread exit among =
         ⊎_elim
         (λ normal. rw (same-exit exit Normal normal) unread)
@@ -137,7 +149,10 @@ module _ (h : PrincipalHierarchy) (reader : Reader h) (scope : Scope) where
         (block-ends-unread rest (x Normal) in_loop (has_end ends Normal) both.1 (fits-right h (statement_demands scope pc statement) (block_demands scope (x Normal) rest) fits) (inner Normal after.0) exit after.1))
         (then-cases ends (block_ends scope.program rest) exit among)
 
-    pub handlers-ends-unread : (handlers : Handlers) (x : Marks) (in_loop : Bool) (ends : List Exit) → handlers_faults scope.program in_loop ends handlers ≡ [] → Fits h (handlers_demands scope x handlers) → ((y : ℕ) → has_end ends (Throw y) ≡ true → reader.reads (x (Throw y)) ≡ false) → (exit : Exit) → has_end (handlers_ends scope.program handlers) exit ≡ true → reader.reads (handlers_rule scope x handlers exit) ≡ false
+    pub handlers-ends-unread : (handlers : Handlers) (x : Marks) (in_loop : Bool) (ends : List Exit) →
+        handlers_faults scope.program in_loop ends handlers ≡ [] → Fits h (handlers_demands scope x handlers) →
+        ((y : ℕ) → has_end ends (Throw y) ≡ true → reader.reads (x (Throw y)) ≡ false) → (exit : Exit) →
+        has_end (handlers_ends scope.program handlers) exit ≡ true → reader.reads (handlers_rule scope x handlers exit) ≡ false
     handlers-ends-unread NoMore x in_loop ends faults fits unread exit among = let i : true ≡ false = sym among in absurd (cc)
     handlers-ends-unread (Catch at handled body rest) x in_loop ends faults fits unread exit among =
         let body_ends = block_ends scope.program body in

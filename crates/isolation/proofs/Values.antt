@@ -26,7 +26,9 @@ pub data Alike {A B : Type 0} (P : A → B → Type 0) : Evaluated A → Evaluat
 abbrev pub SameIf : {A : Type 0} → Bool → A → A → Type 0
 SameIf b v w = b ≡ true → v ≡ w
 
-alike-then : {A B : Type 0} (P : A → A → Type 0) (Q : B → B → Type 0) (o p : Evaluated A) (next further : A → Evaluated B) → Alike P o p → ((v w : A) → o ≡ Gives v → p ≡ Gives w → P v w → Alike Q (next v) (further w)) → Alike Q (then_with o next) (then_with p further)
+alike-then : {A B : Type 0} (P : A → A → Type 0) (Q : B → B → Type 0) (o p : Evaluated A) (next further : A → Evaluated B) →
+    Alike P o p → ((v w : A) → o ≡ Gives v → p ≡ Gives w → P v w → Alike Q (next v) (further w)) →
+    Alike Q (then_with o next) (then_with p further)
 alike-then P Q o p next further (both_give v w h) rest = rest v w refl refl h
 alike-then P Q o p next further (both_raise x) rest = both_raise x
 
@@ -35,10 +37,13 @@ alike-weaker P Q o p weaker (both_give v w h) = both_give v w (weaker v w h)
 alike-weaker P Q o p weaker (both_raise x) = both_raise x
 
 -- a label under a test that holds
-pub read-label_if : {h : PrincipalHierarchy} (reader : Reader h) (test : Bool) (label : Label) → reader.reads (label_if test label) ≡ true → test ≡ true → reader.reads label ≡ true
+pub read-label_if : {h : PrincipalHierarchy} (reader : Reader h) (test : Bool) (label : Label) →
+    reader.reads (label_if test label) ≡ true → test ≡ true → reader.reads label ≡ true
 read-label_if reader test label h e = rw e at h
 
-pub index-alike : (s t : State) (index : Expression) (len : ℕ) (b : Bool) (v w : Value) → (index_can_raise index len ≡ true → b ≡ true) → value_of s index ≡ Gives v → value_of t index ≡ Gives w → SameIf b v w → Alike (SameIf b) (checked_index v len) (checked_index w len)
+pub index-alike : (s t : State) (index : Expression) (len : ℕ) (b : Bool) (v w : Value) →
+    (index_can_raise index len ≡ true → b ≡ true) → value_of s index ≡ Gives v → value_of t index ≡ Gives w → SameIf b v w →
+    Alike (SameIf b) (checked_index v len) (checked_index w len)
 index-alike s t index len b v w covered f g same = go (index_can_raise index len) refl
   where
     reflexive : (v : Value) → Alike (SameIf b) (checked_index v len) (checked_index v len)
@@ -55,14 +60,17 @@ index-alike s t index len b v w covered f g same = go (index_can_raise index len
         let right : in_range (number_in w) len ≡ true = index-in_range t index len w e g in
         rw (left, right) (both_give (position_of (number_in v)) (position_of (number_in w)) (λ i. ap (λ x. position_of (number_in x)) (same i)))
 
-division-alike : (b : Bool) (d e : ℤ) (m n : ℤ) → is_zero d ≡ is_zero e → SameIf b m n → Alike (SameIf b) (unless_zero d m) (unless_zero e n)
+division-alike : (b : Bool) (d e : ℤ) (m n : ℤ) → is_zero d ≡ is_zero e → SameIf b m n →
+    Alike (SameIf b) (unless_zero d m) (unless_zero e n)
 division-alike b d e m n no_zero same = go (is_zero e) refl
   where
     go : (c : Bool) → is_zero e ≡ c → Alike (SameIf b) (unless_zero d m) (unless_zero e n)
     go true f = rw (no_zero, f) (both_raise arith_exception)
     go false f = rw (no_zero, f) (both_give (Number (wrapped m)) (Number (wrapped n)) (λ i. ap (λ x. Number (wrapped x)) (same i)))
 
-operator-alike : (b : Bool) (operator : Operator) (v w v' w' : Value) → (is_division operator ≡ true → is_zero (number_in w) ≡ is_zero (number_in w')) → SameIf b v v' → SameIf b w w' → Alike (SameIf b) (operator_value operator v w) (operator_value operator v' w')
+operator-alike : (b : Bool) (operator : Operator) (v w v' w' : Value) →
+    (is_division operator ≡ true → is_zero (number_in w) ≡ is_zero (number_in w')) → SameIf b v v' → SameIf b w w' →
+    Alike (SameIf b) (operator_value operator v w) (operator_value operator v' w')
 operator-alike b Divide v w v' w' no_zero left right = division-alike b (number_in w) (number_in w') _ _ (no_zero refl) (λ i. rw (left i, right i) refl)
 operator-alike b Remainder v w v' w' no_zero left right = division-alike b (number_in w) (number_in w') _ _ (no_zero refl) (λ i. rw (left i, right i) refl)
 operator-alike b Add v w v' w' no_zero left right = both_give _ _ (λ i. rw (left i, right i) refl)
@@ -78,7 +86,8 @@ operator-alike b Same v w v' w' no_zero left right = both_give _ _ (λ i. rw (le
 operator-alike b Different v w v' w' no_zero left right = both_give _ _ (λ i. rw (left i, right i) refl)
 
 -- whether a divisor is 0 is the same in both, if it can be
-divisor-alike : (s t : State) (e : Expression) (b : Bool) (w w' : Value) → (divisor_can_raise e ≡ true → b ≡ true) → value_of s e ≡ Gives w → value_of t e ≡ Gives w' → SameIf b w w' → is_zero (number_in w) ≡ is_zero (number_in w')
+divisor-alike : (s t : State) (e : Expression) (b : Bool) (w w' : Value) → (divisor_can_raise e ≡ true → b ≡ true) →
+    value_of s e ≡ Gives w → value_of t e ≡ Gives w' → SameIf b w w' → is_zero (number_in w) ≡ is_zero (number_in w')
 divisor-alike s t e b w w' covered f g same = go (divisor_can_raise e) refl
   where
     go : (c : Bool) → divisor_can_raise e ≡ c → is_zero (number_in w) ≡ is_zero (number_in w')
@@ -91,14 +100,18 @@ gives-value [] (Gives v) e h = (v, refl)
 gives-value [] (Raises x) e h = let i : true ≡ false = sym (h.among x refl) in absurd (cc)
 gives-value (y ∷ xs) o e h = let i : true ≡ false = e in absurd (cc)
 
-short-gives : (test : Bool) (v : Value) (o : Evaluated Value) → (w : Value) × (o ≡ Gives w) → (u : Value) × ((if test then Gives v else o) ≡ Gives u)
+short-gives : (test : Bool) (v : Value) (o : Evaluated Value) → (w : Value) × (o ≡ Gives w) →
+    (u : Value) × ((if test then Gives v else o) ≡ Gives u)
 short-gives true v o h = (v, refl)
 short-gives false v o h = h
 
-alike-gives : {A : Type 0} (P : A → A → Type 0) (o p : Evaluated A) → (v : A) × (o ≡ Gives v) → (w : A) × (p ≡ Gives w) → ((v w : A) → P v w) → Alike P o p
+alike-gives : {A : Type 0} (P : A → A → Type 0) (o p : Evaluated A) → (v : A) × (o ≡ Gives v) → (w : A) × (p ≡ Gives w) →
+    ((v w : A) → P v w) → Alike P o p
 alike-gives P o p h i each = rw (h.1, i.1) (both_give h.0 i.0 (each h.0 i.0))
 
-short-alike : (connective : Connective) (b c : Bool) (xs : List ℕ) (v w : Value) (o p : Evaluated Value) → SameIf b v w → (any_of xs ≡ true → b ≡ true) → (c ≡ true → b ≡ true) → RaisesAmong xs o → RaisesAmong xs p → Alike (SameIf c) o p → Alike (SameIf c) (if decides connective v then Gives v else o) (if decides connective w then Gives w else p)
+short-alike : (connective : Connective) (b c : Bool) (xs : List ℕ) (v w : Value) (o p : Evaluated Value) → SameIf b v w →
+    (any_of xs ≡ true → b ≡ true) → (c ≡ true → b ≡ true) → RaisesAmong xs o → RaisesAmong xs p → Alike (SameIf c) o p →
+    Alike (SameIf c) (if decides connective v then Gives v else o) (if decides connective w then Gives w else p)
 short-alike connective true c xs v w o p same covered more h i alike = rw (same refl) (go (decides connective w))
   where
     go : (d : Bool) → Alike (SameIf c) (if d then Gives w else o) (if d then Gives w else p)
@@ -114,7 +127,9 @@ short-alike connective false c xs v w o p same covered more h i alike =
     none true e = let k : false ≡ true = covered e in absurd (cc)
     none false e = e
 
-pub expression-alike : {h : PrincipalHierarchy} (reader : Reader h) (scope : Scope) (s t : State) → AgreeFor (view_of reader scope) s t → (e : Expression) → reader.reads (raise_label scope e) ≡ true → Alike (SameIf (reader.reads (value_label scope e))) (value_of s e) (value_of t e)
+pub expression-alike : {h : PrincipalHierarchy} (reader : Reader h) (scope : Scope) (s t : State) →
+    AgreeFor (view_of reader scope) s t → (e : Expression) → reader.reads (raise_label scope e) ≡ true →
+    Alike (SameIf (reader.reads (value_label scope e))) (value_of s e) (value_of t e)
 expression-alike reader scope s t agree (Integer n) reads = both_give (Number (literal_number n)) (Number (literal_number n)) (λ i. refl)
 expression-alike reader scope s t agree (Logical b) reads = both_give (Truth b) (Truth b) (λ i. refl)
 expression-alike reader scope s t agree (Read x) reads =
@@ -172,9 +187,13 @@ expression-alike reader scope s t agree (Short connective d e) reads =
 -- the values of arguments, each the same where its label is read
 pub data ArgumentsAlike {h : PrincipalHierarchy} (reader : Reader h) (scope : Scope) : List Expression → List Value → List Value → Type 0 where
   no_arguments : ArgumentsAlike reader scope [] [] []
-  one_more : (e : Expression) (rest : List Expression) (v w : Value) (vs ws : List Value) → SameIf (reader.reads (value_label scope e)) v w → ArgumentsAlike reader scope rest vs ws → ArgumentsAlike reader scope (e ∷ rest) (v ∷ vs) (w ∷ ws)
+  one_more : (e : Expression) (rest : List Expression) (v w : Value) (vs ws : List Value) →
+      SameIf (reader.reads (value_label scope e)) v w → ArgumentsAlike reader scope rest vs ws →
+      ArgumentsAlike reader scope (e ∷ rest) (v ∷ vs) (w ∷ ws)
 
-pub arguments-alike : {h : PrincipalHierarchy} (reader : Reader h) (scope : Scope) (s t : State) → AgreeFor (view_of reader scope) s t → (es : List Expression) → reader.reads (raise_labels scope es) ≡ true → Alike (ArgumentsAlike reader scope es) (values_of s es) (values_of t es)
+pub arguments-alike : {h : PrincipalHierarchy} (reader : Reader h) (scope : Scope) (s t : State) →
+    AgreeFor (view_of reader scope) s t → (es : List Expression) → reader.reads (raise_labels scope es) ≡ true →
+    Alike (ArgumentsAlike reader scope es) (values_of s es) (values_of t es)
 arguments-alike reader scope s t agree [] reads = both_give [] [] no_arguments
 arguments-alike reader scope s t agree (e ∷ rest) reads =
     alike-then (SameIf (reader.reads (value_label scope e))) (ArgumentsAlike reader scope (e ∷ rest)) (value_of s e) (value_of t e)

@@ -6,6 +6,7 @@ use Rattle.resolved.specs.Value.{Evaluated, Gives}
 use Rattle.resolved.specs.State.{State}
 use Rattle.resolved.specs.Meaning.{OutOfTurns, Outcome, Stopped, normally, turns}
 
-pub waits-for_ever : (k : ℕ) (condition : State → Evaluated Value) (body : State → Outcome) (s : State) → condition s ≡ Gives (Truth true) → body s ≡ normally s → turns k condition body s ≡ Stopped OutOfTurns s
+pub waits-for_ever : (k : ℕ) (condition : State → Evaluated Value) (body : State → Outcome) (s : State) →
+    condition s ≡ Gives (Truth true) → body s ≡ normally s → turns k condition body s ≡ Stopped OutOfTurns s
 waits-for_ever zero condition body s holds nothing = rw holds refl
 waits-for_ever (suc k) condition body s holds nothing = rw (holds, nothing) (waits-for_ever k condition body s holds nothing)
