@@ -169,12 +169,16 @@ expression-raises s (Integer n) = raises-none [] (Number (literal_number n))
 expression-raises s (Logical b) = raises-none [] (Truth b)
 expression-raises s (Read x) = raises-none [] (cell_at (cells s x) 0)
 expression-raises s (Element array length index) =
-    raises-then (raises index) (index_raises index length) (value_of s index) (λ v. then_with (checked_index v length) (λ i. Gives (cell_at (cells s array) i))) (expression-raises s index) (λ v e.
-    rw (← append-nil (index_raises index length)) (raises-then (index_raises index length) [] (checked_index v length) (λ i. Gives (cell_at (cells s array) i)) (raises-checked_index s index length v e) (λ i f. raises-none [] (cell_at (cells s array) i))))
+    raises-then (raises index) (index_raises index length) (value_of s index)
+    (λ v. then_with (checked_index v length) (λ i. Gives (cell_at (cells s array) i))) (expression-raises s index) (λ v e.
+    rw (← append-nil (index_raises index length)) (raises-then (index_raises index length) [] (checked_index v length)
+    (λ i. Gives (cell_at (cells s array) i)) (raises-checked_index s index length v e)
+    (λ i f. raises-none [] (cell_at (cells s array) i))))
 expression-raises s (Unary prefix e) =
     rw (← append-nil (raises e)) (raises-then (raises e) [] (value_of s e) _ (expression-raises s e) (λ v f. raises-none [] _))
 expression-raises s (Binary operator d e) =
-    rw append_assoc (raises-then (raises d) (raises e ++ operator_raises operator e) (value_of s d) (λ v. then_with (value_of s e) (λ w. operator_value operator v w)) (expression-raises s d) (λ v f.
+    rw append_assoc (raises-then (raises d) (raises e ++ operator_raises operator e) (value_of s d)
+    (λ v. then_with (value_of s e) (λ w. operator_value operator v w)) (expression-raises s d) (λ v f.
     raises-then (raises e) (operator_raises operator e) (value_of s e) (λ w. operator_value operator v w) (expression-raises s e) (λ w g.
     raises-operator s operator e v w g)))
 expression-raises s (Short connective d e) =
@@ -185,7 +189,8 @@ pub expressions-raise : (s : State) (es : List Expression) → RaisesAmong (rais
 expressions-raise s [] = raises-none [] []
 expressions-raise s (e ∷ rest) =
     raises-then (raises e) (raises_all rest) (value_of s e) (λ v. then_with (values_of s rest) (λ vs. Gives (v ∷ vs))) (expression-raises s e) (λ v f.
-    rw (← append-nil (raises_all rest)) (raises-then (raises_all rest) [] (values_of s rest) (λ vs. Gives (v ∷ vs)) (expressions-raise s rest) (λ vs g. raises-none [] (v ∷ vs))))
+    rw (← append-nil (raises_all rest)) (raises-then (raises_all rest) [] (values_of s rest) (λ vs. Gives (v ∷ vs))
+    (expressions-raise s rest) (λ vs g. raises-none [] (v ∷ vs))))
 
 -- the end of an outcome is in a list
 pub record Among (ends : List Exit) (o : Outcome) : Type 0 where
@@ -272,10 +277,12 @@ among-turns : (k : ℕ) (xs : List ℕ) (ends : List Exit) (condition : State �
     ((t : State) → RaisesAmong xs (condition t)) → ((t : State) → Among ends (body t)) → (s : State) →
     Among (loop_ends xs ends) (turns k condition body s)
 among-turns zero xs ends condition body raised h s =
-    among-evaluated xs (loop_ends xs ends) (condition s) s (λ v. if truth_in v then Stopped OutOfTurns s else normally s) (raised s) (loop-thrown xs ends) (λ v e.
+    among-evaluated xs (loop_ends xs ends) (condition s) s (λ v. if truth_in v then Stopped OutOfTurns s else normally s) (raised s)
+    (loop-thrown xs ends) (λ v e.
     among-if (loop_ends xs ends) (truth_in v) (Stopped OutOfTurns s) (normally s) (record { among = tt }) (record { among = refl }))
 among-turns (suc k) xs ends condition body raised h s =
-    among-evaluated xs (loop_ends xs ends) (condition s) s (λ v. if truth_in v then looped (body s) (turns k condition body) else normally s) (raised s) (loop-thrown xs ends) (λ v e.
+    among-evaluated xs (loop_ends xs ends) (condition s) s (λ v. if truth_in v then looped (body s)
+    (turns k condition body) else normally s) (raised s) (loop-thrown xs ends) (λ v e.
     among-if (loop_ends xs ends) (truth_in v) (looped (body s) (turns k condition body)) (normally s)
     (among-looped xs ends (body s) (turns k condition body) (h s) (among-turns k xs ends condition body raised h))
     (record { among = refl }))
@@ -358,26 +365,32 @@ mutual
   pub statement-among : (statement : Statement) (program : Program) (calls : Calls) (k : ℕ) → CallsAmong program calls →
       (s : State) → Among (statement_ends program statement) (statement_meaning calls k statement s)
   statement-among (Assign at x e) program calls k h s =
-      among-evaluated (raises e) (Normal ∷ thrown_ends (raises e)) (value_of s e) s (λ v. normally (assigned s x v)) (expression-raises s e) (behind Normal (thrown_ends (raises e))) (λ v f.
+      among-evaluated (raises e) (Normal ∷ thrown_ends (raises e)) (value_of s e) s (λ v. normally (assigned s x v)) (expression-raises s e)
+      (behind Normal (thrown_ends (raises e))) (λ v f.
       among-first Normal (thrown_ends (raises e)) None (assigned s x v))
   statement-among (Clear at slot) program calls k h s = among-first Normal [] None (cleared s slot)
   statement-among (Store at array len index e) program calls k h s =
       let xs : List ℕ = raises index ++ raises e ++ index_raises index len in
       among-evaluated (raises index) (Normal ∷ thrown_ends xs) (value_of s index) s _ (expression-raises s index)
-      (λ exit f. behind Normal (thrown_ends xs) exit (thrown-left (raises index ++ raises e) (index_raises index len) exit (thrown-left (raises index) (raises e) exit f))) (λ v f.
+      (λ exit f. behind Normal (thrown_ends xs) exit (thrown-left (raises index ++ raises e) (index_raises index len) exit
+      (thrown-left (raises index) (raises e) exit f))) (λ v f.
       among-evaluated (raises e) (Normal ∷ thrown_ends xs) (value_of s e) s _ (expression-raises s e)
-      (λ exit g. behind Normal (thrown_ends xs) exit (thrown-left (raises index ++ raises e) (index_raises index len) exit (thrown-right (raises index) (raises e) exit g))) (λ w g.
-      among-evaluated (index_raises index len) (Normal ∷ thrown_ends xs) (checked_index v len) s (λ i. normally (stored s array i w)) (raises-checked_index s index len v f)
+      (λ exit g. behind Normal (thrown_ends xs) exit (thrown-left (raises index ++ raises e) (index_raises index len) exit
+      (thrown-right (raises index) (raises e) exit g))) (λ w g.
+      among-evaluated (index_raises index len) (Normal ∷ thrown_ends xs) (checked_index v len) s (λ i. normally (stored s array i w))
+      (raises-checked_index s index len v f)
       (λ exit i. behind Normal (thrown_ends xs) exit (thrown-right (raises index ++ raises e) (index_raises index len) exit i)) (λ i j.
       among-first Normal (thrown_ends xs) None (stored s array i w))))
   statement-among (Receive at channel target) program calls k h s = among-received (s.inputs channel) channel target s
   statement-among (Send at channel e) program calls k h s =
-      among-evaluated (raises e) (Normal ∷ thrown_ends (raises e)) (value_of s e) s (λ v. normally (sending channel v s)) (expression-raises s e) (behind Normal (thrown_ends (raises e))) (λ v f.
+      among-evaluated (raises e) (Normal ∷ thrown_ends (raises e)) (value_of s e) s (λ v. normally (sending channel v s))
+      (expression-raises s e) (behind Normal (thrown_ends (raises e))) (λ v f.
       among-first Normal (thrown_ends (raises e)) None (sending channel v s))
   statement-among (Call at procedure arguments target) program calls k h s =
       let declared : List ℕ = declared_by (procedure_at program procedure).throws in
       let xs : List ℕ = raises_all arguments ++ declared in
-      among-evaluated (raises_all arguments) (Normal ∷ thrown_ends xs) (values_of s arguments) s (λ vs. returned_to target (calls procedure vs s)) (expressions-raise s arguments)
+      among-evaluated (raises_all arguments) (Normal ∷ thrown_ends xs) (values_of s arguments) s
+      (λ vs. returned_to target (calls procedure vs s)) (expressions-raise s arguments)
       (λ exit f. behind Normal (thrown_ends xs) exit (thrown-left (raises_all arguments) declared exit f)) (λ vs f.
       among-returned_to (thrown_ends xs) target (calls procedure vs s)
       (among-more (Normal ∷ thrown_ends declared) (Normal ∷ thrown_ends xs) (calls procedure vs s)
@@ -385,21 +398,27 @@ mutual
   statement-among (If at e yes_block no_block) program calls k h s =
       let yes_ends : List Exit = block_ends program yes_block in
       let no_ends : List Exit = block_ends program no_block in
-      among-evaluated (raises e) (thrown_ends (raises e) ++ yes_ends ++ no_ends) (value_of s e) s (λ v. if truth_in v then block_meaning calls k yes_block s else block_meaning calls k no_block s) (expression-raises s e)
-      (λ exit f. any-left (same_exit exit) (thrown_ends (raises e) ++ yes_ends) no_ends (any-left (same_exit exit) (thrown_ends (raises e)) yes_ends f)) (λ v f.
+      among-evaluated (raises e) (thrown_ends (raises e) ++ yes_ends ++ no_ends) (value_of s e) s
+      (λ v. if truth_in v then block_meaning calls k yes_block s else block_meaning calls k no_block s) (expression-raises s e)
+      (λ exit f. any-left (same_exit exit) (thrown_ends (raises e) ++ yes_ends) no_ends
+      (any-left (same_exit exit) (thrown_ends (raises e)) yes_ends f)) (λ v f.
       among-if (thrown_ends (raises e) ++ yes_ends ++ no_ends) (truth_in v) (block_meaning calls k yes_block s) (block_meaning calls k no_block s)
-      (among-left (thrown_ends (raises e) ++ yes_ends) no_ends (block_meaning calls k yes_block s) (among-right (thrown_ends (raises e)) yes_ends (block_meaning calls k yes_block s) (block-among yes_block program calls k h s)))
+      (among-left (thrown_ends (raises e) ++ yes_ends) no_ends (block_meaning calls k yes_block s)
+      (among-right (thrown_ends (raises e)) yes_ends (block_meaning calls k yes_block s) (block-among yes_block program calls k h s)))
       (among-right (thrown_ends (raises e) ++ yes_ends) no_ends (block_meaning calls k no_block s) (block-among no_block program calls k h s)))
   statement-among (While at loop e body) program calls k h s =
-      among-turns k (raises e) (block_ends program body) (λ t. value_of t e) (block_meaning calls k body) (λ t. expression-raises t e) (block-among body program calls k h) s
+      among-turns k (raises e) (block_ends program body) (λ t. value_of t e) (block_meaning calls k body) (λ t. expression-raises t e)
+      (block-among body program calls k h) s
   statement-among (Leave at exit) program calls k h s = among-first exit [] None s
   statement-among (ReturnWith at None) program calls k h s = among-first Return [] None s
   statement-among (ReturnWith at (Some e)) program calls k h s =
-      among-evaluated (raises e) (Return ∷ thrown_ends (raises e)) (value_of s e) s (λ v. Ended Return (Some v) s) (expression-raises s e) (behind Return (thrown_ends (raises e))) (λ v f.
+      among-evaluated (raises e) (Return ∷ thrown_ends (raises e)) (value_of s e) s (λ v. Ended Return (Some v) s) (expression-raises s e)
+      (behind Return (thrown_ends (raises e))) (λ v f.
       among-first Return (thrown_ends (raises e)) (Some v) s)
   statement-among (Try at block handlers) program calls k h s =
       let ends : List Exit = block_ends program block in
-      among-caught handlers ends (handlers_ends program handlers) (block_meaning calls k block s) (handlers_meaning calls k handlers) (block-among block program calls k h s) (λ x t f.
+      among-caught handlers ends (handlers_ends program handlers) (block_meaning calls k block s) (handlers_meaning calls k handlers)
+      (block-among block program calls k h s) (λ x t f.
       handlers-among handlers program calls k h (filter (passes handlers) ends ++ handlers_ends program handlers) x t
       (λ none. try-passing handlers ends (handlers_ends program handlers) (Throw x) (rw none refl) f)
       (λ exit g. any-right (same_exit exit) (filter (passes handlers) ends) (handlers_ends program handlers) g))
@@ -409,7 +428,8 @@ mutual
       Among (block_ends program block) (block_meaning calls k block s)
   block-among Empty program calls k h s = among-first Normal [] None s
   block-among (Then statement rest) program calls k h s =
-      among-after (statement_ends program statement) (block_ends program rest) (statement_meaning calls k statement s) (block_meaning calls k rest) (statement-among statement program calls k h s) (block-among rest program calls k h)
+      among-after (statement_ends program statement) (block_ends program rest) (statement_meaning calls k statement s)
+      (block_meaning calls k rest) (statement-among statement program calls k h s) (block-among rest program calls k h)
 
   handlers-among : (handlers : Handlers) (program : Program) (calls : Calls) (k : ℕ) → CallsAmong program calls →
       (ends : List Exit) (x : ℕ) (s : State) → (handles handlers x ≡ false → has_end ends (Throw x) ≡ true) →
@@ -417,9 +437,13 @@ mutual
       Among ends (handlers_meaning calls k handlers x s)
   handlers-among NoMore program calls k h ends x s passing more = record { among = passing refl }
   handlers-among (Catch at handled body rest) program calls k h ends x s passing more =
-      handler-among ends (x == handled) (handles rest x) (block_meaning calls k body s) (handlers_meaning calls k rest x s) (has_end ends (Throw x) ≡ true) passing
-      (among-more (block_ends program body) ends (block_meaning calls k body s) (λ exit f. more exit (any-left (same_exit exit) (block_ends program body) (handlers_ends program rest) f)) (block-among body program calls k h s))
-      (λ onward. handlers-among rest program calls k h ends x s onward (λ exit f. more exit (any-right (same_exit exit) (block_ends program body) (handlers_ends program rest) f)))
+      handler-among ends (x == handled) (handles rest x) (block_meaning calls k body s) (handlers_meaning calls k rest x s)
+      (has_end ends (Throw x) ≡ true) passing
+      (among-more (block_ends program body) ends (block_meaning calls k body s)
+      (λ exit f. more exit (any-left (same_exit exit) (block_ends program body) (handlers_ends program rest) f))
+      (block-among body program calls k h s))
+      (λ onward. handlers-among rest program calls k h ends x s onward
+      (λ exit f. more exit (any-right (same_exit exit) (block_ends program body) (handlers_ends program rest) f)))
 
 -- a procedure that may end so does
 pub all-has : (p : Exit → Bool) (ends : List Exit) (exit : Exit) → list_all p ends ≡ true → has_end ends exit ≡ true → p exit ≡ true

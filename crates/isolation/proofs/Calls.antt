@@ -60,7 +60,8 @@ returned-same view result value more x (Some v) (Some w) s t agree read same =
     let values : v ≡ w = cc in ap (λ u. u ∷ []) values))
 returned-same view result value more x (Some v) None s t agree read same =
     let unread = target-unread view result x (Some v) None read same (λ e. cc) in
-    same_end Normal (assigned s x v) t (agree-through view (assigned s x v) s t (agree-back view s (assigned s x v) (agree-unread view s x (v ∷ []) unread)) agree)
+    same_end Normal (assigned s x v) t (agree-through view (assigned s x v) s t
+    (agree-back view s (assigned s x v) (agree-unread view s x (v ∷ []) unread)) agree)
 returned-same view result value more x None (Some w) s t agree read same =
     let unread = target-unread view result x None (Some w) read same (λ e. cc) in
     same_end Normal s (assigned t x w) (agree-through view s t (assigned t x w) agree (agree-unread view t x (w ∷ []) unread))
@@ -72,7 +73,8 @@ pub related-returned_to : (view : View) (result value : Bool) (marks more : Exit
     ((x : Variable) → target ≡ Some x → view.variable x ≡ true → result ≡ true) →
     Related view value more (returned_to target o) (returned_to target p)
 related-returned_to view result value marks more None o p (same_call r q s t h i) weaker unread read = same_end Normal s t h
-related-returned_to view result value marks more (Some x) o p (same_call r q s t h i) weaker unread read = returned-same view result value more x r q s t h (read x refl) i
+related-returned_to view result value marks more (Some x) o p (same_call r q s t h i) weaker unread read =
+    returned-same view result value more x r q s t h (read x refl) i
 related-returned_to view result value marks more None o p (same_thrown y s t h) weaker unread read = same_end (Throw y) s t h
 related-returned_to view result value marks more (Some x) o p (same_thrown y s t h) weaker unread read = same_end (Throw y) s t h
 related-returned_to view result value marks more target o p (apart_calls _ _ h i j) weaker unread read =
@@ -106,7 +108,8 @@ agree-home reader program caller callee labels inner s t s' t' outer within = re
   sent = within.sent;
 }
   where
-    variables : (x : Variable) → (view_of reader (record { program = program; procedure = caller; labelling = labels })).variable x ≡ true → cells (home s s') x ≡ cells (home t t') x
+    variables : (x : Variable) → (view_of reader (record { program = program; procedure = caller; labelling = labels })).variable x ≡ true →
+        cells (home s s') x ≡ cells (home t t') x
     variables (Global n) e = within.variables (Global n) e
     variables (Local n) e = outer.variables (Local n) e
 
@@ -125,8 +128,10 @@ module _ (callee : ProcedureEntry) (ends : List Exit) (declared : list_all (may_
       HiddenCall value unread_marks (leaving back o)
   hidden-shape marks o among (hidden_end Normal t m) = call_end None (back t) refl (λ e. refl)
   hidden-shape marks o among (hidden_end Return t m) = call_end None (back t) refl (λ e. refl)
-  hidden-shape marks o among (hidden_end Break t m) = absurd (thrown-not_break (declared_by callee.throws) (all-has (may_end callee) ends Break declared among.among))
-  hidden-shape marks o among (hidden_end Continue t m) = absurd (thrown-not_continue (declared_by callee.throws) (all-has (may_end callee) ends Continue declared among.among))
+  hidden-shape marks o among (hidden_end Break t m) = absurd (thrown-not_break (declared_by callee.throws)
+      (all-has (may_end callee) ends Break declared among.among))
+  hidden-shape marks o among (hidden_end Continue t m) = absurd
+      (thrown-not_continue (declared_by callee.throws) (all-has (may_end callee) ends Continue declared among.among))
   hidden-shape marks o among (hidden_end (Throw x) t m) = call_thrown x (back t) refl
   hidden-shape marks o among (hidden_return r t m none) = call_end r (back t) refl none
   hidden-shape marks o among (hidden_stop stop t) = call_stop stop (back t)
@@ -174,7 +179,8 @@ no_throws-one : (callee : ProcedureEntry) (ends : List Exit) → any_of callee.t
 no_throws-one callee [] none declared = refl
 no_throws-one callee (first ∷ rest) none declared =
     let parts = and_parts (may_end callee first) (list_all (may_end callee) rest) declared in
-    and_from (same_exit Normal (as_one_end first)) (list_all (same_exit Normal) (map as_one_end rest)) (one first parts.0) (no_throws-one callee rest none parts.1)
+    and_from (same_exit Normal (as_one_end first)) (list_all (same_exit Normal) (map as_one_end rest)) (one first parts.0)
+    (no_throws-one callee rest none parts.1)
   where
     nothing : (throws : List ThrownEntry) (exit : Exit) → any_of throws ≡ false →
         has_end (thrown_ends (declared_by throws)) exit ≡ true → ⊥
@@ -209,7 +215,8 @@ unread-thrown : {h : PrincipalHierarchy} (reader : Reader h) (at : ℕ) (x : Mar
     Fits h (flat_map (λ (entry : ThrownEntry). demand at 13 (x (Throw entry.exception)) entry.label) throws) →
     raised_in (declared_by throws) y ≡ true → reader.reads (x (Throw y)) ≡ false → reader.reads (thrown_label throws y) ≡ false
 unread-thrown reader at x [] y fits declared unread = let i : true ≡ false = sym declared in absurd (cc)
-unread-thrown {h} reader at x (entry ∷ rest) y fits declared unread = go (y == entry.exception) refl (unread-thrown reader at x rest y (fits-right h first others fits))
+unread-thrown {h} reader at x (entry ∷ rest) y fits declared unread = go (y == entry.exception) refl
+    (unread-thrown reader at x rest y (fits-right h first others fits))
   where
     first : List Demand
     first = demand at 13 (x (Throw entry.exception)) entry.label
@@ -221,20 +228,26 @@ unread-thrown {h} reader at x (entry ∷ rest) y fits declared unread = go (y ==
         reader.reads (thrown_label rest y) ≡ false) → reader.reads (thrown_label (entry ∷ rest) y) ≡ false
     go true e later =
         let same : y ≡ entry.exception = grind (arith, e) in
-        rw e (unread-demand reader at 13 (x (Throw entry.exception)) entry.label (fits-left h first others fits) (ap (λ z. reader.reads (x (Throw z))) (sym same) ∙ unread))
+        rw e (unread-demand reader at 13 (x (Throw entry.exception)) entry.label (fits-left h first others fits)
+        (ap (λ z. reader.reads (x (Throw z))) (sym same) ∙ unread))
     go false e later = rw e (later (rw e at declared) unread)
 
 -- the demands on the ends of a procedure that has several
 several-demands : (h : PrincipalHierarchy) (callee : ProcedureEntry) (ends : List Exit) (x : Marks) →
     one_end (map as_one_end ends) ≡ false → Fits h (end_demands callee ends x) →
-    Fits h (demand callee.at 13 (x Normal ++ x Return) callee.end_label ++ flat_map (λ (entry : ThrownEntry). demand callee.at 13 (x (Throw entry.exception)) entry.label) callee.throws)
+    Fits h (demand callee.at 13 (x Normal ++ x Return) callee.end_label ++ flat_map
+    (λ (entry : ThrownEntry). demand callee.at 13 (x (Throw entry.exception)) entry.label) callee.throws)
 several-demands h callee ends x several fits = rw several at fits
 
-module _ {h : PrincipalHierarchy} (reader : Reader h) (callee : ProcedureEntry) (ends : List Exit) (declared : list_all (may_end callee) ends ≡ true) (x : Marks) (fits : Fits h (end_demands callee ends x)) (back : State → State) (value : Bool) where
+module _ {h : PrincipalHierarchy} (reader : Reader h) (callee : ProcedureEntry) (ends : List Exit)
+    (declared : list_all (may_end callee) ends ≡ true) (x : Marks) (fits : Fits h (end_demands callee ends x)) (back : State → State)
+    (value : Bool) where
   normal-unread : one_end (map as_one_end ends) ≡ false → (exit : Exit) → has_end ends exit ≡ true →
       reader.reads (x Normal ++ x Return) ≡ false → reader.reads (declared_label callee Normal) ≡ false
   normal-unread several exit among unread =
-      let front = fits-left h (demand callee.at 13 (x Normal ++ x Return) callee.end_label) (flat_map (λ (entry : ThrownEntry). demand callee.at 13 (x (Throw entry.exception)) entry.label) callee.throws) (several-demands h callee ends x several fits) in
+      let front = fits-left h (demand callee.at 13 (x Normal ++ x Return) callee.end_label)
+      (flat_map (λ (entry : ThrownEntry). demand callee.at 13 (x (Throw entry.exception)) entry.label) callee.throws)
+      (several-demands h callee ends x several fits) in
       unread-label_if reader (any_of callee.throws) callee.end_label (some-throws callee ends exit declared among several)
       (unread-demand reader callee.at 13 (x Normal ++ x Return) callee.end_label front unread)
 
@@ -244,11 +257,15 @@ module _ {h : PrincipalHierarchy} (reader : Reader h) (callee : ProcedureEntry) 
       call_end None (back t) (normal-unread several Normal among.among (unread-left reader (x Normal) (x Return) m)) (λ e. refl)
   hidden-leaving o several among (hidden_end Return t m) =
       call_end None (back t) (normal-unread several Return among.among (unread-right reader (x Normal) (x Return) m)) (λ e. refl)
-  hidden-leaving o several among (hidden_end Break t m) = absurd (thrown-not_break (declared_by callee.throws) (all-has (may_end callee) ends Break declared among.among))
-  hidden-leaving o several among (hidden_end Continue t m) = absurd (thrown-not_continue (declared_by callee.throws) (all-has (may_end callee) ends Continue declared among.among))
+  hidden-leaving o several among (hidden_end Break t m) = absurd
+      (thrown-not_break (declared_by callee.throws) (all-has (may_end callee) ends Break declared among.among))
+  hidden-leaving o several among (hidden_end Continue t m) = absurd
+      (thrown-not_continue (declared_by callee.throws) (all-has (may_end callee) ends Continue declared among.among))
   hidden-leaving o several among (hidden_end (Throw y) t m) =
       call_thrown y (back t) (unread-thrown reader callee.at x callee.throws y
-      (fits-right h (demand callee.at 13 (x Normal ++ x Return) callee.end_label) (flat_map (λ (entry : ThrownEntry). demand callee.at 13 (x (Throw entry.exception)) entry.label) callee.throws) (several-demands h callee ends x several fits))
+      (fits-right h (demand callee.at 13 (x Normal ++ x Return) callee.end_label)
+      (flat_map (λ (entry : ThrownEntry). demand callee.at 13 (x (Throw entry.exception)) entry.label) callee.throws)
+      (several-demands h callee ends x several fits))
       (sym (thrown-is (declared_by callee.throws) y) ∙ all-has (may_end callee) ends (Throw y) declared among.among) m)
   hidden-leaving o several among (hidden_return r t m none) =
       call_end r (back t) (normal-unread several Return among.among (unread-right reader (x Normal) (x Return) m)) none
@@ -278,22 +295,28 @@ kept-leaving callee ends inner outer value marks s u o declared back among h = r
 
 -- two runs of a body, seen by the caller
 pub related-leaving : {h : PrincipalHierarchy} (reader : Reader h) (callee : ProcedureEntry) (ends : List Exit) (x : Marks) (inner outer : View) (value : Bool) (s t : State) (o p : Outcome) → list_all (may_end callee) ends ≡ true → Fits h (end_demands callee ends x) → ((s' t' : State) → AgreeFor inner s' t' → AgreeFor outer (home s s') (home t t')) → ((xs : List Pair) → shown inner xs ≡ shown outer xs) → Among ends o → Among ends p → Related inner value (read_marks reader x) o p → RelatedCall outer value (read_marks reader (declared_label callee)) (leaving (home s) o) (leaving (home t) p)
-related-leaving reader callee ends x inner outer value s t o p declared fits back same_shown among among' (same_end Normal u w h) = same_call None None (home s u) (home t w) (back u w h) (λ e. refl)
-related-leaving reader callee ends x inner outer value s t o p declared fits back same_shown among among' (same_end Return u w h) = same_call None None (home s u) (home t w) (back u w h) (λ e. refl)
+related-leaving reader callee ends x inner outer value s t o p declared fits back same_shown among among' (same_end Normal u w h) =
+    same_call None None (home s u) (home t w) (back u w h) (λ e. refl)
+related-leaving reader callee ends x inner outer value s t o p declared fits back same_shown among among' (same_end Return u w h) =
+    same_call None None (home s u) (home t w) (back u w h) (λ e. refl)
 related-leaving reader callee ends x inner outer value s t o p declared fits back same_shown among among' (same_end Break u w h) =
     absurd (thrown-not_break (declared_by callee.throws) (all-has (may_end callee) ends Break declared among.among))
 related-leaving reader callee ends x inner outer value s t o p declared fits back same_shown among among' (same_end Continue u w h) =
     absurd (thrown-not_continue (declared_by callee.throws) (all-has (may_end callee) ends Continue declared among.among))
-related-leaving reader callee ends x inner outer value s t o p declared fits back same_shown among among' (same_end (Throw y) u w h) = same_thrown y (home s u) (home t w) (back u w h)
-related-leaving reader callee ends x inner outer value s t o p declared fits back same_shown among among' (same_return r q u w h i) = same_call r q (home s u) (home t w) (back u w h) i
-related-leaving reader callee ends x inner outer value s t o p declared fits back same_shown among among' (apart _ _ h i j) = go (one_end (map as_one_end ends)) refl
+related-leaving reader callee ends x inner outer value s t o p declared fits back same_shown among among' (same_end (Throw y) u w h) =
+    same_thrown y (home s u) (home t w) (back u w h)
+related-leaving reader callee ends x inner outer value s t o p declared fits back same_shown among among' (same_return r q u w h i) =
+    same_call r q (home s u) (home t w) (back u w h) i
+related-leaving reader callee ends x inner outer value s t o p declared fits back same_shown among among' (apart _ _ h i j) = go
+    (one_end (map as_one_end ends)) refl
   where
     agree : AgreeFor outer (state_after (leaving (home s) o)) (state_after (leaving (home t) p))
     agree = rw (after-leaving (home s) o, after-leaving (home t) p) (back (state_after o) (state_after p) j)
 
     go : (b : Bool) → one_end (map as_one_end ends) ≡ b →
         RelatedCall outer value (read_marks reader (declared_label callee)) (leaving (home s) o) (leaving (home t) p)
-    go true e = calls-one outer value unread_marks (read_marks reader (declared_label callee)) (map as_one_end ends) (leaving (home s) o) (leaving (home t) p) e
+    go true e = calls-one outer value unread_marks (read_marks reader (declared_label callee)) (map as_one_end ends) (leaving (home s) o)
+        (leaving (home t) p) e
         (among-as_one ends (home s) o among) (among-as_one ends (home t) p among')
         (hidden-shape callee ends declared (home s) value (read_marks reader x) o among h)
         (hidden-shape callee ends declared (home t) value (read_marks reader x) p among' i) agree
@@ -301,6 +324,8 @@ related-leaving reader callee ends x inner outer value s t o p declared fits bac
         (hidden-leaving reader callee ends declared x fits (home s) value o e among h)
         (hidden-leaving reader callee ends declared x fits (home t) value p e among' i) agree
 related-leaving reader callee ends x inner outer value s t o p declared fits back same_shown among among' (first_stops stop u _ h) =
-    first_call_stops stop (home s u) (leaving (home t) p) (rw (after-leaving (home t) p) (begins-outside inner outer u.sent (state_after p).sent same_shown h))
+    first_call_stops stop (home s u) (leaving (home t) p) (rw (after-leaving (home t) p)
+    (begins-outside inner outer u.sent (state_after p).sent same_shown h))
 related-leaving reader callee ends x inner outer value s t o p declared fits back same_shown among among' (second_stops _ stop u h) =
-    second_call_stops (leaving (home s) o) stop (home t u) (rw (after-leaving (home s) o) (begins-outside inner outer u.sent (state_after o).sent same_shown h))
+    second_call_stops (leaving (home s) o) stop (home t u) (rw (after-leaving (home s) o)
+    (begins-outside inner outer u.sent (state_after o).sent same_shown h))

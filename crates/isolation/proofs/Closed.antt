@@ -25,7 +25,8 @@ one-same [] a b one h i = let e : true ≡ false = sym h in absurd (cc)
 one-same (first ∷ rest) a b one h i = sym (each a h) ∙ each b i
   where
     each : (e : Exit) → has_end (first ∷ rest) e ≡ true → first ≡ e
-    each e f = ⊎_elim (λ g. sym (same-exit e first g)) (λ g. same-exit first e (all-has (same_exit first) rest e one g)) (or_cases (same_exit e first) (has_end rest e) f)
+    each e f = ⊎_elim (λ g. sym (same-exit e first g)) (λ g. same-exit first e (all-has (same_exit first) rest e one g))
+        (or_cases (same_exit e first) (has_end rest e) f)
 
 pub closed-unread : {h : PrincipalHierarchy} (reader : Reader h) (ends : List Exit) (pc : Label) (marks : Marks) (exit : Exit) →
     (one_end ends ≡ true → reader.reads pc ≡ false) → has_end ends exit ≡ true → reader.reads (marks exit) ≡ false →
@@ -36,7 +37,9 @@ closed-unread reader ends pc marks exit single among unread = go (one_end ends) 
     go true e = rw (among, e) (single e)
     go false e = rw (among, e) unread
 
-hidden-closed : {h : PrincipalHierarchy} (reader : Reader h) (value : Bool) (ends : List Exit) (pc : Label) (marks : Marks) (o : Outcome) → (one_end ends ≡ true → reader.reads pc ≡ false) → Among ends o → Hidden value (read_marks reader marks) o → Hidden value (read_marks reader (at_ends ends pc marks)) o
+hidden-closed : {h : PrincipalHierarchy} (reader : Reader h) (value : Bool) (ends : List Exit) (pc : Label) (marks : Marks) (o : Outcome) →
+    (one_end ends ≡ true → reader.reads pc ≡ false) → Among ends o → Hidden value (read_marks reader marks) o →
+    Hidden value (read_marks reader (at_ends ends pc marks)) o
 hidden-closed reader value ends pc marks o single among (hidden_end exit t m) =
     hidden_end exit t (closed-unread reader ends pc marks exit single among.among m)
 hidden-closed reader value ends pc marks o single among (hidden_return r t m none) =

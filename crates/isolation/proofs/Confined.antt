@@ -97,7 +97,9 @@ kept-returned_to view result value marks more (Some x) o (call_thrown y t m) wea
 kept-returned_to view result value marks more (Some x) o (call_stop stop t) weaker unread = kept-stop view value more t stop
 
 -- a target that is demanded to be above an unread label is not read
-pub unread-target : {h : PrincipalHierarchy} (reader : Reader h) (scope : Scope) (at rule : ℕ) (left : Label) (target : Option Variable) → Fits h (target_demand scope at rule left target) → reader.reads left ≡ false → (x : Variable) → target ≡ Some x → reader.reads (variable_label scope x) ≡ false
+pub unread-target : {h : PrincipalHierarchy} (reader : Reader h) (scope : Scope) (at rule : ℕ) (left : Label) (target : Option Variable) →
+    Fits h (target_demand scope at rule left target) → reader.reads left ≡ false → (x : Variable) → target ≡ Some x →
+    reader.reads (variable_label scope x) ≡ false
 unread-target reader scope at rule left None fits unread x e = absurd (cc)
 unread-target reader scope at rule left (Some y) fits unread x e =
     let same : y ≡ x = cc in rw (← same) (unread-demand reader at rule left (variable_label scope y) fits unread)
@@ -111,7 +113,8 @@ kept-received : (view : View) (value : Bool) (marks : Exit →
     Bool) (channel : ℕ) (target : Option Variable) (s : State) (numbers : List ℤ) → ((exit : Exit) → marks exit ≡ false) →
     view.channel channel ≡ false → ((x : Variable) → target ≡ Some x → view.variable x ≡ false) →
     Kept view value marks s (received numbers channel target s)
-kept-received view value marks channel target s [] unread unread_channel unread_target = kept-end view value marks s (Throw end_exception) (unread (Throw end_exception))
+kept-received view value marks channel target s [] unread unread_channel unread_target = kept-end view value marks s (Throw end_exception)
+    (unread (Throw end_exception))
 kept-received view value marks channel target s (z ∷ rest) unread unread_channel unread_target =
     record {
       agree = agree-through view s (with_input s channel rest) (kept_in target (Number z) (with_input s channel rest))
@@ -148,7 +151,8 @@ own-unread {h} reader scope pc (While at loop e body) fits unread =
     let b : Label = own_label scope pc (While at loop e body) ++ value_label scope e in
     let x : Marks = block_marks scope b body in
     unread-left reader l (raise_label scope e)
-    (unread-demand reader at 8 pc l (fits-left h (demand at 8 pc l) (block_demands scope b body) (fits-left h (demand at 8 pc l ++ block_demands scope b body) (demand at 8 (x Normal ++ x Continue) l) fits)) unread)
+    (unread-demand reader at 8 pc l (fits-left h (demand at 8 pc l) (block_demands scope b body)
+    (fits-left h (demand at 8 pc l ++ block_demands scope b body) (demand at 8 (x Normal ++ x Continue) l) fits)) unread)
 own-unread reader scope pc (Leave at exit) fits unread = unread
 own-unread reader scope pc (ReturnWith at None) fits unread = unread
 own-unread reader scope pc (ReturnWith at (Some e)) fits unread = unread-left reader pc (raise_label scope e) unread
@@ -194,13 +198,15 @@ module _ (h : PrincipalHierarchy) (reader : Reader h) (scope : Scope) (calls : C
   mutual
     pub statement-kept : (statement : Statement) (pc : Label) → Fits h (statement_demands scope pc statement) →
         reader.reads (own_label scope pc statement) ≡ false → (s : State) →
-        Kept (view_of reader scope) (reads_result reader scope.procedure) (read_marks reader (statement_rule scope pc statement)) s (statement_meaning calls k statement s)
+        Kept (view_of reader scope) (reads_result reader scope.procedure) (read_marks reader (statement_rule scope pc statement)) s
+        (statement_meaning calls k statement s)
     statement-kept (Assign at x e) pc fits unread s =
         let view = view_of reader scope in
         let value = reads_result reader scope.procedure in
         let q = own_label scope pc (Assign at x e) in
         let marks = read_marks reader (statement_rule scope pc (Assign at x e)) in
-        let unread_x : reader.reads (variable_label scope x) ≡ false = unread-demand reader at 1 (q ++ value_label scope e) (variable_label scope x) fits (unread-left reader q (value_label scope e) unread) in
+        let unread_x : reader.reads (variable_label scope x) ≡ false = unread-demand reader at 1 (q ++ value_label scope e)
+        (variable_label scope x) fits (unread-left reader q (value_label scope e) unread) in
         kept-evaluated view value marks s (value_of s e) (λ v. normally (assigned s x v)) (λ y f. unread) (λ v f.
         record { agree = agree-unread view s x (v ∷ []) unread_x; hidden = hidden_end Normal (assigned s x v) unread })
     statement-kept (Clear at slot) pc fits unread s =
@@ -213,7 +219,8 @@ module _ (h : PrincipalHierarchy) (reader : Reader h) (scope : Scope) (calls : C
         let value = reads_result reader scope.procedure in
         let q = own_label scope pc (Store at array len index e) in
         let marks = read_marks reader (statement_rule scope pc (Store at array len index e)) in
-        let unread_array : reader.reads (variable_label scope array) ≡ false = unread-demand reader at 3 (q ++ value_label scope index ++ value_label scope e) (variable_label scope array) fits
+        let unread_array : reader.reads (variable_label scope array) ≡ false = unread-demand reader at 3
+        (q ++ value_label scope index ++ value_label scope e) (variable_label scope array) fits
         (unread-left reader (q ++ value_label scope index) (value_label scope e) (unread-left reader q (value_label scope index) unread)) in
         kept-evaluated view value marks s (value_of s index) _ (λ y f. unread) (λ v f.
         kept-evaluated view value marks s (value_of s e) _ (λ y g. unread) (λ w g.
@@ -233,7 +240,8 @@ module _ (h : PrincipalHierarchy) (reader : Reader h) (scope : Scope) (calls : C
         let value = reads_result reader scope.procedure in
         let q = own_label scope pc (Send at channel e) in
         let marks = read_marks reader (statement_rule scope pc (Send at channel e)) in
-        let unread_channel : reader.reads (channel_label scope.program channel) ≡ false = unread-demand reader at 5 (q ++ value_label scope e) (channel_label scope.program channel) fits (unread-left reader q (value_label scope e) unread) in
+        let unread_channel : reader.reads (channel_label scope.program channel) ≡ false = unread-demand reader at 5
+        (q ++ value_label scope e) (channel_label scope.program channel) fits (unread-left reader q (value_label scope e) unread) in
         kept-evaluated view value marks s (value_of s e) (λ v. normally (sending channel v s)) (λ y f. unread) (λ v f.
         record { agree = agree-unread_sending view s channel v unread_channel; hidden = hidden_end Normal (sending channel v s) unread })
     statement-kept (Call at f arguments target) pc fits unread s =
@@ -245,13 +253,15 @@ module _ (h : PrincipalHierarchy) (reader : Reader h) (scope : Scope) (calls : C
         let ds = argument_demands scope at q callee 0 arguments in
         let ts = target_demand scope at 6 (call_marks callee q Normal ++ result_label callee.result) target in
         let front = fits-left h (demand at 6 q callee.begin_label ++ ds) ts fits in
-        let unread_begin : reader.reads callee.begin_label ≡ false = unread-demand reader at 6 q callee.begin_label (fits-left h (demand at 6 q callee.begin_label) ds front) unread in
+        let unread_begin : reader.reads callee.begin_label ≡ false = unread-demand reader at 6 q callee.begin_label
+        (fits-left h (demand at 6 q callee.begin_label) ds front) unread in
         let each : (exit : Exit) → marks exit ≡ false = unread-call reader callee q unread in
         kept-evaluated view value marks s (values_of s arguments) (λ vs. returned_to target (calls f vs s)) (λ y g. each (Throw y)) (λ vs g.
         let call = confines.kept f vs s unread_begin in
         kept-from view value marks s (state_after (calls f vs s)) (returned_to target (calls f vs s)) call.agree
         (kept-returned_to view (reads_result reader callee) value unread_marks marks target (calls f vs s) call.hidden (λ exit m. each exit)
-        (λ m. unread-target reader scope at 6 (call_marks callee q Normal ++ result_label callee.result) target (fits-right h (demand at 6 q callee.begin_label ++ ds) ts fits)
+        (λ m. unread-target reader scope at 6 (call_marks callee q Normal ++ result_label callee.result) target
+        (fits-right h (demand at 6 q callee.begin_label ++ ds) ts fits)
         (unread-left reader (call_marks callee q Normal) (result_label callee.result) (each Normal)))))
     statement-kept (If at e yes_block no_block) pc fits unread s =
         let view = view_of reader scope in
@@ -264,7 +274,8 @@ module _ (h : PrincipalHierarchy) (reader : Reader h) (scope : Scope) (calls : C
         let no_ends = block_ends scope.program no_block in
         let yes_marks : Marks = at_ends yes_ends b (block_rule scope b yes_block) in
         let no_marks : Marks = at_ends no_ends b (block_rule scope b no_block) in
-        kept-evaluated view value marks s (value_of s e) (λ v. if truth_in v then block_meaning calls k yes_block s else block_meaning calls k no_block s)
+        kept-evaluated view value marks s (value_of s e)
+        (λ v. if truth_in v then block_meaning calls k yes_block s else block_meaning calls k no_block s)
         (λ y f. unread-left reader (raised_marks e q (Throw y) ++ yes_marks (Throw y)) (no_marks (Throw y))
         (unread-left reader (raised_marks e q (Throw y)) (yes_marks (Throw y)) (unread-raised reader s e q y f unread))) (λ v f.
         kept-if view value marks s (truth_in v) (block_meaning calls k yes_block s) (block_meaning calls k no_block s)
@@ -272,7 +283,8 @@ module _ (h : PrincipalHierarchy) (reader : Reader h) (scope : Scope) (calls : C
         (kept-closed reader view value yes_ends b (block_rule scope b yes_block) s (block_meaning calls k yes_block s) unread_b
         (block-among yes_block scope.program calls k confines.among s)
         (block-kept yes_block b (fits-left h (block_demands scope b yes_block) (block_demands scope b no_block) fits) unread_b s))
-        (λ exit m. unread-left reader (raised_marks e q exit ++ yes_marks exit) (no_marks exit) (unread-right reader (raised_marks e q exit) (yes_marks exit) m)))
+        (λ exit m. unread-left reader (raised_marks e q exit ++ yes_marks exit) (no_marks exit)
+        (unread-right reader (raised_marks e q exit) (yes_marks exit) m)))
         (kept-weaker view value (read_marks reader no_marks) marks s (block_meaning calls k no_block s)
         (kept-closed reader view value no_ends b (block_rule scope b no_block) s (block_meaning calls k no_block s) unread_b
         (block-among no_block scope.program calls k confines.among s)
@@ -297,17 +309,24 @@ module _ (h : PrincipalHierarchy) (reader : Reader h) (scope : Scope) (calls : C
         (block-among body scope.program calls k confines.among t)
         (block-kept body b (fits-right h (demand at 8 pc l) (block_demands scope b body) front) unread_b t)) s
     statement-kept (Leave at exit) pc fits unread s =
-        kept-end (view_of reader scope) (reads_result reader scope.procedure) (read_marks reader (statement_rule scope pc (Leave at exit))) s exit unread
+        kept-end (view_of reader scope) (reads_result reader scope.procedure)
+        (read_marks reader (statement_rule scope pc (Leave at exit))) s exit unread
     statement-kept (ReturnWith at None) pc fits unread s =
-        kept-end (view_of reader scope) (reads_result reader scope.procedure) (read_marks reader (statement_rule scope pc (ReturnWith at None))) s Return unread
+        kept-end (view_of reader scope) (reads_result reader scope.procedure)
+        (read_marks reader (statement_rule scope pc (ReturnWith at None))) s Return unread
     statement-kept (ReturnWith at (Some e)) pc fits unread s =
         let view = view_of reader scope in
         let value = reads_result reader scope.procedure in
         let q = own_label scope pc (ReturnWith at (Some e)) in
         let marks = read_marks reader (statement_rule scope pc (ReturnWith at (Some e))) in
-        let unread_result : value ≡ false = unread-demand reader at 10 (q ++ value_label scope e) (result_label scope.procedure.result) fits (unread-left reader q (value_label scope e) unread) in
+        let unread_result : value ≡ false = unread-demand reader at 10 (q ++ value_label scope e) (result_label scope.procedure.result) fits
+        (unread-left reader q (value_label scope e) unread) in
         kept-evaluated view value marks s (value_of s e) (λ v. Ended Return (Some v) s) (λ y f. unread) (λ v f.
-        record { agree = agree-itself view s; hidden = hidden_return (Some v) s unread (λ i. let j : true ≡ false = sym i ∙ unread_result in absurd (cc)) })
+        record {
+          agree = agree-itself view s;
+          hidden = hidden_return (Some v) s unread
+              (λ i. let j : true ≡ false = sym i ∙ unread_result in absurd (cc));
+        })
     statement-kept (Try at block handlers) pc fits unread s =
         let view = view_of reader scope in
         let value = reads_result reader scope.procedure in
@@ -317,20 +336,27 @@ module _ (h : PrincipalHierarchy) (reader : Reader h) (scope : Scope) (calls : C
         let inner = kept-closed reader view value ends pc (block_rule scope pc block) s (block_meaning calls k block s) unread
         (block-among block scope.program calls k confines.among s)
         (block-kept block pc (fits-left h (block_demands scope pc block) (handlers_demands scope x handlers) fits) unread s) in
-        let others : (exit : Exit) → passes handlers exit ≡ true → reader.reads (x exit) ≡ false → marks exit ≡ false = λ exit passing m. unread-left reader (label_if (passes handlers exit) (x exit)) (handlers_rule scope x handlers exit) (unread-label_if reader (passes handlers exit) (x exit) passing m) in
-        kept-from view value marks s (state_after (block_meaning calls k block s)) (caught (block_meaning calls k block s) (handlers_meaning calls k handlers)) inner.agree
-        (kept-caught view value handlers (read_marks reader x) marks (block_meaning calls k block s) (handlers_meaning calls k handlers) inner.hidden others
+        let others : (exit : Exit) → passes handlers exit ≡ true → reader.reads (x exit) ≡ false → marks exit ≡ false =
+        λ exit passing m. unread-left reader (label_if (passes handlers exit) (x exit)) (handlers_rule scope x handlers exit)
+        (unread-label_if reader (passes handlers exit) (x exit) passing m) in
+        kept-from view value marks s (state_after (block_meaning calls k block s))
+        (caught (block_meaning calls k block s) (handlers_meaning calls k handlers)) inner.agree
+        (kept-caught view value handlers (read_marks reader x) marks (block_meaning calls k block s)
+        (handlers_meaning calls k handlers) inner.hidden others
         (λ y t m. handlers-kept handlers x (fits-right h (block_demands scope pc block) (handlers_demands scope x handlers) fits) y t m marks
         (λ exit n. unread-right reader (label_if (passes handlers exit) (x exit)) (handlers_rule scope x handlers exit) n)
         (λ none. others (Throw y) (rw none refl) m)))
     statement-kept (Nested at block) pc fits unread s =
-        kept-closed reader (view_of reader scope) (reads_result reader scope.procedure) (block_ends scope.program block) pc (block_rule scope pc block) s (block_meaning calls k block s) unread
+        kept-closed reader (view_of reader scope) (reads_result reader scope.procedure) (block_ends scope.program block) pc
+        (block_rule scope pc block) s (block_meaning calls k block s) unread
         (block-among block scope.program calls k confines.among s)
         (block-kept block pc fits unread s)
 
     pub block-kept : (block : Block) (pc : Label) → Fits h (block_demands scope pc block) → reader.reads pc ≡ false → (s : State) →
-        Kept (view_of reader scope) (reads_result reader scope.procedure) (read_marks reader (block_rule scope pc block)) s (block_meaning calls k block s)
-    block-kept Empty pc fits unread s = kept-end (view_of reader scope) (reads_result reader scope.procedure) (read_marks reader (block_rule scope pc Empty)) s Normal unread
+        Kept (view_of reader scope) (reads_result reader scope.procedure) (read_marks reader (block_rule scope pc block)) s
+        (block_meaning calls k block s)
+    block-kept Empty pc fits unread s = kept-end (view_of reader scope) (reads_result reader scope.procedure)
+        (read_marks reader (block_rule scope pc Empty)) s Normal unread
     block-kept (Then statement rest) pc fits unread s =
         let view = view_of reader scope in
         let value = reads_result reader scope.procedure in
@@ -341,7 +367,8 @@ module _ (h : PrincipalHierarchy) (reader : Reader h) (scope : Scope) (calls : C
         let first = kept-closed reader view value ends pc (statement_rule scope pc statement) s (statement_meaning calls k statement s) unread
         (statement-among statement scope.program calls k confines.among s)
         (statement-kept statement pc here (own-unread reader scope pc statement here unread) s) in
-        kept-from view value marks s (state_after (statement_meaning calls k statement s)) (after (statement_meaning calls k statement s) (block_meaning calls k rest)) first.agree
+        kept-from view value marks s (state_after (statement_meaning calls k statement s))
+        (after (statement_meaning calls k statement s) (block_meaning calls k rest)) first.agree
         (kept-after view value (read_marks reader x) marks (statement_meaning calls k statement s) (block_meaning calls k rest) first.hidden
         (λ exit other m. unread-left reader (label_if (not (same_exit Normal exit)) (x exit)) (block_rule scope (x Normal) rest exit)
         (unread-label_if reader (not (same_exit Normal exit)) (x exit) (ap not other) m))

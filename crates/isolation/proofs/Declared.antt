@@ -23,7 +23,8 @@ procedure-ends : (program : Program) (procedure : ProcedureEntry) → procedure_
 procedure-ends program procedure h =
     let ends = block_ends program procedure.body in
     let parts = append-empty
-    (block_faults program false true procedure.body ++ fault_unless (not (is_some procedure.result && has_end ends Normal)) NoValueReturned procedure.at)
+    (block_faults program false true procedure.body ++ fault_unless
+    (not (is_some procedure.result && has_end ends Normal)) NoValueReturned procedure.at)
     (fault_unless (list_all (may_end procedure) ends) Undeclared procedure.at) h in
     no_fault-test (list_all (may_end procedure) ends) Undeclared procedure.at parts.1
 

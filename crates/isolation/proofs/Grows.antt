@@ -60,7 +60,8 @@ pub grows-turns : (k : ℕ) (condition : State → Evaluated Value) (body : Stat
     (s : State) → Grows s (turns k condition body s)
 grows-turns zero condition body h s =
     grows-evaluated s (condition s) (λ v. if truth_in v then Stopped OutOfTurns s else normally s) (λ v.
-    grows-if s (truth_in v) (Stopped OutOfTurns s) (normally s) (grows-itself s s refl (Stopped OutOfTurns s) refl) (grows-itself s s refl (normally s) refl))
+    grows-if s (truth_in v) (Stopped OutOfTurns s) (normally s) (grows-itself s s refl (Stopped OutOfTurns s) refl)
+    (grows-itself s s refl (normally s) refl))
 grows-turns (suc k) condition body h s =
     grows-evaluated s (condition s) (λ v. if truth_in v then looped (body s) (turns k condition body) else normally s) (λ v.
     grows-if s (truth_in v) (looped (body s) (turns k condition body)) (normally s)
@@ -69,7 +70,10 @@ grows-turns (suc k) condition body h s =
 
 pub grows-caught : (s : State) (o : Outcome) (handle : ℕ → State → Outcome) → Grows s o →
     ((x : ℕ) (t : State) → Grows t (handle x t)) → Grows s (caught o handle)
-grows-caught s (Ended (Throw x) r t) handle h rest = record { sent = Begins-through s.sent t.sent (state_after (handle x t)).sent h.sent (rest x t).sent }
+grows-caught s (Ended (Throw x) r t) handle h rest = record {
+  sent = Begins-through s.sent t.sent (state_after (handle x t)).sent h.sent
+      (rest x t).sent;
+}
 grows-caught s (Ended Normal r t) handle h rest = record { sent = h.sent }
 grows-caught s (Ended Return r t) handle h rest = record { sent = h.sent }
 grows-caught s (Ended Break r t) handle h rest = record { sent = h.sent }
@@ -123,7 +127,8 @@ mutual
   pub statement-grows : (statement : Statement) (calls : Calls) (k : ℕ) → CallsGrow calls → (s : State) →
       Grows s (statement_meaning calls k statement s)
   statement-grows (Assign at x e) calls k h s =
-      grows-evaluated s (value_of s e) (λ v. normally (assigned s x v)) (λ v. grows-itself s s refl (normally (assigned s x v)) (sent-with_cells s x (v ∷ [])))
+      grows-evaluated s (value_of s e) (λ v. normally (assigned s x v))
+      (λ v. grows-itself s s refl (normally (assigned s x v)) (sent-with_cells s x (v ∷ [])))
   statement-grows (Clear at slot) calls k h s = grows-itself s s refl (normally (cleared s slot)) refl
   statement-grows (Store at array length index e) calls k h s =
       grows-evaluated s (value_of s index) _ (λ v.
@@ -139,27 +144,31 @@ mutual
       grows-returned_to s target (calls procedure vs s) (h procedure vs s))
   statement-grows (If at e yes_block no_block) calls k h s =
       grows-evaluated s (value_of s e) (λ v. if truth_in v then block_meaning calls k yes_block s else block_meaning calls k no_block s) (λ v.
-      grows-if s (truth_in v) (block_meaning calls k yes_block s) (block_meaning calls k no_block s) (block-grows yes_block calls k h s) (block-grows no_block calls k h s))
+      grows-if s (truth_in v) (block_meaning calls k yes_block s) (block_meaning calls k no_block s) (block-grows yes_block calls k h s)
+      (block-grows no_block calls k h s))
   statement-grows (While at loop e body) calls k h s = grows-turns k (λ t. value_of t e) (block_meaning calls k body) (block-grows body calls k h) s
   statement-grows (Leave at exit) calls k h s = grows-itself s s refl (Ended exit None s) refl
   statement-grows (ReturnWith at None) calls k h s = grows-itself s s refl (Ended Return None s) refl
   statement-grows (ReturnWith at (Some e)) calls k h s =
       grows-evaluated s (value_of s e) (λ v. Ended Return (Some v) s) (λ v. grows-itself s s refl (Ended Return (Some v) s) refl)
   statement-grows (Try at block handlers) calls k h s =
-      grows-caught s (block_meaning calls k block s) (handlers_meaning calls k handlers) (block-grows block calls k h s) (handlers-grow handlers calls k h)
+      grows-caught s (block_meaning calls k block s) (handlers_meaning calls k handlers) (block-grows block calls k h s)
+      (handlers-grow handlers calls k h)
   statement-grows (Nested at block) calls k h s = block-grows block calls k h s
 
   pub block-grows : (block : Block) (calls : Calls) (k : ℕ) → CallsGrow calls → (s : State) →
       Grows s (block_meaning calls k block s)
   block-grows Empty calls k h s = grows-itself s s refl (normally s) refl
   block-grows (Then statement rest) calls k h s =
-      grows-after s (statement_meaning calls k statement s) (block_meaning calls k rest) (statement-grows statement calls k h s) (block-grows rest calls k h)
+      grows-after s (statement_meaning calls k statement s) (block_meaning calls k rest) (statement-grows statement calls k h s)
+      (block-grows rest calls k h)
 
   pub handlers-grow : (handlers : Handlers) (calls : Calls) (k : ℕ) → CallsGrow calls → (x : ℕ) (s : State) →
       Grows s (handlers_meaning calls k handlers x s)
   handlers-grow NoMore calls k h x s = grows-itself s s refl (thrown x s) refl
   handlers-grow (Catch at handled body rest) calls k h x s =
-      grows-if s (x == handled) (block_meaning calls k body s) (handlers_meaning calls k rest x s) (block-grows body calls k h s) (handlers-grow rest calls k h x s)
+      grows-if s (x == handled) (block_meaning calls k body s) (handlers_meaning calls k rest x s) (block-grows body calls k h s)
+      (handlers-grow rest calls k h x s)
 
 pub calls-grow : (program : Program) (k frames : ℕ) → CallsGrow (calls_with program k frames)
 calls-grow program k zero f vs s = grows-itself s s refl (Stopped Deep s) refl

@@ -72,7 +72,8 @@ agree-entering reader program caller callee labels inner vs ws s t agree same = 
     parameter (Some label) n e = e
     parameter None n e = reader.nothing
 
-    variables : (x : Variable) → (view_of reader (record { program = program; procedure = callee; labelling = inner })).variable x ≡ true → cells (entering callee vs s) x ≡ cells (entering callee ws t) x
+    variables : (x : Variable) → (view_of reader (record { program = program; procedure = callee; labelling = inner })).variable x ≡ true →
+        cells (entering callee vs s) x ≡ cells (entering callee ws t) x
     variables (Global n) e = agree.variables (Global n) e
     variables (Local n) e = ap (λ v. slot_cells (slice_get callee.slots n) v) (same n (parameter (slot_at callee n).written n e))
 
@@ -84,7 +85,8 @@ agree-kept_home reader program caller callee labels inner vs s t within = record
   sent = within.sent;
 }
   where
-    variables : (x : Variable) → (view_of reader (record { program = program; procedure = caller; labelling = labels })).variable x ≡ true → cells s x ≡ cells (home s t) x
+    variables : (x : Variable) → (view_of reader (record { program = program; procedure = caller; labelling = labels })).variable x ≡ true →
+        cells s x ≡ cells (home s t) x
     variables (Global n) e = within.variables (Global n) e
     variables (Local n) e = refl
 
@@ -96,19 +98,25 @@ module _ (program : Program) (labelling : ℕ → Labelling) (accepted : Accepte
   body-fits : (f : ℕ) → Fits program.hierarchy (block_demands (inside f) (procedure_at program f).begin_label (procedure_at program f).body)
   body-fits f =
       fits-left program.hierarchy (block_demands (inside f) (procedure_at program f).begin_label (procedure_at program f).body)
-      (end_demands (procedure_at program f) (block_ends program (procedure_at program f).body) (block_marks (inside f) (procedure_at program f).begin_label (procedure_at program f).body)) (accepted.fits f)
+      (end_demands (procedure_at program f) (block_ends program (procedure_at program f).body)
+      (block_marks (inside f) (procedure_at program f).begin_label (procedure_at program f).body)) (accepted.fits f)
 
   ends-fit : (f : ℕ) → Fits program.hierarchy (end_demands (procedure_at program f) (block_ends program (procedure_at program f).body) (block_marks (inside f) (procedure_at program f).begin_label (procedure_at program f).body))
   ends-fit f =
       fits-right program.hierarchy (block_demands (inside f) (procedure_at program f).begin_label (procedure_at program f).body)
-      (end_demands (procedure_at program f) (block_ends program (procedure_at program f).body) (block_marks (inside f) (procedure_at program f).begin_label (procedure_at program f).body)) (accepted.fits f)
+      (end_demands (procedure_at program f) (block_ends program (procedure_at program f).body)
+      (block_marks (inside f) (procedure_at program f).begin_label (procedure_at program f).body)) (accepted.fits f)
 
   -- calls at a begin label that the observer does not read
   pub calls-confine : (k frames : ℕ) (caller : ProcedureEntry) (labels : Labelling) →
       Confines reader (record { program = program; procedure = caller; labelling = labels }) (calls_with program k frames)
   calls-confine k zero caller labels = record {
     among = calls-among program k zero accepted.declared;
-    kept = λ f vs s unread. record { agree = agree-itself (view_of reader (record { program = program; procedure = caller; labelling = labels })) s; hidden = call_stop Deep s };
+    kept = λ f vs s unread. record {
+      agree = agree-itself (view_of reader
+          (record { program = program; procedure = caller; labelling = labels })) s;
+      hidden = call_stop Deep s;
+    };
   }
   calls-confine k (suc frames) caller labels = record {
     among = calls-among program k (suc frames) accepted.declared;
@@ -116,22 +124,26 @@ module _ (program : Program) (labelling : ℕ → Labelling) (accepted : Accepte
         let callee : ProcedureEntry = procedure_at program f in
         let calls = calls_with program k frames in
         let u : State = entering callee vs s in
-        kept-leaving callee (block_ends program callee.body) (view_of reader (inside f)) (view_of reader (record { program = program; procedure = caller; labelling = labels })) (reads_result reader callee)
+        kept-leaving callee (block_ends program callee.body) (view_of reader (inside f))
+        (view_of reader (record { program = program; procedure = caller; labelling = labels })) (reads_result reader callee)
         (read_marks reader (block_rule (inside f) callee.begin_label callee.body)) s u (block_meaning calls k callee.body u) (accepted.declared f)
         (λ t. agree-kept_home reader program caller callee labels (labelling f) vs s t)
         (block-among callee.body program calls k (calls-among program k frames accepted.declared) u)
-        (block-kept program.hierarchy reader (inside f) calls k (calls-confine k frames callee (labelling f)) callee.body callee.begin_label (body-fits f) unread u);
+        (block-kept program.hierarchy reader (inside f) calls k (calls-confine k frames callee (labelling f)) callee.body callee.begin_label
+        (body-fits f) unread u);
   }
 
   -- two calls, with any numbers of turns and as many frames
   pub calls-secure : (k m frames : ℕ) (caller : ProcedureEntry) (labels : Labelling) →
-      Secures reader (record { program = program; procedure = caller; labelling = labels }) (calls_with program k frames) (calls_with program m frames)
+      Secures reader (record { program = program; procedure = caller; labelling = labels }) (calls_with program k frames)
+      (calls_with program m frames)
   calls-secure k m zero caller labels = record {
     first = calls-confine k zero caller labels;
     second = calls-confine m zero caller labels;
     grows_first = calls-grow program k zero;
     grows_second = calls-grow program m zero;
-    related = λ f vs ws s t agree same. first_call_stops Deep s (Stopped Deep t) (agree-begins (view_of reader (record { program = program; procedure = caller; labelling = labels })) s t agree);
+    related = λ f vs ws s t agree same. first_call_stops Deep s (Stopped Deep t)
+        (agree-begins (view_of reader (record { program = program; procedure = caller; labelling = labels })) s t agree);
   }
   calls-secure k m (suc frames) caller labels = record {
     first = calls-confine k (suc frames) caller labels;
@@ -152,11 +164,13 @@ module _ (program : Program) (labelling : ℕ → Labelling) (accepted : Accepte
         let p : Outcome = block_meaning further m callee.body w in
         let among = block-among callee.body program calls k (calls-among program k frames accepted.declared) u in
         let among' = block-among callee.body program further m (calls-among program m frames accepted.declared) w in
-        related-leaving reader callee ends (block_marks (inside f) callee.begin_label callee.body) inner outer value s t o p (accepted.declared f) (ends-fit f)
+        related-leaving reader callee ends (block_marks (inside f) callee.begin_label callee.body) inner outer value s t o p
+        (accepted.declared f) (ends-fit f)
         (λ s' t' within. agree-home reader program caller callee labels (labelling f) s t s' t' agree within)
         (λ xs. refl) among among'
         (related-closed reader inner value ends callee.begin_label (block_rule (inside f) callee.begin_label callee.body) o p among among'
-        (block-secure program.hierarchy reader (inside f) calls further k m (calls-secure k m frames callee (labelling f)) callee.body callee.begin_label (body-fits f) u w
+        (block-secure program.hierarchy reader (inside f) calls further k m
+        (calls-secure k m frames callee (labelling f)) callee.body callee.begin_label (body-fits f) u w
         (agree-entering reader program caller callee labels (labelling f) vs ws s t agree same)));
   }
 
@@ -175,7 +189,8 @@ numbers-alike (channel ∷ rest) none (suc n) first second same =
 
 -- what an observer sees of calls of which one is stopped, or which end in the same way, or at labels that it does not read
 related_call-begins : (view : View) (value : Bool) (marks : Exit → Bool) (o p : Outcome) → RelatedCall view value marks o p →
-    Begins (shown view (state_after o).sent) (shown view (state_after p).sent) ⊎ Begins (shown view (state_after p).sent) (shown view (state_after o).sent)
+    Begins (shown view (state_after o).sent) (shown view (state_after p).sent) ⊎ Begins (shown view (state_after p).sent)
+    (shown view (state_after o).sent)
 related_call-begins view value marks o p (same_call r q s t h i) = inl (agree-begins view s t h)
 related_call-begins view value marks o p (same_thrown x s t h) = inl (agree-begins view s t h)
 related_call-begins view value marks o p (apart_calls _ _ h i j) = inl (agree-begins view (state_after o) (state_after p) j)
@@ -192,7 +207,8 @@ module _ (program : Program) (labelling : ℕ → Labelling) (accepted : Accepte
       AgreeFor outside (first_state program first) (first_state program second)
   first-alike first second same = record {
     variables = variables;
-    inputs = λ n e. numbers-alike program.channels (record { direction = Output; name = []; label = [] }) n (first n) (second n) (λ h d. same n h d e);
+    inputs = λ n e. numbers-alike program.channels (record { direction = Output; name = []; label = [] }) n (first n) (second n)
+        (λ h d. same n h d e);
     sent = refl;
   }
     where
@@ -204,9 +220,14 @@ module _ (program : Program) (labelling : ℕ → Labelling) (accepted : Accepte
   -- two runs on worlds in which the inputs that the observer reads are the same
   pub runs-begin : (first second : World) → ((n : ℕ) → n < length program.channels → (channel_at program n).direction ≡ Input →
       reader.reads (channel_label program n) ≡ true → first n ≡ second n) → (frames k m : ℕ) →
-      Begins (shown outside (state_after (run_within frames program first k)).sent) (shown outside (state_after (run_within frames program second m)).sent) ⊎ Begins (shown outside (state_after (run_within frames program second m)).sent) (shown outside (state_after (run_within frames program first k)).sent)
+      Begins (shown outside (state_after (run_within frames program first k)).sent)
+      (shown outside (state_after (run_within frames program second m)).sent) ⊎ Begins
+      (shown outside (state_after (run_within frames program second m)).sent)
+      (shown outside (state_after (run_within frames program first k)).sent)
   runs-begin first second same frames k m =
       let callee : ProcedureEntry = procedure_at program program.main in
-      related_call-begins outside (reads_result reader callee) (read_marks reader (declared_label callee)) (run_within frames program first k) (run_within frames program second m)
-      ((calls-secure program labelling accepted reader k m frames callee (labelling program.main)).related program.main [] [] (first_state program first) (first_state program second)
+      related_call-begins outside (reads_result reader callee) (read_marks reader (declared_label callee))
+      (run_within frames program first k) (run_within frames program second m)
+      ((calls-secure program labelling accepted reader k m frames callee (labelling program.main)).related program.main [] []
+      (first_state program first) (first_state program second)
       (first-alike first second same) (λ n e. refl))

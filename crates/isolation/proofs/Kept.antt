@@ -78,10 +78,12 @@ pub kept-looped : (view : View) (value : Bool) (body more : Exit → Bool) (o : 
     Hidden value body o → LoopMarks body more → ((t : State) → body Normal ≡ false → Kept view value more t (again t)) →
     ((t : State) → body Continue ≡ false → Kept view value more t (again t)) → Kept view value more (state_after o) (looped o again)
 kept-looped view value body more o again (hidden_end Normal t m) loop normal continued = normal t m
-kept-looped view value body more o again (hidden_end Return t m) loop normal continued = kept-end view value more t Return (loop.leaving Return refl m)
+kept-looped view value body more o again (hidden_end Return t m) loop normal continued = kept-end view value more t Return
+    (loop.leaving Return refl m)
 kept-looped view value body more o again (hidden_end Break t m) loop normal continued = kept-end view value more t Normal (loop.broken m)
 kept-looped view value body more o again (hidden_end Continue t m) loop normal continued = continued t m
-kept-looped view value body more o again (hidden_end (Throw x) t m) loop normal continued = kept-end view value more t (Throw x) (loop.leaving (Throw x) refl m)
+kept-looped view value body more o again (hidden_end (Throw x) t m) loop normal continued = kept-end view value more t (Throw x)
+    (loop.leaving (Throw x) refl m)
 kept-looped view value body more o again (hidden_return r t m none) loop normal continued =
     record { agree = agree-itself view t; hidden = hidden_return r t (loop.leaving Return refl m) none }
 kept-looped view value body more o again (hidden_stop stop t) loop normal continued = kept-stop view value more t stop
@@ -92,7 +94,8 @@ pub kept-turn_zero : (view : View) (value : Bool) (more : Exit → Bool) (condit
     Kept view value more s (turns zero condition body s)
 kept-turn_zero view value more condition body s raised over =
     kept-evaluated view value more s (condition s) (λ v. if truth_in v then Stopped OutOfTurns s else normally s) raised (λ v e.
-    kept-if view value more s (truth_in v) (Stopped OutOfTurns s) (normally s) (kept-stop view value more s OutOfTurns) (kept-end view value more s Normal over))
+    kept-if view value more s (truth_in v) (Stopped OutOfTurns s) (normally s) (kept-stop view value more s OutOfTurns)
+    (kept-end view value more s Normal over))
 
 pub kept-turn_suc : (view : View) (value : Bool) (inner more : Exit → Bool) (k : ℕ) (condition : State →
     Evaluated Value) (body : State → Outcome) (s : State) → ((x : ℕ) → condition s ≡ Raises x → more (Throw x) ≡ false) →
@@ -126,7 +129,8 @@ pub kept-caught : (view : View) (value : Bool) (handlers : Handlers) (inner more
 kept-caught view value handlers inner more o handle (hidden_end Normal t m) others rest = kept-end view value more t Normal (others Normal refl m)
 kept-caught view value handlers inner more o handle (hidden_end Return t m) others rest = kept-end view value more t Return (others Return refl m)
 kept-caught view value handlers inner more o handle (hidden_end Break t m) others rest = kept-end view value more t Break (others Break refl m)
-kept-caught view value handlers inner more o handle (hidden_end Continue t m) others rest = kept-end view value more t Continue (others Continue refl m)
+kept-caught view value handlers inner more o handle (hidden_end Continue t m) others rest = kept-end view value more t Continue
+    (others Continue refl m)
 kept-caught view value handlers inner more o handle (hidden_end (Throw x) t m) others rest = rest x t m
 kept-caught view value handlers inner more o handle (hidden_return r t m none) others rest =
     record { agree = agree-itself view t; hidden = hidden_return r t (others Return refl m) none }

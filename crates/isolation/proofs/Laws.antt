@@ -43,7 +43,8 @@ confined scope faults labelled p pc unread statement fits frames k s =
     let calls = calls_with scope.program k frames in
     let confines = calls-confine scope.program labelled.0 accepted reader k frames scope.procedure scope.labelling in
     let o : Outcome = statement_meaning calls k statement s in
-    let kept = kept-closed reader (view_of reader scope) (reads_result reader scope.procedure) (statement_ends scope.program statement) pc (statement_rule scope pc statement) s o unread
+    let kept = kept-closed reader (view_of reader scope) (reads_result reader scope.procedure) (statement_ends scope.program statement) pc
+    (statement_rule scope pc statement) s o unread
     (statement-among statement scope.program calls k confines.among s)
     (statement-kept scope.program.hierarchy reader scope calls k confines statement pc fits (own-unread reader scope pc statement fits unread) s) in (
       record { variables = kept.agree.variables; inputs = kept.agree.inputs; sent = kept.agree.sent },
@@ -57,7 +58,8 @@ isolated program faults labelled p first second agree k m =
 pub isolated-carried : (program : Program) (whole : PrincipalHierarchy) (carry : ℕ → ℕ) → end_faults program ≡ [] →
     Labelled program → KeepsActsFor program.hierarchy whole carry → IsolatedCarried program whole carry
 isolated-carried program whole carry faults labelled keeps p first second agree k m =
-    runs-begin program labelled.0 (accepted-from program faults labelled) (carried-reader program.hierarchy whole carry keeps p) first second agree frame_limit k m
+    runs-begin program labelled.0 (accepted-from program faults labelled)
+    (carried-reader program.hierarchy whole carry keeps p) first second agree frame_limit k m
 
 pub ends-unread : (scope : Scope) → PossibleEndsAreUnread scope
 ends-unread scope p pc unread in_loop statement faults fits exit among =
@@ -81,25 +83,46 @@ apart-agree : (scope : Scope) (p : ℕ) (marks : Marks) (value : Bool) →
     Hidden value (read_marks (principal-reader scope.program.hierarchy p) marks) q →
     AgreeFor (view_of (principal-reader scope.program.hierarchy p) scope) (state_after o) (state_after q) →
     OutcomesAgree scope p marks o q
-apart-agree scope p marks value is o q (hidden_end exit s m) (hidden_end other t n) agree =
-    (same-from scope p s t agree, λ reads. let i : true ≡ false = sym reads ∙ m in absurd (cc), λ reads. let i : true ≡ false = sym reads ∙ n in absurd (cc), λ reads. refl)
-apart-agree scope p marks value is o q (hidden_end exit s m) (hidden_return r t n none) agree =
-    (same-from scope p s t agree, λ reads. let i : true ≡ false = sym reads ∙ m in absurd (cc), λ reads. let i : true ≡ false = sym reads ∙ n in absurd (cc), λ reads. sym (none (is ∙ reads)))
-apart-agree scope p marks value is o q (hidden_return r s m none) (hidden_end other t n) agree =
-    (same-from scope p s t agree, λ reads. let i : true ≡ false = sym reads ∙ m in absurd (cc), λ reads. let i : true ≡ false = sym reads ∙ n in absurd (cc), λ reads. none (is ∙ reads))
+apart-agree scope p marks value is o q (hidden_end exit s m) (hidden_end other t n) agree = (
+  same-from scope p s t agree,
+  λ reads. let i : true ≡ false = sym reads ∙ m in absurd (cc),
+  λ reads. let i : true ≡ false = sym reads
+      ∙ n in absurd (cc),
+  λ reads. refl,
+)
+apart-agree scope p marks value is o q (hidden_end exit s m) (hidden_return r t n none) agree = (
+  same-from scope p s t agree,
+  λ reads. let i : true ≡ false = sym reads ∙ m in absurd (cc),
+  λ reads. let i : true ≡ false = sym reads
+      ∙ n in absurd (cc),
+  λ reads. sym (none (is ∙ reads)),
+)
+apart-agree scope p marks value is o q (hidden_return r s m none) (hidden_end other t n) agree = (
+  same-from scope p s t agree,
+  λ reads. let i : true ≡ false = sym reads ∙ m in absurd (cc),
+  λ reads. let i : true ≡ false = sym reads
+      ∙ n in absurd (cc),
+  λ reads. none (is ∙ reads),
+)
 apart-agree scope p marks value is o q (hidden_return r s m none) (hidden_return r' t n none') agree =
     (same-from scope p s t agree, λ reads. refl, λ reads. refl, λ reads. none (is ∙ reads) ∙ sym (none' (is ∙ reads)))
-apart-agree scope p marks value is o q (hidden_stop stop s) (hidden_end other t n) agree = agree-begins (view_of (principal-reader scope.program.hierarchy p) scope) s t agree
-apart-agree scope p marks value is o q (hidden_stop stop s) (hidden_return r t n none) agree = agree-begins (view_of (principal-reader scope.program.hierarchy p) scope) s t agree
+apart-agree scope p marks value is o q (hidden_stop stop s) (hidden_end other t n) agree = agree-begins
+    (view_of (principal-reader scope.program.hierarchy p) scope) s t agree
+apart-agree scope p marks value is o q (hidden_stop stop s) (hidden_return r t n none) agree = agree-begins
+    (view_of (principal-reader scope.program.hierarchy p) scope) s t agree
 apart-agree scope p marks value is o q (hidden_end exit s m) (hidden_stop stop t) agree =
-    agree-begins (view_of (principal-reader scope.program.hierarchy p) scope) t s (agree-back (view_of (principal-reader scope.program.hierarchy p) scope) s t agree)
+    agree-begins (view_of (principal-reader scope.program.hierarchy p) scope) t s
+    (agree-back (view_of (principal-reader scope.program.hierarchy p) scope) s t agree)
 apart-agree scope p marks value is o q (hidden_return r s m none) (hidden_stop stop t) agree =
-    agree-begins (view_of (principal-reader scope.program.hierarchy p) scope) t s (agree-back (view_of (principal-reader scope.program.hierarchy p) scope) s t agree)
+    agree-begins (view_of (principal-reader scope.program.hierarchy p) scope) t s
+    (agree-back (view_of (principal-reader scope.program.hierarchy p) scope) s t agree)
 apart-agree scope p marks value is o q (hidden_stop stop s) (hidden_stop other t) agree =
     inl (agree-begins (view_of (principal-reader scope.program.hierarchy p) scope) s t agree)
 
 outcomes-agree : (scope : Scope) (p : ℕ) (marks : Marks) (o q : Outcome) →
-    Related (view_of (principal-reader scope.program.hierarchy p) scope) (reads_result (principal-reader scope.program.hierarchy p) scope.procedure) (read_marks (principal-reader scope.program.hierarchy p) marks) o q → OutcomesAgree scope p marks o q
+    Related (view_of (principal-reader scope.program.hierarchy p) scope)
+    (reads_result (principal-reader scope.program.hierarchy p) scope.procedure)
+    (read_marks (principal-reader scope.program.hierarchy p) marks) o q → OutcomesAgree scope p marks o q
 outcomes-agree scope p marks o q (same_end exit s t agree) = (same-from scope p s t agree, λ reads. refl, λ reads. refl, λ reads. refl)
 outcomes-agree scope p marks o q (same_return r r' s t agree same) = (same-from scope p s t agree, λ reads. refl, λ reads. refl, same)
 outcomes-agree scope p marks o q (apart _ _ h i agree) =
@@ -119,6 +142,7 @@ statements-agree scope faults labelled p pc statement fits frames k m s t same =
     let o : Outcome = statement_meaning calls k statement s in
     let q : Outcome = statement_meaning further m statement t in
     outcomes-agree scope p (statement_marks scope pc statement) o q
-    (related-closed reader (view_of reader scope) (reads_result reader scope.procedure) (statement_ends scope.program statement) pc (statement_rule scope pc statement) o q
+    (related-closed reader (view_of reader scope) (reads_result reader scope.procedure) (statement_ends scope.program statement) pc
+    (statement_rule scope pc statement) o q
     (statement-among statement scope.program calls k secures.first.among s) (statement-among statement scope.program further m secures.second.among t)
     (statement-secure scope.program.hierarchy reader scope calls further k m secures statement pc fits s t (agree-from scope p s t same)))

@@ -92,15 +92,19 @@ longer-turns : (k m : ℕ) → k ≤ m → (condition : State → Evaluated Valu
 longer-turns zero zero le condition body further h grows s =
     longer-itself (turns zero condition body s)
 longer-turns zero (suc m) le condition body further h grows s =
-    longer-evaluated (condition s) s (λ v. if truth_in v then Stopped OutOfTurns s else normally s) (λ v. if truth_in v then looped (further s) (turns m condition further) else normally s) (λ v.
+    longer-evaluated (condition s) s (λ v. if truth_in v then Stopped OutOfTurns s else normally s)
+    (λ v. if truth_in v then looped (further s) (turns m condition further) else normally s) (λ v.
     longer-if (truth_in v) (Stopped OutOfTurns s) (normally s) (looped (further s) (turns m condition further)) (normally s)
-    (longer-grown s (looped (further s) (turns m condition further)) (grows-looped s (further s) (turns m condition further) (grows s) (grows-turns m condition further grows)))
+    (longer-grown s (looped (further s) (turns m condition further))
+    (grows-looped s (further s) (turns m condition further) (grows s) (grows-turns m condition further grows)))
     (longer-itself (normally s)))
 longer-turns (suc k) zero le condition body further h grows s = absurd (omega (arith, le))
 longer-turns (suc k) (suc m) le condition body further h grows s =
-    longer-evaluated (condition s) s (λ v. if truth_in v then looped (body s) (turns k condition body) else normally s) (λ v. if truth_in v then looped (further s) (turns m condition further) else normally s) (λ v.
+    longer-evaluated (condition s) s (λ v. if truth_in v then looped (body s) (turns k condition body) else normally s)
+    (λ v. if truth_in v then looped (further s) (turns m condition further) else normally s) (λ v.
     longer-if (truth_in v) (looped (body s) (turns k condition body)) (normally s) (looped (further s) (turns m condition further)) (normally s)
-    (longer-looped (body s) (further s) (turns k condition body) (turns m condition further) (h s) (longer-turns k m (omega (arith, le)) condition body further h grows) (grows-turns m condition further grows))
+    (longer-looped (body s) (further s) (turns k condition body) (turns m condition further) (h s)
+    (longer-turns k m (omega (arith, le)) condition body further h grows) (grows-turns m condition further grows))
     (longer-itself (normally s)))
 
 -- calls with fewer turns and with more
@@ -112,16 +116,22 @@ mutual
   statement-longer : (statement : Statement) (calls further : Calls) (k m : ℕ) → k ≤ m → LongerCalls calls further → (s : State) →
       Longer (statement_meaning calls k statement s) (statement_meaning further m statement s)
   statement-longer (If at e yes_block no_block) calls further k m le h s =
-      longer-evaluated (value_of s e) s (λ v. if truth_in v then block_meaning calls k yes_block s else block_meaning calls k no_block s) (λ v. if truth_in v then block_meaning further m yes_block s else block_meaning further m no_block s) (λ v.
-      longer-if (truth_in v) (block_meaning calls k yes_block s) (block_meaning calls k no_block s) (block_meaning further m yes_block s) (block_meaning further m no_block s)
+      longer-evaluated (value_of s e) s (λ v. if truth_in v then block_meaning calls k yes_block s else block_meaning calls k no_block s)
+      (λ v. if truth_in v then block_meaning further m yes_block s else block_meaning further m no_block s) (λ v.
+      longer-if (truth_in v) (block_meaning calls k yes_block s) (block_meaning calls k no_block s) (block_meaning further m yes_block s)
+      (block_meaning further m no_block s)
       (block-longer yes_block calls further k m le h s) (block-longer no_block calls further k m le h s))
   statement-longer (While at loop e body) calls further k m le h s =
-      longer-turns k m le (λ t. value_of t e) (block_meaning calls k body) (block_meaning further m body) (block-longer body calls further k m le h) (block-grows body further m h.grows) s
+      longer-turns k m le (λ t. value_of t e) (block_meaning calls k body) (block_meaning further m body)
+      (block-longer body calls further k m le h) (block-grows body further m h.grows) s
   statement-longer (Call at procedure arguments target) calls further k m le h s =
-      longer-evaluated (values_of s arguments) s (λ vs. returned_to target (calls procedure vs s)) (λ vs. returned_to target (further procedure vs s)) (λ vs.
+      longer-evaluated (values_of s arguments) s (λ vs. returned_to target (calls procedure vs s))
+      (λ vs. returned_to target (further procedure vs s)) (λ vs.
       longer-returned_to target (calls procedure vs s) (further procedure vs s) (h.longer procedure vs s))
   statement-longer (Try at block handlers) calls further k m le h s =
-      longer-caught (block_meaning calls k block s) (block_meaning further m block s) (handlers_meaning calls k handlers) (handlers_meaning further m handlers) (block-longer block calls further k m le h s) (handlers-longer handlers calls further k m le h) (handlers-grow handlers further m h.grows)
+      longer-caught (block_meaning calls k block s) (block_meaning further m block s) (handlers_meaning calls k handlers)
+      (handlers_meaning further m handlers) (block-longer block calls further k m le h s)
+      (handlers-longer handlers calls further k m le h) (handlers-grow handlers further m h.grows)
   statement-longer (Nested at block) calls further k m le h s = block-longer block calls further k m le h s
   statement-longer (ReturnWith at None) calls further k m le h s = longer-itself (Ended Return None s)
   statement-longer (ReturnWith at (Some e)) calls further k m le h s =
@@ -132,13 +142,17 @@ mutual
       Longer (block_meaning calls k block s) (block_meaning further m block s)
   block-longer Empty calls further k m le h s = longer-itself (normally s)
   block-longer (Then statement rest) calls further k m le h s =
-      longer-after (statement_meaning calls k statement s) (statement_meaning further m statement s) (block_meaning calls k rest) (block_meaning further m rest) (statement-longer statement calls further k m le h s) (block-longer rest calls further k m le h) (block-grows rest further m h.grows)
+      longer-after (statement_meaning calls k statement s) (statement_meaning further m statement s) (block_meaning calls k rest)
+      (block_meaning further m rest) (statement-longer statement calls further k m le h s) (block-longer rest calls further k m le h)
+      (block-grows rest further m h.grows)
 
   handlers-longer : (handlers : Handlers) (calls further : Calls) (k m : ℕ) → k ≤ m → LongerCalls calls further →
       (x : ℕ) (s : State) → Longer (handlers_meaning calls k handlers x s) (handlers_meaning further m handlers x s)
   handlers-longer NoMore calls further k m le h x s = longer-itself (thrown x s)
   handlers-longer (Catch at handled body rest) calls further k m le h x s =
-      longer-if (x == handled) (block_meaning calls k body s) (handlers_meaning calls k rest x s) (block_meaning further m body s) (handlers_meaning further m rest x s) (block-longer body calls further k m le h s) (handlers-longer rest calls further k m le h x s)
+      longer-if (x == handled) (block_meaning calls k body s) (handlers_meaning calls k rest x s) (block_meaning further m body s)
+      (handlers_meaning further m rest x s) (block-longer body calls further k m le h s)
+      (handlers-longer rest calls further k m le h x s)
 
 calls-longer : (program : Program) (k m : ℕ) → k ≤ m → (frames : ℕ) →
     LongerCalls (calls_with program k frames) (calls_with program m frames)
@@ -152,7 +166,8 @@ calls-longer program k m le (suc frames) = record {
       longer-leaving (λ t. record t { locals = s.locals }) (λ t. refl)
       (block_meaning (calls_with program k frames) k (procedure_at program f).body inner)
       (block_meaning (calls_with program m frames) m (procedure_at program f).body inner)
-      (block-longer (procedure_at program f).body (calls_with program k frames) (calls_with program m frames) k m le (calls-longer program k m le frames) inner);
+      (block-longer (procedure_at program f).body (calls_with program k frames) (calls_with program m frames) k m le
+      (calls-longer program k m le frames) inner);
   grows = calls-grow program m (suc frames);
 }
 

@@ -34,7 +34,8 @@ carried-allows part whole carry keeps policy p allowed =
     ⊎_elim
     (λ owner. inl (keeps p policy.owner owner))
     (λ some. Any-elim (λ reader. ActsFor part.pairs p reader) policy.readers (Allows whole (carried_policy carry policy) (carry p)) some
-    (λ reader contained acts. inr (Any-from_some (λ r. ActsFor whole.pairs (carry p) r) (map carry policy.readers) (carry reader) (contained-map carry policy.readers reader contained) (keeps p reader acts))))
+    (λ reader contained acts. inr (Any-from_some (λ r. ActsFor whole.pairs (carry p) r) (map carry policy.readers) (carry reader)
+    (contained-map carry policy.readers reader contained) (keeps p reader acts))))
     allowed
 
 carried-policy_flow : (part whole : PrincipalHierarchy) (carry : ℕ → ℕ) → KeepsActsFor part whole carry → (from to : ReaderPolicy) →
@@ -43,13 +44,15 @@ carried-policy_flow part whole carry keeps from to flow = (
   keeps to.owner from.owner flow.0,
   All-map (λ reader. Allows whole (carried_policy carry from) reader) carry to.readers
       (All-from_each (λ reader. Allows whole (carried_policy carry from) (carry reader)) to.readers
-      (λ reader contained. carried-allows part whole carry keeps from reader (each_from_All (λ r. Allows part from r) to.readers flow.1 reader contained))),
+      (λ reader contained. carried-allows part whole carry keeps from reader
+      (each_from_All (λ r. Allows part from r) to.readers flow.1 reader contained))),
 )
 
 pub carried-flow : (part whole : PrincipalHierarchy) (carry : ℕ → ℕ) → FlowsAreKept part whole carry
 carried-flow part whole carry keeps from to flow =
     All-map (λ policy. Any (λ other. PolicyFlowsTo whole policy other) (carried_label carry to)) (carried_policy carry) from
-    (All-from_each (λ policy. Any (λ other. PolicyFlowsTo whole (carried_policy carry policy) other) (carried_label carry to)) from (λ policy contained.
+    (All-from_each (λ policy. Any (λ other. PolicyFlowsTo whole (carried_policy carry policy) other) (carried_label carry to)) from
+    (λ policy contained.
     let found = FlowsTo-elim part from to flow policy contained in
     Any-from_some (λ other. PolicyFlowsTo whole (carried_policy carry policy) other) (carried_label carry to) (carried_policy carry found.0)
     (contained-map (carried_policy carry) to found.0 found.1) (carried-policy_flow part whole carry keeps policy found.0 found.2)))
@@ -63,7 +66,8 @@ carried-reader part whole carry keeps p = record {
   joined = λ a b. rw (map-append (carried_policy carry) a b) (may_read-join whole p (carried_label carry a) (carried_label carry b));
   flowing = λ a b flow reads.
       may_read-flowing whole (carried_label carry a) (carried_label carry b) p
-      ((flows-decides whole (carried_label carry a) (carried_label carry b)).1 (carried-flow part whole carry keeps a b ((flows-decides part a b).0 flow))) reads;
+      ((flows-decides whole (carried_label carry a) (carried_label carry b)).1
+      (carried-flow part whole carry keeps a b ((flows-decides part a b).0 flow))) reads;
 }
 
 -- by name
@@ -82,4 +86,8 @@ names-keep part whole is_part is_whole contains a b (written _ _ pair) =
     let name_a : HasName part a (get_or part.names a []) = slice_get-get_or part.names a [] below.0 in
     let name_b : HasName part b (get_or part.names b []) = slice_get-get_or part.names b [] below.1 in
     let found = contains.acts (get_or part.names a []) (get_or part.names b []) (a, b, name_a, name_b, written a b pair) in
-    rw (named part whole is_whole a (get_or part.names a []) found.0 name_a found.2, named part whole is_whole b (get_or part.names b []) found.1 name_b found.3) found.4
+    rw (
+      named part whole is_whole a (get_or part.names a []) found.0 name_a found.2,
+      named part whole is_whole b
+          (get_or part.names b []) found.1 name_b found.3,
+    ) found.4

@@ -47,7 +47,8 @@ agree-begins view s t h = ([], append-nil (shown view s.sent) ∙ h.sent)
 
 -- of two related runs the observer sees two lists of which one begins the other
 pub related-begins : (view : View) (value : Bool) (marks : Exit → Bool) (o p : Outcome) → Related view value marks o p →
-    Begins (shown view (state_after o).sent) (shown view (state_after p).sent) ⊎ Begins (shown view (state_after p).sent) (shown view (state_after o).sent)
+    Begins (shown view (state_after o).sent) (shown view (state_after p).sent) ⊎ Begins (shown view (state_after p).sent)
+    (shown view (state_after o).sent)
 related-begins view value marks o p (same_end exit s t h) = inl (agree-begins view s t h)
 related-begins view value marks o p (same_return r q s t h i) = inl (agree-begins view s t h)
 related-begins view value marks o p (apart _ _ h i j) = inl (agree-begins view (state_after o) (state_after p) j)
@@ -145,7 +146,8 @@ out-second view value marks s t o h grows =
     second_stops o OutOfTurns t (stopped-begins view t (normally s) o (agree-begins view t s (agree-back view s t h)) grows)
 
 -- a loop whose condition and label the observer reads
-pub record LoopRead (view : View) (value : Bool) (inner more : Exit → Bool) (condition : State → Evaluated Value) (body further : State → Outcome) : Type 0 where
+pub record LoopRead (view : View) (value : Bool) (inner more : Exit → Bool) (condition : State → Evaluated Value)
+    (body further : State → Outcome) : Type 0 where
   pub condition_alike : (s t : State) → AgreeFor view s t → Alike (SameIf true) (condition s) (condition t)
   pub loop : LoopMarks inner more
   pub normal : inner Normal ≡ false → ⊥
@@ -159,29 +161,39 @@ related-turns view value inner more condition body further h zero zero s t agree
     related-evaluated (SameIf true) view value more s t (condition s) (condition t)
     (λ v. if truth_in v then Stopped OutOfTurns s else normally s) (λ v. if truth_in v then Stopped OutOfTurns t else normally t)
     agree (h.condition_alike s t agree) (λ v w e f same.
-    related-if view value more (truth_in v) (truth_in w) (Stopped OutOfTurns s) (normally s) (Stopped OutOfTurns t) (normally t) (ap (λ x. truth_in x) (same refl))
+    related-if view value more (truth_in v) (truth_in w) (Stopped OutOfTurns s) (normally s) (Stopped OutOfTurns t) (normally t)
+    (ap (λ x. truth_in x) (same refl))
     (out-first view value more s t (Stopped OutOfTurns t) agree (grows-itself t t refl (Stopped OutOfTurns t) refl))
     (same_end Normal s t agree))
 related-turns view value inner more condition body further h zero (suc m) s t agree =
     related-evaluated (SameIf true) view value more s t (condition s) (condition t)
-    (λ v. if truth_in v then Stopped OutOfTurns s else normally s) (λ v. if truth_in v then looped (further t) (turns m condition further) else normally t)
+    (λ v. if truth_in v then Stopped OutOfTurns s else normally s)
+    (λ v. if truth_in v then looped (further t) (turns m condition further) else normally t)
     agree (h.condition_alike s t agree) (λ v w e f same.
-    related-if view value more (truth_in v) (truth_in w) (Stopped OutOfTurns s) (normally s) (looped (further t) (turns m condition further)) (normally t) (ap (λ x. truth_in x) (same refl))
-    (out-first view value more s t (looped (further t) (turns m condition further)) agree (grows-looped t (further t) (turns m condition further) (h.ways.grows_second t) (grows-turns m condition further h.ways.grows_second)))
+    related-if view value more (truth_in v) (truth_in w) (Stopped OutOfTurns s) (normally s)
+    (looped (further t) (turns m condition further)) (normally t) (ap (λ x. truth_in x) (same refl))
+    (out-first view value more s t (looped (further t) (turns m condition further)) agree
+    (grows-looped t (further t) (turns m condition further) (h.ways.grows_second t)
+    (grows-turns m condition further h.ways.grows_second)))
     (same_end Normal s t agree))
 related-turns view value inner more condition body further h (suc k) zero s t agree =
     related-evaluated (SameIf true) view value more s t (condition s) (condition t)
     (λ v. if truth_in v then looped (body s) (turns k condition body) else normally s) (λ v. if truth_in v then Stopped OutOfTurns t else normally t)
     agree (h.condition_alike s t agree) (λ v w e f same.
-    related-if view value more (truth_in v) (truth_in w) (looped (body s) (turns k condition body)) (normally s) (Stopped OutOfTurns t) (normally t) (ap (λ x. truth_in x) (same refl))
-    (out-second view value more s t (looped (body s) (turns k condition body)) agree (grows-looped s (body s) (turns k condition body) (h.ways.grows_first s) (grows-turns k condition body h.ways.grows_first)))
+    related-if view value more (truth_in v) (truth_in w) (looped (body s) (turns k condition body)) (normally s) (Stopped OutOfTurns t)
+    (normally t) (ap (λ x. truth_in x) (same refl))
+    (out-second view value more s t (looped (body s) (turns k condition body)) agree
+    (grows-looped s (body s) (turns k condition body) (h.ways.grows_first s) (grows-turns k condition body h.ways.grows_first)))
     (same_end Normal s t agree))
 related-turns view value inner more condition body further h (suc k) (suc m) s t agree =
     related-evaluated (SameIf true) view value more s t (condition s) (condition t)
-    (λ v. if truth_in v then looped (body s) (turns k condition body) else normally s) (λ v. if truth_in v then looped (further t) (turns m condition further) else normally t)
+    (λ v. if truth_in v then looped (body s) (turns k condition body) else normally s)
+    (λ v. if truth_in v then looped (further t) (turns m condition further) else normally t)
     agree (h.condition_alike s t agree) (λ v w e f same.
-    related-if view value more (truth_in v) (truth_in w) (looped (body s) (turns k condition body)) (normally s) (looped (further t) (turns m condition further)) (normally t) (ap (λ x. truth_in x) (same refl))
-    (related-looped view value inner more (body s) (further t) (turns k condition body) (turns m condition further) (h.ways.related s t agree) h.loop h.normal h.continued
+    related-if view value more (truth_in v) (truth_in w) (looped (body s) (turns k condition body)) (normally s)
+    (looped (further t) (turns m condition further)) (normally t) (ap (λ x. truth_in x) (same refl))
+    (related-looped view value inner more (body s) (further t) (turns k condition body) (turns m condition further)
+    (h.ways.related s t agree) h.loop h.normal h.continued
     (record {
       related = related-turns view value inner more condition body further h k m;
       grows_first = grows-turns k condition body h.ways.grows_first;
@@ -191,7 +203,8 @@ related-turns view value inner more condition body further h (suc k) (suc m) s t
 
 -- a loop whose condition the observer does not read although it reads the loop's label and whether the condition raises an
 -- exception: its body cannot come back
-pub record LoopUnread (view : View) (value : Bool) (inner more : Exit → Bool) (b : Bool) (condition : State → Evaluated Value) (body : State → Outcome) : Type 0 where
+pub record LoopUnread (view : View) (value : Bool) (inner more : Exit → Bool) (b : Bool) (condition : State → Evaluated Value)
+    (body : State → Outcome) : Type 0 where
   pub loop : LoopMarks inner more
   pub over : more Normal ≡ false
   pub normal : inner Normal ≡ false → ⊥

@@ -68,7 +68,8 @@ module _ (h : PrincipalHierarchy) (reader : Reader h) (scope : Scope) where
         reader.reads pc ≡ false → (exit : Exit) → has_end (statement_ends scope.program statement) exit ≡ true →
         reader.reads (statement_rule scope pc statement exit) ≡ false
     statement-ends-unread (Call at f arguments target) pc in_loop faults fits unread exit among =
-        unread-call reader (procedure_at scope.program f) (own_label scope pc (Call at f arguments target)) (own-unread reader scope pc (Call at f arguments target) fits unread) exit
+        unread-call reader (procedure_at scope.program f) (own_label scope pc (Call at f arguments target))
+        (own-unread reader scope pc (Call at f arguments target) fits unread) exit
     statement-ends-unread (If at e yes_block no_block) pc in_loop faults fits unread exit among =
         let q : Label = own_label scope pc (If at e yes_block no_block) in
         let b : Label = q ++ value_label scope e in
@@ -81,14 +82,18 @@ module _ (h : PrincipalHierarchy) (reader : Reader h) (scope : Scope) where
         let parts = append-empty (block_faults scope.program in_loop true yes_block) (block_faults scope.program in_loop true no_block) faults in
         ⊎_elim
         (λ front. ⊎_elim
-        (λ raised. unread-left reader (raised_marks e q exit ++ yes_marks exit) (no_marks exit) (unread-left reader (raised_marks e q exit) (yes_marks exit) (raised-end (raises e) q exit unread_q raised)))
-        (λ yes. unread-left reader (raised_marks e q exit ++ yes_marks exit) (no_marks exit) (unread-right reader (raised_marks e q exit) (yes_marks exit)
+        (λ raised. unread-left reader (raised_marks e q exit ++ yes_marks exit) (no_marks exit)
+        (unread-left reader (raised_marks e q exit) (yes_marks exit) (raised-end (raises e) q exit unread_q raised)))
+        (λ yes. unread-left reader (raised_marks e q exit ++ yes_marks exit) (no_marks exit)
+        (unread-right reader (raised_marks e q exit) (yes_marks exit)
         (closed-unread reader yes_ends b (block_rule scope b yes_block) exit (λ one. unread_b) yes
-        (block-ends-unread yes_block b in_loop true parts.0 (fits-left h (block_demands scope b yes_block) (block_demands scope b no_block) fits) unread_b exit yes))))
+        (block-ends-unread yes_block b in_loop true parts.0 (fits-left h (block_demands scope b yes_block)
+        (block_demands scope b no_block) fits) unread_b exit yes))))
         (either-end (thrown_ends (raises e)) yes_ends exit front))
         (λ no. unread-right reader (raised_marks e q exit ++ yes_marks exit) (no_marks exit)
         (closed-unread reader no_ends b (block_rule scope b no_block) exit (λ one. unread_b) no
-        (block-ends-unread no_block b in_loop true parts.1 (fits-right h (block_demands scope b yes_block) (block_demands scope b no_block) fits) unread_b exit no)))
+        (block-ends-unread no_block b in_loop true parts.1 (fits-right h (block_demands scope b yes_block)
+        (block_demands scope b no_block) fits) unread_b exit no)))
         (either-end (thrown_ends (raises e) ++ yes_ends) no_ends exit among)
     statement-ends-unread (While at loop e body) pc in_loop faults fits unread exit among =
         let l : Label = scope.labelling.loop_label loop in
@@ -98,14 +103,17 @@ module _ (h : PrincipalHierarchy) (reader : Reader h) (scope : Scope) where
         let unread_b = unread-left reader q (value_label scope e) unread_q in
         let ends = block_ends scope.program body in
         let x : Marks = at_ends ends b (block_rule scope b body) in
-        let body_fits = fits-right h (demand at 8 pc l) (block_demands scope b body) (fits-left h (demand at 8 pc l ++ block_demands scope b body) (demand at 8 (x Normal ++ x Continue) l) fits) in
+        let body_fits = fits-right h (demand at 8 pc l) (block_demands scope b body)
+        (fits-left h (demand at 8 pc l ++ block_demands scope b body) (demand at 8 (x Normal ++ x Continue) l) fits) in
         ⊎_elim
-        (λ normal. rw (same-exit exit Normal normal) (unread-right reader (raised_marks e q Normal) (b ++ x Break) (unread-left reader b (x Break) unread_b)))
+        (λ normal. rw (same-exit exit Normal normal) (unread-right reader (raised_marks e q Normal) (b ++ x Break)
+        (unread-left reader b (x Break) unread_b)))
         (λ other. ⊎_elim
         (λ raised. unread-left reader (raised_marks e q exit) (loop_marks b x exit) (raised-end (raises e) q exit unread_q raised))
         (λ leaves. let found = filtered-end leaves_loop ends exit leaves in
         unread-right reader (raised_marks e q exit) (loop_marks b x exit) (loop-end b x exit found.0
-        (closed-unread reader ends b (block_rule scope b body) exit (λ one. unread_b) found.1 (block-ends-unread body b true true faults body_fits unread_b exit found.1))))
+        (closed-unread reader ends b (block_rule scope b body) exit (λ one. unread_b) found.1
+        (block-ends-unread body b true true faults body_fits unread_b exit found.1))))
         (either-end (thrown_ends (raises e)) (filter leaves_loop ends) exit other))
         (or_cases (same_exit exit Normal) (has_end (thrown_ends (raises e) ++ filter leaves_loop ends) exit) among)
     statement-ends-unread (Try at block handlers) pc in_loop faults fits unread exit among =
@@ -113,17 +121,23 @@ module _ (h : PrincipalHierarchy) (reader : Reader h) (scope : Scope) where
         let x : Marks = at_ends ends pc (block_rule scope pc block) in
         let parts = append-empty (block_faults scope.program in_loop true block) (handlers_faults scope.program in_loop ends handlers) faults in
         let block_fits = fits-left h (block_demands scope pc block) (handlers_demands scope x handlers) fits in
-        let inner : (e : Exit) → has_end ends e ≡ true → reader.reads (x e) ≡ false = λ e found. closed-unread reader ends pc (block_rule scope pc block) e (λ one. unread) found (block-ends-unread block pc in_loop true parts.0 block_fits unread e found) in
+        let inner : (e : Exit) → has_end ends e ≡ true → reader.reads (x e) ≡ false = λ e found. closed-unread reader ends pc
+        (block_rule scope pc block) e (λ one. unread) found
+        (block-ends-unread block pc in_loop true parts.0 block_fits unread e found) in
         ⊎_elim
         (λ passing. let found = filtered-end (passes handlers) ends exit passing in
-        unread-left reader (label_if (passes handlers exit) (x exit)) (handlers_rule scope x handlers exit) (unread-label_if reader (passes handlers exit) (x exit) found.0 (inner exit found.1)))
+        unread-left reader (label_if (passes handlers exit) (x exit)) (handlers_rule scope x handlers exit)
+        (unread-label_if reader (passes handlers exit) (x exit) found.0 (inner exit found.1)))
         (λ handled. unread-right reader (label_if (passes handlers exit) (x exit)) (handlers_rule scope x handlers exit)
-        (handlers-ends-unread handlers x in_loop ends parts.1 (fits-right h (block_demands scope pc block) (handlers_demands scope x handlers) fits) (λ y found. inner (Throw y) found) exit handled))
+        (handlers-ends-unread handlers x in_loop ends parts.1 (fits-right h (block_demands scope pc block)
+        (handlers_demands scope x handlers) fits) (λ y found. inner (Throw y) found) exit handled))
         (either-end (filter (passes handlers) ends) (handlers_ends scope.program handlers) exit among)
     statement-ends-unread (Nested at block) pc in_loop faults fits unread exit among =
-        closed-unread reader (block_ends scope.program block) pc (block_rule scope pc block) exit (λ one. unread) among (block-ends-unread block pc in_loop true faults fits unread exit among)
+        closed-unread reader (block_ends scope.program block) pc (block_rule scope pc block) exit (λ one. unread) among
+        (block-ends-unread block pc in_loop true faults fits unread exit among)
     statement-ends-unread (ReturnWith at None) pc in_loop faults fits unread exit among = unread
-    statement-ends-unread (ReturnWith at (Some e)) pc in_loop faults fits unread exit among = own-unread reader scope pc (ReturnWith at (Some e)) fits unread
+    statement-ends-unread (ReturnWith at (Some e)) pc in_loop faults fits unread exit among = own-unread reader scope pc
+        (ReturnWith at (Some e)) fits unread
     statement-ends-unread other pc in_loop faults fits unread exit among = own-unread reader scope pc other fits unread
 
     pub block-ends-unread : (block : Block) (pc : Label) (in_loop reached : Bool) →
@@ -137,16 +151,22 @@ module _ (h : PrincipalHierarchy) (reader : Reader h) (scope : Scope) where
     block-ends-unread (Then statement rest) pc in_loop reached faults fits unread exit among =
         let ends = statement_ends scope.program statement in
         let x : Marks = at_ends ends pc (statement_rule scope pc statement) in
-        let first = fault_unless (may_stand in_loop statement) OutsideLoop (place_of statement) ++ fault_unless reached Unreachable (place_of statement) in
+        let first = fault_unless (may_stand in_loop statement) OutsideLoop (place_of statement) ++ fault_unless reached Unreachable
+        (place_of statement) in
         let later = block_faults scope.program in_loop (has_end ends Normal) rest in
         let both = append-empty (first ++ inner_faults scope.program in_loop statement) later faults in
         let here = append-empty first (inner_faults scope.program in_loop statement) both.0 in
         let statement_fits = fits-left h (statement_demands scope pc statement) (block_demands scope (x Normal) rest) fits in
-        let inner : (e : Exit) → has_end ends e ≡ true → reader.reads (x e) ≡ false = λ e found. closed-unread reader ends pc (statement_rule scope pc statement) e (λ one. unread) found (statement-ends-unread statement pc in_loop here.1 statement_fits unread e found) in
+        let inner : (e : Exit) → has_end ends e ≡ true → reader.reads (x e) ≡ false = λ e found. closed-unread reader ends pc
+        (statement_rule scope pc statement) e (λ one. unread) found
+        (statement-ends-unread statement pc in_loop here.1 statement_fits unread e found) in
         ⊎_elim
-        (λ other. unread-left reader (label_if (not (same_exit Normal exit)) (x exit)) (block_rule scope (x Normal) rest exit) (unread-label_if reader (not (same_exit Normal exit)) (x exit) other.0 (inner exit other.1)))
+        (λ other. unread-left reader (label_if (not (same_exit Normal exit)) (x exit)) (block_rule scope (x Normal) rest exit)
+        (unread-label_if reader (not (same_exit Normal exit)) (x exit) other.0 (inner exit other.1)))
         (λ after. unread-right reader (label_if (not (same_exit Normal exit)) (x exit)) (block_rule scope (x Normal) rest exit)
-        (block-ends-unread rest (x Normal) in_loop (has_end ends Normal) both.1 (fits-right h (statement_demands scope pc statement) (block_demands scope (x Normal) rest) fits) (inner Normal after.0) exit after.1))
+        (block-ends-unread rest (x Normal) in_loop (has_end ends Normal) both.1
+        (fits-right h (statement_demands scope pc statement) (block_demands scope (x Normal) rest) fits)
+        (inner Normal after.0) exit after.1))
         (then-cases ends (block_ends scope.program rest) exit among)
 
     pub handlers-ends-unread : (handlers : Handlers) (x : Marks) (in_loop : Bool) (ends : List Exit) →
@@ -166,7 +186,8 @@ module _ (h : PrincipalHierarchy) (reader : Reader h) (scope : Scope) where
         ⊎_elim
         (λ found. unread-left reader (marks exit) (handlers_rule scope x rest exit)
         (closed-unread reader body_ends pc (block_rule scope pc body) exit (λ one. unread_pc) found
-        (block-ends-unread body pc in_loop true here.1 (fits-left h (block_demands scope pc body) (handlers_demands scope x rest) fits) unread_pc exit found)))
+        (block-ends-unread body pc in_loop true here.1 (fits-left h (block_demands scope pc body)
+        (handlers_demands scope x rest) fits) unread_pc exit found)))
         (λ later. unread-right reader (marks exit) (handlers_rule scope x rest exit)
         (handlers-ends-unread rest x in_loop others both.1 (fits-right h (block_demands scope pc body) (handlers_demands scope x rest) fits)
         (λ y found. unread y (filtered-end (λ e. not (same_exit (Throw handled) e)) ends (Throw y) found).1) exit later))

@@ -71,8 +71,10 @@ division-alike b d e m n no_zero same = go (is_zero e) refl
 operator-alike : (b : Bool) (operator : Operator) (v w v' w' : Value) →
     (is_division operator ≡ true → is_zero (number_in w) ≡ is_zero (number_in w')) → SameIf b v v' → SameIf b w w' →
     Alike (SameIf b) (operator_value operator v w) (operator_value operator v' w')
-operator-alike b Divide v w v' w' no_zero left right = division-alike b (number_in w) (number_in w') _ _ (no_zero refl) (λ i. rw (left i, right i) refl)
-operator-alike b Remainder v w v' w' no_zero left right = division-alike b (number_in w) (number_in w') _ _ (no_zero refl) (λ i. rw (left i, right i) refl)
+operator-alike b Divide v w v' w' no_zero left right = division-alike b (number_in w) (number_in w') _ _ (no_zero refl)
+    (λ i. rw (left i, right i) refl)
+operator-alike b Remainder v w v' w' no_zero left right = division-alike b (number_in w) (number_in w') _ _ (no_zero refl)
+    (λ i. rw (left i, right i) refl)
 operator-alike b Add v w v' w' no_zero left right = both_give _ _ (λ i. rw (left i, right i) refl)
 operator-alike b Subtract v w v' w' no_zero left right = both_give _ _ (λ i. rw (left i, right i) refl)
 operator-alike b Multiply v w v' w' no_zero left right = both_give _ _ (λ i. rw (left i, right i) refl)
@@ -138,9 +140,11 @@ expression-alike reader scope s t agree (Element array len index) reads =
     let c : Label = variable_label scope array in
     let l : Label = value_label scope index in
     let test : Bool = index_can_raise index len in
-    let covered : test ≡ true → reader.reads l ≡ true = read-label_if reader test l (read-right reader (raise_label scope index) (label_if test l) reads) in
+    let covered : test ≡ true → reader.reads l ≡ true = read-label_if reader test l
+    (read-right reader (raise_label scope index) (label_if test l) reads) in
     alike-then (SameIf (reader.reads l)) (SameIf (reader.reads (c ++ l))) (value_of s index) (value_of t index)
-    (λ v. then_with (checked_index v len) (λ i. Gives (cell_at (cells s array) i))) (λ v. then_with (checked_index v len) (λ i. Gives (cell_at (cells t array) i)))
+    (λ v. then_with (checked_index v len) (λ i. Gives (cell_at (cells s array) i)))
+    (λ v. then_with (checked_index v len) (λ i. Gives (cell_at (cells t array) i)))
     (expression-alike reader scope s t agree index (read-left reader (raise_label scope index) (label_if test l) reads)) (λ v w f g same.
     alike-then (SameIf (reader.reads l)) (SameIf (reader.reads (c ++ l))) (checked_index v len) (checked_index w len)
     (λ i. Gives (cell_at (cells s array) i)) (λ i. Gives (cell_at (cells t array) i))
@@ -179,9 +183,11 @@ expression-alike reader scope s t agree (Short connective d e) reads =
     alike-then (SameIf (reader.reads vd)) (SameIf (reader.reads (vd ++ ve))) (value_of s d) (value_of t d)
     (λ v. if decides connective v then Gives v else value_of s e) (λ v. if decides connective v then Gives v else value_of t e)
     (expression-alike reader scope s t agree d (read-left reader rd re both)) (λ v w f g same.
-    short-alike connective (reader.reads vd) (reader.reads (vd ++ ve)) (raises e) v w (value_of s e) (value_of t e) same covered (read-left reader vd ve)
+    short-alike connective (reader.reads vd) (reader.reads (vd ++ ve)) (raises e) v w (value_of s e) (value_of t e) same covered
+    (read-left reader vd ve)
     (expression-raises s e) (expression-raises t e)
-    (alike-weaker (SameIf (reader.reads ve)) (SameIf (reader.reads (vd ++ ve))) (value_of s e) (value_of t e) (λ x y same_right all. same_right (read-right reader vd ve all))
+    (alike-weaker (SameIf (reader.reads ve)) (SameIf (reader.reads (vd ++ ve))) (value_of s e) (value_of t e)
+    (λ x y same_right all. same_right (read-right reader vd ve all))
     (expression-alike reader scope s t agree e (read-right reader rd re both))))
 
 -- the values of arguments, each the same where its label is read
