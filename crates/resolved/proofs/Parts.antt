@@ -1,6 +1,6 @@
 -- The parts of being well formed, one by one.
-use Rattle.std.proofs.Common.{◌≡◌, refl, sym, subst, ℕ, zero, suc, List, [], ◌∷◌, length, Bool, true, false, ◌&&◌}
-use Rattle.std.specs.Prelude.{Option, Some, None, ◌==◌, slice_get, nat_le, sum_by}
+use Rattle.std.proofs.Common.{◌≡◌, refl, subst, ℕ, zero, suc, List, [], ◌∷◌, length, Bool, true, false, ◌&&◌}
+use Rattle.std.specs.Prelude.{Some, ◌==◌, slice_get, nat_le, sum_by}
 use Rattle.std.specs.List.{list_all}
 use Rattle.std.proofs.lemmas.Option.{get_or_from_slice_get}
 use Rattle.resolved.specs.Program.{Program, ProcedureEntry, SlotEntry, ChannelEntry, procedure_at}

@@ -1,13 +1,13 @@
 -- What the tree of each statement of the code is, by the lists of the code.
-use Rattle.std.proofs.Common.{◌≡◌, ℕ, List, [], ◌∷◌, refl, ap, sym, ◌∙◌}
+use Rattle.std.proofs.Common.{◌≡◌, ℕ, refl, ap, sym, ◌∙◌}
 use Rattle.std.specs.Prelude.{Vec}
 use Rattle.std.specs.declared.alloc.Global.{Global}
 use mathlib.Core.Former
 use Rattle.resolved.specs.declared.expression.Expression.{Expression}
 use Rattle.resolved.specs.declared.statement.Statement as S
-use Rattle.resolved.specs.declared.statement.Statement.TheBlock.{hidden-the_row-Statement-0, shown-the_row-Statement-0, hidden-the_row-Handler-1}
+use Rattle.resolved.specs.declared.statement.Statement.TheBlock.{hidden-the_row-Statement-0, hidden-the_row-Handler-1}
 use Rattle.resolved.specs.declared.statement.Handler.{Handler}
-use Rattle.resolved.specs.Tree.{If, While, Try, Nested, Block, Empty, Then, Handlers, NoMore, Catch}
+use Rattle.resolved.specs.Tree.{Statement, If, While, Try, Nested, Then, Catch}
 use Rattle.resolved.specs.TreeOf.{expression_of, statement_of, block_row, handlers_row, block_of, handlers_of}
 
 block_row_is : {n : Former.Count} (row : S.Row_of-Statement n) → block_row row ≡ block_of (S.items-the_row-Statement n row)
@@ -50,3 +50,21 @@ pub statement_of_nested : (at : ℕ) (block : Vec S.Statement Global)
 statement_of_nested at block = ap (Nested at) (block_hidden block)
 
 pub ruleset statement_views = (statement_of_if, statement_of_while, statement_of_try, statement_of_nested)
+
+-- what a function of the tree is at a statement that was found to be of a form
+pub at_if : {A : Type 0} (f : Statement → A) {s : S.Statement} {at : ℕ} {e : Expression} (yes_block no_block : Vec S.Statement Global)
+    → s ≡ S.If at e yes_block no_block
+    → f (statement_of s) ≡ f (If at (expression_of e) (block_of yes_block.items) (block_of no_block.items))
+at_if f yes_block no_block is = ap (λ t. f (statement_of t)) is ∙ ap f (statement_of_if _ _ yes_block no_block)
+
+pub at_while : {A : Type 0} (f : Statement → A) {s : S.Statement} {at loop : ℕ} {e : Expression} (body : Vec S.Statement Global)
+    → s ≡ S.While at loop e body → f (statement_of s) ≡ f (While at loop (expression_of e) (block_of body.items))
+at_while f body is = ap (λ t. f (statement_of t)) is ∙ ap f (statement_of_while _ _ _ body)
+
+pub at_try : {A : Type 0} (f : Statement → A) {s : S.Statement} {at : ℕ} (block : Vec S.Statement Global) (handlers : Vec Handler Global)
+    → s ≡ S.Try at block handlers → f (statement_of s) ≡ f (Try at (block_of block.items) (handlers_of handlers.items))
+at_try f block handlers is = ap (λ t. f (statement_of t)) is ∙ ap f (statement_of_try _ block handlers)
+
+pub at_nested : {A : Type 0} (f : Statement → A) {s : S.Statement} {at : ℕ} (block : Vec S.Statement Global)
+    → s ≡ S.Nested at block → f (statement_of s) ≡ f (Nested at (block_of block.items))
+at_nested f block is = ap (λ t. f (statement_of t)) is ∙ ap f (statement_of_nested _ block)

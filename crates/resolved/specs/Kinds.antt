@@ -1,6 +1,6 @@
 -- What the states of a well-formed program hold: in each variable as many cells as it has, each with a value of its base type.
 -- Source: type soundness as in Milner 1978, for our own language.
-use Rattle.std.specs.Prelude.{◌≡◌, ℕ, ◌<◌, List, [], ◌∷◌, length, All, Option, Some, None, slice_get, IsTrue, ◌&&◌}
+use Rattle.std.specs.Prelude.{◌≡◌, ℕ, List, [], length, All, Option, Some, None, IsTrue, ◌&&◌}
 use Rattle.resolved.specs.declared.expression.Base.{Base}
 use Rattle.resolved.specs.declared.expression.Value.{Value}
 use Rattle.resolved.specs.declared.expression.Variable.{Variable}
@@ -8,11 +8,11 @@ use Rattle.resolved.specs.declared.statement.Exit.{Exit}
 use Rattle.resolved.specs.declared.statement.Exit.TheVariants.{Return}
 use Rattle.resolved.specs.Ends.{same_exit}
 use Rattle.resolved.specs.Tree.{Expression, Block}
-use Rattle.resolved.specs.Program.{Program, ProcedureEntry, ResultEntry, SlotEntry, procedure_at}
+use Rattle.resolved.specs.Program.{Program, ProcedureEntry, ResultEntry, procedure_at}
 use Rattle.resolved.specs.Value.{Evaluated, Gives, Raises, base_of}
 use Rattle.resolved.specs.State.{World, State, cells, value_of}
 use Rattle.resolved.specs.Meaning.{Outcome, Ended, Stopped, state_after, block_meaning, calls_with, entering, first_state}
-use Rattle.resolved.specs.WellFormed.{VariableType, variable_type, cell_count, same_base, has_base, has_result, block_fits, well_formed, parameters_of}
+use Rattle.resolved.specs.WellFormed.{VariableType, variable_type, cell_count, same_base, has_base, has_result, block_fits, well_formed}
 
 -- the cells of a variable of a type
 pub record CellsFit (type : VariableType) (values : List Value) : Type 0 where

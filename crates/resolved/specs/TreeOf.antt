@@ -1,7 +1,6 @@
 -- The tree and the program of the definitions that a tree and a program of the code stand for.
 -- Source: our own.
-use Rattle.std.specs.Prelude.{◌≡◌, ℕ, List, [], ◌∷◌, map, Option, Some, None, string_bytes}
-use Rattle.std.proofs.Common.{ap, sym, ◌∙◌, refl}
+use Rattle.std.specs.Prelude.{List, [], ◌∷◌, map, Option, Some, None}
 use mathlib.Core.Former
 use Rattle.resolved.specs.declared.expression.Expression as E
 use Rattle.resolved.specs.declared.statement.Statement as S

@@ -1,7 +1,7 @@
 -- Well-formed programs: each number of the tree is in its table and means what its place wants, each expression has the base
 -- type that is wanted, and the limits of the language are kept.
 -- Source: our own.
-use Rattle.std.specs.Prelude.{ℕ, suc, ◌+◌, List, [], ◌∷◌, ◌++◌, Bool, true, false, not, ◌==◌, ◌&&◌, ◌||◌, Option, Some, None, is_none, length, take, map, sum_by, slice_get, nat_lt, nat_le}
+use Rattle.std.specs.Prelude.{ℕ, suc, ◌+◌, List, [], ◌∷◌, ◌++◌, Bool, true, false, not, ◌==◌, ◌&&◌, ◌||◌, Option, Some, None, is_none, length, take, sum_by, slice_get, nat_lt, nat_le}
 use Rattle.std.specs.List.{list_all, list_any}
 use Rattle.principals.specs.ActsFor.{PrincipalHierarchy}
 use Rattle.labels.specs.Label.{Label, ReaderPolicy}
@@ -18,7 +18,7 @@ use Rattle.resolved.specs.declared.expression.Operator.TheVariants.{Add, Subtrac
 use Rattle.resolved.specs.declared.tables.Direction.{Direction}
 use Rattle.resolved.specs.declared.tables.Direction.TheVariants.{Input, Output}
 use Rattle.resolved.specs.declared.statement.Exit.{Exit}
-use Rattle.resolved.specs.declared.statement.Exit.TheVariants.{Normal, Return, Break, Continue, Throw}
+use Rattle.resolved.specs.declared.statement.Exit.TheVariants.{Break, Continue, Throw}
 use Rattle.resolved.specs.Tree.{Expression, Integer, Logical, Read, Element, Unary, Binary, Short, Statement, Assign, Clear, Store, Receive, Send, Call, If, While, Leave, ReturnWith, Try, Nested, Block, Empty, Then, Handlers, NoMore, Catch}
 use Rattle.resolved.specs.Program.{Program, ProcedureEntry, SlotEntry, ResultEntry, ThrownEntry, ChannelEntry, GlobalEntry}
 use Rattle.resolved.specs.Value.{base_of, is_zero}

@@ -1,19 +1,18 @@
 -- Programs that are well formed and programs that are not.
 use Rattle.std.proofs.Common.{◌≡◌, refl, ℕ, List, [], ◌∷◌, ◌++◌, Bool, true, false, replicate}
-use Rattle.std.specs.Prelude.{pos, Option, Some, None}
-use Rattle.std.specs.Int.{int_wrap}
-use Rattle.labels.specs.Label.{Label, ReaderPolicy}
+use Rattle.std.specs.Prelude.{pos, Some, None}
+use Rattle.labels.specs.Label.{Label}
 use Rattle.resolved.specs.declared.expression.Base.TheVariants.{Int, Boolean}
-use Rattle.resolved.specs.declared.expression.Variable.TheVariants.{Global, Local}
+use Rattle.resolved.specs.declared.expression.Variable.TheVariants.{Local}
 use Rattle.resolved.specs.declared.expression.Operator.TheVariants.{Add, LessThan, Equal, Same}
-use Rattle.resolved.specs.declared.expression.Prefix.TheVariants.{Negate, Not}
+use Rattle.resolved.specs.declared.expression.Prefix.TheVariants.{Not}
 use Rattle.resolved.specs.declared.expression.Connective.TheVariants.{And, Or}
 use Rattle.resolved.specs.declared.expression.Value.TheVariants.{Number, Truth}
-use Rattle.resolved.specs.declared.statement.Exit.TheVariants.{Normal, Break, Throw}
-use Rattle.resolved.specs.Tree.{Expression, Integer, Logical, Read, Element, Unary, Binary, Short, Statement, Assign, Clear, Store, Receive, Send, Call, If, While, Leave, ReturnWith, Try, Nested, Empty}
-use Rattle.resolved.specs.Program.{Program, ProcedureEntry, SlotEntry, GlobalEntry}
+use Rattle.resolved.specs.declared.statement.Exit.TheVariants.{Normal, Throw}
+use Rattle.resolved.specs.Tree.{Expression, Logical, Element, Unary, Binary, Short, Statement, Clear, Store, Receive, Send, Call, While, Leave, ReturnWith, Nested, Empty}
+use Rattle.resolved.specs.Program.{ProcedureEntry, SlotEntry, GlobalEntry}
 use Rattle.resolved.specs.WellFormed.{well_formed}
-use Rattle.resolved.proofs.Cases.Kit.{arith, oops, s_channel, pub_channel, alice, int_slot, unlabelled_slot, array_slot, int, minus, var, set_to, send_public, positive, block, on, try_to, if_then, procedure, thrown, program, program_with}
+use Rattle.resolved.proofs.Cases.Kit.{arith, oops, s_channel, pub_channel, alice, int_slot, unlabelled_slot, array_slot, int, minus, var, set_to, send_public, block, on, try_to, if_then, procedure, thrown, program, program_with}
 
 -- a `main` without loops
 abbrev main : List SlotEntry → List Statement → ProcedureEntry

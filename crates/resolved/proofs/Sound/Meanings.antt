@@ -1,7 +1,6 @@
 -- The meaning keeps the types.
-use Rattle.std.proofs.Common.{◌≡◌, refl, sym, ◌∙◌, ap, subst, ℕ, zero, suc, ◌<◌, List, [], ◌∷◌, length, Bool, true, false, ◌&&◌, arith}
-use Rattle.std.specs.Prelude.{Option, Some, None, is_none, if◌then◌else◌, ◌==◌, slice_get, ℤ, IsTrue}
-use Rattle.std.specs.List.{list_all}
+use Rattle.std.proofs.Common.{◌≡◌, refl, sym, ◌∙◌, ap, subst, ℕ, zero, suc, List, [], ◌∷◌, length, Bool, true, false, ◌&&◌}
+use Rattle.std.specs.Prelude.{Option, Some, None, is_none, if◌then◌else◌, ◌==◌, slice_get, ℤ}
 use Rattle.resolved.specs.declared.expression.Base.{Base}
 use Rattle.resolved.specs.declared.expression.Base.TheVariants.{Int, Boolean}
 use Rattle.resolved.specs.declared.expression.Value.{Value}
@@ -15,9 +14,9 @@ use Rattle.resolved.specs.Tree.{Expression, Statement, Assign, Clear, Store, Rec
 use Rattle.resolved.specs.Program.{Program, ProcedureEntry, ResultEntry, SlotEntry}
 use Rattle.resolved.specs.Value.{Evaluated, Gives, Raises, base_of, checked_index, truth_in}
 use Rattle.resolved.specs.State.{State, cells, assigned, stored, value_of, values_of, updated}
-use Rattle.resolved.specs.Meaning.{Outcome, Ended, Stopped, Calls, normally, thrown, after, evaluated, looped, turns, caught, received, kept_in, sending, leaving, returned_to, state_after, entering, calls_with, statement_meaning, block_meaning, handlers_meaning}
+use Rattle.resolved.specs.Meaning.{Outcome, Ended, Stopped, Calls, normally, after, evaluated, looped, turns, caught, received, kept_in, sending, leaving, returned_to, entering, calls_with, statement_meaning, block_meaning, handlers_meaning}
 use Rattle.resolved.specs.WellFormed.{VariableType, variable_type, scalar_by, array_by, has_length, has_base, has_result, same_base, target_by, statement_fits, block_fits, handlers_fit, channel_is, is_exception, call_matches, arguments_match, parameters_of, well_formed}
-use Rattle.resolved.specs.Kinds.{CellsFit, StateFits, GivesBase, OutcomeFits, ReturnedFits, MeaningKeepsTypes, ValuesHaveTheirTypes}
+use Rattle.resolved.specs.Kinds.{StateFits, GivesBase, OutcomeFits, MeaningKeepsTypes, ValuesHaveTheirTypes}
 use Rattle.resolved.proofs.Parts.{ProcedureParts, procedure_there, procedure_at_is}
 use Rattle.resolved.proofs.Sound.Values.{both, same_base_is, same_base_itself, value_fits, values_match, ValuesMatch, GivesMatch}
 use Rattle.resolved.proofs.Sound.States.{some_same, same_variables, assigned_fits, stored_fits, cleared_fits, entering_fits, back_fits}

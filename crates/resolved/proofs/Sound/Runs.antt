@@ -1,18 +1,17 @@
 -- A run begins in a state that fits.
-use Rattle.std.proofs.Common.{◌≡◌, refl, sym, subst, take, ℕ, zero, List, [], ◌∷◌, Bool, true, false, ◌&&◌, ◌==◌}
-use Rattle.std.specs.Prelude.{Option, Some, None, is_none, ◌||◌, slice_get, nat_le, sum_by}
+use Rattle.std.proofs.Common.{◌≡◌, refl, sym, subst, take, ℕ, [], true, ◌&&◌, ◌==◌}
+use Rattle.std.specs.Prelude.{Option, Some, None, slice_get}
 use Rattle.std.specs.List.{list_all}
 use Rattle.std.proofs.lemmas.Bool.{eqb-true}
 use Rattle.resolved.specs.declared.expression.Variable.{Variable}
 use Rattle.resolved.specs.declared.expression.Variable.TheVariants.{Global, Local}
-use Rattle.resolved.specs.declared.expression.Value.{Value}
 use Rattle.resolved.specs.Program.{Program, ProcedureEntry, GlobalEntry, procedure_at}
 use Rattle.resolved.specs.Value.{base_of}
-use Rattle.resolved.specs.State.{World, State, cells}
+use Rattle.resolved.specs.State.{World, cells}
 use Rattle.resolved.specs.Meaning.{entering, first_state, global_cells}
-use Rattle.resolved.specs.WellFormed.{VariableType, variable_type, global_type, parameters_of, same_base, size_fits, label_fits, first_fits, is_zero_value, main_fits, well_formed}
+use Rattle.resolved.specs.WellFormed.{VariableType, variable_type, global_type, same_base, size_fits, label_fits, first_fits, main_fits, well_formed}
 use Rattle.resolved.specs.Kinds.{CellsFit, StateFits, RunsBeginTyped}
-use Rattle.resolved.proofs.Parts.{ProgramParts, ProcedureParts, program_parts, procedure_there, procedure_at_is, passes_at}
+use Rattle.resolved.proofs.Parts.{ProcedureParts, program_parts, procedure_there, procedure_at_is, passes_at}
 use Rattle.resolved.proofs.Sound.Values.{both, same_base_is, ValuesMatch}
 use Rattle.resolved.proofs.Sound.States.{some_same, cells_of_fit, entering_fits}
 

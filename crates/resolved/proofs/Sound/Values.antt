@@ -1,13 +1,13 @@
 -- The value of an expression has its base type.
-use Rattle.std.proofs.Common.{◌≡◌, refl, sym, ◌∙◌, ap, subst, ℕ, zero, suc, ◌<◌, List, [], ◌∷◌, length, Bool, true, false, ◌&&◌, arith, get_or, map, eqb, inl, inr}
-use Rattle.std.specs.Prelude.{Option, Some, None, All, is_none, IsTrue, ℤ, pos, negsuc, nat_lt, nat_le, if◌then◌else◌, ◌==◌}
+use Rattle.std.proofs.Common.{◌≡◌, refl, sym, ◌∙◌, subst, ℕ, ◌<◌, List, [], ◌∷◌, length, Bool, true, false, ◌&&◌, arith}
+use Rattle.std.specs.Prelude.{Option, Some, None, is_none, ℤ, pos, negsuc, nat_lt, if◌then◌else◌}
 use Rattle.std.proofs.lemmas.Bool.{eqb-true}
 use Rattle.std.proofs.lemmas.List.Elements.{All-get_or}
 use Rattle.std.proofs.lemmas.Bool.Decides.{nat_tests}
 use Rattle.resolved.specs.declared.expression.Base.{Base}
 use Rattle.resolved.specs.declared.expression.Base.TheVariants.{Int, Boolean}
 use Rattle.resolved.specs.declared.expression.Value.{Value}
-use Rattle.resolved.specs.declared.expression.Value.TheVariants.{Number, Truth}
+use Rattle.resolved.specs.declared.expression.Value.TheVariants.{Number}
 use Rattle.resolved.specs.declared.expression.Variable.{Variable}
 use Rattle.resolved.specs.declared.expression.Prefix.{Prefix}
 use Rattle.resolved.specs.declared.expression.Prefix.TheVariants.{Negate, Not}
@@ -16,9 +16,9 @@ use Rattle.resolved.specs.declared.expression.Operator.TheVariants.{Add, Subtrac
 use Rattle.resolved.specs.declared.expression.Connective.{Connective}
 use Rattle.resolved.specs.Tree.{Expression, Integer, Logical, Read, Element, Unary, Binary, Short}
 use Rattle.resolved.specs.Program.{Program, ProcedureEntry, SlotEntry}
-use Rattle.resolved.specs.Value.{Evaluated, Gives, Raises, then_with, base_of, operator_value, prefix_value, unless_zero, checked_index, number_in, in_range, position_of, is_zero, decides, literal_number, bounds_exception}
+use Rattle.resolved.specs.Value.{Evaluated, Gives, Raises, then_with, base_of, operator_value, prefix_value, checked_index, number_in, in_range, position_of, is_zero, decides, bounds_exception}
 use Rattle.resolved.specs.State.{State, cells, cell_at, value_of, values_of}
-use Rattle.resolved.specs.WellFormed.{VariableType, variable_type, scalar_by, array_by, has_length, cell_count, same_base, prefix_base, operand_base, result_base, has_base, arguments_match}
+use Rattle.resolved.specs.WellFormed.{VariableType, variable_type, scalar_by, array_by, has_length, cell_count, same_base, prefix_base, result_base, has_base, arguments_match}
 use Rattle.resolved.specs.Kinds.{CellsFit, StateFits, GivesBase}
 
 -- ---- tests
