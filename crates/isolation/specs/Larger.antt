@@ -33,6 +33,12 @@ abbrev pub NamesKeepActsFor : (part whole : PrincipalHierarchy) → Type 0
 NamesKeepActsFor part whole =
     IsHierarchy part → IsHierarchy whole → ContainsHierarchy whole part → KeepsActsFor part whole (number_by_name part whole)
 
+-- so a flow holds on, by the names, in every hierarchy that contains its own
+abbrev pub FlowsStayByName : (part whole : PrincipalHierarchy) → Type 0
+FlowsStayByName part whole =
+    IsHierarchy part → IsHierarchy whole → ContainsHierarchy whole part → (from to : Label) → FlowsTo part from to
+    → FlowsTo whole (carried_label (number_by_name part whole) from) (carried_label (number_by_name part whole) to)
+
 -- isolation where readers, agreement and observers are taken under another hierarchy, to which a renumbering leads
 abbrev pub IsolatedCarried : Program → (whole : PrincipalHierarchy) → (ℕ → ℕ) → Type 0
 IsolatedCarried program whole carry = IsolatedUnder whole (λ channel. carried_label carry (channel_label program channel)) program

@@ -1,7 +1,7 @@
 //! Isolation: what a principal sees of the outputs tells it nothing of the inputs that it may not read.
 
 ghost use Rattle.isolation.specs.TwoRuns.{StatementsAgree};
-ghost use Rattle.isolation.specs.Larger.{FlowsAreKept, IsolatedCarried, KeepsActsFor, NamesKeepActsFor, number_by_name};
+ghost use Rattle.isolation.specs.Larger.{FlowsAreKept, FlowsStayByName, IsolatedCarried, KeepsActsFor, NamesKeepActsFor, number_by_name};
 ghost use Rattle.principals.specs.ActsFor.{ContainsHierarchy, IsHierarchy, PrincipalHierarchy};
 ghost use Rattle.resolved.specs.EndFaults.{end_faults};
 ghost use Rattle.resolved.specs.Isolated.{Isolated};
@@ -34,9 +34,10 @@ pub fn labelled_programs_stay_isolated()
         IsolatedCarried program whole (number_by_name program.hierarchy whole) }
 {}
 
-/// A flow that holds under a hierarchy holds under each one that keeps its acts-for, and a hierarchy that contains it does so by
-/// name.
+/// A flow that holds under a hierarchy holds under each one that keeps its acts-for. A hierarchy that contains another one keeps
+/// its acts-for by name, and so its flows.
 pub fn flows_are_kept()
     ensures renumbered { (part whole : PrincipalHierarchy) (carry : ℕ → ℕ) → FlowsAreKept part whole carry }
-    ensures by_name { (part whole : PrincipalHierarchy) → NamesKeepActsFor part whole }
+    ensures names { (part whole : PrincipalHierarchy) → NamesKeepActsFor part whole }
+    ensures by_name { (part whole : PrincipalHierarchy) → FlowsStayByName part whole }
 {}
