@@ -1,2 +1,4 @@
+pub mod Grammar
 pub mod Nodes
+pub mod Phrase
 pub mod Tree
