@@ -7,7 +7,7 @@ use Rattle.lexer.specs.Terminal.{Terminal}
 use Rattle.syntax.specs.declared.tree.BinaryOperator.TheVariants.{Add}
 use Rattle.syntax.specs.declared.tree.Direction.{Direction}
 use Rattle.syntax.specs.declared.tree.Direction.TheVariants.{Input, Output}
-use Rattle.syntax.specs.Phrase.{Phrase, ◌>>=◌, Give, Token, IntegerToken, Opening, ◌or◌, Many, Separated}
+use Rattle.syntax.specs.Phrase.{Phrase, ◌>>=◌, Give, Token, ForSome, Opening, ◌or◌, Many, Separated}
 use Rattle.syntax.specs.Tree.{NameTree, PolicyTree, LabelTree, ExpressionTree, IntegerTree, VariableTree, BinaryTree, expression_place, RightTree, ReceivedTree, ValueTree, StatementTree, DeclareTree, AssignTree, ReceiveTree, SendTree, BlockTree, ThrownTree, ItemTree, ChannelItem, ProcedureItem, ProgramTree}
 
 unfoldable pub NamePhrase : Phrase NameTree
@@ -30,10 +30,11 @@ LabelPhrase = do
   _ ← Token kinds.CloseBrace
   Give (record { at = token.start; policies = policies })
 
-unfoldable pub IntegerPhrase : Phrase ExpressionTree
-IntegerPhrase = do
-  found ← IntegerToken
-  Give (IntegerTree found.0.start found.1)
+-- an integer of a value
+unfoldable pub IntegerPhrase : ℕ → Phrase ExpressionTree
+IntegerPhrase value = do
+  token ← Token (kinds.Integer value)
+  Give (IntegerTree token.start value)
 
 unfoldable pub VariablePhrase : Phrase ExpressionTree
 VariablePhrase = do
@@ -41,7 +42,7 @@ VariablePhrase = do
   Give (VariableTree name)
 
 unfoldable pub PrimaryPhrase : Phrase ExpressionTree
-PrimaryPhrase = IntegerPhrase or VariablePhrase
+PrimaryPhrase = ForSome IntegerPhrase or VariablePhrase
 
 -- an operator with its right operand; the operator opens a level
 unfoldable pub OperandPhrase : ℕ → Phrase ExpressionTree

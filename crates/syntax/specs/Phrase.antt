@@ -3,7 +3,6 @@
 -- left behind the phrase; levels of nesting are our own.
 use Rattle.std.specs.Prelude.{◌≡◌, ◌⊎◌, ℕ, ◌<◌, List, [], ◌∷◌, length}
 use Rattle.lexer.specs.declared.token.Kind.{Kind}
-use Rattle.lexer.specs.declared.token.Kind.TheVariants as kinds
 use Rattle.lexer.specs.Terminal.{Terminal}
 
 -- `P n tokens tree rest`: the tokens begin with a phrase of this tree, and the rest stands behind it. Levels count but for those
@@ -32,10 +31,9 @@ pub record Token (kind : Kind) (n : ℕ) (tokens : List Terminal) (token : Termi
   pub stands : tokens ≡ token ∷ rest
   pub kind_is : token.kind ≡ kind
 
--- one integer, with its value
-pub record IntegerToken (n : ℕ) (tokens : List Terminal) (found : Terminal × ℕ) (rest : List Terminal) : Type 0 where
-  pub stands : tokens ≡ found.0 ∷ rest
-  pub kind_is : found.0.kind ≡ kinds.Integer found.1
+-- a phrase for some value, as for the value of an integer
+abbrev pub ForSome : {V A : Type 0} → (V → Phrase A) → Phrase A
+ForSome {V} P n tokens tree rest = (value : V) × P value n tokens tree rest
 
 -- one token of a kind that opens a level, where `room` more may be opened: there is room, or the token is among the last n
 pub record Opening (kind : Kind) (room : ℕ) (n : ℕ) (tokens : List Terminal) (token : Terminal) (rest : List Terminal) : Type 0 where
