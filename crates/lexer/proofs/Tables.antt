@@ -17,7 +17,7 @@ pub found_passes : {K : Type 0} (test : List ℕ → Bool) (table : List (List �
 found_passes test [] all cs kind found = absurd cc
 found_passes {K} test (row ∷ rows) all cs kind found =
     elim (cases_Bool (bytes_eq cs row.0)) [
-      inl same ↦ subst (λ x. test x ≡ true) (sym ((bytes_eq-Decides cs row.0).0 same)) (and_parts _ _ all).0
+      | inl same ↦ subst (λ x. test x ≡ true) (sym ((bytes_eq-Decides cs row.0).0 same)) (and_parts _ _ all).0
       | inr other ↦ found_passes test rows (and_parts _ _ all).1 cs kind (sym (cond-false (bytes_eq cs row.0) (Some row.1) (lookup (bytes_eq cs) rows) other) ∙ found)
     ]
 

@@ -62,6 +62,6 @@ pub data IsLexeme : Lexeme → List ℕ → Type 0 where
   Keyword : (cs : List ℕ) (kind : Kind) → keyword_of cs ≡ Some kind → IsLexeme (Word kind) cs
   Identifier : (cs : List ℕ) → IsTrue (is_name cs) → IsLexeme (Word Name) cs
   Literal : (cs : List ℕ) → IsNumeral cs → digits_value 10 cs ≤ greatest_literal
-    → IsLexeme (Word (Integer (digits_value 10 cs))) cs
+      → IsLexeme (Word (Integer (digits_value 10 cs))) cs
   TooLarge : (cs : List ℕ) → IsNumeral cs → greatest_literal < digits_value 10 cs → IsLexeme LargeLiteral cs
   Sign : (cs : List ℕ) (kind : Kind) → sign_of cs ≡ Some kind → IsLexeme (Word kind) cs

@@ -2,11 +2,17 @@
 #![tactic(auto)]
 
 pub mod fault;
+pub mod lexing;
 pub mod names;
+pub mod pieces;
 pub mod places;
 pub mod token;
 
 pub use fault::LexFault;
+pub use lexing::{lex, one_reading};
 pub use names::is_name;
 pub use places::place;
 pub use token::{Kind, Place, Span, Token};
+
+#[cfg(test)]
+mod tests;

@@ -1,0 +1,18 @@
+-- Laws of the cut: a text has at most one, and no refusal beside it; and it has at most one refusal.
+-- Source: our own; that longest match leaves no choice is folklore.
+use Rattle.std.specs.Prelude.{◌≡◌, ℕ, List}
+use Rattle.lexer.specs.Cut.{IsCut, IsRefused}
+use Rattle.lexer.specs.Terminal.{Terminal}
+use Rattle.lexer.specs.declared.fault.LexFault.{LexFault}
+
+-- a text is cut in one way at most
+abbrev pub HasOneCut : Type 0
+HasOneCut = (text : List ℕ) (tokens others : List Terminal) → IsCut text tokens → IsCut text others → tokens ≡ others
+
+-- a text that is cut is not refused
+abbrev pub IsCutOrRefused : Type 0
+IsCutOrRefused = (text : List ℕ) (tokens : List Terminal) (fault : LexFault) → IsCut text tokens → IsRefused text fault → ⊥
+
+-- a text is refused for one reason at most
+abbrev pub HasOneRefusal : Type 0
+HasOneRefusal = (text : List ℕ) (fault other : LexFault) → IsRefused text fault → IsRefused text other → fault ≡ other
