@@ -76,12 +76,12 @@ module _ {A : Type 0} {cost : A → ℕ} {test : Kind → Bool} {read : Reader A
       goes_on e ∙ ap (λ one. then_read (then_read one (λ tree rest. then_read (many_at test read rest) (λ trees. give (tree ∷ trees)))) (λ others. give (front ++ others))) found
 
   pub fails_on : (fault : ParseFault) → test (kind_at tokens) ≡ true → Fails fault (read tokens) → Fails fault whole
-  fails_on faults.Memory e found = tt
+  fails_on faults.NoMemory e found = tt
   fails_on (faults.Unexpected at) e found = is_refused (record { why = OutOfPlace; at = at }) e found
   fails_on (faults.TooDeep at) e found = is_refused (record { why = OverLimit; at = at }) e found
 
 pub fails_first : {A B : Type 0} (read : Reader A) (reads : A → Reader B) (tokens : List Terminal) (fault : ParseFault) → Fails fault (read tokens) → Fails fault (then_read (read tokens) reads)
-fails_first read reads tokens faults.Memory found = tt
+fails_first read reads tokens faults.NoMemory found = tt
 fails_first read reads tokens (faults.Unexpected at) found = ap (λ one. then_read one reads) found
 fails_first read reads tokens (faults.TooDeep at) found = ap (λ one. then_read one reads) found
 

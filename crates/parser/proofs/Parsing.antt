@@ -22,7 +22,7 @@ module _ (tokens : List Token) (terminated : IsTerminated (terminals_of tokens))
   pub is_only : (result : Result Program ParseFault) (left : List Token) → Gives program_tree result left (program_at (terminals_of tokens)) → (tree : ProgramTree) → Spells (terminals_of tokens) tree → IsTreeOrNoMemory result tree
   is_only (Ok program) left e tree spelled =
       sym ((subst (Verdict (terminals_of tokens)) e (verdict (terminals_of tokens) terminated)).2 0 tree spelled)
-  is_only (Err faults.Memory) left e tree spelled = tt
+  is_only (Err faults.NoMemory) left e tree spelled = tt
   is_only (Err (faults.Unexpected at)) left e tree spelled =
       (subst (Verdict (terminals_of tokens)) e (verdict (terminals_of tokens) terminated)).1 tree spelled
   is_only (Err (faults.TooDeep at)) left e tree spelled =

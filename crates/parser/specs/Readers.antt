@@ -33,7 +33,7 @@ Reader A = List Terminal → Result (A × List Terminal) Refusal
 
 -- why reading failed, unless memory ran out
 abbrev pub Fails : {A : Type 0} → ParseFault → Result (A × List Terminal) Refusal → Type 0
-Fails faults.Memory read = Unit {0}
+Fails faults.NoMemory read = Unit {0}
 Fails (faults.Unexpected at) read = read ≡ Err (record { why = OutOfPlace; at = at })
 Fails (faults.TooDeep at) read = read ≡ Err (record { why = OverLimit; at = at })
 

@@ -38,10 +38,8 @@ impl<'a> Parser<'a> {
         ensures { result ≡ Unexpected (place_at (terminals_of self.now.rest.now)) }
     {
         match self.rest {
-            [] => ParseFault::Unexpected { at: 0 },
-            [token, ..] => ParseFault::Unexpected {
-                at: token.span.start,
-            },
+            [] => ParseFault::Unexpected(0),
+            [token, ..] => ParseFault::Unexpected(token.span.start),
         }
     }
 
@@ -67,9 +65,7 @@ impl<'a> Parser<'a> {
     {
         let token = self.expect(kind)?;
         if room == 0 {
-            return Err(ParseFault::TooDeep {
-                at: token.span.start,
-            });
+            return Err(ParseFault::TooDeep(token.span.start));
         }
         Ok(token)
     }

@@ -10,3 +10,6 @@ mod statement;
 
 pub use fault::ParseFault;
 pub use program::{MAX_LEVELS, parse, spells_one_tree};
+
+#[cfg(test)]
+mod tests;
