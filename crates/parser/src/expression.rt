@@ -1,6 +1,8 @@
+ghost use Rattle.std.specs.Prelude.{◌≡◌, MatchResult};
 ghost use Rattle.lexer.specs.Terminal.{terminals_of};
+ghost use Rattle.parser.specs.declared.fault.ParseFault.TheVariants.{NoMemory};
 ghost use Rattle.syntax.specs.Tree.{expression_tree};
-ghost use Rattle.parser.specs.Readers.{Gives, primary_at, operand_at, sum_rest_at, expression_at};
+ghost use Rattle.parser.specs.Readers.{Gives, primary_at, operand_at, sum_of, sum_rest_at, expression_at};
 
 use crate::cursor::Parser;
 use crate::fault::ParseFault;
@@ -37,19 +39,26 @@ impl<'a> Parser<'a> {
         self.primary()
     }
 
+    /// The sum of two operands.
+    fn sum(&self, left: Expression, right: Expression) -> Result<Expression, ParseFault>
+        ensures { MatchResult result (λ sum. expression_tree sum ≡ sum_of (expression_tree left) (expression_tree right)) (λ fault. fault ≡ NoMemory) }
+    {
+        let at = left.place();
+        Ok(Expression::Binary {
+            at,
+            operator: BinaryOperator::Add,
+            left: Box::new(self.alloc, left)?,
+            right: Box::new(self.alloc, right)?,
+        })
+    }
+
     /// What stands behind the left operand: each operator goes on with what was read so far as its left operand.
     fn sum_rest(&mut self, mut room: u32, mut left: Expression) -> Result<Expression, ParseFault>
         ensures { Gives expression_tree result self.new.rest.now (sum_rest_at room (expression_tree left) (terminals_of self.old.rest.now)) }
     {
         while self.is_at(Kind::Plus) {
             let right = self.operand(room)?;
-            let at = left.place();
-            left = Expression::Binary {
-                at,
-                operator: BinaryOperator::Add,
-                left: Box::new(self.alloc, left)?,
-                right: Box::new(self.alloc, right)?,
-            };
+            left = self.sum(left, right)?;
             room -= 1;
         }
         Ok(left)

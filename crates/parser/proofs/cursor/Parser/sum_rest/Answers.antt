@@ -19,7 +19,7 @@ loop-self-smaller c = let room = has_room _ _ _ _ c.in_ok-right.ensures in omega
 
 pub loop-self-preserved : goal.loop-self-preserved
 loop-self-preserved c =
-    rw (c.place-at.ensures, c.in_ok-new.ensures.ok, c.in_ok-new-2.ensures.ok) (sum_goes_on (expression_tree c.loop-self.left) _ c.loop-self.room (expression_tree c.in_ok-right.right) _ (sym c.is_at.ensures ∙ c.loop-self-test.true) c.in_ok-right.ensures ∙ c.loop-self.invariant)
+    rw c.in_ok-left.ensures (sum_goes_on (expression_tree c.loop-self.left) _ c.loop-self.room (expression_tree c.in_ok-right.right) _ (sym c.is_at.ensures ∙ c.loop-self-test.true) c.in_ok-right.ensures ∙ c.loop-self.invariant)
 
 pub returns : goal.returns
 returns c =
