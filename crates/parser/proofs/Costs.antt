@@ -1,9 +1,9 @@
 -- How many tokens a reader takes: at least as many as what it gives costs.
-use Rattle.std.proofs.Common.{◌≡◌, ℕ, zero, suc, ◌+◌, ◌≤◌, ◌<◌, List, [], ◌∷◌, length, Bool, true, false, cond, Result, Ok, Err, refl, sym, ap, subst, sum_by, arith}
+use Rattle.std.proofs.Common.{◌≡◌, ℕ, zero, suc, ◌+◌, ◌≤◌, List, [], ◌∷◌, length, Bool, true, false, cond, Result, Ok, Err, refl, ap, sum_by, arith}
 use Rattle.std.proofs.lemmas.List.Sums.{sum_by-cons}
 use Rattle.lexer.specs.declared.token.Kind.{Kind}
 use Rattle.lexer.specs.Terminal.{Terminal}
-use Rattle.parser.specs.Readers.{Refusal, Reader, then_read, give, unexpected_at, kind_at, same_kind, token_at, opening_at, if_at, times_at, many_at, parted_at, separated_at}
+use Rattle.parser.specs.Readers.{Refusal, Reader, then_read, give, unexpected_at, kind_at, same_kind, token_at, if_at, times_at, many_at, parted_at, separated_at}
 
 pub record Costs {A : Type 0} (cost : A → ℕ) (read : Reader A) : Type 0 where
   pub at : (tokens : List Terminal) (tree : A) (rest : List Terminal) → read tokens ≡ Ok (tree, rest) → cost tree + length rest ≤ length tokens

@@ -1,5 +1,5 @@
 -- A loop that pushes: what is read so far, and reading on, is the whole.
-use Rattle.std.proofs.Common.{◌≡◌, ℕ, zero, suc, ◌+◌, ◌≤◌, ◌<◌, List, [], ◌∷◌, ◌++◌, length, Bool, true, false, cond, Result, Ok, Err, refl, sym, ◌∙◌, ap, subst, append_assoc, arith}
+use Rattle.std.proofs.Common.{◌≡◌, ℕ, zero, suc, ◌<◌, List, [], ◌∷◌, ◌++◌, length, Bool, true, false, cond, Result, Ok, Err, refl, sym, ◌∙◌, ap, append_assoc, arith}
 use Rattle.std.proofs.lemmas.List.{append-nil, length-map}
 use Rattle.lexer.specs.declared.token.Kind.{Kind}
 use Rattle.lexer.specs.declared.token.Token.{Token}
@@ -7,7 +7,7 @@ use Rattle.lexer.specs.Terminal.{Terminal, terminal_of, terminals_of}
 use Rattle.parser.specs.declared.fault.ParseFault.{ParseFault}
 use Rattle.parser.specs.declared.fault.ParseFault.TheVariants as faults
 use Rattle.parser.specs.Readers.{OutOfPlace, OverLimit, Fails, Refusal, Reader, then_read, give, kind_at, is_of, times_at, many_at, parted_at, separated_at}
-use Rattle.parser.proofs.Costs.{Costs, ok_pair}
+use Rattle.parser.proofs.Costs.{Costs}
 
 module _ {A : Type 0} (cost : A → ℕ) (test : Kind → Bool) (read : Reader A) (costs : Costs cost read) (costly : (tree : A) → 0 < cost tree) where
   -- one turn, where n turns may follow

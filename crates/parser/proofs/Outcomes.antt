@@ -1,6 +1,6 @@
 -- What reading a phrase comes to, and how that is put together along the grammar. One predicate says of a reader that what it
 -- takes is a phrase, that it is the only one before the same next token, and that what stops it stops every phrase.
-use Rattle.std.proofs.Common.{◌≡◌, ℕ, zero, suc, ◌+◌, ◌≤◌, ◌<◌, List, [], ◌∷◌, ◌++◌, length, Result, Ok, Err, refl, sym, ◌∙◌, ap, subst, inl, inr, append_assoc, length-append, arith}
+use Rattle.std.proofs.Common.{◌≡◌, ℕ, ◌≤◌, List, [], ◌∷◌, ◌++◌, length, Result, Ok, Err, refl, sym, ◌∙◌, ap, subst, append_assoc, length-append, arith}
 use Rattle.lexer.specs.declared.token.Kind.{Kind}
 use Rattle.lexer.specs.Terminal.{Terminal, IsTerminated}
 use Rattle.syntax.specs.Phrase.{Phrase, Sequence}

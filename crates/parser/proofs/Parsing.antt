@@ -1,8 +1,8 @@
 -- What the parser gives, from what reading a program gives.
-use Rattle.std.proofs.Common.{◌≡◌, ℕ, ◌≤◌, List, length, Result, Ok, Err, IfOk, sym, subst, ap, arith}
+use Rattle.std.proofs.Common.{◌≡◌, ℕ, ◌≤◌, List, length, Result, Ok, Err, IfOk, sym, subst, arith}
 use Rattle.std.proofs.lemmas.List.{length-map}
 use Rattle.lexer.specs.declared.token.Token.{Token}
-use Rattle.lexer.specs.Terminal.{Terminal, IsTerminated, terminal_of, terminals_of}
+use Rattle.lexer.specs.Terminal.{IsTerminated, terminal_of, terminals_of}
 use Rattle.parser.specs.declared.fault.ParseFault.{ParseFault}
 use Rattle.parser.specs.declared.fault.ParseFault.TheVariants as faults
 use Rattle.parser.specs.Readers.{Gives, program_at}

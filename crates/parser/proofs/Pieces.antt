@@ -1,15 +1,15 @@
 -- Pieces of the grammar with their readers, and how they are put together: each form of phrase once, so that a production is
 -- put together in a line for each of its parts.
-use Rattle.std.proofs.Common.{◌≡◌, ◌⊎◌, ℕ, zero, suc, ◌+◌, ◌≤◌, ◌<◌, List, [], ◌∷◌, ◌++◌, length, Bool, true, false, cond, Result, Ok, Err, refl, sym, ◌∙◌, ap, subst, inl, inr, arith}
+use Rattle.std.proofs.Common.{◌≡◌, ◌⊎◌, ℕ, zero, suc, ◌+◌, ◌≤◌, ◌<◌, List, [], ◌∷◌, length, Bool, true, false, cond, Ok, Err, refl, sym, ◌∙◌, ap, subst, inl, inr, arith}
 use Rattle.std.specs.Prelude.{nat_lt}
 use Rattle.std.proofs.lemmas.Bool.{ltb-true, ltb-false}
 use Rattle.lexer.specs.declared.token.Kind.{Kind}
 use Rattle.lexer.specs.declared.token.Kind.TheVariants as kinds
 use Rattle.lexer.specs.Terminal.{Terminal, IsTerminated}
 use Rattle.syntax.specs.Phrase.{Phrase, Sequence, Give, Token, Opening, ◌or◌, Many, none, more, Separated}
-use Rattle.parser.specs.Readers.{Reason, OutOfPlace, OverLimit, Refusal, Reader, then_read, give, unexpected_at, kind_at, same_kind, token_at, room_at, opening_at, if_at, times_at, many_at, parted_at, separated_at}
+use Rattle.parser.specs.Readers.{OutOfPlace, OverLimit, Reader, then_read, give, unexpected_at, kind_at, same_kind, token_at, room_at, opening_at, if_at, times_at, many_at, separated_at}
 use Rattle.parser.proofs.Costs.{Costs, parted_costs}
-use Rattle.parser.proofs.Outcomes.{Follows, Continues, Takes, Stops, Counts, stopped, Outcome, Enters, narrow, in_sequence, continues_first}
+use Rattle.parser.proofs.Outcomes.{Follows, Continues, Takes, Stops, Outcome, Enters, narrow, in_sequence, continues_first}
 use Rattle.parser.proofs.SameKind.{same_kind-equal, same_kind-refl, same_kind-other}
 
 -- A phrase with its reader, where one of S may stand behind it and it, or what stands behind it, begins with one of F.

@@ -1,14 +1,14 @@
 -- What each reader costs: the nodes of what it gives, and at least one token.
-use Rattle.std.proofs.Common.{◌≡◌, ℕ, zero, suc, pred, ◌+◌, ◌≤◌, ◌<◌, List, [], ◌∷◌, ◌++◌, length, Bool, true, false, refl, sym, ap, sum_by, arith}
+use Rattle.std.proofs.Common.{◌≡◌, ℕ, zero, suc, pred, ◌+◌, ◌≤◌, ◌<◌, List, [], ◌∷◌, length, refl, sum_by, arith}
 use Rattle.std.specs.Prelude.{nat_lt}
 use Rattle.std.proofs.lemmas.List.Sums.{sum_by-cons, sum_by-append}
 use Rattle.lexer.specs.declared.token.Kind.{Kind}
 use Rattle.lexer.specs.declared.token.Kind.TheVariants as kinds
 use Rattle.syntax.specs.declared.tree.Direction.{Direction}
 use Rattle.syntax.specs.declared.tree.Direction.TheVariants.{Input, Output}
-use Rattle.syntax.specs.Tree.{NameTree, PolicyTree, LabelTree, ExpressionTree, RightTree, StatementTree, DeclareTree, AssignTree, ReceiveTree, SendTree, BlockTree, ThrownTree, ItemTree, ChannelItem, ProcedureItem, ProgramTree}
+use Rattle.syntax.specs.Tree.{ExpressionTree, StatementTree, DeclareTree, AssignTree, ReceiveTree, SendTree, ItemTree, ChannelItem, ProcedureItem}
 use Rattle.syntax.specs.Nodes.{policy_nodes, label_nodes, expression_nodes, right_nodes, statement_nodes, block_nodes, thrown_nodes, item_nodes, program_nodes}
-use Rattle.parser.specs.Readers.{Reader, give, unexpected_at, kind_at, token_at, opening_at, room_at, name_at, names_at, readers_at, policy_at, some_policies_at, policies_at, label_at, integer_at, variable_at, primary_by, primary_at, operand_at, sum_of, is_of, sum_rest_at, expression_at, received_at, value_at, right_at, declare_at, assign_at, receive_at, send_at, statement_by, statement_at, is_open, statements_at, block_at, way_at, direction_by, direction_at, channel_at, thrown_at, thrown_list_at, some_throws_at, throws_at, procedure_at, is_channel, channels_at, one_procedure_at, last_at, items_at, program_at}
+use Rattle.parser.specs.Readers.{give, unexpected_at, kind_at, opening_at, name_at, names_at, readers_at, policy_at, some_policies_at, policies_at, label_at, integer_at, variable_at, primary_by, primary_at, operand_at, sum_of, is_of, sum_rest_at, expression_at, received_at, value_at, right_at, declare_at, assign_at, receive_at, send_at, statement_by, statement_at, is_open, statements_at, block_at, way_at, direction_by, direction_at, channel_at, thrown_at, thrown_list_at, some_throws_at, throws_at, procedure_at, is_channel, channels_at, one_procedure_at, last_at, items_at, program_at}
 use Rattle.parser.proofs.Costs.{Costs, Within, pay, paid, costs_within, within_costs, token_costs, if_costs, if_within, never_within, many_costs, separated_costs}
 
 pub name_costs : Costs (λ _. 1) name_at

@@ -1,16 +1,16 @@
 -- The productions of the grammar, each with its reader.
-use Rattle.std.proofs.Common.{◌≡◌, ◌⊎◌, ℕ, zero, suc, pred, ◌<◌, List, [], ◌∷◌, ◌++◌, length, Bool, true, false, cond, Ok, refl, sym, ap, subst, inl, inr, arith}
+use Rattle.std.proofs.Common.{◌≡◌, ◌⊎◌, ℕ, zero, suc, pred, List, [], ◌∷◌, Bool, true, false, cond, Ok, refl, sym, ap, subst, inl, inr, arith}
 use Rattle.lexer.specs.declared.token.Kind.{Kind}
 use Rattle.lexer.specs.declared.token.Kind.TheVariants as kinds
 use Rattle.lexer.specs.Terminal.{Terminal, IsTerminated}
 use Rattle.syntax.specs.declared.tree.Direction.{Direction}
 use Rattle.syntax.specs.declared.tree.Direction.TheVariants.{Input, Output}
-use Rattle.syntax.specs.Phrase.{Phrase, Sequence, Give, Token, ForSome, Opening, Many, Separated}
+use Rattle.syntax.specs.Phrase.{Phrase, Sequence, Give}
 use Rattle.syntax.specs.Grammar.{NamePhrase, PolicyPhrase, LabelPhrase, IntegerPhrase, VariablePhrase, PrimaryPhrase, OperandPhrase, SumRest, alone, plus, SumRestPhrase, ExpressionPhrase, ReceivedPhrase, ValuePhrase, RightPhrase, DeclarePhrase, AssignPhrase, ReceivePhrase, SendPhrase, StatementPhrase, BlockPhrase, InputPhrase, OutputPhrase, DirectionPhrase, ChannelPhrase, ThrownPhrase, ThrowsPhrase, ProcedurePhrase, LastPhrase, ItemsPhrase}
 use Rattle.syntax.specs.Nodes.{policy_nodes, statement_nodes, thrown_nodes, item_nodes}
 use Rattle.syntax.specs.Tree.{ExpressionTree, StatementTree}
-use Rattle.parser.specs.Readers.{Reader, then_read, give, unexpected_at, kind_at, same_kind, is_of, token_at, opening_at, if_at, name_at, names_at, readers_at, policy_at, some_policies_at, policies_at, label_at, integer_at, variable_at, primary_by, primary_at, operand_at, sum_of, sum_rest_at, expression_at, received_at, value_at, right_at, declare_at, assign_at, receive_at, send_at, statement_by, statement_at, is_open, statements_at, block_at, way_at, direction_by, direction_at, channel_at, thrown_at, thrown_list_at, some_throws_at, throws_at, procedure_at, is_channel, channels_at, one_procedure_at, last_at, items_at}
-use Rattle.parser.proofs.Outcomes.{Follows, Continues, Takes, Outcome, Enters, narrow, in_sequence, continues_first}
+use Rattle.parser.specs.Readers.{Reader, then_read, give, same_kind, is_of, name_at, names_at, readers_at, policy_at, some_policies_at, policies_at, label_at, integer_at, variable_at, primary_by, primary_at, operand_at, sum_of, sum_rest_at, expression_at, received_at, value_at, right_at, declare_at, assign_at, receive_at, send_at, statement_by, statement_at, is_open, statements_at, block_at, way_at, direction_by, direction_at, channel_at, thrown_at, thrown_list_at, some_throws_at, throws_at, procedure_at, is_channel, channels_at, one_procedure_at, last_at, items_at}
+use Rattle.parser.proofs.Outcomes.{Follows, Continues, Takes, Outcome, Enters, narrow, in_sequence}
 use Rattle.parser.proofs.Pieces.{Piece, IsKind, Either, follows_weaker, give_takes, give_piece, token_piece, opening_piece, then, Nothing, Alternative, taken, no_alternative, choice, either, many, is_it, is_apart, both_apart, separated}
 use Rattle.parser.proofs.Prices.{name_costs, policy_costs, statement_costs, statement_costly, channel_costs, item_costly, thrown_costs}
 

@@ -1,15 +1,15 @@
 -- The whole program: what is read is spelled, what is spelled is read, and what is refused is refused for a cause.
-use Rattle.std.proofs.Common.{◌≡◌, ℕ, ◌+◌, ◌≤◌, List, [], ◌∷◌, ◌++◌, length, length-append, Bool, true, false, cond, Result, Ok, Err, refl, sym, ◌∙◌, ap, subst, inl, inr, append_assoc, arith}
+use Rattle.std.proofs.Common.{◌≡◌, ℕ, ◌≤◌, List, [], ◌∷◌, ◌++◌, length, length-append, Bool, true, false, cond, Result, Ok, Err, refl, sym, ◌∙◌, ap, subst, inl, inr, append_assoc, arith}
 use Rattle.lexer.specs.declared.token.Kind.TheVariants as kinds
 use Rattle.lexer.specs.Terminal.{Terminal, IsTerminated}
-use Rattle.syntax.specs.Phrase.{Sequence, Give, Token}
 use Rattle.syntax.specs.Grammar.{ItemsPhrase, ProgramPhrase, SpellsBut, Spells}
+use Rattle.syntax.specs.Nodes.{program_nodes}
 use Rattle.syntax.specs.Tree.{ItemTree, ProgramTree}
 use Rattle.parser.specs.Readers.{Reason, OutOfPlace, OverLimit, Refusal, same_kind, then_read, give, unexpected_at, token_at, items_at, program_at}
-use Rattle.parser.specs.Refusal.{BeginsWithin, Begins, IsUnexpectedAt, IsTooDeepAt}
+use Rattle.parser.specs.Refusal.{BeginsWithin, IsUnexpectedAt, IsTooDeepAt}
 use Rattle.parser.proofs.Outcomes.{Follows, Continues, Takes, Stops, Counts, Outcome}
-use Rattle.parser.proofs.Pieces.{IsKind}
 use Rattle.parser.proofs.Productions.{AtEnd, items_piece}
+use Rattle.parser.proofs.Prices.{program_costs}
 use Rattle.parser.proofs.SameKind.{same_kind-equal, same_kind-refl}
 
 -- the parts of a spelling
@@ -179,3 +179,12 @@ same_trees tokens (Err refusal) v a b x y = absurd (v.1 a x)
 pub one_tree : (tokens : List Terminal) (a b : ProgramTree) → Spells tokens a → Spells tokens b → a ≡ b
 one_tree tokens a b x y =
     same_trees tokens (program_at tokens) (verdict tokens (spelled_terminated 0 tokens a x)) a b x y
+
+few_nodes_at : (tokens : List Terminal) (found : Result (ProgramTree × List Terminal) Refusal) → program_at tokens ≡ found → Verdict tokens found → (tree : ProgramTree) → Spells tokens tree → program_nodes tree ≤ length tokens
+few_nodes_at tokens (Ok found) e v tree spelled =
+    omega (arith, program_costs.at tokens found.0 found.1 e, ap program_nodes (v.2 0 tree spelled))
+few_nodes_at tokens (Err refusal) e v tree spelled = absurd (v.1 tree spelled)
+
+pub few_nodes : (tokens : List Terminal) (tree : ProgramTree) → Spells tokens tree → program_nodes tree ≤ length tokens
+few_nodes tokens tree spelled =
+    few_nodes_at tokens (program_at tokens) refl (verdict tokens (spelled_terminated 0 tokens tree spelled)) tree spelled

@@ -1,5 +1,5 @@
 -- The derived test of two kinds tells whether they are equal.
-use Rattle.std.proofs.Common.{◌≡◌, ℕ, List, [], ◌∷◌, Bool, true, false, refl, ap, subst, sym, inl, inr}
+use Rattle.std.proofs.Common.{◌≡◌, ℕ, List, [], ◌∷◌, Bool, true, false, refl, ap, inl, inr}
 use Rattle.std.proofs.lemmas.Bool.{eqb-true}
 use denote.Struct.Field.{Field}
 use denote.Struct.Values.{Values}

@@ -1,12 +1,12 @@
 -- A loop over the operators of a sum: the sum so far is the left operand of what follows.
-use Rattle.std.proofs.Common.{◌≡◌, ℕ, zero, suc, ◌-◌, ◌<◌, List, Bool, true, false, cond, Result, Ok, Err, refl, sym, ◌∙◌, ap, subst, arith, sub-one}
+use Rattle.std.proofs.Common.{◌≡◌, ℕ, zero, suc, ◌-◌, ◌<◌, List, Bool, true, false, cond, Result, Ok, Err, refl, sym, ◌∙◌, ap, subst, arith}
 use Rattle.std.specs.Prelude.{nat_lt}
 use Rattle.std.proofs.lemmas.Bool.{ltb-true}
 use Rattle.lexer.specs.declared.token.Kind.TheVariants as kinds
 use Rattle.lexer.specs.Terminal.{Terminal}
 use Rattle.syntax.specs.Tree.{ExpressionTree}
 use Rattle.parser.specs.declared.fault.ParseFault.{ParseFault}
-use Rattle.parser.specs.Readers.{OverLimit, Refusal, Fails, Reader, then_read, give, is_of, kind_at, token_at, room_at, opening_at, primary_at, operand_at, sum_of, sum_rest_at}
+use Rattle.parser.specs.Readers.{OverLimit, Refusal, Fails, then_read, give, is_of, kind_at, token_at, room_at, opening_at, primary_at, operand_at, sum_of, sum_rest_at}
 use Rattle.parser.proofs.Costs.{both_ok}
 use Rattle.parser.proofs.Loops.{fails_first}
 

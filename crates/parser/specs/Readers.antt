@@ -1,6 +1,6 @@
 -- What each private function of the parser gives, as a function on lists of terminals. No public contract cites it.
 -- Source: our own, in the style of recursive descent.
-use Rattle.std.specs.Prelude.{◌≡◌, ℕ, zero, suc, pred, map, List, [], ◌∷◌, ◌++◌, length, Result, Ok, Err, Bool, true, false, ◌||◌, not, nat_lt, if◌then◌else◌}
+use Rattle.std.specs.Prelude.{◌≡◌, ℕ, zero, suc, pred, map, List, [], ◌∷◌, ◌++◌, length, Result, Ok, Err, Bool, ◌||◌, not, nat_lt, if◌then◌else◌}
 use Rattle.std.specs.declared.alloc.Global.{Global}
 use Rattle.std.specs.declared.vec.Vec.{Vec}
 use Rattle.lexer.specs.declared.token.Token.{Token}

@@ -9,7 +9,7 @@ pub mod program;
 mod statement;
 
 pub use fault::ParseFault;
-pub use program::{MAX_LEVELS, parse, spells_one_tree};
+pub use program::{MAX_LEVELS, parse, spelling_laws};
 
 #[cfg(test)]
 mod tests;

@@ -79,7 +79,7 @@ fn tells_trees_with_their_places(rt: HostRuntime) -> Result<(), Fail> {
          right: Variable(Name { at: 25, text: \"y\" }) }, right: Integer { at: 29, value: 3 } }) }, \
          Send { at: 32, channel: Name { at: 37, text: \"c\" }, value: Integer { at: 40, value: 7 } }] } })] }"
     );
-    spells_one_tree();
+    spelling_laws();
     Ok(())
 }
 

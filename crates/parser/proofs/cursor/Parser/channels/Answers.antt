@@ -3,7 +3,7 @@ use Rattle.std.proofs.lemmas.Result.{err_from_is_err_and}
 use Rattle.std.proofs.lemmas.List.{map_push}
 use Rattle.syntax.specs.Tree.{item_tree}
 use Rattle.parser.specs.Readers.{item_trees, is_channel, channel_at, channels_at}
-use Rattle.parser.proofs.Loops.{ReadsOn, starts, one_more, is_over, fails_on, falls}
+use Rattle.parser.proofs.Loops.{starts, one_more, is_over, fails_on, falls}
 use Rattle.parser.proofs.Prices.{channel_costs, item_costly}
 use Rattle.parser.proofs.cursor.Parser.channels.Goals as goal
 

@@ -4,7 +4,7 @@ use Rattle.std.proofs.lemmas.Result.{err_from_is_err_and}
 use Rattle.std.proofs.lemmas.List.{map_push}
 use Rattle.syntax.specs.Tree.{statement_tree}
 use Rattle.parser.specs.Readers.{statement_trees, is_open, statement_at, statements_at}
-use Rattle.parser.proofs.Loops.{ReadsOn, starts, one_more, is_over, fails_on, falls}
+use Rattle.parser.proofs.Loops.{starts, one_more, is_over, fails_on, falls}
 use Rattle.parser.proofs.Prices.{statement_costs, statement_costly}
 use Rattle.parser.proofs.cursor.Parser.statements.Goals as goal
 

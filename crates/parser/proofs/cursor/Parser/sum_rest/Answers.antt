@@ -1,8 +1,6 @@
-use Rattle.std.proofs.Common.{◌≡◌, ℕ, ◌-◌, ap, sym, ◌∙◌, rules, arith}
+use Rattle.std.proofs.Common.{sym, ◌∙◌, arith}
 use Rattle.std.proofs.lemmas.Result.{err_from_is_err_and}
-use Rattle.lexer.specs.Terminal.{terminals_of}
 use Rattle.syntax.specs.Tree.{expression_tree}
-use Rattle.parser.specs.Readers.{Fails, sum_of, sum_rest_at}
 use Rattle.parser.proofs.Sums.{has_room, sum_goes_on, sum_is_over, sum_fails}
 use Rattle.parser.proofs.cursor.Parser.sum_rest.Goals as goal
 
