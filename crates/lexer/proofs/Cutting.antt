@@ -1,10 +1,10 @@
 -- Cuts of a text, one behind another, and why there is one at most.
-use Rattle.std.proofs.Common.{◌≡◌, ℕ, ◌+◌, ◌<◌, ◌≤◌, List, [], ◌∷◌, ◌++◌, Option, Some, None, length, refl, sym, ap, subst, ◌∙◌, arith, append_assoc, append-nil}
-use Rattle.std.specs.Str.{chars, encode_utf8_all}
+use Rattle.std.proofs.Common.{◌≡◌, ℕ, ◌+◌, List, [], ◌∷◌, ◌++◌, length, refl, sym, ap, subst, ◌∙◌}
+use Rattle.std.specs.Str.{chars}
 use Rattle.lexer.specs.Terminal.{Terminal}
-use Rattle.lexer.specs.Lexeme.{Lexeme, Word, Gap, LargeLiteral, OpenComment, IsLexeme}
-use Rattle.lexer.specs.Cut.{Cuts, Nothing, Token, Between, IsNext, IsCut, IsRefused, IsStuck, HasNoLexeme, terminal_at, size}
-use Rattle.lexer.specs.Laws.{HasOneCut, IsCutOrRefused, HasOneRefusal}
+use Rattle.lexer.specs.Lexeme.{Lexeme, Word, Gap, LargeLiteral, OpenComment}
+use Rattle.lexer.specs.Cut.{Cuts, Nothing, Token, Between, IsNext, IsStuck, terminal_at, size}
+use Rattle.lexer.specs.Laws.{HasOneCut, IsNotCutAndRefused, HasOneRefusal}
 use Rattle.lexer.specs.declared.token.Kind.{Kind}
 use Rattle.lexer.specs.declared.token.Kind.TheVariants.{End}
 use Rattle.lexer.specs.declared.fault.LexFault.{LexFault}
@@ -19,10 +19,10 @@ pub cuts_on : (start : ℕ) (text : List ℕ) (tokens : List Terminal) (middle :
 cuts_on start text tokens middle left others end rest (Nothing _ _) more = more
 cuts_on start text tokens middle left others end rest (Token _ _ kind front l ts _ _ next cuts) more =
     Token start text kind front l (ts ++ others) end rest next
-      (cuts_on (start + size front) l ts middle left others end rest cuts more)
+    (cuts_on (start + size front) l ts middle left others end rest cuts more)
 cuts_on start text tokens middle left others end rest (Between _ _ front l ts _ _ next cuts) more =
     Between start text front l (ts ++ others) end rest next
-      (cuts_on (start + size front) l ts middle left others end rest cuts more)
+    (cuts_on (start + size front) l ts middle left others end rest cuts more)
 
 -- no token and no gap begins the text
 pub record Halts (text : List ℕ) : Type 0 where
@@ -39,7 +39,7 @@ moved_cut : (start : ℕ) (front back l m : List ℕ) (tokens : List Terminal) (
     → l ≡ m → Cuts (start + size back) m tokens end rest → Cuts (start + size front) l tokens end rest
 moved_cut start front back l m tokens end rest e k cuts =
     subst (λ t. Cuts (start + size front) t tokens end rest) (sym k)
-      (subst (λ f. Cuts (start + size f) m tokens end rest) (sym e) cuts)
+    (subst (λ f. Cuts (start + size f) m tokens end rest) (sym e) cuts)
 
 -- two cuts that go as far as they can are one
 pub one_way : (start : ℕ) (text : List ℕ) (tokens : List Terminal) (end : ℕ) (rest : List ℕ) (others : List Terminal)
@@ -60,8 +60,8 @@ one_way start text tokens end rest others place left (Token _ _ kind front l ts 
     let r = one_way (start + size front) l ts end rest us place left cuts h here k in
     record {
       tokens_same =
-        ap (λ t. t ∷ ts) (ap (λ x. terminal_at start x front) kind_same ∙ ap (terminal_at start other) same)
-        ∙ ap (λ x. terminal_at start other back ∷ x) r.tokens_same;
+          ap (λ t. t ∷ ts) (ap (λ x. terminal_at start x front) kind_same ∙ ap (terminal_at start other) same)
+          ∙ ap (λ x. terminal_at start other back ∷ x) r.tokens_same;
       end_same = r.end_same;
       rest_same = r.rest_same;
     }
@@ -144,8 +144,8 @@ has_one_cut text tokens others h k =
     let same = one_way 0 (chars text) h.words (length text) [] k.words (length text) [] h.cuts halts_nil k.cuts halts_nil in
     h.ended ∙ (ap (λ ws. ws ++ terminal_at (length text) End [] ∷ []) same.tokens_same ∙ sym k.ended)
 
-pub is_cut_or_refused : IsCutOrRefused
-is_cut_or_refused text tokens fault h k =
+pub not_cut_and_refused : IsNotCutAndRefused
+not_cut_and_refused text tokens fault h k =
     let same = one_way 0 (chars text) h.words (length text) [] k.words k.place k.rest h.cuts halts_nil k.cuts (halts_stuck k.place k.rest fault k.stuck) in
     some_stuck k.place k.rest fault k.stuck (sym same.rest_same)
 
@@ -153,4 +153,4 @@ pub has_one_refusal : HasOneRefusal
 has_one_refusal text fault other h k =
     let same = one_way 0 (chars text) h.words h.place h.rest k.words k.place k.rest h.cuts (halts_stuck h.place h.rest fault h.stuck) k.cuts (halts_stuck k.place k.rest other k.stuck) in
     one_stuck k.place k.rest fault other
-      (subst (λ p. IsStuck p k.rest fault) same.end_same (subst (λ r. IsStuck h.place r fault) same.rest_same h.stuck)) k.stuck
+    (subst (λ p. IsStuck p k.rest fault) same.end_same (subst (λ r. IsStuck h.place r fault) same.rest_same h.stuck)) k.stuck

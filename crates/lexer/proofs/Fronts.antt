@@ -1,12 +1,11 @@
 -- What a lexeme is, by the class of its first character.
-use Rattle.std.proofs.Common.{◌≡◌, ◌⊎◌, ℕ, ◌<◌, ◌≤◌, ◌==◌, ◌&&◌, ◌||◌, Bool, true, false, not, cond, List, [], ◌∷◌, ◌++◌, Option, Some, None, length, codes, refl, sym, ap, subst, ◌∙◌, inl, inr, arith, unwrap_or, is_some}
-use Rattle.std.proofs.lemmas.Bool.{cases_Bool, and_parts, or_cases, or_from, not-true, eqb-true, ltb-true, leb-true, le-leb, lt-leb, cond-true, cond-false}
-use Rattle.std.proofs.lemmas.Bool.Decides.{nat_tests}
+use Rattle.std.proofs.Common.{◌≡◌, ℕ, ◌≤◌, ◌==◌, ◌&&◌, ◌||◌, Bool, true, false, not, cond, List, [], ◌∷◌, Option, Some, None, length, refl, sym, ap, subst, ◌∙◌, inl, inr, arith, unwrap_or, is_some}
+use Rattle.std.proofs.lemmas.Bool.{and_parts, or_cases, eqb-true, le-leb, lt-leb, cond-true, cond-false}
 use Rattle.std.specs.Char.{is_ascii_digit, is_ascii_lowercase}
 use Rattle.std.specs.List.{list_all}
 use Rattle.std.specs.Prelude.{nat_le}
 use Rattle.std.specs.Str.Parse.{digits_value}
-use Rattle.lexer.specs.Words.{is_white_space, is_identifier, is_name, may_begin, may_continue, keyword_of, keywords}
+use Rattle.lexer.specs.Words.{is_white_space, is_name, may_continue, keyword_of, keywords}
 use Rattle.lexer.specs.Lexeme.{Lexeme, Word, Gap, LargeLiteral, OpenComment, IsLexeme, Blank, LineComment, BlockComment, Unended, Keyword, Identifier, Literal, TooLarge, Sign, IsInLine, IsOpen, IsClosed, IsNumeral, sign_of, signs, greatest_literal}
 use Rattle.lexer.specs.declared.token.Kind.{Kind}
 use Rattle.lexer.specs.declared.token.Kind.TheVariants.{Slash, Name, Integer}
@@ -59,7 +58,7 @@ keyword_shape c cs kind found =
     let lower = found_passes lowercase_word keywords refl (c ∷ cs) kind found in
     let (first, others) = and_parts _ _ lower in
     known Letter c cs (Word kind) (class-Letter c (lowercase_begins c first))
-      (ap (λ o. Word (unwrap_or o Name)) (sym found), lowercase_all cs others)
+    (ap (λ o. Word (unwrap_or o Name)) (sym found), lowercase_all cs others)
 
 name_kind : (found : Option Kind) → not (is_some found) ≡ true → Name ≡ unwrap_or found Name
 name_kind None free = refl
@@ -92,14 +91,14 @@ alone c kind e found =
     let both : Some Slash ≡ Some kind = sym slash ∙ here in
     let same : Slash ≡ kind = cc in
     known Solidus c [] (Word kind) (subst (λ x. class_of x ≡ Solidus) (sym e) class-Solidus)
-      (subst (λ k. AfterSolidus [] (Word k)) same Alone)
+    (subst (λ k. AfterSolidus [] (Word k)) same Alone)
 
 sign_shape : (c : ℕ) (cs : List ℕ) (kind : Kind) → sign_of (c ∷ cs) ≡ Some kind
     → Front (class_of c) c cs (Word kind)
 unfolding sign_word
 sign_shape c [] kind found =
     elim (or_cases _ _ (found_passes sign_word signs refl (c ∷ []) kind found)) [
-      inl first ↦ known Other c [] (Word kind) (class-Other c first) (kind, (found, (refl, omega arith)))
+      | inl first ↦ known Other c [] (Word kind) (class-Other c first) (kind, (found, (refl, omega arith)))
       | inr solidus ↦ alone c kind (eqb-true c 47 solidus) found
     ]
 sign_shape c (d ∷ []) kind found =
@@ -116,7 +115,7 @@ at_solidus c cs tail lexeme e h =
     let first : 47 ≡ c = cc in
     let others : tail ≡ cs = cc in
     known Solidus c cs lexeme (subst (λ x. class_of x ≡ Solidus) first class-Solidus)
-      (subst (λ t. AfterSolidus t lexeme) others h)
+    (subst (λ t. AfterSolidus t lexeme) others h)
 
 -- what a lexeme is
 pub shape : (lexeme : Lexeme) (text : List ℕ) (c : ℕ) (cs : List ℕ) → IsLexeme lexeme text → text ≡ c ∷ cs
@@ -133,10 +132,10 @@ shape lexeme text c cs (Keyword word kind found) e =
 shape lexeme text c cs (Identifier word named) e = name_shape c cs (subst (λ t. is_name t ≡ true) e named)
 shape lexeme text c cs (Literal digits numeral small) e =
     literal_shape c cs _ (subst IsNumeral e numeral)
-      (sym (cond-true (nat_le (digits_value 10 digits) greatest_literal) _ _ (le-leb _ _ small)) ∙ ap literal_of e)
+    (sym (cond-true (nat_le (digits_value 10 digits) greatest_literal) _ _ (le-leb _ _ small)) ∙ ap literal_of e)
 shape lexeme text c cs (TooLarge digits numeral large) e =
     literal_shape c cs _ (subst IsNumeral e numeral)
-      (sym (cond-false (nat_le (digits_value 10 digits) greatest_literal) _ _ (lt-leb _ _ large)) ∙ ap literal_of e)
+    (sym (cond-false (nat_le (digits_value 10 digits) greatest_literal) _ _ (lt-leb _ _ large)) ∙ ap literal_of e)
 shape lexeme text c cs (Sign sign kind found) e = sign_shape c cs kind (subst (λ t. sign_of t ≡ Some kind) e found)
 
 -- no lexeme is empty

@@ -1,5 +1,5 @@
 -- One more lexeme of a text that is cut so far.
-use Rattle.std.proofs.Common.{◌≡◌, ℕ, ◌+◌, ◌-◌, ◌<◌, ◌≤◌, List, [], ◌∷◌, ◌++◌, Option, Some, None, length, refl, sym, ap, subst, ◌∙◌, arith, append-nil}
+use Rattle.std.proofs.Common.{◌≡◌, ℕ, ◌+◌, ◌-◌, ◌<◌, ◌≤◌, List, [], ◌∷◌, ◌++◌, Option, Some, None, length, sym, ap, subst, ◌∙◌, arith, append-nil}
 use Rattle.std.proofs.lemmas.Str.{encodes-chars, chars-nil}
 use Rattle.std.specs.Str.{chars, IsUtf8, encode_utf8_all}
 use Rattle.lexer.specs.Terminal.{Terminal}
@@ -54,8 +54,8 @@ gap text rest left tokens ok tail_ok so_far (front, next) =
     let g = goes text rest left Gap front so_far.within ok tail_ok next in
     let here = length text - length rest in
     let step : Cuts here (chars rest) [] (length text - length left) (chars left) =
-        subst (λ k. Cuts here (chars rest) [] k (chars left)) g.place
-          (Between here (chars rest) front (chars left) [] (here + size front) (chars left) next (Nothing (here + size front) (chars left))) in
+    subst (λ k. Cuts here (chars rest) [] k (chars left)) g.place
+    (Between here (chars rest) front (chars left) [] (here + size front) (chars left) next (Nothing (here + size front) (chars left))) in
     let h = so_far.within in
     let s = g.shorter in
     record {
@@ -63,7 +63,7 @@ gap text rest left tokens ok tail_ok so_far (front, next) =
       grown = record {
         within = omega arith;
         cuts = subst (λ ts. Cuts 0 (chars text) ts (length text - length left) (chars left)) (append-nil tokens)
-          (cuts_on 0 (chars text) tokens here (chars rest) [] (length text - length left) (chars left) so_far.cuts step);
+            (cuts_on 0 (chars text) tokens here (chars rest) [] (length text - length left) (chars left) so_far.cuts step);
       };
     }
 
@@ -79,11 +79,11 @@ token text rest left bytes tokens kind ok tail_ok bytes_ok so_far (front, next) 
     let same : chars bytes ≡ front = same_before (chars bytes) front (chars left) (sym parts ∙ next.parts) in
     let spelled : encode_utf8_all front ≡ bytes = ap encode_utf8_all (sym same) ∙ encodes-chars bytes bytes_ok in
     let terminal : terminal_at here kind front ≡ added =
-        ap (λ t. record { kind = kind; text = t; start = here; end = here + size front }) spelled
-        ∙ (ap (λ k. record { kind = kind; text = bytes; start = here; end = k }) g.place ∙ sym e) in
+    ap (λ t. record { kind = kind; text = t; start = here; end = here + size front }) spelled
+    ∙ (ap (λ k. record { kind = kind; text = bytes; start = here; end = k }) g.place ∙ sym e) in
     let step : Cuts here (chars rest) (terminal_at here kind front ∷ []) (length text - length left) (chars left) =
-        subst (λ k. Cuts here (chars rest) (terminal_at here kind front ∷ []) k (chars left)) g.place
-          (Token here (chars rest) kind front (chars left) [] (here + size front) (chars left) next (Nothing (here + size front) (chars left))) in
+    subst (λ k. Cuts here (chars rest) (terminal_at here kind front ∷ []) k (chars left)) g.place
+    (Token here (chars rest) kind front (chars left) [] (here + size front) (chars left) next (Nothing (here + size front) (chars left))) in
     let h = so_far.within in
     let s = g.shorter in
     record {
@@ -91,7 +91,7 @@ token text rest left bytes tokens kind ok tail_ok bytes_ok so_far (front, next) 
       grown = record {
         within = omega arith;
         cuts = subst (λ t. Cuts 0 (chars text) (tokens ++ t ∷ []) (length text - length left) (chars left)) terminal
-          (cuts_on 0 (chars text) tokens here (chars rest) _ (length text - length left) (chars left) so_far.cuts step);
+            (cuts_on 0 (chars text) tokens here (chars rest) _ (length text - length left) (chars left) so_far.cuts step);
       };
     }
 
@@ -117,8 +117,8 @@ whole text rest tokens last so_far e k =
     record {
       words = tokens;
       cuts = subst (λ r. Cuts 0 (chars text) tokens (length text) r) none
-        (subst (λ p. Cuts 0 (chars text) tokens p (chars rest)) place so_far.cuts);
+          (subst (λ p. Cuts 0 (chars text) tokens p (chars rest)) place so_far.cuts);
       ended = ap (λ t. tokens ++ t ∷ []) (k
-        ∙ (ap (λ r. record { kind = End; text = r; start = length text; end = length text }) e
+          ∙ (ap (λ r. record { kind = End; text = r; start = length text; end = length text }) e
           ∙ ap (λ n. record { kind = End; text = []; start = length text; end = n }) width));
     }

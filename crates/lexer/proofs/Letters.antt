@@ -1,9 +1,8 @@
 -- The classes of characters: each character is in one.
-use Rattle.std.proofs.Common.{◌≡◌, ℕ, ◌<◌, ◌≤◌, ◌==◌, ◌&&◌, ◌||◌, Bool, true, false, not, cond, List, [], ◌∷◌, refl, sym, ap, subst, ◌∙◌, inl, inr, arith}
-use Rattle.std.proofs.lemmas.Bool.{cases_Bool, cases_lt, and_parts, or_cases, or_from, or_right, or_left, or_parts, ltb-true, agree_below_at, not-true, not-false, both_ways, ne_eqb, false_from_ne_true, cond-true, cond-false}
+use Rattle.std.proofs.Common.{◌≡◌, ℕ, ◌<◌, ◌==◌, ◌&&◌, ◌||◌, Bool, true, false, not, cond, refl, sym, ap, subst, ◌∙◌, inl, inr, arith}
+use Rattle.std.proofs.lemmas.Bool.{cases_lt, and_parts, or_parts, ltb-true, agree_below_at, not-true, cond-true, cond-false}
 use Rattle.std.proofs.lemmas.Bool.Decides.{nat_tests}
 use Rattle.std.specs.Char.{is_ascii, is_ascii_digit, is_ascii_alphabetic, is_ascii_alphanumeric, is_ascii_lowercase}
-use Rattle.unicode_ident.specs.Ident.{is_xid_start, is_xid_continue}
 use Rattle.unicode_ident.proofs.IdentLemmas.{is_xid_start-ascii, is_xid_continue-ascii}
 use Rattle.lexer.specs.Words.{is_white_space, may_begin, may_continue}
 
@@ -31,11 +30,11 @@ may_begin-ascii c h = ap (λ b. b || c == 95) (is_xid_start-ascii c h)
 begun_elsewhere : (c : ℕ) → may_begin c ≡ true → (is_white_space c || is_ascii_digit c) ≡ false
 begun_elsewhere c begun =
     elim (cases_lt c 128) [
-      inl small ↦
-        let letter : begins_ascii c ≡ true = sym (may_begin-ascii c small) ∙ begun in
-        let apart : (not (begins_ascii c) || not (is_white_space c || is_ascii_digit c)) ≡ true =
-            agree_below_at (λ x. not (begins_ascii x) || not (is_white_space x || is_ascii_digit x)) (λ x. true) 128 c refl small in
-        not-true _ (subst (λ b. (not b || not (is_white_space c || is_ascii_digit c)) ≡ true) letter apart)
+      | inl small ↦
+          let letter : begins_ascii c ≡ true = sym (may_begin-ascii c small) ∙ begun in
+          let apart : (not (begins_ascii c) || not (is_white_space c || is_ascii_digit c)) ≡ true =
+          agree_below_at (λ x. not (begins_ascii x) || not (is_white_space x || is_ascii_digit x)) (λ x. true) 128 c refl small in
+          not-true _ (subst (λ b. (not b || not (is_white_space c || is_ascii_digit c)) ≡ true) letter apart)
       | inr large ↦ grind (arith, nat_tests)
     ]
 
@@ -68,7 +67,7 @@ class-Other c h =
     let not_begun : may_begin c ≡ false = may_begin-ascii c small ∙ not_letter in
     cond-false (is_white_space c) _ _ dark
     ∙ (cond-false (is_ascii_digit c) _ _ not_digit
-      ∙ (cond-false (may_begin c) _ _ not_begun ∙ cond-false (c == 47) _ _ not_solidus))
+    ∙ (cond-false (may_begin c) _ _ not_begun ∙ cond-false (c == 47) _ _ not_solidus))
 
 pub class-Solidus : class_of 47 ≡ Solidus
 class-Solidus = cond-false (may_begin 47) _ _ (may_begin-ascii 47 (omega arith))

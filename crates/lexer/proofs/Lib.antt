@@ -8,3 +8,4 @@ pub mod Reading
 pub mod Cutting
 pub mod Listed
 pub mod Growing
+pub mod Total

@@ -1,18 +1,20 @@
 -- What follows of the tokens of a cut.
-use Rattle.std.proofs.Common.{◌≡◌, ◌≢◌, ◌⊎◌, ℕ, ◌+◌, ◌-◌, ◌<◌, ◌≤◌, ◌&&◌, Bool, true, false, cond, List, [], ◌∷◌, ◌++◌, Option, Some, None, length, take, drop, refl, sym, ap, subst, ◌∙◌, arith, inl, inr, append_assoc, append-nil, length-append}
+use Rattle.std.proofs.Common.{◌≡◌, ◌≢◌, ◌⊎◌, ℕ, ◌+◌, ◌-◌, ◌≤◌, Bool, true, false, List, [], ◌∷◌, ◌++◌, Some, length, take, drop, refl, sym, ap, subst, ◌∙◌, arith, inl, inr, append_assoc, append-nil, length-append}
 use Rattle.std.proofs.lemmas.Bool.{and_parts, and_from, cases_Bool, cond-true, cond-false}
 use Rattle.std.proofs.lemmas.List.{take-append-le, drop_at, take_all}
 use Rattle.std.proofs.lemmas.List.Elements.{All-from_recursion, All-append, All-cons, All-nil}
-use Rattle.std.proofs.lemmas.Str.{encodes-append, chars-encodes, length-le-encodes, encodes-IsAscii, encodes-chars, scalars-chars}
+use Rattle.std.proofs.lemmas.Str.{encodes-append, chars-encodes, length-le-encodes, encodes-IsAscii, encodes-chars, scalars-chars, IsCharBoundary-at_seam, IsCharBoundary-end}
 use Rattle.std.specs.List.{AllByRecursion, All, slice_range, list_all}
 use Rattle.std.specs.Map.{lookup}
-use Rattle.std.specs.Str.{chars, IsUtf8, encode_utf8_all, all_scalars, bytes_eq}
+use Rattle.std.specs.Str.{chars, IsUtf8, IsCharBoundary, encode_utf8_all, all_scalars, bytes_eq}
 use Rattle.std.specs.Str.Parse.{digits_value}
 use Rattle.lexer.specs.Terminal.{Terminal, IsTerminated}
-use Rattle.lexer.specs.Words.{is_name, is_name_text, keyword_of, keywords}
-use Rattle.lexer.specs.Lexeme.{Lexeme, Word, Gap, IsLexeme, Blank, LineComment, BlockComment, Unended, Keyword, Identifier, Literal, TooLarge, Sign, IsNumeral, sign_of, signs, greatest_literal}
-use Rattle.lexer.specs.Cut.{Cuts, Nothing, Token, Between, IsNext, IsCut, terminal_at, size}
-use Rattle.lexer.specs.Listing.{IsInOrder, IsSliceOf, IsSpelled, Spells}
+use Rattle.lexer.specs.Words.{is_name, keyword_of, keywords}
+use Rattle.lexer.specs.Lexeme.{Lexeme, Word, Gap, IsLexeme, Keyword, Identifier, Literal, Sign, IsNumeral, sign_of, signs}
+use Rattle.lexer.specs.Cut.{Cuts, Nothing, Token, Between, IsNext, IsCut, IsRefused, IsStuck, terminal_at, size}
+use Rattle.lexer.specs.Listing.{IsInOrder, IsSliceOf, IsSpelled, Spells, IsAtCharacter, IsFaultAtCharacter}
+use Rattle.lexer.specs.declared.fault.LexFault.{LexFault}
+use Rattle.lexer.specs.declared.fault.LexFault.TheVariants.{NoMemory, NoToken, LiteralTooLarge, UnclosedComment}
 use Rattle.lexer.specs.declared.token.Kind.{Kind}
 use Rattle.lexer.specs.declared.token.Kind.TheVariants.{Name, Integer, End}
 use Rattle.lexer.proofs.Fronts.{nonempty}
@@ -95,12 +97,12 @@ fixed_found : (table : List (List ℕ × Kind)) → list_all (λ row. is_fixed r
 fixed_found [] all cs kind found = absurd cc
 fixed_found (row ∷ rows) all cs kind found =
     elim (cases_Bool (bytes_eq cs row.0)) [
-      inl same ↦
-        let both : Some row.1 ≡ Some kind = sym (cond-true (bytes_eq cs row.0) (Some row.1) (lookup (bytes_eq cs) rows) same) ∙ found in
-        let k : row.1 ≡ kind = cc in
-        subst (λ x. is_fixed x ≡ true) k (and_parts _ _ all).0
+      | inl same ↦
+          let both : Some row.1 ≡ Some kind = sym (cond-true (bytes_eq cs row.0) (Some row.1) (lookup (bytes_eq cs) rows) same) ∙ found in
+          let k : row.1 ≡ kind = cc in
+          subst (λ x. is_fixed x ≡ true) k (and_parts _ _ all).0
       | inr other ↦
-        fixed_found rows (and_parts _ _ all).1 cs kind (sym (cond-false (bytes_eq cs row.0) (Some row.1) (lookup (bytes_eq cs) rows) other) ∙ found)
+          fixed_found rows (and_parts _ _ all).1 cs kind (sym (cond-false (bytes_eq cs row.0) (Some row.1) (lookup (bytes_eq cs) rows) other) ∙ found)
     ]
 
 fixed_spells : (kind : Kind) (text : List ℕ) → is_fixed kind ≡ true
@@ -173,15 +175,80 @@ cut_slices source before start text ts end rest (Token _ _ kind front l us _ _ n
     let bytes = encode_utf8_all front in
     let parts : encode_utf8_all text ≡ bytes ++ encode_utf8_all l = ap encode_utf8_all next.parts ∙ encodes-append front l in
     let whole : source ≡ before ++ (bytes ++ encode_utf8_all l) = e ∙ ap (λ t. before ++ t) parts in
-    let longer : length (before ++ bytes) ≡ start + size front = length-append before bytes ∙ ap (λ k. k + length bytes) n in
-    (slice_between source before bytes (encode_utf8_all l) start whole n,
-    cut_slices source (before ++ bytes) (start + size front) l us end rest cuts (whole ∙ sym (append_assoc before bytes (encode_utf8_all l))) longer)
+    let longer : length (before ++ bytes) ≡ start + size front = length-append before bytes ∙ ap (λ k. k + length bytes) n in (
+      slice_between source before bytes (encode_utf8_all l) start whole n,
+      cut_slices source (before ++ bytes) (start + size front) l us end rest cuts (whole ∙ sym (append_assoc before bytes (encode_utf8_all l))) longer,
+    )
 cut_slices source before start text ts end rest (Between _ _ front l _ _ _ next cuts) e n =
     let bytes = encode_utf8_all front in
     let parts : encode_utf8_all text ≡ bytes ++ encode_utf8_all l = ap encode_utf8_all next.parts ∙ encodes-append front l in
     let whole : source ≡ before ++ (bytes ++ encode_utf8_all l) = e ∙ ap (λ t. before ++ t) parts in
     let longer : length (before ++ bytes) ≡ start + size front = length-append before bytes ∙ ap (λ k. k + length bytes) n in
     cut_slices source (before ++ bytes) (start + size front) l ts end rest cuts (whole ∙ sym (append_assoc before bytes (encode_utf8_all l))) longer
+
+-- the source up to a cut's end, and what follows
+pub record Parted (source : List ℕ) (end : ℕ) (rest : List ℕ) : Type 0 where
+  pub before : List ℕ
+  pub bytes : source ≡ before ++ encode_utf8_all rest
+  pub place : length before ≡ end
+  pub characters : all_scalars rest ≡ true
+
+-- what follows a front of what follows
+next_part : (source : List ℕ) (lexeme : Lexeme) (start : ℕ) (text front left : List ℕ) → Parted source start text
+    → IsNext text lexeme front left → Parted source (start + size front) left
+next_part source lexeme start text front left parted next =
+    let bytes = encode_utf8_all front in
+    let parts : encode_utf8_all text ≡ bytes ++ encode_utf8_all left = ap encode_utf8_all next.parts ∙ encodes-append front left in
+    record {
+      before = parted.before ++ bytes;
+      bytes = parted.bytes ∙ (ap (λ t. parted.before ++ t) parts ∙ sym (append_assoc parted.before bytes (encode_utf8_all left)));
+      place = length-append parted.before bytes ∙ ap (λ k. k + length bytes) parted.place;
+      characters = (scalars_parts front left (subst (λ t. all_scalars t ≡ true) next.parts parted.characters)).1;
+    }
+
+boundary : (source : List ℕ) (end : ℕ) (rest : List ℕ) → Parted source end rest → IsCharBoundary source end
+boundary source end rest parted =
+    subst (IsCharBoundary source) parted.place
+    (IsCharBoundary-at_seam source parted.before (encode_utf8_all rest) parted.bytes (utf8 rest parted.characters))
+
+pub cut_parts : (source : List ℕ) (start : ℕ) (text : List ℕ) (ts : List Terminal) (end : ℕ) (rest : List ℕ)
+    → Cuts start text ts end rest → Parted source start text → Parted source end rest
+cut_parts source start text ts end rest (Nothing _ _) parted = parted
+cut_parts source start text ts end rest (Token _ _ kind front l us _ _ next cuts) parted =
+    cut_parts source (start + size front) l us end rest cuts (next_part source (Word kind) start text front l parted next)
+cut_parts source start text ts end rest (Between _ _ front l _ _ _ next cuts) parted =
+    cut_parts source (start + size front) l ts end rest cuts (next_part source Gap start text front l parted next)
+
+pub cut_characters : (source : List ℕ) (start : ℕ) (text : List ℕ) (ts : List Terminal) (end : ℕ) (rest : List ℕ)
+    → Cuts start text ts end rest → Parted source start text → AllByRecursion (IsAtCharacter source) ts
+cut_characters source start text ts end rest (Nothing _ _) parted = tt
+cut_characters source start text ts end rest (Token _ _ kind front l us _ _ next cuts) parted = (
+  boundary source start text parted,
+  cut_characters source (start + size front) l us end rest cuts (next_part source (Word kind) start text front l parted next),
+)
+cut_characters source start text ts end rest (Between _ _ front l _ _ _ next cuts) parted =
+    cut_characters source (start + size front) l ts end rest cuts (next_part source Gap start text front l parted next)
+
+at_start : (text : List ℕ) → IsUtf8 text → Parted text 0 (chars text)
+at_start text ok = record {
+  before = [];
+  bytes = sym (encodes-chars text ok);
+  place = refl;
+  characters = scalars-chars text ok;
+}
+
+-- a refusal stands where a character begins
+pub refused_at : (text : List ℕ) (fault : LexFault) → IsUtf8 text → IsRefused text fault → IsFaultAtCharacter text fault
+refused_at text fault ok h =
+    let here = boundary text h.place h.rest (cut_parts text 0 (chars text) h.words h.place h.rest h.cuts (at_start text ok)) in
+    fault_at text h.place h.rest fault here h.stuck
+  where
+    fault_at : (text : List ℕ) (place : ℕ) (rest : List ℕ) (fault : LexFault) → IsCharBoundary text place
+        → IsStuck place rest fault → IsFaultAtCharacter text fault
+    fault_at text place rest NoMemory here stuck = tt
+    fault_at text place rest (NoToken at) here stuck = subst (IsCharBoundary text) (sym stuck.0) here
+    fault_at text place rest (LiteralTooLarge at) here stuck = subst (IsCharBoundary text) (sym stuck.0) here
+    fault_at text place rest (UnclosedComment at) here stuck = subst (IsCharBoundary text) (sym stuck.0) here
 
 -- all that holds of the tokens of a text
 pub record Listed (text : List ℕ) (tokens : List Terminal) : Type 0 where
@@ -190,6 +257,7 @@ pub record Listed (text : List ℕ) (tokens : List Terminal) : Type 0 where
   pub slices : All (IsSliceOf text) tokens
   pub spelled : All IsSpelled tokens
   pub count : length tokens ≤ length text + 1
+  pub at_characters : All (IsAtCharacter text) tokens
 
 listed_at : (text : List ℕ) (words : List Terminal) → IsUtf8 text → Cuts 0 (chars text) words (length text) []
     → Listed text (words ++ terminal_at (length text) End [] ∷ [])
@@ -204,12 +272,15 @@ listed_at text words ok cuts =
       terminated = cut_terminated 0 (chars text) words (length text) [] last cuts scalars refl;
       in_order = order_on 0 words (length text) (last ∷ []) (length text) (cut_order 0 (chars text) words (length text) [] cuts) (omega arith, omega arith, omega arith);
       slices = All-append (IsSliceOf text) words (last ∷ [])
-        (All-from_recursion (IsSliceOf text) words (cut_slices text [] 0 (chars text) words (length text) [] cuts (sym bytes) refl))
-        (All-cons (IsSliceOf text) last [] (slice_between text text [] [] (length text) (sym (append-nil text)) refl) (All-nil (IsSliceOf text)));
+          (All-from_recursion (IsSliceOf text) words (cut_slices text [] 0 (chars text) words (length text) [] cuts (sym bytes) refl))
+          (All-cons (IsSliceOf text) last [] (slice_between text text [] [] (length text) (sym (append-nil text)) refl) (All-nil (IsSliceOf text)));
       spelled = All-append IsSpelled words (last ∷ [])
-        (All-from_recursion IsSpelled words (cut_spelled 0 (chars text) words (length text) [] cuts scalars))
-        (All-cons IsSpelled last [] refl (All-nil IsSpelled));
+          (All-from_recursion IsSpelled words (cut_spelled 0 (chars text) words (length text) [] cuts scalars))
+          (All-cons IsSpelled last [] refl (All-nil IsSpelled));
       count = omega arith;
+      at_characters = All-append (IsAtCharacter text) words (last ∷ [])
+          (All-from_recursion (IsAtCharacter text) words (cut_characters text 0 (chars text) words (length text) [] cuts (at_start text ok)))
+          (All-cons (IsAtCharacter text) last [] (IsCharBoundary-end text) (All-nil (IsAtCharacter text)));
     }
 
 pub listed : (text : List ℕ) (tokens : List Terminal) → IsUtf8 text → IsCut text tokens → Listed text tokens

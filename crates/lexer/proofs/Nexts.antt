@@ -1,17 +1,17 @@
 -- The next lexeme of a text, by what the text begins with; there is at most one.
-use Rattle.std.proofs.Common.{◌≡◌, ◌⊎◌, ℕ, suc, ◌<◌, ◌≤◌, ◌==◌, Bool, true, false, not, cond, List, [], ◌∷◌, ◌++◌, Option, Some, None, length, codes, refl, sym, ap, subst, ◌∙◌, inl, inr, arith, unwrap_or, is_some, append_assoc, append-nil}
+use Rattle.std.proofs.Common.{◌≡◌, ℕ, suc, ◌≤◌, ◌==◌, true, not, List, [], ◌∷◌, ◌++◌, Option, Some, None, length, codes, refl, sym, ap, subst, ◌∙◌, inl, inr, arith, unwrap_or, is_some, append_assoc, append-nil}
 use Rattle.std.proofs.lemmas.Bool.{cases_Bool, cases_lt, and_from, leb-true, leb-false, cond-true, cond-false}
 use Rattle.std.specs.Char.{is_ascii_digit}
 use Rattle.std.specs.List.{list_all}
 use Rattle.std.specs.Prelude.{nat_le}
 use Rattle.std.specs.Str.Parse.{digits_value}
-use Rattle.lexer.specs.Words.{is_white_space, is_identifier, is_name, may_begin, may_continue, keyword_of}
-use Rattle.lexer.specs.Lexeme.{Lexeme, Word, Gap, LargeLiteral, OpenComment, IsLexeme, Blank, LineComment, BlockComment, Unended, Keyword, Identifier, Literal, TooLarge, Sign, IsInLine, IsOpen, IsClosed, IsNumeral, sign_of, greatest_literal}
+use Rattle.lexer.specs.Words.{is_white_space, is_identifier, may_begin, may_continue, keyword_of}
+use Rattle.lexer.specs.Lexeme.{Lexeme, Word, Gap, OpenComment, IsLexeme, Blank, LineComment, BlockComment, Unended, Keyword, Identifier, Literal, TooLarge, Sign, IsInLine, IsOpen, IsClosed, IsNumeral, sign_of, greatest_literal}
 use Rattle.lexer.specs.Cut.{IsNext, HasNoLexeme}
 use Rattle.lexer.specs.Scan.{IsNoDouble}
 use Rattle.lexer.specs.declared.token.Kind.{Kind}
-use Rattle.lexer.specs.declared.token.Kind.TheVariants.{Slash, Name, Integer}
-use Rattle.lexer.proofs.Letters.{Class, White, Digit, Letter, Solidus, Other, class_of, class-White, class-Digit, class-Letter, class-Solidus, class-Other}
+use Rattle.lexer.specs.declared.token.Kind.TheVariants.{Slash, Name}
+use Rattle.lexer.proofs.Letters.{Class, White, Digit, Letter, Solidus, Other, class_of, class-White, class-Digit, class-Letter, class-Solidus}
 use Rattle.lexer.proofs.Fronts.{Front, AfterSolidus, Alone, Line, Block, Unclosed, word_kind, literal_of, shape, nonempty}
 use Rattle.lexer.proofs.Runs.{Stops, run_longest, longer_front, same_front, whole_longest}
 
@@ -42,7 +42,7 @@ next_white c cs white = record {
   parts = refl;
   is = Blank c white;
   longest = bounded White c cs 0 (class-White c white)
-    (λ lexeme tail more e front. let n = ap length front.1 in omega arith);
+      (λ lexeme tail more e front. let n = ap length front.1 in omega arith);
 }
 
 -- an integer is a lexeme, and of one kind
@@ -50,7 +50,7 @@ literal_is : (cs : List ℕ) → IsNumeral cs → IsLexeme (literal_of cs) cs
 literal_is cs numeral =
     let P : Lexeme → Type 0 = λ lexeme. IsLexeme lexeme cs in
     elim (cases_Bool (nat_le (digits_value 10 cs) greatest_literal)) [
-      inl small ↦ subst P (sym (cond-true (nat_le (digits_value 10 cs) greatest_literal) _ _ small)) (Literal cs numeral (leb-true _ _ small))
+      | inl small ↦ subst P (sym (cond-true (nat_le (digits_value 10 cs) greatest_literal) _ _ small)) (Literal cs numeral (leb-true _ _ small))
       | inr large ↦ subst P (sym (cond-false (nat_le (digits_value 10 cs) greatest_literal) _ _ large)) (TooLarge cs numeral (leb-false _ _ large))
     ]
 
@@ -60,16 +60,16 @@ next_literal c cs rest digit digits stops = record {
   parts = refl;
   is = literal_is (c ∷ cs) (record { nonempty = omega arith; digits = and_from _ _ digit digits });
   longest = bounded Digit c (cs ++ rest) (length cs) (class-Digit c digit)
-    (λ lexeme tail more e front. run_longest is_ascii_digit cs rest tail more stops front.1 e);
+      (λ lexeme tail more e front. run_longest is_ascii_digit cs rest tail more stops front.1 e);
 }
 
 -- an identifier is a lexeme, and of one kind
 word_is : (cs : List ℕ) → is_identifier cs ≡ true → IsLexeme (Word (word_kind cs)) cs
 word_is cs identifier = word_at (keyword_of cs) refl
   where
-  word_at : (found : Option Kind) → keyword_of cs ≡ found → IsLexeme (Word (unwrap_or found Name)) cs
-  word_at None e = Identifier cs (and_from _ _ identifier (ap (λ o. not (is_some o)) e))
-  word_at (Some kind) e = Keyword cs kind e
+    word_at : (found : Option Kind) → keyword_of cs ≡ found → IsLexeme (Word (unwrap_or found Name)) cs
+    word_at None e = Identifier cs (and_from _ _ identifier (ap (λ o. not (is_some o)) e))
+    word_at (Some kind) e = Keyword cs kind e
 
 pub next_word : (c : ℕ) (cs rest : List ℕ) → may_begin c ≡ true → list_all may_continue cs ≡ true
     → Stops may_continue rest → IsNext (c ∷ (cs ++ rest)) (Word (word_kind (c ∷ cs))) (c ∷ cs) rest
@@ -77,7 +77,7 @@ next_word c cs rest begins continues stops = record {
   parts = refl;
   is = word_is (c ∷ cs) (and_from _ _ begins continues);
   longest = bounded Letter c (cs ++ rest) (length cs) (class-Letter c begins)
-    (λ lexeme tail more e front. run_longest may_continue cs rest tail more stops front.1 e);
+      (λ lexeme tail more e front. run_longest may_continue cs rest tail more stops front.1 e);
 }
 
 -- `/` and `*` are two characters
@@ -108,14 +108,14 @@ closed_shortest : (cs rest body more : List ℕ) → IsClosed cs → cs ++ rest 
     → ((before after : List ℕ) → body ≡ before ++ (codes "*/" ++ after) → after ≡ []) → length body ≤ length cs
 closed_shortest cs rest body more closed e once =
     elim (cases_lt (length cs) (length body)) [
-      inr short ↦ short
+      | inr short ↦ short
       | inl long ↦
-        let (x, (goes_on, _)) = longer_front cs rest body more e (omega arith) in
-        let apart : body ≡ closed.inner ++ (codes "*/" ++ x) = goes_on ∙ (ap (λ l. l ++ x) closed.ends ∙ append_assoc closed.inner (codes "*/") x) in
-        let none = ap length (once closed.inner x apart) in
-        let whole : body ≡ cs = goes_on ∙ (ap (λ l. cs ++ l) (once closed.inner x apart) ∙ append-nil cs) in
-        let n = ap length whole in
-        omega arith
+          let (x, (goes_on, _)) = longer_front cs rest body more e (omega arith) in
+          let apart : body ≡ closed.inner ++ (codes "*/" ++ x) = goes_on ∙ (ap (λ l. l ++ x) closed.ends ∙ append_assoc closed.inner (codes "*/") x) in
+          let none = ap length (once closed.inner x apart) in
+          let whole : body ≡ cs = goes_on ∙ (ap (λ l. cs ++ l) (once closed.inner x apart) ∙ append-nil cs) in
+          let n = ap length whole in
+          omega arith
     ]
 
 after_block : (cs rest : List ℕ) → IsClosed cs → (lexeme : Lexeme) (tail more : List ℕ)
@@ -187,7 +187,7 @@ next_single c cs kind class found alone = record {
   parts = refl;
   is = Sign (c ∷ []) kind found;
   longest = bounded Other c cs 0 class
-    (λ lexeme tail more e front. let n = ap length (single c cs alone lexeme tail more e front) in omega arith);
+      (λ lexeme tail more e front. let n = ap length (single c cs alone lexeme tail more e front) in omega arith);
 }
 
 pub none_next : (c : ℕ) (cs : List ℕ) → class_of c ≡ Other → sign_of (c ∷ []) ≡ None → IsNoDouble c cs
@@ -195,10 +195,10 @@ pub none_next : (c : ℕ) (cs : List ℕ) → class_of c ≡ Other → sign_of (
 none_next c cs class absent alone = record {
   goes_on = λ e. cc;
   none = λ lexeme front rest h e.
-    let (tail, (here, (others, shape))) = opened Other c cs class lexeme front rest h e in
-    let empty = single c cs alone lexeme tail rest others shape in
-    let some : sign_of (c ∷ []) ≡ Some shape.0 = ap (λ t. sign_of (c ∷ t)) (sym empty) ∙ shape.1.0 in
-    cc;
+      let (tail, (here, (others, shape))) = opened Other c cs class lexeme front rest h e in
+      let empty = single c cs alone lexeme tail rest others shape in
+      let some : sign_of (c ∷ []) ≡ Some shape.0 = ap (λ t. sign_of (c ∷ t)) (sym empty) ∙ shape.1.0 in
+      cc;
 }
 
 -- one text after a `/` is one lexeme

@@ -1,5 +1,5 @@
 -- What the scanner reads is the next lexeme.
-use Rattle.std.proofs.Common.{◌≡◌, ℕ, suc, ◌<◌, ◌≤◌, ◌==◌, ◌&&◌, ◌||◌, Bool, true, false, not, cond, List, [], ◌∷◌, ◌++◌, Option, Some, None, length, codes, refl, sym, ap, subst, ◌∙◌, inl, inr, arith, length-append}
+use Rattle.std.proofs.Common.{◌≡◌, ℕ, ◌<◌, ◌≤◌, ◌==◌, ◌&&◌, Bool, true, false, not, List, [], ◌∷◌, ◌++◌, Some, None, length, codes, refl, sym, ap, subst, ◌∙◌, inl, inr, arith, length-append}
 use Rattle.std.proofs.lemmas.Bool.{cases_Bool, cases_lt, and_from, and_parts, or_parts, not-true, eqb-true, eqb-false, leb-true, cond-true, cond-false, le-leb, lt-leb}
 use Rattle.std.specs.Char.{is_ascii_digit}
 use Rattle.std.specs.List.{list_all}
@@ -15,10 +15,9 @@ use Rattle.std.proofs.lemmas.Str.{encodes-IsAscii, encodes-chars}
 use Rattle.std.proofs.lemmas.Str.Ascii.{IsAscii-nil, IsAscii-cons}
 use Rattle.std.proofs.lemmas.Str.Parse.{IsDigitsTest, numerals_by_value, parse_digits}
 use Rattle.lexer.specs.Words.{is_white_space, may_begin, may_continue}
-use Rattle.lexer.specs.Lexeme.{Lexeme, Word, Gap, LargeLiteral, OpenComment, IsOpen, IsClosed, IsInLine, sign_of, greatest_literal}
-use Rattle.lexer.specs.Cut.{IsNext, HasNoLexeme}
+use Rattle.lexer.specs.Lexeme.{Lexeme, Word, Gap, LargeLiteral, OpenComment, IsOpen, IsClosed, greatest_literal}
+use Rattle.lexer.specs.Cut.{IsNext}
 use Rattle.lexer.specs.Scan.{after_run, after_close, IsTail, begins_sign}
-use Rattle.lexer.specs.declared.token.Kind.{Kind}
 use Rattle.lexer.specs.declared.token.Kind.TheVariants.{Integer}
 use Rattle.lexer.proofs.Letters.{class_of, Other}
 use Rattle.lexer.proofs.Fronts.{word_kind, literal_of}
@@ -57,7 +56,7 @@ run_parts p [] = ([], record { parts = refl; passes = refl; stops = tt })
 run_parts p (c ∷ cs) =
     let (front, run) = run_parts p cs in
     elim (cases_Bool (p c)) [
-      inl passes ↦ (c ∷ front, run_cons p c cs front passes run)
+      | inl passes ↦ (c ∷ front, run_cons p c cs front passes run)
       | inr fails ↦ ([], run_nil p c cs fails)
     ]
 
@@ -90,7 +89,7 @@ word_read cs c after rest front e k begins parts =
     let h = run_front may_continue cs c after rest e k in
     let same : c ∷ h.others ≡ front = same_before (c ∷ h.others) front rest (sym h.whole ∙ parts) in
     moved _ _ _ _ _ _ _ _ (sym h.whole) (ap (λ f. Word (word_kind f)) same) same refl
-      (next_word c h.others rest begins h.passes h.stops)
+    (next_word c h.others rest begins h.passes h.stops)
 
 -- an integer
 pub literal_read : (cs : List ℕ) (c : ℕ) (after rest front : List ℕ) → cs ≡ c ∷ after
@@ -99,10 +98,11 @@ pub literal_read : (cs : List ℕ) (c : ℕ) (after rest front : List ℕ) → c
 literal_read cs c after rest front e k digit parts =
     let h = run_front is_ascii_digit cs c after rest e k in
     let same : c ∷ h.others ≡ front = same_before (c ∷ h.others) front rest (sym h.whole ∙ parts) in
-    let n = ap length same in
-    (moved _ _ _ _ _ _ _ _ (sym h.whole) (ap literal_of same) same refl
-      (next_literal c h.others rest digit h.passes h.stops),
-      (subst (λ f. list_all is_ascii_digit f ≡ true) same (and_from _ _ digit h.passes), omega arith))
+    let n = ap length same in (
+      moved _ _ _ _ _ _ _ _ (sym h.whole) (ap literal_of same) same refl
+          (next_literal c h.others rest digit h.passes h.stops),
+      (subst (λ f. list_all is_ascii_digit f ≡ true) same (and_from _ _ digit h.passes), omega arith),
+    )
 
 pub literal_small : (cs : List ℕ) (value : ℕ) → value ≡ digits_value 10 cs → value ≤ greatest_literal
     → literal_of cs ≡ Word (Integer value)
@@ -117,9 +117,11 @@ literal_large cs large = cond-false (nat_le (digits_value 10 cs) greatest_litera
 pub line_read : (cs body rest : List ℕ) → cs ≡ 47 ∷ 47 ∷ body → rest ≡ after_run (λ c. not (c == 10)) body
     → (front : List ℕ) × IsNext cs Gap front rest
 line_read cs body rest e k =
-    let h = run_front (λ c. not (c == 10)) (47 ∷ body) 47 body rest refl k in
-    (47 ∷ 47 ∷ h.others, moved _ _ _ _ _ _ _ _ (sym (e ∙ ap (λ t. 47 ∷ t) h.whole)) refl refl refl
-      (next_line h.others rest h.passes h.stops))
+    let h = run_front (λ c. not (c == 10)) (47 ∷ body) 47 body rest refl k in (
+      47 ∷ 47 ∷ h.others,
+      moved _ _ _ _ _ _ _ _ (sym (e ∙ ap (λ t. 47 ∷ t) h.whole)) refl refl refl
+          (next_line h.others rest h.passes h.stops),
+    )
 
 -- the character begins no `*/`
 abbrev pub BeginsNoClose : ℕ → List ℕ → Type 0
@@ -186,18 +188,18 @@ closed_end s c e =
     let (starred, solidus) = and_parts s (c == 47) e in
     let pair : IsClosed (behind true (47 ∷ [])) = record { inner = []; ends = refl; once = once_pair } in
     subst (λ t. IsClosed (behind t (c ∷ []))) (sym starred)
-      (subst (λ x. IsClosed (behind true (x ∷ []))) (sym (eqb-true c 47 solidus)) pair)
+    (subst (λ x. IsClosed (behind true (x ∷ []))) (sym (eqb-true c 47 solidus)) pair)
 
 close_none : (s : Bool) (cs : List ℕ) → after_close s cs ≡ None → IsOpen (behind s cs)
 close_none s [] e = open_end s
 close_none s (c ∷ cs) e =
     elim (cases_Bool (s && c == 47)) [
-      inl ends ↦
-        let both : Some cs ≡ None = sym (cond-true (s && c == 47) (Some cs) (after_close (c == 42) cs) ends) ∙ e in
-        absurd cc
+      | inl ends ↦
+          let both : Some cs ≡ None = sym (cond-true (s && c == 47) (Some cs) (after_close (c == 42) cs) ends) ∙ e in
+          absurd cc
       | inr on ↦
-        let others : after_close (c == 42) cs ≡ None = sym (cond-false (s && c == 47) (Some cs) (after_close (c == 42) cs) on) ∙ e in
-        star_open s c cs on (unstar_open (c == 42) c cs refl (close_none (c == 42) cs others))
+          let others : after_close (c == 42) cs ≡ None = sym (cond-false (s && c == 47) (Some cs) (after_close (c == 42) cs) on) ∙ e in
+          star_open s c cs on (unstar_open (c == 42) c cs refl (close_none (c == 42) cs others))
     ]
 
 close_some : (s : Bool) (cs rest : List ℕ) → after_close s cs ≡ Some rest
@@ -205,23 +207,25 @@ close_some : (s : Bool) (cs rest : List ℕ) → after_close s cs ≡ Some rest
 close_some s [] rest e = absurd cc
 close_some s (c ∷ cs) rest e =
     elim (cases_Bool (s && c == 47)) [
-      inl ends ↦
-        let both : Some cs ≡ Some rest = sym (cond-true (s && c == 47) (Some cs) (after_close (c == 42) cs) ends) ∙ e in
-        let same : cs ≡ rest = cc in
-        (c ∷ [], (ap (λ t. c ∷ t) same, closed_end s c ends))
+      | inl ends ↦
+          let both : Some cs ≡ Some rest = sym (cond-true (s && c == 47) (Some cs) (after_close (c == 42) cs) ends) ∙ e in
+          let same : cs ≡ rest = cc in
+          (c ∷ [], (ap (λ t. c ∷ t) same, closed_end s c ends))
       | inr on ↦
-        let others : after_close (c == 42) cs ≡ Some rest = sym (cond-false (s && c == 47) (Some cs) (after_close (c == 42) cs) on) ∙ e in
-        let (body, (parts, closed)) = close_some (c == 42) cs rest others in
-        (c ∷ body, (ap (λ t. c ∷ t) parts, star_closed s c body on (unstar_closed (c == 42) c body refl closed)))
+          let others : after_close (c == 42) cs ≡ Some rest = sym (cond-false (s && c == 47) (Some cs) (after_close (c == 42) cs) on) ∙ e in
+          let (body, (parts, closed)) = close_some (c == 42) cs rest others in
+          (c ∷ body, (ap (λ t. c ∷ t) parts, star_closed s c body on (unstar_closed (c == 42) c body refl closed)))
     ]
 
 -- a comment that ends, and one that does not
 pub block_read : (cs body rest : List ℕ) → cs ≡ 47 ∷ 42 ∷ body → after_close false body ≡ Some rest
     → (front : List ℕ) × IsNext cs Gap front rest
 block_read cs body rest e k =
-    let (inner, (parts, closed)) = close_some false body rest k in
-    (47 ∷ 42 ∷ inner, moved _ _ _ _ _ _ _ _ (sym (e ∙ ap (λ t. 47 ∷ 42 ∷ t) parts)) refl refl refl
-      (next_block inner rest closed))
+    let (inner, (parts, closed)) = close_some false body rest k in (
+      47 ∷ 42 ∷ inner,
+      moved _ _ _ _ _ _ _ _ (sym (e ∙ ap (λ t. 47 ∷ 42 ∷ t) parts)) refl refl refl
+          (next_block inner rest closed),
+    )
 
 pub open_read : (cs body : List ℕ) → cs ≡ 47 ∷ 42 ∷ body → after_close false body ≡ None
     → (front : List ℕ) × ((rest : List ℕ) × IsNext cs OpenComment front rest)
@@ -236,7 +240,7 @@ class-sign c h =
     let (dark, not_digit) = or_parts _ _ neither in
     cond-false (is_white_space c) _ _ dark
     ∙ (cond-false (is_ascii_digit c) _ _ not_digit
-      ∙ (cond-false (may_begin c) _ _ not_begun ∙ cond-false (c == 47) _ _ not_solidus))
+    ∙ (cond-false (may_begin c) _ _ not_begun ∙ cond-false (c == 47) _ _ not_solidus))
 
 -- a text of digits is its characters
 pub digits_ascii : (cs : List ℕ) → list_all is_ascii_digit cs ≡ true → IsAscii cs
@@ -245,8 +249,8 @@ digits_ascii (c ∷ cs) all =
     let (first, others) = and_parts _ _ all in
     IsAscii-cons c cs (digit_small c first) (digits_ascii cs others)
   where
-  digit_small : (c : ℕ) → is_ascii_digit c ≡ true → c < 128
-  digit_small c h = grind (arith, nat_tests)
+    digit_small : (c : ℕ) → is_ascii_digit c ≡ true → c < 128
+    digit_small c h = grind (arith, nat_tests)
 
 pub digits_text : (bs : List ℕ) → IsUtf8 bs → list_all is_ascii_digit (chars bs) ≡ true → chars bs ≡ bs
 digits_text bs utf8 all = sym (encodes-IsAscii (chars bs) (digits_ascii (chars bs) all)) ∙ encodes-chars bs utf8
@@ -287,10 +291,10 @@ parsed_err {E} bs r fault h utf8 all some e =
     let large = subst P e (parsed bs r h digits) in
     subst (λ t. greatest_literal < digits_value 10 t) (sym same) (above bs (subst (λ t. 0 < length t) same some) large)
   where
-  above : (bs : List ℕ) → 0 < length bs → ((0 < length bs) × (digits_value 10 bs < 2 ^ 32) → ⊥)
-      → greatest_literal < digits_value 10 bs
-  above bs some none =
-      elim (cases_lt greatest_literal (digits_value 10 bs)) [
-        inl large ↦ large
-        | inr small ↦ absurd (none (some, omega arith))
-      ]
+    above : (bs : List ℕ) → 0 < length bs → ((0 < length bs) × (digits_value 10 bs < 2 ^ 32) → ⊥)
+        → greatest_literal < digits_value 10 bs
+    above bs some none =
+        elim (cases_lt greatest_literal (digits_value 10 bs)) [
+          | inl large ↦ large
+          | inr small ↦ absurd (none (some, omega arith))
+        ]

@@ -1,5 +1,5 @@
 -- One step over the characters of a text, and the functions of the scanner there.
-use Rattle.std.proofs.Common.{◌≡◌, ℕ, ◌+◌, ◌-◌, ◌<◌, ◌≤◌, ◌==◌, ◌&&◌, Bool, true, false, cond, List, [], ◌∷◌, ◌++◌, Option, Some, None, length, take, drop, refl, sym, ap, subst, ◌∙◌, arith, length-append}
+use Rattle.std.proofs.Common.{◌≡◌, ℕ, ◌+◌, ◌-◌, ◌<◌, ◌≤◌, ◌==◌, ◌&&◌, Bool, true, false, cond, List, [], ◌∷◌, ◌++◌, Some, length, take, sym, ap, subst, ◌∙◌, arith, length-append}
 use Rattle.std.proofs.lemmas.Bool.{cond-true, cond-false}
 use Rattle.std.proofs.lemmas.Str.{chars-nil, chars_past_char, IsUtf8-past_char, length-encode, len_utf8_bounds, encodes-chars, encodes-append, IsCharBoundary-at_seam, IsUtf8-take, chars-append}
 use Rattle.std.proofs.lemmas.List.{take-append-le, take_all}
@@ -43,7 +43,7 @@ pub close_found : (starred : Bool) (cs rest : List ℕ) (c : ℕ) → cs ≡ c �
 close_found starred cs rest c e h k =
     ap (after_close starred) e
     ∙ (ap (λ s. cond (s && c == 47) (Some rest) (after_close (c == 42) rest)) h
-      ∙ ap (λ d. cond (d == 47) (Some rest) (after_close (c == 42) rest)) k)
+    ∙ ap (λ d. cond (d == 47) (Some rest) (after_close (c == 42) rest)) k)
 
 pub close_on : (starred : Bool) (cs rest : List ℕ) (c : ℕ) → cs ≡ c ∷ rest → (starred && c == 47) ≡ false
     → after_close starred cs ≡ after_close (c == 42) rest
@@ -60,13 +60,13 @@ pub parted : (text rest : List ℕ) → IsUtf8 text → IsUtf8 rest → IsTail (
 parted text rest utf8 tail_utf8 (cs, e) =
     let front : List ℕ = encode_utf8_all cs in
     let bytes : text ≡ front ++ rest =
-        sym (encodes-chars text utf8) ∙ (ap encode_utf8_all e ∙ (encodes-append cs (chars rest) ∙ ap (λ r. front ++ r) (encodes-chars rest tail_utf8))) in
+    sym (encodes-chars text utf8) ∙ (ap encode_utf8_all e ∙ (encodes-append cs (chars rest) ∙ ap (λ r. front ++ r) (encodes-chars rest tail_utf8))) in
     let n : length text ≡ length front + length rest = ap length bytes ∙ length-append front rest in
     let mid : length front ≡ length text - length rest = omega arith in
     let boundary : IsCharBoundary text (length text - length rest) =
-        subst (IsCharBoundary text) mid (IsCharBoundary-at_seam text front rest bytes tail_utf8) in
+    subst (IsCharBoundary text) mid (IsCharBoundary-at_seam text front rest bytes tail_utf8) in
     let taken : take (length text - length rest) text ≡ front =
-        ap (λ k. take k text) (sym mid) ∙ (ap (take (length front)) bytes ∙ (take-append-le (length front) front rest (omega arith) ∙ take_all (length front) front (omega arith))) in
+    ap (λ k. take k text) (sym mid) ∙ (ap (take (length front)) bytes ∙ (take-append-le (length front) front rest (omega arith) ∙ take_all (length front) front (omega arith))) in
     let whole : text ≡ take (length text - length rest) text ++ rest = bytes ∙ ap (λ l. l ++ rest) (sym taken) in
     let front_utf8 = IsUtf8-take text (length text - length rest) utf8 boundary in
     record {

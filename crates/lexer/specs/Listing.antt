@@ -1,10 +1,13 @@
 -- What holds of the tokens of a text, one by one and in a row.
 -- Source: our own.
 use Rattle.std.specs.Prelude.{◌≡◌, ◌⊎◌, ℕ, ◌≤◌, List, [], ◌∷◌, Some, slice_range, IsTrue}
+use Rattle.std.specs.Str.{IsCharBoundary}
 use Rattle.std.specs.Str.Parse.{digits_value}
 use Rattle.lexer.specs.Lexeme.{IsNumeral, greatest_literal, sign_of}
 use Rattle.lexer.specs.Terminal.{Terminal}
 use Rattle.lexer.specs.Words.{is_name_text, keyword_of}
+use Rattle.lexer.specs.declared.fault.LexFault.{LexFault}
+use Rattle.lexer.specs.declared.fault.LexFault.TheVariants.{NoMemory, NoToken, LiteralTooLarge, UnclosedComment}
 use Rattle.lexer.specs.declared.token.Kind.{Kind}
 use Rattle.lexer.specs.declared.token.Kind.TheVariants.{Name, Integer, End}
 
@@ -27,3 +30,14 @@ Spells kind text = (keyword_of text ≡ Some kind) ⊎ (sign_of text ≡ Some ki
 -- the terminal's text spells its kind
 abbrev pub IsSpelled : Terminal → Type 0
 IsSpelled t = Spells t.kind t.text
+
+-- the terminal stands where a character of the source begins, or at its end
+abbrev pub IsAtCharacter : List ℕ → Terminal → Type 0
+IsAtCharacter source t = IsCharBoundary source t.start
+
+-- the fault, if it has a place, stands where a character of the source begins
+abbrev pub IsFaultAtCharacter : List ℕ → LexFault → Type 0
+IsFaultAtCharacter source NoMemory = Unit {0}
+IsFaultAtCharacter source (NoToken at) = IsCharBoundary source at
+IsFaultAtCharacter source (LiteralTooLarge at) = IsCharBoundary source at
+IsFaultAtCharacter source (UnclosedComment at) = IsCharBoundary source at

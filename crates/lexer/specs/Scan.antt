@@ -1,6 +1,6 @@
 -- What the private functions of the scanner read, as functions on characters. No public contract cites this file.
 -- Source: our own.
-use Rattle.std.specs.Prelude.{◌≡◌, ℕ, ◌==◌, ◌&&◌, ◌||◌, Bool, false, not, cond, List, [], ◌∷◌, ◌++◌, Option, None, Some}
+use Rattle.std.specs.Prelude.{◌≡◌, ℕ, ◌==◌, ◌&&◌, ◌||◌, Bool, not, cond, List, [], ◌∷◌, ◌++◌, Option, None, Some}
 use Rattle.std.specs.Char.{is_ascii_digit}
 use Rattle.lexer.specs.Words.{is_white_space, may_begin, may_continue}
 use Rattle.lexer.specs.Lexeme.{Lexeme, Word, Gap, sign_of}

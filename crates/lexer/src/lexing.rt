@@ -1,15 +1,14 @@
 ghost use Rattle.lexer.specs.Cut.{IsCut, IsRefused};
-ghost use Rattle.lexer.specs.Laws.{HasOneCut, IsCutOrRefused, HasOneRefusal};
-ghost use Rattle.lexer.specs.Listing.{IsInOrder, IsSliceOf, IsSpelled};
+ghost use Rattle.lexer.specs.Laws.{IsCutOrRefused, HasOneCut, IsNotCutAndRefused, HasOneRefusal};
+ghost use Rattle.lexer.specs.Listing.{IsAtCharacter, IsFaultAtCharacter, IsInOrder, IsSliceOf, IsSpelled};
 ghost use Rattle.lexer.specs.Terminal.{Terminal, terminals_of, IsTerminated};
 ghost use Rattle.std.specs.Prelude.{◌≡◌, ◌≤◌, ◌+◌, ◌⊎◌, List, IfOk, IfErr, MatchResult, length};
 ghost use Rattle.std.specs.List.{All};
 
-use std::alloc::Global;
-
 use crate::fault::LexFault;
 use crate::pieces::{Piece, first_character, front, next_piece};
 use crate::token::{Kind, Span, Token};
+use std::alloc::Global;
 
 /// The tokens of `src` by longest match, with an `End` behind them.
 ///
@@ -24,6 +23,8 @@ pub fn lex(alloc: Global, src: &str) -> Result<Vec<Token<'_>>, LexFault>
     ensures in_order { IfOk result (λ tokens. IsInOrder 0 (terminals_of tokens.items) (length src.now)) }
     ensures slices { IfOk result (λ tokens. All (IsSliceOf src.now) (terminals_of tokens.items)) }
     ensures spelled { IfOk result (λ tokens. All IsSpelled (terminals_of tokens.items)) }
+    ensures at_characters { IfOk result (λ tokens. All (IsAtCharacter src.now) (terminals_of tokens.items)) }
+    ensures fault_at_character { IfErr result (IsFaultAtCharacter src.now) }
     ensures count { IfOk result (λ tokens. length (terminals_of tokens.items) ≤ length src.now + 1) }
 {
     let mut tokens = Vec::new(alloc);
@@ -51,10 +52,10 @@ pub fn lex(alloc: Global, src: &str) -> Result<Vec<Token<'_>>, LexFault>
     Ok(tokens)
 }
 
-/// The law that a text has one cut or one refusal at most, and not both.
+/// The law that each text has either one cut or one refusal.
 pub fn one_reading()
-    ensures one_cut { HasOneCut }
     ensures cut_or_refused { IsCutOrRefused }
+    ensures one_cut { HasOneCut }
+    ensures not_both { IsNotCutAndRefused }
     ensures one_refusal { HasOneRefusal }
-{
-}
+{}

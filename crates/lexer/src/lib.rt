@@ -1,10 +1,13 @@
-//! Tokens of a text by longest match, and places in it.
+//! Tokens of a text by longest match, names, and places in a text.
+//!
+//! [`lex`] cuts a text into tokens or tells its first refusal; [`is_name`] tests a whole text for
+//! one name; [`place`] tells the line and the column of a byte.
 #![tactic(auto)]
 
 pub mod fault;
 pub mod lexing;
 pub mod names;
-pub mod pieces;
+mod pieces;
 pub mod places;
 pub mod token;
 
@@ -13,3 +16,6 @@ pub use lexing::{lex, one_reading};
 pub use names::is_name;
 pub use places::place;
 pub use token::{Kind, Place, Span, Token};
+
+#[cfg(test)]
+mod tests;

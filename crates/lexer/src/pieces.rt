@@ -1,4 +1,4 @@
-//! The next lexeme of a text.
+//! The next lexeme of a text. A private part of the lexer.
 ghost use Rattle.lexer.specs.Cut.{IsStuck, HasNoLexeme};
 ghost use Rattle.lexer.specs.Lexeme.{sign_of};
 ghost use Rattle.lexer.specs.Scan.{holds, after_run, after_close, begins_sign, IsDouble, IsNoDouble, IsTail, Reads};
@@ -74,12 +74,7 @@ fn is_white_space(character: char) -> bool
 }
 
 /// A run of digits.
-fn literal<'a>(
-    text: &'a str,
-    first: char,
-    after: &'a str,
-    at: usize,
-) -> Result<Piece<'a>, LexFault>
+fn literal<'a>(text: &'a str, first: char, after: &'a str, at: usize) -> Result<Piece<'a>, LexFault>
     requires parts { chars text.now ≡ first ∷ chars after.now }
     requires digit { IsTrue (is_ascii_digit first) }
     ensures { MatchResult result (λ piece. Reads (chars text.now) piece.kind (chars piece.rest.now)) (λ fault. IsStuck at (chars text.now) fault) }

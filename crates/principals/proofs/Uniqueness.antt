@@ -6,7 +6,7 @@ use Rattle.std.proofs.lemmas.Option.{some_pair_parts}
 use Rattle.lexer.specs.Terminal.{Terminal}
 use Rattle.lexer.specs.declared.fault.LexFault.{LexFault}
 use Rattle.lexer.specs.declared.fault.LexFault.TheVariants as lex
-use Rattle.lexer.proofs.Cutting.{has_one_cut, is_cut_or_refused, has_one_refusal}
+use Rattle.lexer.proofs.Cutting.{has_one_cut, not_cut_and_refused, has_one_refusal}
 use Rattle.principals.specs.ActsFor.{PrincipalHierarchy, HasName, IsHierarchy}
 use Rattle.principals.specs.HierarchyText.{Entry, IsHierarchyForm, BeginsForm, IsUnexpectedAt, IsRefusal, Twice, Crowded, UnknownLeft, UnknownRight, IsFirstRefusal, IsSaid, declared, written, greatest_text, Says, IsHierarchyOf, IsLexFaultAt, IsSyntaxFault, IsRefusedText}
 use Rattle.principals.specs.Reading.{Ended, IsStatementsFault, IsReadFault}
@@ -129,10 +129,10 @@ syntax_once text at other a b =
     ⊎_elim
     (λ la. ⊎_elim
     (λ lb. lex_fault_once la.0 at other la.2 (subst (λ x. IsLexFaultAt x other) (has_one_refusal text lb.0 la.0 lb.1 la.1) lb.2))
-    (λ tb. absurd (is_cut_or_refused text tb.0 la.0 tb.1 la.1))
+    (λ tb. absurd (not_cut_and_refused text tb.0 la.0 tb.1 la.1))
     b)
     (λ ta. ⊎_elim
-    (λ lb. absurd (is_cut_or_refused text ta.0 lb.0 ta.1 lb.1))
+    (λ lb. absurd (not_cut_and_refused text ta.0 lb.0 ta.1 lb.1))
     (λ tb. unexpected_once ta.0 at other ta.2 (subst (λ x. IsUnexpectedAt x other) (has_one_cut text tb.0 ta.0 tb.1 ta.1) tb.2))
     b)
     a
@@ -140,7 +140,7 @@ syntax_once text at other a b =
 says_not_syntax : (text : List ℕ) (es : List Entry) (at : ℕ) → Says text es → IsSyntaxFault text at → ⊥
 says_not_syntax text es at says s =
     ⊎_elim
-    (λ l. is_cut_or_refused text says.tokens l.0 says.cut l.1)
+    (λ l. not_cut_and_refused text says.tokens l.0 says.cut l.1)
     (λ t. form_is_expected says.tokens es at says.form (subst (λ x. IsUnexpectedAt x at) (has_one_cut text t.0 says.tokens t.1 says.cut) t.2))
     s
 

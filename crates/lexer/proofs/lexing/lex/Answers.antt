@@ -1,16 +1,17 @@
-use Rattle.std.proofs.Common.{◌≡◌, ◌⊎◌, inl, ◌∷◌, ◌++◌, ◌<◌, ℕ, List, Option, Result, [], Some, None, Ok, Err, length, refl, sym, ap, subst, ◌∙◌, arith, rules}
+use Rattle.std.proofs.Common.{◌≡◌, ◌⊎◌, inl, Option, Result, Some, None, Ok, Err, refl, sym, ap, subst, ◌∙◌, arith, rules}
 use Rattle.std.proofs.lemmas.List.{map-append}
 use Rattle.std.specs.Str.{chars, IsUtf8}
 use Rattle.lexer.specs.declared.token.Kind.{Kind}
 use Rattle.lexer.specs.declared.fault.LexFault.{LexFault}
 use Rattle.lexer.specs.declared.fault.LexFault.TheVariants.{NoMemory}
-use Rattle.std.specs.Result.{MatchResult}
+use Rattle.std.specs.Result.{MatchResult, IfErr}
 use Rattle.lexer.specs.Cut.{IsCut, IsRefused}
+use Rattle.lexer.specs.Listing.{IsFaultAtCharacter}
 use Rattle.lexer.specs.Scan.{Reads}
-use Rattle.lexer.specs.Terminal.{Terminal, terminal_of, terminals_of}
+use Rattle.lexer.specs.Terminal.{terminal_of, terminals_of}
 use Rattle.lexer.proofs.Growing.{IsCutSoFar, GrowsBy, begin, gap, token, shorter_by, refused, whole}
-use Rattle.lexer.proofs.Listed.{Listed, listed}
-use Rattle.lexer.proofs.Cutting.{has_one_cut, is_cut_or_refused, has_one_refusal}
+use Rattle.lexer.proofs.Listed.{Listed, listed, refused_at}
+use Rattle.lexer.proofs.Cutting.{has_one_cut, not_cut_and_refused, has_one_refusal}
 use Rattle.lexer.proofs.lexing.lex.Goals as goal
 
 pub loop-first-init : goal.loop-first-init
@@ -63,25 +64,34 @@ at_err : {X : Type 0} (r : Result X LexFault) (fault other : LexFault) → r ≡
 at_err (Ok x) fault other e h = absurd cc
 at_err (Err told) fault other e h = let same : told ≡ fault = cc in inl (same ∙ h)
 
+placed : {X : Type 0} (r : Result X LexFault) (fault : LexFault) (P : LexFault → Type 0) → r ≡ Err fault → P fault → IfErr r P
+placed {X} r fault P e h = let Q : Result X LexFault → Type 0 = λ x. IfErr x P in subst Q (sym e) h
+
 -- the refusal that is told
 told : (c : goal.After-drop-tokens) → IsRefused c.args.src.now c.in_err-kind.field-0.0
 told c =
     refused c.args.src.now c.loop-first.rest.now (terminals_of c.loop-first.tokens.items) c.in_err-kind.field-0.0 c.loop-first.invariant.1 c.in_err-kind.ensures
 
 pub returns-in_err-kind-clause-only : goal.returns-in_err-kind-clause-only
-returns-in_err-kind-clause-only c = λ tokens cut. absurd (is_cut_or_refused c.args.src.now tokens c.in_err-kind.field-0.0 cut (told c))
+returns-in_err-kind-clause-only c = λ tokens cut. absurd (not_cut_and_refused c.args.src.now tokens c.in_err-kind.field-0.0 cut (told c))
 
 pub returns-in_err-kind-clause-first : goal.returns-in_err-kind-clause-first
 returns-in_err-kind-clause-first c = λ fault refusal.
     let e : c.from_residual.result ≡ Err c.in_err-kind.field-0.0 = search rules in
     at_err c.from_residual.result c.in_err-kind.field-0.0 fault e (has_one_refusal c.args.src.now c.in_err-kind.field-0.0 fault (told c) refusal)
 
+pub returns-in_err-kind-clause-fault_at_character : goal.returns-in_err-kind-clause-fault_at_character
+returns-in_err-kind-clause-fault_at_character c =
+    let e : c.from_residual.result ≡ Err c.in_err-kind.field-0.0 = search rules in
+    placed c.from_residual.result c.in_err-kind.field-0.0 (IsFaultAtCharacter c.args.src.now) e
+    (refused_at c.args.src.now c.in_err-kind.field-0.0 c.utf8.src (told c))
+
 -- the whole cut
 ended : (c : goal.In_ok-push-2) → IsCut c.args.src.now (terminals_of c.push-2.new.self.items)
 ended c =
     let tokens = c.loop-first.tokens.items in
     subst (IsCut c.args.src.now) (sym (ap terminals_of c.in_ok-push-2.ensures.items ∙ map-append terminal_of tokens _))
-      (whole c.args.src.now c.loop-first.rest.now (terminals_of tokens) _ c.loop-first.invariant.1 c.in_default.ensures refl)
+    (whole c.args.src.now c.loop-first.rest.now (terminals_of tokens) _ c.loop-first.invariant.1 c.in_default.ensures refl)
 
 all : (c : goal.In_ok-push-2) → Listed c.args.src.now (terminals_of c.push-2.new.self.items)
 all c = listed c.args.src.now (terminals_of c.push-2.new.self.items) c.utf8.src (ended c)
@@ -93,7 +103,7 @@ pub returns-clause-only : goal.returns-clause-only
 returns-clause-only c = λ tokens cut. has_one_cut c.args.src.now (terminals_of c.push-2.new.self.items) tokens (ended c) cut
 
 pub returns-clause-first : goal.returns-clause-first
-returns-clause-first c = λ fault refusal. is_cut_or_refused c.args.src.now (terminals_of c.push-2.new.self.items) fault (ended c) refusal
+returns-clause-first c = λ fault refusal. not_cut_and_refused c.args.src.now (terminals_of c.push-2.new.self.items) fault (ended c) refusal
 
 pub returns-clause-terminated : goal.returns-clause-terminated
 returns-clause-terminated c = (all c).terminated
@@ -109,3 +119,6 @@ returns-clause-spelled c = (all c).spelled
 
 pub returns-clause-count : goal.returns-clause-count
 returns-clause-count c = (all c).count
+
+pub returns-clause-at_characters : goal.returns-clause-at_characters
+returns-clause-at_characters c = (all c).at_characters

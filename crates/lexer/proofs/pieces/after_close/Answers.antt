@@ -1,6 +1,6 @@
-use Rattle.std.proofs.Common.{◌≡◌, ◌∷◌, ◌++◌, ◌==◌, ◌&&◌, ℕ, List, [], Bool, Some, true, false, refl, sym, ap, subst, ◌∙◌, arith}
-use Rattle.std.proofs.lemmas.Bool.{eqb-true, eqb-false, and_left, and_right, ne_eqb}
-use Rattle.std.specs.Str.{chars, IsUtf8}
+use Rattle.std.proofs.Common.{◌≡◌, ◌==◌, ◌&&◌, Some, false, sym, ap, ◌∙◌}
+use Rattle.std.proofs.lemmas.Bool.{and_left, and_right, ne_eqb}
+use Rattle.std.specs.Str.{chars}
 use Rattle.std.specs.Str.Iter.{chars_rest}
 use Rattle.lexer.specs.Scan.{after_close}
 use Rattle.lexer.proofs.Steps.{step, close_found, close_on, chars-empty}
@@ -17,10 +17,10 @@ pub loop-character-preserved : goal.loop-character-preserved
 loop-character-preserved c =
     let h = step _ (chars_rest c.next.new.self) c.in-Some.character c.loop-character.invariant.0 c.in-Some.ensures.steps.0 in
     let on : (c.loop-character.starred && c.in-Some.character == 47) ≡ false =
-        elim c.else-starred.branch [
-          else-starred-via-then-starred+else-character-eq47 w ↦ and_right _ _ (ne_eqb _ _ w.if-character-eq47.false)
-          | else-starred-via-else-starred w ↦ and_left _ _ w.if-starred.false
-        ] in
+    elim c.else-starred.branch [
+      | else-starred-via-then-starred+else-character-eq47 w ↦ and_right _ _ (ne_eqb _ _ w.if-character-eq47.false)
+      | else-starred-via-else-starred w ↦ and_left _ _ w.if-starred.false
+    ] in
     (h.utf8, sym (close_on _ _ _ _ h.characters on) ∙ c.loop-character.invariant.1)
 
 pub returns : goal.returns

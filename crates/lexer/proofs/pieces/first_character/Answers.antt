@@ -1,5 +1,4 @@
-use Rattle.std.proofs.Common.{◌≡◌, ◌∷◌, ℕ, List, Option, [], Some, None, length, refl, sym, ap, subst, ◌∙◌}
-use Rattle.std.specs.Option.{MatchOption}
+use Rattle.std.proofs.Common.{◌∷◌, sym, ap, ◌∙◌}
 use Rattle.std.specs.Str.{chars}
 use Rattle.std.specs.Str.Iter.{chars_rest}
 use Rattle.lexer.proofs.Steps.{step}

@@ -1,4 +1,4 @@
-use Rattle.std.proofs.Common.{◌≡◌, ◌∷◌, ◌++◌, ◌==◌, ◌&&◌, ℕ, List, [], Bool, true, false, refl, sym, ap, subst, ◌∙◌, arith}
+use Rattle.std.proofs.Common.{◌++◌, sym, ap, ◌∙◌}
 use Rattle.std.specs.Str.{chars}
 use Rattle.lexer.proofs.Steps.{parted}
 use Rattle.lexer.proofs.pieces.front.Goals as goal

@@ -1,4 +1,4 @@
-use Rattle.std.proofs.Common.{◌≡◌, refl, sym, ap, ◌∙◌, unwrap_or}
+use Rattle.std.proofs.Common.{refl, sym, ap, ◌∙◌, unwrap_or}
 use Rattle.std.specs.Str.{chars}
 use Rattle.lexer.specs.Lexeme.{Word}
 use Rattle.lexer.specs.Words.{keywords, may_continue}

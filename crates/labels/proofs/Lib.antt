@@ -1,0 +1,10 @@
+pub mod Ascending
+pub mod Elements
+pub mod Flow
+pub mod FlowTests
+pub mod Joined
+pub mod Meaning
+pub mod Merge
+pub mod Order
+pub mod Tests
+pub mod Written

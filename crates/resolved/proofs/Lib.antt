@@ -1,0 +1,4 @@
+pub mod Cases
+pub mod Views
+pub mod Sound
+pub mod Parts
