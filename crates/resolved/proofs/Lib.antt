@@ -2,3 +2,4 @@ pub mod Cases
 pub mod Views
 pub mod Sound
 pub mod Parts
+pub mod Growing

@@ -1,4 +1,5 @@
-//! A small program, built and looked up.
+//! Small programs, built and looked up.
+ghost use Rattle.std.specs.Prelude.{IfOk, [], ◌≡◌};
 
 use crate::expression::{Base, Expression, Value, Variable};
 use crate::laws::values_keep_their_types;
@@ -10,35 +11,68 @@ use principals::Hierarchy;
 use std::alloc::{AllocError, Global};
 use std::test::Fail;
 
-// `output{} pub; global int{} n = 2; void main() { int x = n; send pub, x; }`, without places.
+// `output{} pub; void main() { int x = 7; send pub, x; }`, with places of its own.
 fn sending(alloc: Global) -> Result<Core, AllocError> {
-    let mut channels = Vec::new(alloc);
-    channels.push(Channel {
-        direction: Direction::Output,
-        name: String::from_str(alloc, "pub")?,
-        label: Label::least(alloc),
-    })?;
-    let mut globals = Vec::new(alloc);
-    globals.push(GlobalVariable {
-        name: String::from_str(alloc, "n")?,
-        base: Base::Int,
-        size: None,
-        label: Label::least(alloc),
-        first: Value::Number(2),
-    })?;
-    let mut slots = Vec::new(alloc);
-    slots.push(Slot {
-        base: Base::Int,
-        size: None,
-        written: None,
-        at: 5,
-        name: String::from_str(alloc, "x")?,
-    })?;
-    let mut body = Vec::new(alloc);
-    body.push(Statement::Assign(5, Variable::Local(0), Expression::Read(Variable::Global(0))))?;
-    body.push(Statement::Send(9, 0, Expression::Read(Variable::Local(0))))?;
-    let mut procedures = Vec::new(alloc);
-    procedures.push(Procedure {
+    let body = vec![in alloc;
+        Statement::Assign(5, Variable::Local(0), Expression::Integer(7)),
+        Statement::Send(9, 0, Expression::Read(Variable::Local(0))),
+    ]?;
+    let slots = vec![in alloc;
+        Slot {
+            base: Base::Int,
+            size: None,
+            written: None,
+            at: 5,
+            name: String::from_str(alloc, "x")?,
+        },
+    ]?;
+    Ok(Core {
+        hierarchy: Hierarchy::of(alloc, Vec::new(alloc), Vec::new(alloc))?,
+        channels: vec![in alloc;
+            Channel {
+                direction: Direction::Output,
+                name: String::from_str(alloc, "pub")?,
+                label: Label::least(alloc),
+            },
+        ]?,
+        exceptions: Vec::new(alloc),
+        globals: Vec::new(alloc),
+        procedures: vec![in alloc; procedure_of(alloc, slots, body)?]?,
+        main: 0,
+    })
+}
+
+// `global int{} n = 2; void main() { }`, with places of its own.
+fn counting(alloc: Global) -> Result<Core, AllocError> {
+    Ok(Core {
+        hierarchy: Hierarchy::of(alloc, Vec::new(alloc), Vec::new(alloc))?,
+        channels: Vec::new(alloc),
+        exceptions: Vec::new(alloc),
+        globals: vec![in alloc;
+            GlobalVariable {
+                name: String::from_str(alloc, "n")?,
+                base: Base::Int,
+                size: None,
+                label: Label::least(alloc),
+                first: Value::Number(2),
+            },
+        ]?,
+        procedures: vec![in alloc; procedure_of(alloc, Vec::new(alloc), Vec::new(alloc))?]?,
+        main: 0,
+    })
+}
+
+// A procedure without parameters, value, exceptions and loops.
+fn procedure_of(
+    alloc: Global,
+    slots: Vec<Slot>,
+    body: Vec<Statement>,
+) -> Result<Procedure, AllocError>
+    ensures { IfOk result (λ procedure. (procedure.slots ≡ slots) × (procedure.body ≡ body) × (procedure.throws.items ≡ [])
+        × (procedure.result ≡ None) × (procedure.begin_label ≡ []) × (procedure.end_label ≡ []) × (procedure.parameters ≡ 0)
+        × (procedure.loops ≡ 0)) }
+{
+    Ok(Procedure {
         at: 1,
         name: String::from_str(alloc, "main")?,
         result: None,
@@ -49,28 +83,19 @@ fn sending(alloc: Global) -> Result<Core, AllocError> {
         slots,
         loops: 0,
         body,
-    })?;
-    let names = Vec::new(alloc);
-    let pairs = Vec::new(alloc);
-    Ok(Core {
-        hierarchy: Hierarchy::of(alloc, names, pairs)?,
-        channels,
-        exceptions: Vec::new(alloc),
-        globals,
-        procedures,
-        main: 0,
     })
 }
 
 #[test]
 fn looks_up_what_was_put_in(rt: HostRuntime) -> Result<(), Fail> {
     values_keep_their_types();
+    let other = counting(rt.alloc())?;
+    assert_eq!(rt; other.globals.len(), 1);
+    assert_eq!(rt; other.global(0).first, Value::Number(2));
     let core = sending(rt.alloc())?;
     assert_eq!(rt; core.procedures.len(), 1);
     assert_eq!(rt; core.channels.len(), 1);
-    assert_eq!(rt; core.globals.len(), 1);
     assert_eq!(rt; core.channel(0).direction, Direction::Output);
-    assert_eq!(rt; core.global(0).first, Value::Number(2));
     let main = core.procedure(0);
     assert_eq!(rt; main.at, 1);
     assert_eq!(rt; main.slots.len(), 1);
