@@ -169,6 +169,8 @@ pub fn parse(alloc: Global, tokens: &[Token<'_>]) -> Result<Program, ParseFault>
 
     // Where the tokens spell a tree, the answer is that tree, unless memory ran out.
     ensures only { (tree : ProgramTree) → Spells (terminals_of tokens.now) tree → IsTreeOrNoMemory result tree }
+
+    // A refusal stands at the first token that is at fault.
     ensures unexpected { (at : ℕ) → result ≡ Err (ParseFault.Unexpected at) → IsUnexpectedAt (terminals_of tokens.now) at }
     ensures too_deep { (at : ℕ) → result ≡ Err (ParseFault.TooDeep at) → IsTooDeepAt (terminals_of tokens.now) at }
 

@@ -189,47 +189,24 @@ fn stops_early(rt: HostRuntime) -> Result<(), Fail> {
     Ok(())
 }
 
-// Without the token of a number the token of the other number is unexpected, or none is.
+/// A number for none.
+const NONE: usize = 99;
+
+/// Without the token of a number, which token is unexpected then.
+const WITHOUT: [usize; 29] = [
+    0, 1, 3, 3, 4, 5, 6, 7, 8, 9, 10, 11, 12, 13, 14, 15, 16, 17, NONE, 19, 20, 22, 22, 23, 24, 25,
+    26, 27, 28,
+];
+
 #[test]
 fn misses_a_token(rt: HostRuntime) -> Result<(), Fail> {
     let alloc = rt.alloc();
-    let none = 99;
-    for (number, expected) in [
-        (0, 0),
-        (1, 1),
-        (2, 3),
-        (3, 3),
-        (4, 4),
-        (5, 5),
-        (6, 6),
-        (7, 7),
-        (8, 8),
-        (9, 9),
-        (10, 10),
-        (11, 11),
-        (12, 12),
-        (13, 13),
-        (14, 14),
-        (15, 15),
-        (16, 16),
-        (17, 17),
-        (18, none),
-        (19, 19),
-        (20, 20),
-        (21, 22),
-        (22, 22),
-        (23, 23),
-        (24, 24),
-        (25, 25),
-        (26, 26),
-        (27, 27),
-        (28, 28),
-    ] {
+    for (number, expected) in WITHOUT.iter().enumerate() {
         let mut words = Vec::from_slice(alloc, &PROGRAM)?;
         assert!(rt; number < words.len());
         words.remove(number);
-        let (text, place) = spelled(alloc, &words, expected)?;
-        let fault = if expected == none {
+        let (text, place) = spelled(alloc, &words, *expected)?;
+        let fault = if *expected == NONE {
             None
         } else {
             Some(ParseFault::Unexpected(place))
@@ -312,9 +289,6 @@ const WORDS: [&str; 47] = [
     "n",
     "7",
 ];
-
-/// A number for none.
-const NONE: usize = 99;
 
 /// With these words in the place of the token of a number, which token is unexpected. Any other word is itself.
 const ELSEWHERE: [(usize, &str, usize); 34] = [
