@@ -1,2 +1,4 @@
 pub mod Contents
 pub mod Code
+pub mod Faults
+pub mod Form

@@ -1,10 +1,12 @@
 //! The modules of the virtual machine, and their one spelling as bytes.
 #![tactic(auto)]
 
+pub mod fault;
 pub mod instruction;
 pub mod parts;
 pub mod procedure;
 
+pub use fault::{FormatFault, Refusal};
 pub use instruction::{Arithmetic, Comparison, Instruction};
 pub use parts::{Direction, Global, Handler, Kind, Slot};
 pub use procedure::Procedure;

@@ -1,0 +1,4 @@
+pub mod Steps
+pub mod Coherent
+pub mod Taken
+pub mod Again
