@@ -2,3 +2,4 @@ pub mod Contents
 pub mod Code
 pub mod Faults
 pub mod Form
+pub mod Opcodes

@@ -3,6 +3,7 @@
 
 pub mod fault;
 pub mod instruction;
+mod opcode;
 pub mod parts;
 pub mod procedure;
 
