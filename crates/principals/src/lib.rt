@@ -1,2 +1,4 @@
 //! Principals and who acts for whom.
 #![tactic(auto)]
+
+pub mod laws;

@@ -1,0 +1,5 @@
+pub mod Ascending
+pub mod Elements
+pub mod Flow
+pub mod FlowTests
+pub mod Tests
