@@ -1,1 +1,4 @@
 pub mod Closure
+mod Bits
+mod Paths
+mod Rows

@@ -1,1 +1,2 @@
 pub mod ActsFor
+pub mod Table
