@@ -2,3 +2,4 @@ pub mod Steps
 pub mod Coherent
 pub mod Taken
 pub mod Again
+pub mod Lawful

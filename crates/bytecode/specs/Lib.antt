@@ -3,3 +3,4 @@ pub mod Code
 pub mod Faults
 pub mod Form
 pub mod Opcodes
+pub mod Format
