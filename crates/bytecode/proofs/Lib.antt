@@ -3,3 +3,4 @@ pub mod Coherent
 pub mod Taken
 pub mod Again
 pub mod Lawful
+pub mod Loop

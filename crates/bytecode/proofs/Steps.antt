@@ -4,7 +4,8 @@ use Rattle.std.specs.Int.{w32, from_be_bytes, to_be_bytes}
 use Rattle.std.proofs.lemmas.Bool.{cases_lt, ltb-false, le-ltb}
 use Rattle.std.proofs.lemmas.List.{take_at, drop_at, take-append-drop, length-append, length-take, get_or-drop, get_or-take, get_or_past}
 use Rattle.std.proofs.lemmas.Nat.{be_bytes_4, from_be_bytes-to_be_bytes_4}
-use Rattle.bytecode.specs.Form.{Stop, short, ◌>>=◌, Read, byte_at, number_at, bytes_at}
+use Rattle.bytecode.specs.declared.fault.Stop.{Stop}
+use Rattle.bytecode.specs.Form.{short, ◌>>=◌, Read, byte_at, number_at, bytes_at}
 
 -- each element is a byte
 pub record IsBytes (bytes : List ℕ) : Type 0 where

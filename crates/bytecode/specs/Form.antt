@@ -5,6 +5,7 @@ use Rattle.std.specs.Prelude.{◌≡◌, ℕ, zero, suc, ◌+◌, ◌-◌, ◌^�
 use Rattle.std.specs.Int.{w32, to_be_bytes, from_be_bytes}
 use Rattle.std.specs.List.{flat_map, AllByRecursion}
 use Rattle.bytecode.specs.declared.fault.Refusal.{Refusal}
+use Rattle.bytecode.specs.declared.fault.Stop.{Stop}
 use Rattle.bytecode.specs.declared.fault.Refusal.TheVariants.{Short, BadValue, Trailing}
 
 -- how instructions are spelled: an opcode, which says how many bytes of operand follow (none where there is no such opcode),
@@ -96,11 +97,7 @@ Spells form x bytes = Fits form x × (bytes ≡ spelled form x)
 
 -- ---- reading, and the first refusal
 
--- a refusal and its place, told by how many bytes are left there to the end
-pub record Stop : Type 0 where
-  pub refusal : Refusal
-  pub left : ℕ
-
+-- a refusal at the place where these bytes are left
 abbrev pub stop_at : Refusal → List ℕ → Stop
 stop_at refusal bytes = record { refusal = refusal; left = length bytes }
 

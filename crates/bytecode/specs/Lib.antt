@@ -4,3 +4,4 @@ pub mod Faults
 pub mod Form
 pub mod Opcodes
 pub mod Format
+pub mod Reading

@@ -37,6 +37,13 @@ impl Refusal {
     }
 }
 
+/// A refusal, and its place, told by how many bytes are left there to the end.
+#[derive(Clone, Copy, Debug)]
+pub struct Stop {
+    pub refusal: Refusal,
+    pub left: usize,
+}
+
 /// Why a module was not read.
 #[derive(Clone, Copy, Debug, PartialEq, Eq)]
 pub enum FormatFault {

@@ -6,6 +6,7 @@ pub mod instruction;
 mod opcode;
 pub mod parts;
 pub mod procedure;
+mod reading;
 
 pub use fault::{FormatFault, Refusal};
 pub use instruction::{Arithmetic, Comparison, Instruction};
