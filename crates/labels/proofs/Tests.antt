@@ -8,7 +8,7 @@ use Rattle.std.proofs.lemmas.List.Folds.{Any-from_list_any, list_any-from_Any}
 use Rattle.std.proofs.lemmas.List.Sums.{AllPass-from_list_all, list_all-from_AllPass}
 use Rattle.principals.specs.ActsFor.{PrincipalHierarchy, ActsFor, acts_for}
 use Rattle.principals.proofs.Closure.{acts_for-decides}
-use Rattle.labels.specs.Label.{ReaderPolicy, Label, Allows, MayRead, PolicyFlowsTo, FlowsTo, policy_allows, may_read, policy_flows, flows}
+use Rattle.labels.specs.Label.{ReaderPolicy, Label, Allows, MayRead, PolicyFlowsTo, Covers, FlowsTo, policy_allows, may_read, policy_flows, covers, flows}
 use Rattle.labels.proofs.Elements.{Any-weaker}
 
 -- a test of both sides, and one of either
@@ -52,7 +52,10 @@ policy_flows-decides h from to =
     (list_all-decides (λ reader. policy_allows h reader from) (λ reader. Allows h from reader) to.readers
     (λ reader. policy_allows-decides h reader from))
 
+pub covers-decides : (h : PrincipalHierarchy) (to : Label) (policy : ReaderPolicy) → IsTrue (covers h to policy) ↔ Covers h to policy
+covers-decides h to policy =
+    list_any-decides (λ other. policy_flows h policy other) (λ other. PolicyFlowsTo h policy other) to (policy_flows-decides h policy)
+
 pub flows-decides : (h : PrincipalHierarchy) (from to : Label) → IsTrue (flows h from to) ↔ FlowsTo h from to
 flows-decides h from to =
-    list_all-decides (λ policy. list_any (λ other. policy_flows h policy other) to) (λ policy. Any (λ other. PolicyFlowsTo h policy other) to) from
-    (λ policy. list_any-decides (λ other. policy_flows h policy other) (λ other. PolicyFlowsTo h policy other) to (policy_flows-decides h policy))
+    list_all-decides (λ policy. covers h to policy) (λ policy. Covers h to policy) from (covers-decides h to)

@@ -27,9 +27,13 @@ MayRead h p label = All (λ policy. Allows h policy p) label
 abbrev pub PolicyFlowsTo : PrincipalHierarchy → ReaderPolicy → ReaderPolicy → Type 0
 PolicyFlowsTo h from to = ActsFor h.pairs to.owner from.owner × All (λ reader. Allows h from reader) to.readers
 
--- a label flows to another one: each of its policies flows to some policy of the other one
+-- a label covers a policy: the policy flows to some policy of the label
+abbrev pub Covers : PrincipalHierarchy → Label → ReaderPolicy → Type 0
+Covers h to policy = Any (λ other. PolicyFlowsTo h policy other) to
+
+-- a label flows to another one: the other one covers each of its policies
 abbrev pub FlowsTo : PrincipalHierarchy → Label → Label → Type 0
-FlowsTo h from to = All (λ policy. Any (λ other. PolicyFlowsTo h policy other) to) from
+FlowsTo h from to = All (λ policy. Covers h to policy) from
 
 -- the tests: whether a policy allows a principal
 abbrev pub policy_allows : PrincipalHierarchy → ℕ → ReaderPolicy → Bool
@@ -45,6 +49,10 @@ abbrev pub policy_flows : PrincipalHierarchy → ReaderPolicy → ReaderPolicy �
 policy_flows h from to =
     acts_for h.pairs to.owner from.owner && list_all (λ reader. policy_allows h reader from) to.readers
 
+-- whether a label covers a policy
+abbrev pub covers : PrincipalHierarchy → Label → ReaderPolicy → Bool
+covers h to policy = list_any (λ other. policy_flows h policy other) to
+
 -- whether a label flows to another one
 abbrev pub flows : PrincipalHierarchy → Label → Label → Bool
-flows h from to = list_all (λ policy. list_any (λ other. policy_flows h policy other) to) from
+flows h from to = list_all (λ policy. covers h to policy) from

@@ -1,6 +1,6 @@
 //! Laws of reading and of flow, over all hierarchies and all labels: each stated of the relations and of the tests.
 
-ghost use Rattle.labels.specs.Label.{Allows, FlowsTo, Label, MayRead, PolicyFlowsTo, ReaderPolicy, flows, may_read, policy_allows, policy_flows};
+ghost use Rattle.labels.specs.Label.{Allows, Covers, FlowsTo, Label, MayRead, PolicyFlowsTo, ReaderPolicy, covers, flows, may_read, policy_allows, policy_flows};
 ghost use Rattle.labels.specs.Lattice.{IsLattice};
 ghost use Rattle.labels.specs.Sets.{SameSet};
 ghost use Rattle.principals.specs.ActsFor.{PrincipalHierarchy};
@@ -13,6 +13,8 @@ pub fn tests_decide()
     ensures reads { (h : PrincipalHierarchy) (p : ℕ) (label : Label) → IsTrue (may_read h p label) ↔ MayRead h p label }
     ensures policy { (h : PrincipalHierarchy) (from to : ReaderPolicy) →
         IsTrue (policy_flows h from to) ↔ PolicyFlowsTo h from to }
+    ensures covers { (h : PrincipalHierarchy) (to : Label) (policy : ReaderPolicy) →
+        IsTrue (covers h to policy) ↔ Covers h to policy }
     ensures flow { (h : PrincipalHierarchy) (from to : Label) → IsTrue (flows h from to) ↔ FlowsTo h from to }
 {}
 

@@ -1,8 +1,9 @@
 -- What holds of acts-for: the test and the relation say the same, both are reflexive and transitive, more pairs never take an
 -- answer away, and every reflexive and transitive relation that contains the written pairs contains acts-for.
-use Rattle.std.proofs.Common.{◌≡◌, ℕ, List, [], ◌∷◌, ◌⊎◌, ◌↔◌, refl, sym, ◌∙◌, subst, inl, inr, ⊎_elim, ◌<◌, arith, not-suc-le-zero}
+use Rattle.std.proofs.Common.{◌≡◌, ℕ, eqb, List, [], ◌∷◌, ◌⊎◌, ◌↔◌, refl, sym, ◌∙◌, subst, inl, inr, ⊎_elim, ◌<◌, ◌≤◌, arith, not-suc-le-zero}
 use Rattle.std.specs.Prelude.{Contains, All, IsTrue}
 use Rattle.std.proofs.lemmas.Bool.{eqb-true, eq-eqb, or_left, or_right, or_cases, and_from, and_parts}
+use Rattle.std.proofs.lemmas.Bool.Decides.{same_from_decides}
 use Rattle.std.proofs.lemmas.List.Elements.{Contains-append_cases, Contains-append_right, Contains-push_cases, All-contains}
 use Rattle.principals.specs.ActsFor.{ActsFor, itself, written, through, acts_for}
 
@@ -123,3 +124,12 @@ acts_for-below limit pairs below a b h =
     (λ l. ⊎_elim (λ e. inr (l.0, subst (λ w. w < limit) e l.1)) (λ m. inr (l.0, m.1))))
     (λ x y k. inr (All-contains (λ pair. (pair.0 < limit) × (pair.1 < limit)) pairs (x, y) below k))
     a b h
+
+-- a number at the limit or above it acts for itself alone
+pub acts_for-outside : (limit : ℕ) (pairs : List (ℕ × ℕ)) → All (λ pair. (pair.0 < limit) × (pair.1 < limit)) pairs →
+    (a b : ℕ) → limit ≤ a → eqb a b ≡ acts_for pairs a b
+acts_for-outside limit pairs below a b past =
+    same_from_decides {P = a ≡ b} (eqb a b) (acts_for pairs a b) (eqb-true a b, eq-eqb a b) (
+      λ h. ⊎_elim (λ e. e) (λ (l : (a < limit) × (b < limit)). absurd (omega arith)) (acts_for-below limit pairs below a b h),
+      λ e. subst (λ x. IsTrue (acts_for pairs a x)) e (acts_for-itself pairs a),
+    )

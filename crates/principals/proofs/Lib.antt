@@ -2,3 +2,4 @@ pub mod Closure
 mod Bits
 mod Paths
 mod Rows
+pub mod Names
