@@ -3,3 +3,4 @@ mod Bits
 mod Paths
 mod Rows
 pub mod Names
+mod Inclusion

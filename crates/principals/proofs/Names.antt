@@ -1,7 +1,8 @@
 -- Names and their numbers.
 use Rattle.std.proofs.Common.{◌≡◌, ◌≢◌, ◌↔◌, ◌⊎◌, ℕ, ◌+◌, ◌<◌, ◌≤◌, Bool, false, not, cond, ltb, List, [], ◌∷◌, map, length, get_or, take, Option, None, Some, String, Global, refl, sym, ap, ◌∙◌, subst, ⊎_elim, inl, inr, arith, lt-ltb, length-take-le, get_or-take}
 use Rattle.std.specs.Prelude.{Contains, slice_get, position, bytes_eq, string_bytes}
-use Rattle.std.specs.List.{list_any, prefix_len, position_or_len}
+use Rattle.std.proofs.lemmas.List.Elements.{length_all_zip}
+use Rattle.std.specs.List.{AllZip, list_any, prefix_len, position_or_len}
 use Rattle.std.specs.String.{string_eq}
 use Rattle.std.proofs.lemmas.Bool.{cases_order, false_from_ne_true, cond-true}
 use Rattle.std.proofs.lemmas.List.{length-map, get_or-map}
@@ -107,3 +108,21 @@ new_name names n d different within =
     let same : get_or (take n names) k e ≡ get_or names k e = get_or-take n names k e l in
     ap (λ x. string_eq (get_or names n d) x) same
     ∙ different_bytes (bytes (get_or names n d)) (bytes (get_or names k e)) (λ q. different k n [] l long (at_k ∙ sym q ∙ sym at_n)))
+
+-- lists that agree item by item in their bytes
+pub same_bytes : {X : Type 0} (bytes : X → List ℕ) (xs ys : List X) → AllZip (λ x y. bytes y ≡ bytes x) xs ys → map bytes ys ≡ map bytes xs
+same_bytes bytes [] [] h = refl
+same_bytes bytes [] (y ∷ ys) h = absurd h
+same_bytes bytes (x ∷ xs) [] h = absurd h
+same_bytes bytes (x ∷ xs) (y ∷ ys) h = λ i. h.0 i ∷ same_bytes bytes xs ys h.1 i
+
+pub AllZip-length : {X : Type 0} (R : X → X → Type 0) (xs ys : List X) → AllZip R xs ys → length ys ≡ length xs
+AllZip-length R xs ys h = sym (length_all_zip R xs ys h)
+
+-- the bytes at a place are those of the text there
+pub bytes_at : {X : Type 0} (bytes : X → List ℕ) (xs : List X) (k : ℕ) (d : X) (name : List ℕ) → slice_get (map bytes xs) k ≡ Some name →
+    (k < length xs) × (name ≡ bytes (get_or xs k d))
+bytes_at bytes xs k d name h =
+    let within : k < length (map bytes xs) = slice_get_within (map bytes xs) k name h in
+    let inside : k < length xs = omega (arith, length-map xs bytes) in
+    (inside, sym (get_or_from_slice_get (map bytes xs) k name name h) ∙ get_or-map bytes xs k d name inside)

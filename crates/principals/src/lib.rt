@@ -4,6 +4,7 @@
 ghost use Rattle.principals.specs.ActsFor.{acts_for, ActsFor, AllBelow, AllDifferent, HasName, IsHierarchy, number_of};
 ghost use Rattle.std.specs.Prelude.{Contains, IfOk, IsTrue, None, Some, length, map, option_map, slice_get, string_bytes, vec_len, ℕ, ◌↔◌, ◌≡◌, ◌≤◌};
 
+mod contained;
 pub mod laws;
 mod row;
 mod table;
@@ -15,7 +16,7 @@ use std::marker::Model;
 
 /// A principal hierarchy: at most 256 principals, numbered from 0 in declared order, and the written pairs of who acts for
 /// whom.
-#[derive(Drop)]
+#[derive(Debug, Drop)]
 pub struct Hierarchy {
     names: IndexSet<String>,
     pairs: Vec<(u32, u32)>,
@@ -32,6 +33,22 @@ impl Model for Hierarchy {
     ghost view = { hierarchy_of };
 
     ghost invariant = { IsKept };
+}
+
+impl Clone for Hierarchy {
+    ghost is_clone = { λ hierarchy copy. copy ≡ hierarchy };
+
+    fn clone(&self) -> Result<Hierarchy, AllocError> {
+        let alloc = *self.pairs.allocator();
+        let names = self.names.clone()?;
+        let pairs = Vec::from_slice(alloc, self.pairs.as_slice())?;
+        let table = Vec::from_slice(alloc, self.table.as_slice())?;
+        Ok(Hierarchy {
+            names,
+            pairs,
+            table,
+        })
+    }
 }
 
 /// The names as a table, in their order.

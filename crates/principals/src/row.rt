@@ -4,7 +4,7 @@ ghost use Rattle.principals.specs.Table.{has};
 ghost use Rattle.std.specs.Prelude.{ℕ, ◌&&◌, ◌<◌, ◌==◌, ◌||◌, ◌≡◌};
 
 /// A set of numbers below [`Row::LIMIT`]. Number `n` is bit `n % 64` of word `n / 64`.
-#[derive(Clone, Copy)]
+#[derive(Clone, Copy, Debug)]
 pub(crate) struct Row {
     words: [u64; 4],
 }
