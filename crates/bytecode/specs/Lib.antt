@@ -1,3 +1,4 @@
 pub mod Contents
 pub mod Code
 pub mod Machine
+pub mod StraightLine
