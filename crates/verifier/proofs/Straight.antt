@@ -1,9 +1,9 @@
 -- Straight-line code whose operands suffice up to a return: no run of it is stuck.
-use Rattle.std.proofs.Common.{◌≡◌, ℕ, zero, suc, ◌+◌, ◌<◌, ◌≤◌, Bool, true, false, List, [], ◌∷◌, ◌++◌, length, Option, Some, None, refl, sym, ap, ◌∙◌, subst, arith, append_assoc, ℤ, slice_get}
+use Rattle.std.proofs.Common.{◌≡◌, ℕ, zero, suc, ◌+◌, ◌<◌, ◌≤◌, Bool, true, false, List, [], ◌∷◌, ◌++◌, length, Option, Some, None, refl, sym, ap, ◌∙◌, subst, arith, append_assoc, ℤ, ◌+ℤ◌, slice_get}
 use Rattle.labels.specs.declared.sent.Pair.{Pair}
 use Rattle.bytecode.specs.Code.{width_of, code_length, instruction_at}
 use Rattle.bytecode.specs.Machine.{Operand, Number, Truth, Frame, Caller, State, Ending, Machine, Running, Ended, Stuck, Header, Program, Threw, Finished, act, acts, step, exec, place_after, slots_of, scalar_cell, changed, takes, end_of_input}
-use Rattle.std.specs.Int.{w32, int_wrapping_add}
+use Rattle.std.specs.Int.{w32, int_wrap}
 use Rattle.bytecode.specs.declared.instruction.Arithmetic.{Arithmetic}
 use Rattle.bytecode.specs.declared.instruction.Arithmetic.TheVariants.{Add, Subtract, Multiply, Divide, Remainder}
 use Rattle.bytecode.specs.declared.instruction.Instruction.{Instruction}
@@ -160,7 +160,7 @@ act_good code p serves globals slots rest (Number n ∷ Truth b ∷ operands) se
     elim ints [ ]
 act_good code p serves globals slots rest (Number b ∷ Number c ∷ operands) sent before ahead (Compute o) (suc (suc depth)) next e (more m others count (more m2 others2 count2 ints)) d a right =
     let same : suc depth ≡ next = cc in
-    rw right (onward code p serves globals slots rest (Number (int_wrapping_add w32 c b) ∷ operands) sent before ahead (Compute o) next e (subst (Ints (Number (int_wrapping_add w32 c b) ∷ operands)) same (more (int_wrapping_add w32 c b) operands depth ints)) a)
+    rw right (onward code p serves globals slots rest (Number (int_wrap w32 (c +ℤ b)) ∷ operands) sent before ahead (Compute o) next e (subst (Ints (Number (int_wrap w32 (c +ℤ b)) ∷ operands)) same (more (int_wrap w32 (c +ℤ b)) operands depth ints)) a)
 act_good code p serves globals slots rest operands sent before ahead (Send k) zero next e ints d a right =
     absurd (let no : None ≡ Some next = d in cc)
 act_good code p serves globals slots rest [] sent before ahead (Send k) (suc depth) next e ints d a right =
