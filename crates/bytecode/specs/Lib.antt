@@ -5,3 +5,5 @@ pub mod Form
 pub mod Opcodes
 pub mod Format
 pub mod Reading
+pub mod Machine
+pub mod StraightLine
