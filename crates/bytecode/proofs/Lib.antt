@@ -4,3 +4,4 @@ pub mod Taken
 pub mod Again
 pub mod Lawful
 pub mod Loop
+pub mod Straight

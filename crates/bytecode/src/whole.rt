@@ -1,7 +1,8 @@
 ghost use Rattle.bytecode.specs.Contents.{ModuleContents};
 ghost use Rattle.bytecode.specs.Form.{Fits};
 ghost use Rattle.bytecode.specs.Format.{module_file};
-ghost use Rattle.std.specs.Prelude.{map, ◌≡◌};
+ghost use Rattle.bytecode.specs.StraightLine.{is_straight_line};
+ghost use Rattle.std.specs.Prelude.{IsTrue, map, ◌≡◌};
 ghost use Rattle.std.specs.String.{string_bytes};
 
 use crate::channel::Channel;
@@ -89,10 +90,11 @@ impl Module {
         &self.globals
     }
 
-    /// The procedures, in the order of their numbers.
+    /// The procedures, in the order of their numbers. So far there is one, of straight-line code.
     pub fn procedures(&self) -> &[Procedure]
         ensures procedures { result.now ≡ self.now.procedures }
         ensures spelled { Fits module_file self.now }
+        ensures straight { IsTrue (is_straight_line self.now) }
     {
         &self.procedures
     }
