@@ -1,5 +1,5 @@
 -- The module file is coherent: its two laws hold.
-use Rattle.std.proofs.Common.{◌≡◌, ℕ, zero, suc, ◌^◌, ◌<◌, Bool, true, false, cond, ltb, eqb, List, [], ◌∷◌, length, get_or, Option, Some, None, refl, sym, ap, subst, ◌∙◌, arith, inl, inr, ◌⊎◌, ◌&&◌, lit<}
+use Rattle.std.proofs.Common.{◌≡◌, ℕ, zero, suc, ◌+◌, ◌^◌, ◌<◌, Bool, true, false, cond, ltb, eqb, List, [], ◌∷◌, length, get_or, Option, Some, None, refl, sym, ap, subst, ◌∙◌, arith, inl, inr, ◌⊎◌, ◌&&◌, lit<}
 use Rattle.std.specs.Int.{w32, cast_signed, cast_unsigned, to_be_bytes, from_be_bytes}
 use Rattle.std.specs.List.{find, AllByRecursion}
 use Rattle.std.proofs.lemmas.Bool.{ltb-true, eqb-true}
@@ -13,6 +13,7 @@ use Rattle.bytecode.specs.declared.parts.Slot.TheVariants as slot
 use Rattle.bytecode.specs.declared.parts.Global.TheVariants as global
 use Rattle.bytecode.specs.declared.fault.Refusal.TheVariants.{BadValue}
 use Rattle.bytecode.specs.Contents.{ProcedureContents}
+use Rattle.bytecode.specs.Code.{width_of}
 use Rattle.bytecode.specs.Form.{Form, Number, Checked, Fits}
 use Rattle.bytecode.specs.Opcodes.{opcode_of, operand_of, number_operand, numbered, plain, flagged, with_opcode, instruction_of, width_after, is_admitted, instructions}
 use Rattle.bytecode.specs.Format.{new_name, number_below, principals, pair_after, hierarchy, exceptions, direction_of, direction_byte, direction, reader_after, policy_after, label, channel_after, channels, kind_of, kind_byte, variable_kind, of_scalar, first_value, global_of, global_parts, global_after, globals, slot_of, slot_parts, slot_kind, slot_after, slots, returned_of, returned_byte, returned, parameters, handler, handlers, procedure, procedures, main, contents, module_file}
@@ -65,7 +66,27 @@ spelled_by byte (a ∷ b ∷ c ∷ []) x fits size e = absurd (elim size [ inl h
 spelled_by byte (a ∷ b ∷ c ∷ d ∷ []) x fits size e = four_has byte (a ∷ b ∷ c ∷ d ∷ []) x refl fits e
 spelled_by byte (a ∷ b ∷ c ∷ d ∷ f ∷ rest) x fits size e = absurd (elim size [ inl h ↦ omega arith | inr more ↦ elim more [ inl h ↦ omega arith | inr h ↦ omega arith ] ])
 
-one_width : (admitted four one none : Bool) (n : ℕ) → cond admitted (cond four (Some 4) (cond one (Some 1) (cond none (Some 0) None))) None ≡ Some n → (n ≡ 0) ⊎ ((n ≡ 1) ⊎ (n ≡ 4))
+-- and it is as wide as they are
+abbrev IsWide : ℕ → Instruction → Type 0
+IsWide width x = width_of x ≡ width
+
+with_width : (byte width : ℕ) (all : List Instruction) (x : Instruction) → AllByRecursion (IsWide width) all → with_opcode byte all ≡ Some x → width_of x ≡ width
+with_width byte width all x have e = (found (λ y. eqb (opcode_of y) byte) (IsWide width) all x have e).1
+
+flagged_width : (byte : ℕ) (x : Instruction) (zero_is one_is : Bool) → with_opcode byte (cond zero_is (PushBoolean false ∷ []) (cond one_is (PushBoolean true ∷ []) [])) ≡ Some x → width_of x ≡ 2
+flagged_width byte x true one_is e = with_width byte 2 (PushBoolean false ∷ []) x (refl, tt) e
+flagged_width byte x false true e = with_width byte 2 (PushBoolean true ∷ []) x (refl, tt) e
+flagged_width byte x false false e = absurd cc
+
+pub width_by : (byte : ℕ) (operand : List ℕ) (x : Instruction) → (length operand ≡ 0) ⊎ ((length operand ≡ 1) ⊎ (length operand ≡ 4)) → instruction_of byte operand ≡ Some x → width_of x ≡ 1 + length operand
+width_by byte [] x size e = with_width byte 1 plain x (refl, (refl, (refl, (refl, (refl, (refl, (refl, (refl, (refl, (refl, (refl, (refl, (refl, (refl, (refl, (refl, (refl, (refl, tt)))))))))))))))))) e
+width_by byte (b ∷ []) x size e = flagged_width byte x (eqb b 0) (eqb b 1) e
+width_by byte (a ∷ b ∷ []) x size e = absurd (elim size [ inl h ↦ omega arith | inr more ↦ elim more [ inl h ↦ omega arith | inr h ↦ omega arith ] ])
+width_by byte (a ∷ b ∷ c ∷ []) x size e = absurd (elim size [ inl h ↦ omega arith | inr more ↦ elim more [ inl h ↦ omega arith | inr h ↦ omega arith ] ])
+width_by byte (a ∷ b ∷ c ∷ d ∷ []) x size e = with_width byte 5 (numbered (from_be_bytes w32 (a ∷ b ∷ c ∷ d ∷ []))) x (refl, (refl, (refl, (refl, (refl, (refl, (refl, (refl, (refl, (refl, (refl, (refl, (refl, (refl, (refl, (refl, tt)))))))))))))))) e
+width_by byte (a ∷ b ∷ c ∷ d ∷ f ∷ rest) x size e = absurd (elim size [ inl h ↦ omega arith | inr more ↦ elim more [ inl h ↦ omega arith | inr h ↦ omega arith ] ])
+
+pub one_width : (admitted four one none : Bool) (n : ℕ) → cond admitted (cond four (Some 4) (cond one (Some 1) (cond none (Some 0) None))) None ≡ Some n → (n ≡ 0) ⊎ ((n ≡ 1) ⊎ (n ≡ 4))
 one_width true true one none n e = inr (inr cc)
 one_width true false true none n e = inr (inl cc)
 one_width true false false true n e = inl cc

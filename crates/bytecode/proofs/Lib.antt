@@ -5,3 +5,4 @@ pub mod Again
 pub mod Lawful
 pub mod Loop
 pub mod Straight
+pub mod Widths

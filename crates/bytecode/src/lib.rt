@@ -2,11 +2,13 @@
 #![tactic(auto)]
 
 pub mod channel;
+mod code;
 pub mod fault;
 pub mod instruction;
 mod opcode;
 pub mod parts;
 pub mod procedure;
+mod procedures;
 mod reading;
 pub mod whole;
 
