@@ -10,6 +10,7 @@ pub mod parts;
 pub mod procedure;
 mod procedures;
 mod reading;
+mod sizes;
 pub mod whole;
 
 pub use channel::Channel;
