@@ -16,7 +16,7 @@ use Rattle.bytecode.specs.Contents.{ProcedureContents}
 use Rattle.bytecode.specs.Code.{width_of}
 use Rattle.bytecode.specs.Form.{Form, Number, Checked, Fits}
 use Rattle.bytecode.specs.Opcodes.{opcode_of, operand_of, number_operand, numbered, plain, flagged, with_opcode, instruction_of, width_after, is_admitted, instructions}
-use Rattle.bytecode.specs.Format.{new_name, number_below, principals, pair_after, hierarchy, exceptions, direction_of, direction_byte, direction, reader_after, policy_after, label, channel_after, channels, kind_of, kind_byte, variable_kind, of_scalar, first_value, global_of, global_parts, global_after, globals, slot_of, slot_parts, slot_kind, slot_after, slots, returned_of, returned_byte, returned, parameters, handler, handlers, procedure, procedures, main, contents, module_file}
+use Rattle.bytecode.specs.Format.{name_after, number_below, principals, pair_after, hierarchy, exceptions, direction_of, direction_byte, direction, reader_after, policy_after, label, channel_after, channels, kind_of, kind_byte, variable_kind, of_scalar, first_value, global_of, global_parts, global_after, globals, slot_of, slot_parts, slot_kind, slot_after, slots, returned_of, returned_byte, returned, parameters, handler, handlers, procedure, procedures, main, contents, module_file}
 use Rattle.bytecode.proofs.Steps.{IsBytes}
 use Rattle.bytecode.proofs.Coherent.{IsLawful, Coherent}
 
@@ -113,9 +113,9 @@ direction-back n e = elim (byte_back n e) [ inl h ↦ rw h refl | inr h ↦ rw h
 kind-back : (n : ℕ) → ltb n 2 ≡ true → kind_byte (kind_of n) ≡ n
 kind-back n e = elim (byte_back n e) [ inl h ↦ rw h refl | inr h ↦ rw h refl ]
 
-pub new_name-coherent : (taken : List (List ℕ)) → Coherent (new_name taken)
-unfolding new_name
-new_name-coherent taken = tt
+pub name_after-coherent : (taken : List ℕ → Bool) (before : List (List ℕ)) → Coherent (name_after taken before)
+unfolding name_after
+name_after-coherent taken before = tt
 
 pub number_below-coherent : (count : ℕ) → Coherent (number_below count)
 unfolding number_below
@@ -123,11 +123,11 @@ number_below-coherent count = tt
 
 pub hierarchy-coherent : Coherent hierarchy
 unfolding hierarchy principals pair_after
-hierarchy-coherent = ((new_name-coherent, λ names before. (number_below-coherent (length names), λ _. number_below-coherent (length names))), λ parts fits. refl)
+hierarchy-coherent = ((name_after-coherent _, λ names before. (number_below-coherent (length names), λ _. number_below-coherent (length names))), λ parts fits. refl)
 
 pub exceptions-coherent : Coherent exceptions
 unfolding exceptions
-exceptions-coherent = λ before. new_name-coherent _
+exceptions-coherent = name_after-coherent _
 
 pub label-coherent : (count : ℕ) → Coherent (label count)
 unfolding label policy_after reader_after
@@ -135,7 +135,7 @@ label-coherent count = λ before. ((number_below-coherent count, λ owner reader
 
 pub channels-coherent : (count : ℕ) (declared : List (List ℕ)) → Coherent (channels count declared)
 unfolding channels channel_after direction
-channels-coherent count declared = λ before. (((tt, λ byte fits. direction-back byte fits.1), λ _. (new_name-coherent _, λ _. label-coherent count)), λ parts fits. refl)
+channels-coherent count declared = λ before. (((tt, λ byte fits. direction-back byte fits.1), λ _. (name_after-coherent _ _, λ _. label-coherent count)), λ parts fits. refl)
 
 of_scalar-coherent : (b : Bool) (form : Form ℕ) → Coherent form → Coherent (of_scalar b form)
 of_scalar-coherent true form h = h

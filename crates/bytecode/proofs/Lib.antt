@@ -6,3 +6,4 @@ pub mod Lawful
 pub mod Loop
 pub mod Straight
 pub mod Widths
+pub mod NewNames

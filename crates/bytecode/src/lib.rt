@@ -6,6 +6,7 @@ mod code;
 pub mod fault;
 pub mod instruction;
 mod opcode;
+mod names;
 pub mod parts;
 pub mod procedure;
 mod procedures;

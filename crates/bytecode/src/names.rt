@@ -1,0 +1,54 @@
+//! Reading of names.
+
+ghost use Rattle.bytecode.specs.Form.{read};
+ghost use Rattle.bytecode.specs.Format.{is_new_name, name_after};
+ghost use Rattle.bytecode.specs.Reading.{Gives};
+ghost use Rattle.std.specs.BTreeSet.{contains_text};
+ghost use Rattle.std.specs.Prelude.{[], bytes_eq, false, List, MatchOption, OnOk, true, ℕ, ◌||◌, ◌≡◌};
+ghost use Rattle.std.specs.String.{string_bytes};
+
+use crate::fault::Refusal;
+use crate::reading::{ReadError, number, refused, text};
+use lexer::is_name;
+use std::alloc::{AllocError, Global};
+use std::collections::BTreeSet;
+
+/// The text as a name, where it is one that is not taken.
+fn new_name<'a>(taken: &BTreeSet<String>, text: &'a [u8]) -> Option<&'a str>
+    ensures { MatchOption result (is_new_name (contains_text taken.now) [] text.now ≡ false)
+        (λ name. (name.now ≡ text.now) × (is_new_name (contains_text taken.now) [] text.now ≡ true)) }
+{
+    let Ok(name) = str::from_utf8(text) else {
+        return None;
+    };
+    if is_name(name) && !taken.contains(name) {
+        Some(name)
+    } else {
+        None
+    }
+}
+
+/// A name that is not taken.
+#[tactic(auto, unfolding(crate::specs::Format::name_after))]
+pub(crate) fn name<'a>(
+    alloc: Global,
+    taken: &BTreeSet<String>,
+    bytes: &'a [u8],
+) -> Result<(String, &'a [u8]), ReadError>
+    ensures { Gives (λ x. (string_bytes x.0, x.1.now)) result (read (name_after (contains_text taken.now) []) bytes.now) }
+{
+    let (size, rest) = number(bytes)?;
+    let (name, rest) = text(size as usize, rest)?;
+    let Some(name) = new_name(taken, name) else {
+        return Err(refused(Refusal::BadValue, bytes));
+    };
+    Ok((String::from_str(alloc, name)?, rest))
+}
+
+/// Takes a name.
+pub(crate) fn take(taken: &mut BTreeSet<String>, name: &String) -> Result<(), AllocError>
+    ensures { OnOk result ((q : List ℕ) → contains_text taken.new q ≡ (contains_text taken.old q || bytes_eq (string_bytes name.now) q)) }
+{
+    taken.insert(name.clone()?)?;
+    Ok(())
+}
