@@ -1,5 +1,6 @@
 -- Names that are new, and the set of those that are taken.
-use Rattle.std.proofs.Common.{◌≡◌, ℕ, Bool, true, false, cond, not, ◌&&◌, ◌||◌, List, [], refl, sym, ap, ◌∙◌, ◌⊎◌, inl, inr}
+use Rattle.std.proofs.Common.{◌≡◌, ℕ, Bool, true, false, cond, not, ◌&&◌, ◌||◌, List, [], ◌∷◌, ◌++◌, Ok, ◌+◌, ◌-◌, ◌<◌, subst, refl, sym, ap, ◌∙◌, ◌⊎◌, inl, inr}
+use Rattle.std.proofs.Math.Bool.{or-false, or_assoc}
 use Rattle.std.specs.Str.{IsUtf8, is_utf8}
 use Rattle.std.proofs.lemmas.Str.{IsUtf8-from_is_utf8, is_utf8-from_IsUtf8}
 use Rattle.std.specs.Global.{Global}
@@ -10,7 +11,10 @@ use Rattle.std.specs.Prelude.{bytes_eq, String}
 use Rattle.std.specs.String.{string_bytes, string_cmp}
 use Rattle.std.proofs.lemmas.Map.Text.{btree_set_updates_text}
 use Rattle.lexer.specs.Words.{is_name_text}
-use Rattle.bytecode.specs.Form.{Form, Checked, Text}
+use Rattle.bytecode.specs.declared.reading.ReadError.{ReadError}
+use Rattle.bytecode.specs.Form.{Form, Checked, Text, Read, read, each_at}
+use Rattle.bytecode.specs.Reading.{Fails}
+use Rattle.bytecode.proofs.Loop.{each_fails, each_goes_on}
 use Rattle.bytecode.specs.declared.fault.Refusal.TheVariants.{BadValue}
 use Rattle.bytecode.specs.Format.{is_among, is_new_name, name_after}
 
@@ -46,3 +50,35 @@ unfolding name_after
 same_names taken other before others same =
     let all : (λ (q : List ℕ). taken q || is_among before q) ≡ (λ (q : List ℕ). other q || is_among others q) = λ i q. same q i in
     ap (λ (test : List ℕ → Bool). Checked BadValue (λ name. is_utf8 name && is_name_text name && not (test name)) Text) all
+
+-- the name after those before it, where the set has those and the ones taken before
+pub in_set : (taken now : List ℕ → Bool) (before : List (List ℕ)) → ((q : List ℕ) → now q ≡ (taken q || is_among before q)) → name_after now [] ≡ name_after taken before
+in_set taken now before holds = same_names now taken [] before (λ q. or-false (now q) ∙ holds q)
+
+among_more : (names : List (List ℕ)) (name q : List ℕ) → is_among (names ++ name ∷ []) q ≡ (is_among names q || bytes_eq name q)
+among_more [] name q = or-false (bytes_eq name q)
+among_more (other ∷ names) name q =
+    ap (λ (b : Bool). bytes_eq other q || b) (among_more names name q) ∙ sym (or_assoc (bytes_eq other q) (is_among names q) (bytes_eq name q))
+
+-- one more name in the set
+pub in_set_more : (taken now after : List ℕ → Bool) (before : List (List ℕ)) (name : List ℕ) → ((q : List ℕ) → now q ≡ (taken q || is_among before q)) → ((q : List ℕ) → after q ≡ (now q || bytes_eq name q))
+    → (q : List ℕ) → after q ≡ (taken q || is_among (before ++ name ∷ []) q)
+in_set_more taken now after before name holds more q =
+    more q ∙ ap (λ (b : Bool). b || bytes_eq name q) (holds q) ∙ or_assoc (taken q) (is_among before q) (bytes_eq name q) ∙ ap (λ (b : Bool). taken q || b) (sym (among_more before name q))
+
+-- names one after the other, with the set of those that are taken
+abbrev pub one_name : (List ℕ → Bool) → List (List ℕ) → List ℕ → Read (List ℕ)
+one_name taken before rest = read (name_after taken before) rest
+
+pub names_go_on : (taken now : List ℕ → Bool) (count i : ℕ) (before : List (List ℕ)) (bytes name after : List ℕ) (total : Read (List (List ℕ))) → i < count → ((q : List ℕ) → now q ≡ (taken q || is_among before q))
+    → read (name_after now []) bytes ≡ Ok (name, after) → each_at (one_name taken) (count - i) before bytes ≡ total → each_at (one_name taken) (count - (i + 1)) (before ++ name ∷ []) after ≡ total
+names_go_on taken now count i before bytes name after total lt holds found so_far =
+    let same : read (name_after now []) bytes ≡ read (name_after taken before) bytes = ap (λ (form : Form (List ℕ)). read form bytes) (in_set taken now before holds) in
+    each_goes_on (one_name taken) count i before bytes name after total lt (sym same ∙ found) so_far
+
+pub names_fails : (e : ReadError) (taken now : List ℕ → Bool) (count i : ℕ) (before : List (List ℕ)) (bytes : List ℕ) (total : Read (List (List ℕ))) → i < count → ((q : List ℕ) → now q ≡ (taken q || is_among before q))
+    → Fails e (read (name_after now []) bytes) → each_at (one_name taken) (count - i) before bytes ≡ total → Fails e total
+names_fails e taken now count i before bytes total lt holds found so_far =
+    let same : read (name_after now []) bytes ≡ read (name_after taken before) bytes = ap (λ (form : Form (List ℕ)). read form bytes) (in_set taken now before holds) in
+    let P : Read (List ℕ) → Type 0 = λ r. Fails e r in
+    each_fails e (one_name taken) count i before bytes total lt (subst P same found) so_far

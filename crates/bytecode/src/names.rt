@@ -1,10 +1,10 @@
 //! Reading of names.
 
-ghost use Rattle.bytecode.specs.Form.{read};
-ghost use Rattle.bytecode.specs.Format.{is_new_name, name_after};
-ghost use Rattle.bytecode.specs.Reading.{Gives};
+ghost use Rattle.bytecode.specs.Form.{each_at, read};
+ghost use Rattle.bytecode.specs.Format.{is_among, is_new_name, name_after};
+ghost use Rattle.bytecode.specs.Reading.{Gives, texts};
 ghost use Rattle.std.specs.BTreeSet.{contains_text};
-ghost use Rattle.std.specs.Prelude.{[], bytes_eq, false, List, MatchOption, OnOk, true, ℕ, ◌||◌, ◌≡◌};
+ghost use Rattle.std.specs.Prelude.{[], bytes_eq, false, IfOk, List, MatchOption, OnOk, true, ℕ, ◌||◌, ◌≡◌};
 ghost use Rattle.std.specs.String.{string_bytes};
 
 use crate::fault::Refusal;
@@ -51,4 +51,25 @@ pub(crate) fn take(taken: &mut BTreeSet<String>, name: &String) -> Result<(), Al
 {
     taken.insert(name.clone()?)?;
     Ok(())
+}
+
+/// As many names as told, none of which is taken before. They are taken then.
+pub(crate) fn names<'a>(
+    alloc: Global,
+    taken: &mut BTreeSet<String>,
+    count: u32,
+    bytes: &'a [u8],
+) -> Result<(Vec<String>, &'a [u8]), ReadError>
+    ensures gives { Gives (λ x. (texts x.0.items, x.1.now)) result (each_at (λ before rest. read (name_after (contains_text taken.old) before) rest) count [] bytes.now) }
+    ensures taken { IfOk result (λ x. (q : List ℕ) → contains_text taken.new q ≡ (contains_text taken.old q || is_among (texts x.0.items) q)) }
+{
+    let mut names = Vec::new(alloc);
+    let mut rest = bytes;
+    for _ in 0..count {
+        let (name, after) = name(alloc, taken, rest)?;
+        take(taken, &name)?;
+        names.push(name)?;
+        rest = after;
+    }
+    Ok((names, rest))
 }
