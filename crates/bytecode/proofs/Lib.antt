@@ -7,3 +7,4 @@ pub mod Loop
 pub mod Straight
 pub mod Widths
 pub mod NewNames
+pub mod Facts
