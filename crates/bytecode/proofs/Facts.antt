@@ -1,5 +1,5 @@
 -- What hierarchies, policies and labels that fit the format are.
-use Rattle.std.proofs.Common.{◌≡◌, ◌≢◌, ℕ, zero, suc, ◌+◌, ◌-◌, ◌<◌, ◌≤◌, Bool, true, false, cond, not, ◌&&◌, ◌||◌, ltb, eqb, leb, List, [], ◌∷◌, ◌++◌, length, get_or, All, Option, Some, None, refl, sym, ap, subst, ◌∙◌, append_assoc, length-append, arith, inl, inr, leb-true}
+use Rattle.std.proofs.Common.{◌≡◌, ◌≢◌, ℕ, zero, suc, ◌+◌, ◌-◌, ◌<◌, ◌≤◌, Bool, true, false, cond, not, ◌&&◌, ◌||◌, ltb, eqb, leb, List, [], ◌∷◌, ◌++◌, length, get_or, All, Option, Some, None, Ok, refl, sym, ap, subst, ◌∙◌, append_assoc, length-append, arith, inl, inr, leb-true}
 use Rattle.std.specs.Prelude.{bytes_eq, Contains, slice_get}
 use Rattle.std.specs.List.{list_any, AllByRecursion}
 use Rattle.std.specs.List.Sorted.{IsStrictlyIncreasing, IsStrictlySortedBy}
@@ -15,13 +15,19 @@ use Rattle.std.proofs.lemmas.List.Quantifiers.{all_pairs_push}
 use Rattle.std.proofs.lemmas.Map.Keys.{sorted_from_all_adjacent, IsStrictlyIncreasing-from_sorted}
 use Rattle.std.proofs.lemmas.Option.{slice_get-get_or}
 use Rattle.std.proofs.lemmas.Slice.Eq.{bytes_eq-Decides}
-use Rattle.principals.specs.ActsFor.{AllDifferent, AllBelow}
+use Rattle.bytecode.specs.declared.reading.ReadError.{ReadError}
+use Rattle.bytecode.specs.declared.reading.ReadError.TheVariants as errors
+use Rattle.bytecode.specs.Reading.{Fails}
+use Rattle.principals.specs.ActsFor.{PrincipalHierarchy, AllDifferent, AllBelow}
 use Rattle.labels.proofs.Ascending.{sorted_nil}
 use Rattle.labels.specs.Label.{ReaderPolicy, Label}
 use Rattle.labels.specs.Canonical.{policy_cmp, IsCanonicalPolicy}
 use Rattle.labels.specs.PolicyOrder.{policy_cmp-total}
-use Rattle.bytecode.specs.Form.{Form, Fits, FitEach}
-use Rattle.bytecode.specs.Format.{is_less, is_above_last, is_above, is_among, is_new_name, name_after, number_below, principals, pair_after, pair_cmp, reader_after, policy_after, label}
+use Rattle.bytecode.specs.Form.{Form, Fits, FitEach, Counted, read}
+use Rattle.bytecode.proofs.Steps.{IsBytes}
+use Rattle.bytecode.proofs.Taken.{taken}
+use Rattle.bytecode.proofs.Lawful.{number_below-coherent, principals-coherent, pair_after-coherent}
+use Rattle.bytecode.specs.Format.{any, hierarchy, is_less, is_above_last, is_above, is_among, is_new_name, name_after, number_below, principals, pair_after, pair_cmp, reader_after, policy_after, label}
 
 -- ---- along a list, each element after those before it
 
@@ -131,3 +137,47 @@ policies-canonical count policies h =
       readers_ascend = readers-ascend count x.owner x.readers fits.0.0.1.2;
       owner_left_out = no_owner x.owner x.readers (owner-left_out count x.owner x.readers fits.0.0.1.2);
     })) [] policies (λ k d inside. absurd (omega arith)) h.2
+
+-- ---- what was read
+
+pub readers-read : (count owner : ℕ) (bytes rest : List ℕ) (readers after : List ℕ) → IsBytes bytes → read (number_below count) bytes ≡ Ok (owner, rest) → read (Counted any (reader_after count owner)) rest ≡ Ok (readers, after)
+    → IsCanonicalPolicy (record { owner = owner; readers = readers })
+unfolding reader_after
+readers-read count owner bytes rest readers after fits e f =
+    let t = taken (number_below count) (number_below-coherent count) bytes owner rest fits e in
+    let u = taken (Counted any (reader_after count owner)) (λ before. number_below-coherent count) rest readers after t.after f in
+    record {
+      readers_ascend = readers-ascend count owner readers u.fits.2;
+      owner_left_out = no_owner owner readers (owner-left_out count owner readers u.fits.2);
+    }
+
+-- the names of a hierarchy, which are few and differ, and its pairs, whose principals are there
+pub record IsPeople (names : List (List ℕ)) (pairs : List (ℕ × ℕ)) : Type 0 where
+  pub few : length names ≤ 256
+  pub different : AllDifferent names
+  pub there : AllBelow (length names) pairs
+
+pub names-read : (bytes : List ℕ) (names : List (List ℕ)) (rest : List ℕ) → IsBytes bytes → read principals bytes ≡ Ok (names, rest) → length names ≤ 256
+names-read bytes names rest fits e = principals-few names (taken principals principals-coherent bytes names rest fits e).fits
+
+pub people-read : (bytes : List ℕ) (names : List (List ℕ)) (rest : List ℕ) (pairs : List (ℕ × ℕ)) (after : List ℕ) → IsBytes bytes → read principals bytes ≡ Ok (names, rest) → read (Counted any (pair_after (length names))) rest ≡ Ok (pairs, after) → IsPeople names pairs
+people-read bytes names rest pairs after fits e f =
+    let t = taken principals principals-coherent bytes names rest fits e in
+    let u = taken (Counted any (pair_after (length names))) (λ before. pair_after-coherent (length names) before) rest pairs after t.after f in
+    record {
+      few = principals-few names t.fits;
+      different = principals-different names t.fits;
+      there = pairs-there (length names) pairs u.fits.2;
+    }
+
+pub hierarchy-read : (bytes : List ℕ) (names : List (List ℕ)) (rest : List ℕ) (pairs : List (ℕ × ℕ)) (after : List ℕ) (h : PrincipalHierarchy) → read principals bytes ≡ Ok (names, rest) → read (Counted any (pair_after (length names))) rest ≡ Ok (pairs, after)
+    → h.names ≡ names → h.pairs ≡ pairs → read hierarchy bytes ≡ Ok (h, after)
+unfolding hierarchy
+hierarchy-read bytes names rest pairs after h e f n p =
+    let made : read hierarchy bytes ≡ Ok (record { names = names; pairs = pairs }, after) = rw (e, f) refl in
+    made ∙ (λ i. Ok (record { names = sym n i; pairs = sym p i }, after))
+
+pub hierarchy-fails : (e : ReadError) (bytes : List ℕ) (names : List (List ℕ)) (rest : List ℕ) → read principals bytes ≡ Ok (names, rest) → Fails e (read (Counted any (pair_after (length names))) rest) → Fails e (read hierarchy bytes)
+unfolding hierarchy
+hierarchy-fails errors.Memory bytes names rest e f = tt
+hierarchy-fails (errors.Stop stop) bytes names rest e f = rw (e, f) refl

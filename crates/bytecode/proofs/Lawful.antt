@@ -121,9 +121,17 @@ pub number_below-coherent : (count : ℕ) → Coherent (number_below count)
 unfolding number_below
 number_below-coherent count = tt
 
+pub principals-coherent : Coherent principals
+unfolding principals
+principals-coherent = name_after-coherent _
+
+pub pair_after-coherent : (count : ℕ) (before : List (ℕ × ℕ)) → Coherent (pair_after count before)
+unfolding pair_after
+pair_after-coherent count before = (number_below-coherent count, λ _. number_below-coherent count)
+
 pub hierarchy-coherent : Coherent hierarchy
-unfolding hierarchy principals pair_after
-hierarchy-coherent = ((name_after-coherent _, λ names before. (number_below-coherent (length names), λ _. number_below-coherent (length names))), λ parts fits. refl)
+unfolding hierarchy
+hierarchy-coherent = ((principals-coherent, λ names before. pair_after-coherent (length names) before), λ parts fits. refl)
 
 pub exceptions-coherent : Coherent exceptions
 unfolding exceptions

@@ -82,3 +82,12 @@ names_fails e taken now count i before bytes total lt holds found so_far =
     let same : read (name_after now []) bytes ≡ read (name_after taken before) bytes = ap (λ (form : Form (List ℕ)). read form bytes) (in_set taken now before holds) in
     let P : Read (List ℕ) → Type 0 = λ r. Fails e r in
     each_fails e (one_name taken) count i before bytes total lt (subst P same found) so_far
+
+-- where the same names are taken, the same names are read
+pub same_taken : (taken other : List ℕ → Bool) → ((q : List ℕ) → taken q ≡ other q) → (count : ℕ) (bytes : List ℕ) → each_at (one_name taken) count [] bytes ≡ each_at (one_name other) count [] bytes
+same_taken taken other same count bytes =
+    let all : taken ≡ other = λ i q. same q i in
+    ap (λ (test : List ℕ → Bool). each_at (one_name test) count [] bytes) all
+
+pub none_taken : (set : BTreeSet (String Global)) → set.keys ≡ [] → (q : List ℕ) → contains_text set q ≡ false
+none_taken set empty q = rw empty refl

@@ -8,6 +8,7 @@ pub mod instruction;
 mod opcode;
 mod names;
 pub mod parts;
+mod people;
 pub mod procedure;
 mod procedures;
 mod reading;

@@ -73,3 +73,15 @@ pub(crate) fn names<'a>(
     }
     Ok((names, rest))
 }
+
+/// As many names as told, where none is taken before.
+pub(crate) fn first_names(
+    alloc: Global,
+    count: u32,
+    bytes: &[u8],
+) -> Result<(Vec<String>, &[u8]), ReadError>
+    ensures { Gives (λ x. (texts x.0.items, x.1.now)) result (each_at (λ before rest. read (name_after (λ _. false) before) rest) count [] bytes.now) }
+{
+    let mut taken = BTreeSet::new(alloc);
+    names(alloc, &mut taken, count, bytes)
+}
