@@ -12,11 +12,12 @@ use Rattle.std.specs.String.{string_bytes, string_cmp}
 use Rattle.std.proofs.lemmas.Map.Text.{btree_set_updates_text}
 use Rattle.lexer.specs.Words.{is_name_text}
 use Rattle.bytecode.specs.declared.reading.ReadError.{ReadError}
-use Rattle.bytecode.specs.Form.{Form, Checked, Text, Read, read, each_at}
+use Rattle.bytecode.specs.Contents.{ChannelContents}
+use Rattle.bytecode.specs.Form.{Form, Named, Then, Checked, Text, Read, read, each_at}
 use Rattle.bytecode.specs.Reading.{Fails}
 use Rattle.bytecode.proofs.Loop.{each_fails, each_goes_on}
 use Rattle.bytecode.specs.declared.fault.Refusal.TheVariants.{BadValue}
-use Rattle.bytecode.specs.Format.{is_among, is_new_name, name_after}
+use Rattle.bytecode.specs.Format.{channel_after, channel_names, direction, label, is_among, is_new_name, name_after}
 
 not_utf8 : (text : List ℕ) (b : Bool) → is_utf8 text ≡ b → ¬ IsUtf8 text → b ≡ false
 not_utf8 text true e h = absurd (h (IsUtf8-from_is_utf8 text e))
@@ -91,3 +92,40 @@ same_taken taken other same count bytes =
 
 pub none_taken : (set : BTreeSet (String Global)) → set.keys ≡ [] → (q : List ℕ) → contains_text set q ≡ false
 none_taken set empty q = rw empty refl
+
+-- channels one after the other, with the set of the names that are taken
+abbrev pub one_channel : ℕ → (List ℕ → Bool) → List ChannelContents → List ℕ → Read ChannelContents
+one_channel count taken before rest = read (channel_after count taken before) rest
+
+abbrev channel_named : Form (List ℕ) → ℕ → Form ChannelContents
+channel_named form count =
+    Named (λ parts. record { direction = parts.0; name = parts.1.0; label = parts.1.1 })
+    (λ channel. (channel.direction, (channel.name, channel.label)))
+    (Then direction (λ _. Then form (λ _. label count)))
+
+pub same_channel : (count : ℕ) (taken now : List ℕ → Bool) (before : List ChannelContents) (bytes : List ℕ) → ((q : List ℕ) → now q ≡ (taken q || is_among (channel_names before) q))
+    → one_channel count now [] bytes ≡ one_channel count taken before bytes
+unfolding channel_after
+same_channel count taken now before bytes holds = ap (λ (form : Form (List ℕ)). read (channel_named form count) bytes) (in_set taken now (channel_names before) holds)
+
+pub channels_go_on : (principals : ℕ) (taken now : List ℕ → Bool) (count i : ℕ) (before : List ChannelContents) (bytes : List ℕ) (channel : ChannelContents) (after : List ℕ) (total : Read (List ChannelContents)) → i < count
+    → ((q : List ℕ) → now q ≡ (taken q || is_among (channel_names before) q)) → one_channel principals now [] bytes ≡ Ok (channel, after)
+    → each_at (one_channel principals taken) (count - i) before bytes ≡ total → each_at (one_channel principals taken) (count - (i + 1)) (before ++ channel ∷ []) after ≡ total
+channels_go_on principals taken now count i before bytes channel after total lt holds found so_far =
+    each_goes_on (one_channel principals taken) count i before bytes channel after total lt (sym (same_channel principals taken now before bytes holds) ∙ found) so_far
+
+pub channels_fail : (e : ReadError) (principals : ℕ) (taken now : List ℕ → Bool) (count i : ℕ) (before : List ChannelContents) (bytes : List ℕ) (total : Read (List ChannelContents)) → i < count
+    → ((q : List ℕ) → now q ≡ (taken q || is_among (channel_names before) q)) → Fails e (one_channel principals now [] bytes)
+    → each_at (one_channel principals taken) (count - i) before bytes ≡ total → Fails e total
+channels_fail e principals taken now count i before bytes total lt holds found so_far =
+    let P : Read ChannelContents → Type 0 = λ r. Fails e r in
+    each_fails e (one_channel principals taken) count i before bytes total lt (subst P (same_channel principals taken now before bytes holds) found) so_far
+
+abbrev of_texts : List (List ℕ) → BTreeSet (String Global) → Type 0
+of_texts names set = (q : List ℕ) → contains_text set q ≡ is_among names q
+
+-- a set with three names
+pub three_taken : (a b c : List ℕ) (none one two three : List ℕ → Bool) → ((q : List ℕ) → none q ≡ false) → ((q : List ℕ) → one q ≡ (none q || bytes_eq a q)) → ((q : List ℕ) → two q ≡ (one q || bytes_eq b q)) → ((q : List ℕ) → three q ≡ (two q || bytes_eq c q))
+    → (q : List ℕ) → three q ≡ is_among (a ∷ b ∷ c ∷ []) q
+three_taken a b c none one two three n o t r q =
+    rw (r q, t q, o q, n q) (or_assoc (bytes_eq a q) (bytes_eq b q) (bytes_eq c q) ∙ ap (λ (x : Bool). bytes_eq a q || (bytes_eq b q || x)) (sym (or-false (bytes_eq c q))))

@@ -141,14 +141,17 @@ policy_after count before =
 unfoldable pub label : ℕ → Form Label
 label count = Counted any (policy_after count)
 
-unfoldable pub channel_after : ℕ → List (List ℕ) → List ChannelContents → Form ChannelContents
-channel_after count declared before =
+abbrev pub channel_names : List ChannelContents → List (List ℕ)
+channel_names channels = map (λ channel. channel.name) channels
+
+unfoldable pub channel_after : ℕ → (List ℕ → Bool) → List ChannelContents → Form ChannelContents
+channel_after count taken before =
     Named (λ parts. record { direction = parts.0; name = parts.1.0; label = parts.1.1 })
     (λ channel. (channel.direction, (channel.name, channel.label)))
-    (Then direction (λ _. Then (name_after (λ name. is_built_in name || is_among declared name) (map (λ channel. channel.name) before)) (λ _. label count)))
+    (Then direction (λ _. Then (name_after taken (channel_names before)) (λ _. label count)))
 
 unfoldable pub channels : ℕ → List (List ℕ) → Form (List ChannelContents)
-channels count declared = Counted any (channel_after count declared)
+channels count declared = Counted any (channel_after count (λ name. is_built_in name || is_among declared name))
 
 -- ---- globals and slots
 

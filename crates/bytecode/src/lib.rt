@@ -2,6 +2,7 @@
 #![tactic(auto)]
 
 pub mod channel;
+mod channels;
 mod code;
 pub mod fault;
 pub mod instruction;

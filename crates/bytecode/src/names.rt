@@ -1,7 +1,7 @@
 //! Reading of names.
 
 ghost use Rattle.bytecode.specs.Form.{each_at, read};
-ghost use Rattle.bytecode.specs.Format.{is_among, is_new_name, name_after};
+ghost use Rattle.bytecode.specs.Format.{is_among, is_built_in, is_new_name, name_after};
 ghost use Rattle.bytecode.specs.Reading.{Gives, texts};
 ghost use Rattle.std.specs.BTreeSet.{contains_text};
 ghost use Rattle.std.specs.Prelude.{[], bytes_eq, false, IfOk, List, MatchOption, OnOk, true, ℕ, ◌||◌, ◌≡◌};
@@ -46,10 +46,10 @@ pub(crate) fn name<'a>(
 }
 
 /// Takes a name.
-pub(crate) fn take(taken: &mut BTreeSet<String>, name: &String) -> Result<(), AllocError>
-    ensures { OnOk result ((q : List ℕ) → contains_text taken.new q ≡ (contains_text taken.old q || bytes_eq (string_bytes name.now) q)) }
+pub(crate) fn take(alloc: Global, taken: &mut BTreeSet<String>, name: &str) -> Result<(), AllocError>
+    ensures { OnOk result ((q : List ℕ) → contains_text taken.new q ≡ (contains_text taken.old q || bytes_eq name.now q)) }
 {
-    taken.insert(name.clone()?)?;
+    taken.insert(String::from_str(alloc, name)?)?;
     Ok(())
 }
 
@@ -67,7 +67,7 @@ pub(crate) fn names<'a>(
     let mut rest = bytes;
     for _ in 0..count {
         let (name, after) = name(alloc, taken, rest)?;
-        take(taken, &name)?;
+        take(alloc, taken, name.as_str())?;
         names.push(name)?;
         rest = after;
     }
@@ -84,4 +84,15 @@ pub(crate) fn first_names(
 {
     let mut taken = BTreeSet::new(alloc);
     names(alloc, &mut taken, count, bytes)
+}
+
+/// The names of the built-in exceptions, as those that are taken before any is declared.
+pub(crate) fn built_in(alloc: Global) -> Result<BTreeSet<String>, AllocError>
+    ensures { IfOk result (λ taken. (q : List ℕ) → contains_text taken q ≡ is_built_in q) }
+{
+    let mut taken = BTreeSet::new(alloc);
+    take(alloc, &mut taken, "Arith")?;
+    take(alloc, &mut taken, "Bounds")?;
+    take(alloc, &mut taken, "End")?;
+    Ok(taken)
 }

@@ -20,5 +20,5 @@ loop-preserved c =
     let items : texts c.push.new.self.items ≡ texts c.loop.names.items ++ string_bytes c.in_ok-name.name ∷ [] = rw c.in_ok-push.ensures.items (map_push _ c.loop.names.items c.in_ok-name.name) in
     record {
       goes_on = rw items (names_go_on (contains_text c.args.taken.now) (contains_text c.loop.taken) c.args.count c.loop.counter (texts c.loop.names.items) c.loop.rest.now (string_bytes c.in_ok-name.name) c.in_ok-name.after.now _ c.loop-test.true c.loop.invariant.has c.in_ok-name.ensures c.loop.invariant.goes_on);
-      has = rw items (in_set_more (contains_text c.args.taken.now) (contains_text c.loop.taken) _ (texts c.loop.names.items) (string_bytes c.in_ok-name.name) c.loop.invariant.has c.in_ok-take.ensures);
+      has = rw items (in_set_more (contains_text c.args.taken.now) (contains_text c.loop.taken) _ (texts c.loop.names.items) (string_bytes c.in_ok-name.name) c.loop.invariant.has (rw c.as_str.ensures.value at c.in_ok-take.ensures));
     }

@@ -5,5 +5,5 @@ use Rattle.bytecode.proofs.names.take.Goals as goal
 
 pub returns : goal.returns
 returns c = λ q.
-    let same : string_bytes c.in_ok-clone.field-0 ≡ string_bytes c.args.name.now = c.in_ok-clone.ensures.cases in
-    rw (← same) (taken_after (string_bytes c.in_ok-clone.field-0) c.args.taken.now c.insert.new.self c.in_ok-insert.ensures.updates q)
+    let same : string_bytes c.in_ok-from_str.field-0 ≡ c.args.name.now = c.in_ok-from_str.ensures.ok in
+    rw (← same) (taken_after (string_bytes c.in_ok-from_str.field-0) c.args.taken.now c.insert.new.self c.in_ok-insert.ensures.updates q)
