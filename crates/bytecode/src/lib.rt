@@ -5,6 +5,7 @@ pub mod channel;
 mod channels;
 mod code;
 pub mod fault;
+mod globals;
 pub mod instruction;
 mod opcode;
 mod names;

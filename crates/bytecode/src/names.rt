@@ -1,7 +1,7 @@
 //! Reading of names.
 
 ghost use Rattle.bytecode.specs.Form.{each_at, read};
-ghost use Rattle.bytecode.specs.Format.{is_among, is_built_in, is_new_name, name_after};
+ghost use Rattle.bytecode.specs.Format.{exceptions, is_among, is_built_in, is_new_name, name_after};
 ghost use Rattle.bytecode.specs.Reading.{Gives, texts};
 ghost use Rattle.std.specs.BTreeSet.{contains_text};
 ghost use Rattle.std.specs.Prelude.{[], bytes_eq, false, IfOk, List, MatchOption, OnOk, true, ℕ, ◌||◌, ◌≡◌};
@@ -95,4 +95,22 @@ pub(crate) fn built_in(alloc: Global) -> Result<BTreeSet<String>, AllocError>
     take(alloc, &mut taken, "Bounds")?;
     take(alloc, &mut taken, "End")?;
     Ok(taken)
+}
+
+/// The declared exceptions behind their count, where the built-in ones are taken. So far there are none.
+#[tactic(auto, unfolding(crate::specs::Format::exceptions))]
+pub(crate) fn exceptions<'a>(
+    alloc: Global,
+    taken: &mut BTreeSet<String>,
+    bytes: &'a [u8],
+) -> Result<(Vec<String>, &'a [u8]), ReadError>
+    requires { (q : List ℕ) → contains_text taken.old q ≡ is_built_in q }
+    ensures gives { Gives (λ x. (texts x.0.items, x.1.now)) result (read exceptions bytes.now) }
+    ensures taken { IfOk result (λ x. (q : List ℕ) → contains_text taken.new q ≡ (is_built_in q || is_among (texts x.0.items) q)) }
+{
+    let (count, rest) = number(bytes)?;
+    if count != 0 {
+        return Err(refused(Refusal::BadValue, bytes));
+    }
+    names(alloc, taken, count, rest)
 }
