@@ -16,7 +16,7 @@ use Rattle.bytecode.specs.Contents.{ProcedureContents}
 use Rattle.bytecode.specs.Code.{width_of}
 use Rattle.bytecode.specs.Form.{Form, Number, Checked, Fits}
 use Rattle.bytecode.specs.Opcodes.{opcode_of, operand_of, number_operand, numbered, plain, flagged, with_opcode, instruction_of, width_after, is_admitted, instructions}
-use Rattle.bytecode.specs.Format.{name_after, number_below, principals, pair_after, hierarchy, exceptions, direction_of, direction_byte, direction, reader_after, policy_after, label, channel_after, channels, kind_of, kind_byte, variable_kind, of_scalar, first_value, global_of, global_parts, global_after, globals, slot_of, slot_parts, slot_kind, slot_after, slots, returned_of, returned_byte, returned, parameters, handler, handlers, procedure, procedures, main, contents, module_file}
+use Rattle.bytecode.specs.Format.{name_after, number_below, principals, pair_after, hierarchy, exceptions, direction_of, direction_byte, direction, reader_after, policy_after, label, channel_after, channels, kind_of, kind_byte, variable_kind, of_scalar, first_value, global_of, global_parts, global_after, globals, slot_of, slot_parts, slot_kind, slot_after, slots, returned_of, returned_byte, returned, parameters, handler, handlers, procedure, procedures, main, declared, program, contents, module_file}
 use Rattle.bytecode.proofs.Steps.{IsBytes}
 use Rattle.bytecode.proofs.Coherent.{IsLawful, Coherent}
 
@@ -211,6 +211,14 @@ main-coherent : (all : List ProcedureContents) → Coherent (main all)
 unfolding main
 main-coherent all = tt
 
+pub declared-coherent : (count : ℕ) → Coherent (declared count)
+unfolding declared
+declared-coherent count = (exceptions-coherent, channels-coherent count)
+
+pub program-coherent : Coherent program
+unfolding program
+program-coherent = (globals-coherent, λ _. (procedures-coherent, main-coherent))
+
 pub module_file-coherent : Coherent module_file
 unfolding module_file contents
-module_file-coherent = (lit< tt, (lit< tt, ((hierarchy-coherent, λ h. (exceptions-coherent, λ declared. (channels-coherent (length h.names) declared, λ _. (globals-coherent, λ _. (procedures-coherent, λ all. main-coherent all))))), λ parts fits. refl)))
+module_file-coherent = (lit< tt, (lit< tt, ((hierarchy-coherent, λ h. (declared-coherent (length h.names), λ _. program-coherent)), λ parts fits. refl)))

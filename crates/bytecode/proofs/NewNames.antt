@@ -1,5 +1,5 @@
 -- Names that are new, and the set of those that are taken.
-use Rattle.std.proofs.Common.{◌≡◌, ℕ, Bool, true, false, cond, not, ◌&&◌, ◌||◌, List, [], ◌∷◌, ◌++◌, Ok, ◌+◌, ◌-◌, ◌<◌, subst, refl, sym, ap, ◌∙◌, ◌⊎◌, inl, inr}
+use Rattle.std.proofs.Common.{◌≡◌, ℕ, Bool, true, false, cond, not, ◌&&◌, ◌||◌, List, [], ◌∷◌, ◌++◌, Ok, Err, ◌+◌, ◌-◌, ◌<◌, subst, refl, sym, ap, ◌∙◌, ◌⊎◌, inl, inr}
 use Rattle.std.proofs.Math.Bool.{or-false, or_assoc}
 use Rattle.std.specs.Str.{IsUtf8, is_utf8}
 use Rattle.std.proofs.lemmas.Str.{IsUtf8-from_is_utf8, is_utf8-from_IsUtf8}
@@ -12,12 +12,13 @@ use Rattle.std.specs.String.{string_bytes, string_cmp}
 use Rattle.std.proofs.lemmas.Map.Text.{btree_set_updates_text}
 use Rattle.lexer.specs.Words.{is_name_text}
 use Rattle.bytecode.specs.declared.reading.ReadError.{ReadError}
+use Rattle.bytecode.specs.declared.reading.ReadError.TheVariants as errors
 use Rattle.bytecode.specs.Contents.{ChannelContents}
-use Rattle.bytecode.specs.Form.{Form, Named, Then, Checked, Text, Read, read, each_at}
+use Rattle.bytecode.specs.Form.{Form, Named, Then, Counted, Checked, Text, Read, read, each_at}
 use Rattle.bytecode.specs.Reading.{Fails}
 use Rattle.bytecode.proofs.Loop.{each_fails, each_goes_on}
 use Rattle.bytecode.specs.declared.fault.Refusal.TheVariants.{BadValue}
-use Rattle.bytecode.specs.Format.{channel_after, channel_names, direction, label, is_among, is_new_name, name_after}
+use Rattle.bytecode.specs.Format.{any, exceptions, channels, declared, is_built_in, channel_after, channel_names, direction, label, is_among, is_new_name, name_after}
 
 not_utf8 : (text : List ℕ) (b : Bool) → is_utf8 text ≡ b → ¬ IsUtf8 text → b ≡ false
 not_utf8 text true e h = absurd (h (IsUtf8-from_is_utf8 text e))
@@ -129,3 +130,30 @@ pub three_taken : (a b c : List ℕ) (none one two three : List ℕ → Bool) �
     → (q : List ℕ) → three q ≡ is_among (a ∷ b ∷ c ∷ []) q
 three_taken a b c none one two three n o t r q =
     rw (r q, t q, o q, n q) (or_assoc (bytes_eq a q) (bytes_eq b q) (bytes_eq c q) ∙ ap (λ (x : Bool). bytes_eq a q || (bytes_eq b q || x)) (sym (or-false (bytes_eq c q))))
+
+-- ---- exceptions, and then channels
+
+abbrev counted_channels : ℕ → (List ℕ → Bool) → List ℕ → Read (List ChannelContents)
+counted_channels count taken bytes = read (Counted any (channel_after count taken)) bytes
+
+same_channels : (count : ℕ) (taken : List ℕ → Bool) (names : List (List ℕ)) (bytes : List ℕ) → ((q : List ℕ) → taken q ≡ (is_built_in q || is_among names q))
+    → read (channels count names) bytes ≡ counted_channels count taken bytes
+unfolding channels
+same_channels count taken names bytes same =
+    let all : (λ (q : List ℕ). is_built_in q || is_among names q) ≡ taken = λ i q. sym (same q) i in
+    ap (λ (test : List ℕ → Bool). counted_channels count test bytes) all
+
+pub declared-read : (count : ℕ) (taken : List ℕ → Bool) (bytes : List ℕ) (names : List (List ℕ)) (rest : List ℕ) (all : List ChannelContents) (after : List ℕ) → read exceptions bytes ≡ Ok (names, rest)
+    → ((q : List ℕ) → taken q ≡ (is_built_in q || is_among names q)) → counted_channels count taken rest ≡ Ok (all, after) → read (declared count) bytes ≡ Ok ((names, all), after)
+unfolding declared
+declared-read count taken bytes names rest all after e same f =
+    let found : read (channels count names) rest ≡ Ok (all, after) = same_channels count taken names rest same ∙ f in
+    rw (e, found) refl
+
+pub declared-fails : (e : ReadError) (count : ℕ) (taken : List ℕ → Bool) (bytes : List ℕ) (names : List (List ℕ)) (rest : List ℕ) → read exceptions bytes ≡ Ok (names, rest)
+    → ((q : List ℕ) → taken q ≡ (is_built_in q || is_among names q)) → Fails e (counted_channels count taken rest) → Fails e (read (declared count) bytes)
+unfolding declared
+declared-fails errors.Memory count taken bytes names rest e same f = tt
+declared-fails (errors.Stop stop) count taken bytes names rest e same f =
+    let found : read (channels count names) rest ≡ Err stop = same_channels count taken names rest same ∙ f in
+    rw (e, found) refl

@@ -16,7 +16,7 @@ use Rattle.bytecode.specs.Contents.{ProcedureContents, ModuleContents}
 use Rattle.bytecode.specs.Code.{width_of, code_length}
 use Rattle.bytecode.specs.Form.{Form, Fits, FitEach, IsCoded, spelled_instruction, spelled_code, Code}
 use Rattle.bytecode.specs.Opcodes.{instructions}
-use Rattle.bytecode.specs.Format.{slot_parts, slot_of, slot_after, slot_kind, slots, returned, parameters, handlers, procedure, procedures, main, contents, module_file}
+use Rattle.bytecode.specs.Format.{slot_parts, slot_of, slot_after, slot_kind, slots, returned, parameters, handlers, procedure, procedures, main, program, contents, module_file}
 use Rattle.bytecode.specs.StraightLine.{is_straight, is_int_slot, has_none, is_straight_procedure, is_only_procedure, is_straight_line}
 
 both : (a b : Bool) → a ≡ true → b ≡ true → (a && b) ≡ true
@@ -160,6 +160,10 @@ first_starts (p ∷ []) zero h m = refl
 first_starts (p ∷ []) (suc n) h m = absurd (cc m.1)
 first_starts (p ∷ q ∷ ps) n h m = absurd (omega (arith, eqb-true _ _ h.1))
 
+straight_program : (m : ModuleContents) → Fits program (m.globals, (m.procedures, m.main)) → is_straight_line m ≡ true
+unfolding program
+straight_program m h = both _ _ (first_starts m.procedures m.main h.1.0 h.1.1) (only_procedure m.procedures h.1.0)
+
 pub straight : (m : ModuleContents) → Fits module_file m → is_straight_line m ≡ true
 unfolding module_file contents
-straight m h = both _ _ (first_starts m.procedures m.main h.0.1.1.1.1.0 h.0.1.1.1.1.1) (only_procedure m.procedures h.0.1.1.1.1.0)
+straight m h = straight_program m h.0.1.1

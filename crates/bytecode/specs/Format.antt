@@ -153,6 +153,10 @@ channel_after count taken before =
 unfoldable pub channels : ℕ → List (List ℕ) → Form (List ChannelContents)
 channels count declared = Counted any (channel_after count (λ name. is_built_in name || is_among declared name))
 
+-- the names of the declared exceptions, and the channels
+unfoldable pub declared : ℕ → Form (List (List ℕ) × List ChannelContents)
+declared count = Then exceptions (channels count)
+
 -- ---- globals and slots
 
 abbrev pub kind_of : ℕ → Kind
@@ -281,13 +285,16 @@ magic = 0x464c4f42
 abbrev pub version : ℕ
 version = 1
 
+-- the globals, the procedures, and the number of the one where a run starts
+unfoldable pub program : Form (List Global × (List ProcedureContents × ℕ))
+program = Then globals (λ _. Then procedures main)
+
 unfoldable pub contents : Form ModuleContents
 contents =
     Named
-    (λ parts. record { hierarchy = parts.0; exceptions = parts.1.0; channels = parts.1.1.0; globals = parts.1.1.1.0; procedures = parts.1.1.1.1.0; main = parts.1.1.1.1.1 })
-    (λ m. (m.hierarchy, (m.exceptions, (m.channels, (m.globals, (m.procedures, m.main))))))
-    (Then hierarchy (λ h. Then exceptions (λ declared. Then (channels (length h.names) declared) (λ _. Then globals (λ _.
-        Then procedures (λ procedures. main procedures))))))
+    (λ parts. record { hierarchy = parts.0; exceptions = parts.1.0.0; channels = parts.1.0.1; globals = parts.1.1.0; procedures = parts.1.1.1.0; main = parts.1.1.1.1 })
+    (λ m. (m.hierarchy, ((m.exceptions, m.channels), (m.globals, (m.procedures, m.main)))))
+    (Then hierarchy (λ h. Then (declared (length h.names)) (λ _. program)))
 
 unfoldable pub module_file : Form ModuleContents
 module_file = Marked Magic magic (Marked Version version contents)

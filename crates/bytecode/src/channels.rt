@@ -1,17 +1,18 @@
 //! Reading of channels.
 
-ghost use Rattle.bytecode.specs.Form.{each_at, read};
-ghost use Rattle.bytecode.specs.Format.{channel_after, direction};
-ghost use Rattle.bytecode.specs.Reading.{Gives};
+ghost use Rattle.bytecode.specs.Form.{Counted, each_at, read};
+ghost use Rattle.bytecode.specs.Format.{any, channel_after, declared, direction};
+ghost use Rattle.bytecode.specs.Reading.{Gives, texts};
 ghost use Rattle.std.specs.BTreeSet.{contains_text};
-ghost use Rattle.std.specs.Prelude.{[], ◌≡◌};
+ghost use Rattle.std.specs.Prelude.{[], length, ◌≡◌};
 
 use crate::channel::Channel;
 use crate::fault::Refusal;
-use crate::names::{name, take};
+use crate::names::{built_in, exceptions, name, take};
 use crate::parts::Direction;
 use crate::people::label;
-use crate::reading::{ReadError, byte, refused};
+use crate::reading::{ReadError, byte, number, refused};
+use principals::Hierarchy;
 use std::alloc::Global;
 use std::collections::BTreeSet;
 
@@ -45,7 +46,7 @@ fn channel<'a>(
 }
 
 /// As many channels as told, none of whose names is taken before.
-pub(crate) fn channels(
+fn channels(
     alloc: Global,
     principals: u32,
     mut taken: BTreeSet<String>,
@@ -63,4 +64,32 @@ pub(crate) fn channels(
         rest = after;
     }
     Ok((channels, rest))
+}
+
+/// The channels behind their count, none of whose names is taken before.
+fn counted(
+    alloc: Global,
+    principals: u32,
+    taken: BTreeSet<String>,
+    bytes: &[u8],
+) -> Result<(Vec<Channel>, &[u8]), ReadError>
+    ensures { Gives (λ x. (x.0.items, x.1.now)) result (read (Counted any (channel_after principals (contains_text taken))) bytes.now) }
+{
+    let (count, rest) = number(bytes)?;
+    channels(alloc, principals, taken, count, rest)
+}
+
+/// The names of the declared exceptions, and the channels with labels among the principals of the hierarchy.
+#[tactic(auto, unfolding(crate::specs::Format::declared))]
+pub(crate) fn declared<'a>(
+    alloc: Global,
+    hierarchy: &Hierarchy,
+    bytes: &'a [u8],
+) -> Result<(Vec<String>, Vec<Channel>, &'a [u8]), ReadError>
+    ensures { Gives (λ x. ((texts x.0.items, x.1.items), x.2.now)) result (read (declared (length hierarchy.now.names)) bytes.now) }
+{
+    let mut taken = built_in(alloc)?;
+    let (exceptions, rest) = exceptions(alloc, &mut taken, bytes)?;
+    let (channels, rest) = counted(alloc, hierarchy.count(), taken, rest)?;
+    Ok((exceptions, channels, rest))
 }

@@ -4,6 +4,7 @@
 pub mod channel;
 mod channels;
 mod code;
+mod decoding;
 pub mod fault;
 mod globals;
 pub mod instruction;
