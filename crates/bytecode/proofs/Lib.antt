@@ -8,3 +8,4 @@ pub mod Straight
 pub mod Widths
 pub mod NewNames
 pub mod Facts
+pub mod Both

@@ -145,7 +145,7 @@ unfolding procedure
 straight_procedure p h =
     let size : ltb (code_length p.code) 4294967296 ≡ true = lt-ltb _ _ (rw (spelled-length p.code) at h.0.1.1.1.0.0) in
     both _ _ (no_result p.returned h.0.0) (both _ _ (no_parameter p.parameters h.0.1.0) (both _ _ (no_handler p.handlers h.0.1.1.1.1)
-        (both _ _ (only_ints p.parameters p.slots h.0.1.1.0) (both _ _ (straight_code p.code h.0.1.1.1.0.1) size))))
+    (both _ _ (only_ints p.parameters p.slots h.0.1.1.0) (both _ _ (straight_code p.code h.0.1.1.1.0.1) size))))
 
 only_procedure : (ps : List ProcedureContents) → Fits procedures ps → is_only_procedure ps ≡ true
 unfolding procedures

@@ -7,3 +7,4 @@ pub mod Format
 pub mod Reading
 pub mod Machine
 pub mod StraightLine
+pub mod Decoded

@@ -33,7 +33,11 @@ fn instruction(room: u32, bytes: &[u8]) -> Result<(Instruction, &[u8]), ReadErro
 }
 
 /// The instructions that the next `size` bytes are.
-fn instructions(alloc: Global, size: u32, bytes: &[u8]) -> Result<(Vec<Instruction>, &[u8]), ReadError>
+fn instructions(
+    alloc: Global,
+    size: u32,
+    bytes: &[u8],
+) -> Result<(Vec<Instruction>, &[u8]), ReadError>
     ensures { Gives (λ x. (x.0.items, x.1.now)) result (code_at instructions size size [] bytes.now) }
 {
     let mut code = Vec::new(alloc);

@@ -1,10 +1,11 @@
 //! Reading of whole modules.
 
 ghost use Rattle.bytecode.specs.Contents.{ModuleContents};
-ghost use Rattle.bytecode.specs.Form.{read, read_all, Spells};
+ghost use Rattle.bytecode.specs.Decoded.{first_refusal, IsReadAs, Tells};
+ghost use Rattle.bytecode.specs.Form.{Fits, read, read_all, Spells};
 ghost use Rattle.bytecode.specs.Format.{contents, main, module_file, program};
-ghost use Rattle.bytecode.specs.Reading.{contents_of, Gives, texts};
-ghost use Rattle.std.specs.Prelude.{IfOk, Ok, ◌≡◌};
+ghost use Rattle.bytecode.specs.Reading.{contents_of, Gives};
+ghost use Rattle.std.specs.Prelude.{IfErr, IfOk, ◌≡◌};
 
 use crate::channel::Channel;
 use crate::channels::declared;
@@ -15,6 +16,7 @@ use crate::people::hierarchy;
 use crate::procedure::Procedure;
 use crate::procedures::procedures;
 use crate::reading::{ReadError, number, refused};
+use crate::whole::Module;
 use principals::Hierarchy;
 use std::alloc::Global;
 
@@ -43,12 +45,17 @@ pub(crate) struct Program {
 
 /// The number of a procedure without parameters that returns no value.
 #[tactic(auto, unfolding(crate::specs::Format::main))]
-fn main_procedure<'a>(procedures: &[Procedure], bytes: &'a [u8]) -> Result<(u32, &'a [u8]), ReadError>
+fn main_procedure<'a>(
+    procedures: &[Procedure],
+    bytes: &'a [u8],
+) -> Result<(u32, &'a [u8]), ReadError>
     ensures { Gives (λ x. (x.0, x.1.now)) result (read (main procedures.now) bytes.now) }
 {
     let (number, rest) = number(bytes)?;
     match procedures.get(number as usize) {
-        Some(procedure) if procedure.parameters() == 0 && procedure.returned().is_none() => Ok((number, rest)),
+        Some(procedure) if procedure.parameters() == 0 && procedure.returned().is_none() => Ok((
+            number, rest,
+        )),
         _ => Err(refused(Refusal::BadValue, bytes)),
     }
 }
@@ -111,4 +118,46 @@ fn whole_file(alloc: Global, bytes: &[u8]) -> Result<Parts, ReadError>
         return Err(refused(Refusal::Trailing, rest));
     }
     Ok(parts)
+}
+
+/// The module of parts that have a spelling.
+fn module_of(parts: Parts) -> Module
+    requires { Fits module_file (contents_of parts) }
+    ensures { result ≡ contents_of parts }
+{
+    let Parts {
+        hierarchy,
+        exceptions,
+        channels,
+        program,
+    } = parts;
+    let Program {
+        globals,
+        procedures,
+        main,
+    } = program;
+    Module::new(hierarchy, exceptions, channels, globals, procedures, main)
+}
+
+/// The module that the bytes spell.
+///
+/// A refusal is the first one in reading order, field by field from the left, with the offset of the field's first byte,
+/// within code that of the offending byte, and for bytes that end too early their length. Nothing is reserved by a count
+/// that the bytes claim.
+pub fn decode(alloc: Global, bytes: &[u8]) -> Result<Module, FormatFault>
+    // What is read is spelled so, each byte of it.
+    ensures found { IfOk result (λ m. Spells module_file m bytes.now) }
+    // What is spelled so is read, unless memory is refused.
+    ensures only { (m : ModuleContents) → Spells module_file m bytes.now → IsReadAs m result }
+    // A refusal is the first one, at its place.
+    ensures refused { IfErr result (λ fault. Tells fault (first_refusal bytes.now)) }
+{
+    match whole_file(alloc, bytes) {
+        Ok(parts) => Ok(module_of(parts)),
+        Err(ReadError::Memory) => Err(FormatFault::NoMemory),
+        Err(ReadError::Stop(stop)) => {
+            let offset = bytes.len().saturating_sub(stop.left);
+            Err(FormatFault::Refused(stop.refusal, offset))
+        }
+    }
 }

@@ -8,8 +8,8 @@ mod decoding;
 pub mod fault;
 mod globals;
 pub mod instruction;
-mod opcode;
 mod names;
+mod opcode;
 pub mod parts;
 mod people;
 pub mod procedure;
@@ -19,6 +19,7 @@ mod sizes;
 pub mod whole;
 
 pub use channel::Channel;
+pub use decoding::decode;
 pub use fault::{FormatFault, Refusal};
 pub use instruction::{Arithmetic, Comparison, Instruction};
 pub use parts::{Direction, Global, Handler, Kind, Slot};

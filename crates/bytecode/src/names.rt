@@ -46,7 +46,11 @@ pub(crate) fn name<'a>(
 }
 
 /// Takes a name.
-pub(crate) fn take(alloc: Global, taken: &mut BTreeSet<String>, name: &str) -> Result<(), AllocError>
+pub(crate) fn take(
+    alloc: Global,
+    taken: &mut BTreeSet<String>,
+    name: &str,
+) -> Result<(), AllocError>
     ensures { OnOk result ((q : List ℕ) → contains_text taken.new q ≡ (contains_text taken.old q || bytes_eq name.now q)) }
 {
     taken.insert(String::from_str(alloc, name)?)?;

@@ -65,7 +65,9 @@ impl Element for PairField {
         let (first, rest) = number_below(self.principals, bytes)?;
         let (second, rest) = number_below(self.principals, rest)?;
         let pair = (first, second);
-        if let Some(last) = before.last() && *last >= pair {
+        if let Some(last) = before.last()
+            && *last >= pair
+        {
             return Err(refused(Refusal::NotCanonical, bytes));
         }
         Ok((pair, rest))
@@ -100,7 +102,9 @@ impl Element for ReaderField {
         if reader == self.owner {
             return Err(refused(Refusal::NotCanonical, bytes));
         }
-        if let Some(last) = before.last() && *last >= reader {
+        if let Some(last) = before.last()
+            && *last >= reader
+        {
             return Err(refused(Refusal::NotCanonical, bytes));
         }
         Ok((reader, rest))
@@ -134,7 +138,9 @@ impl Element for PolicyField {
         let (owner, rest) = number_below(principals, bytes)?;
         let (readers, rest) = readers(alloc, principals, owner, rest)?;
         let policy = Policy::of(owner, readers);
-        if let Some(last) = before.last() && *last >= policy {
+        if let Some(last) = before.last()
+            && *last >= policy
+        {
             return Err(refused(Refusal::NotCanonical, bytes));
         }
         Ok((policy, rest))
@@ -164,7 +170,11 @@ fn policies(alloc: Global, principals: u32, bytes: &[u8]) -> Result<(Vec<Policy>
 }
 
 /// A label among so many principals.
-pub(crate) fn label(alloc: Global, principals: u32, bytes: &[u8]) -> Result<(Label, &[u8]), ReadError>
+pub(crate) fn label(
+    alloc: Global,
+    principals: u32,
+    bytes: &[u8],
+) -> Result<(Label, &[u8]), ReadError>
     ensures { Gives (λ x. (x.0, x.1.now)) result (read (label principals) bytes.now) }
 {
     let (policies, rest) = policies(alloc, principals, bytes)?;
@@ -172,7 +182,11 @@ pub(crate) fn label(alloc: Global, principals: u32, bytes: &[u8]) -> Result<(Lab
 }
 
 /// The written pairs among so many principals, behind their count.
-fn pairs(alloc: Global, principals: u32, bytes: &[u8]) -> Result<(Vec<(u32, u32)>, &[u8]), ReadError>
+fn pairs(
+    alloc: Global,
+    principals: u32,
+    bytes: &[u8],
+) -> Result<(Vec<(u32, u32)>, &[u8]), ReadError>
     ensures { Gives (λ x. (x.0.items, x.1.now)) result (read (Counted any (pair_after principals)) bytes.now) }
 {
     let (count, rest) = number(bytes)?;

@@ -5,8 +5,8 @@ ghost use Rattle.bytecode.specs.Format.{handler, handlers, most_cells, parameter
 ghost use Rattle.bytecode.specs.Reading.{Gives};
 ghost use Rattle.std.specs.Prelude.{[], ◌≡◌, ◌≤◌};
 
-use crate::fault::Refusal;
 use crate::code::code;
+use crate::fault::Refusal;
 use crate::parts::{Handler, Kind, Slot};
 use crate::procedure::Procedure;
 use crate::reading::{Element, ReadError, byte, each, number, refused};

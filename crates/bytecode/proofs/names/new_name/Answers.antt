@@ -10,10 +10,12 @@ returns-in_default c = no_text (contains_text c.args.taken.now) c.args.text.now 
 
 pub returns-then-not-contains : goal.returns-then-not-contains
 returns-then-not-contains c =
-    let same = sym c.in-Ok.ensures.cases.0 in
-    (c.in-Ok.ensures.cases.0, is_new (contains_text c.args.taken.now) c.args.text.now c.in-Ok.ensures.cases.1
-        (ap is_name_text same ∙ sym c.if-is_name.ensures)
-        (ap (contains_text c.args.taken.now) same ∙ sym c.if-not-contains.ensures))
+    let same = sym c.in-Ok.ensures.cases.0 in (
+      c.in-Ok.ensures.cases.0,
+      is_new (contains_text c.args.taken.now) c.args.text.now c.in-Ok.ensures.cases.1
+          (ap is_name_text same ∙ sym c.if-is_name.ensures)
+          (ap (contains_text c.args.taken.now) same ∙ sym c.if-not-contains.ensures),
+    )
 
 pub returns-else-is_name : goal.returns-else-is_name
 returns-else-is_name c =
