@@ -9,3 +9,4 @@ pub mod Widths
 pub mod NewNames
 pub mod Facts
 pub mod Both
+pub mod Written

@@ -8,3 +8,4 @@ pub mod Reading
 pub mod Machine
 pub mod StraightLine
 pub mod Decoded
+pub mod Writing
