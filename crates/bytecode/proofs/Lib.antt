@@ -10,3 +10,4 @@ pub mod NewNames
 pub mod Facts
 pub mod Both
 pub mod Written
+pub mod Inside

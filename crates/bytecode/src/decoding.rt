@@ -156,7 +156,7 @@ pub fn decode(alloc: Global, bytes: &[u8]) -> Result<Module, FormatFault>
         Ok(parts) => Ok(module_of(parts)),
         Err(ReadError::Memory) => Err(FormatFault::NoMemory),
         Err(ReadError::Stop(stop)) => {
-            let offset = bytes.len().saturating_sub(stop.left);
+            let offset = bytes.len() - stop.left;
             Err(FormatFault::Refused(stop.refusal, offset))
         }
     }

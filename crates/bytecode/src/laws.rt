@@ -2,9 +2,10 @@
 
 ghost use Rattle.bytecode.specs.Contents.{ModuleContents};
 ghost use Rattle.bytecode.specs.Decoded.{first_refusal};
-ghost use Rattle.bytecode.specs.Form.{Fits, spelled, Spells};
+ghost use Rattle.bytecode.specs.Form.{Fits, read_all, spelled, Spells};
 ghost use Rattle.bytecode.specs.Format.{module_file};
-ghost use Rattle.std.specs.Prelude.{List, None, ℕ, ◌++◌, ◌≡◌};
+ghost use Rattle.bytecode.specs.declared.fault.Stop.{Stop};
+ghost use Rattle.std.specs.Prelude.{length, List, None, ℕ, ◌++◌, ◌≡◌, ◌≤◌};
 
 /// Each module has one spelling, and each spelling is that of one module.
 pub fn one_spelling()
@@ -21,4 +22,9 @@ pub fn no_spelling_begins_another()
 /// The spelling of a module is not refused.
 pub fn spellings_are_not_refused()
     ensures { (m : ModuleContents) (bytes : List ℕ) → Spells module_file m bytes → first_refusal bytes ≡ None }
+{}
+
+/// A refusal stands inside the bytes or at their end.
+pub fn refusals_stand_inside()
+    ensures { (bytes : List ℕ) (stop : Stop) → read_all module_file bytes ≡ Err stop → stop.left ≤ length bytes }
 {}

@@ -4,6 +4,7 @@ use Rattle.bytecode.specs.Form.{read_all}
 use Rattle.bytecode.specs.Format.{module_file}
 use Rattle.bytecode.specs.Reading.{contents_of}
 use Rattle.bytecode.proofs.Both.{module_again, module_taken}
+use Rattle.bytecode.proofs.Inside.{stop_inside}
 use Rattle.bytecode.proofs.Steps.{same_value}
 use Rattle.bytecode.proofs.decoding.decode.Goals as goal
 
@@ -23,3 +24,8 @@ pub returns-in-Err-Stop-clause-only : goal.returns-in-Err-Stop-clause-only
 returns-in-Err-Stop-clause-only c = λ m spells.
     let stopped : read_all module_file c.args.bytes.now ≡ Err c.in-Err-Stop.stop = rw c.in-Err-Stop.field-0-is at c.in-Err-Stop.ensures in
     absurd (cc (stopped, module_again c.args.bytes.now m spells))
+
+pub overflow_sub-offset : goal.overflow_sub-offset
+overflow_sub-offset c =
+    let stopped : read_all module_file c.args.bytes.now ≡ Err c.in-Err-Stop.stop = rw c.in-Err-Stop.field-0-is at c.in-Err-Stop.ensures in
+    omega (arith, stop_inside module_file c.args.bytes.now c.in-Err-Stop.stop stopped)
