@@ -3,9 +3,8 @@ use Rattle.std.proofs.Common.{◌≡◌, ℕ, zero, suc, ◌-◌, ◌≤◌, Boo
 use Rattle.std.proofs.lemmas.List.{length-drop}
 use Rattle.std.specs.Int.{w32, from_be_bytes}
 use Rattle.bytecode.specs.declared.fault.Stop.{Stop}
-use Rattle.bytecode.specs.declared.fault.Refusal.{Refusal}
 use Rattle.bytecode.specs.declared.fault.Refusal.TheVariants.{BadValue, Trailing}
-use Rattle.bytecode.specs.Form.{Coding, Form, Byte, Number, Text, Nothing, Marked, Checked, Then, Counted, Code, Named, stop_at, short, ◌>>=◌, Read, byte_at, number_at, bytes_at, each_at, meant, operand_at, instruction_in, code_at, spelled_instruction, read, read_all}
+use Rattle.bytecode.specs.Form.{Coding, Form, Byte, Number, Text, Nothing, Marked, Checked, Then, Counted, Code, Named, stop_at, short, ◌>>=◌, Read, number_at, bytes_at, each_at, meant, operand_at, instruction_in, code_at, spelled_instruction, read, read_all}
 
 -- at most so many bytes are left, after the value or at the refusal
 abbrev IsInside : {A : Type 0} → ℕ → Read A → Type 0
