@@ -1,0 +1,15 @@
+pub use Rattle.principals.specs.ActsFor
+pub use Rattle.labels.specs.Canonical
+pub use Rattle.labels.specs.Label
+pub use Rattle.lexer.specs.Words
+pub mod Contents
+pub mod Code
+pub mod Faults
+pub mod Form
+pub mod Opcodes
+pub mod Format
+pub mod Reading
+pub mod Machine
+pub mod StraightLine
+pub mod Decoded
+pub mod Writing
