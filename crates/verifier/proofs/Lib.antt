@@ -1,3 +1,4 @@
 pub mod Offsets
 pub mod Straight
 pub mod Whole
+pub mod Flow

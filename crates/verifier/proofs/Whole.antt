@@ -1,6 +1,7 @@
 -- Modules of straight-line code without a fixed fault: they serve their code, and where operands suffice they are never stuck.
 use Rattle.std.proofs.Common.{◌≡◌, ℕ, zero, suc, ◌+◌, ◌<◌, ◌≤◌, Bool, true, false, ◌&&◌, List, [], ◌∷◌, ◌++◌, length, Option, Some, None, refl, sym, ap, ◌∙◌, subst, arith, ℤ, slice_get, map}
 use Rattle.std.specs.List.{list_all}
+use Rattle.std.proofs.lemmas.Bool.{and_parts}
 use Rattle.bytecode.specs.Code.{width_of, code_length, instruction_at}
 use Rattle.bytecode.specs.Contents.{ProcedureContents, ModuleContents}
 use Rattle.bytecode.specs.Machine.{Machine, Running, Program, program_of, header_of, code_of, handlers_of, handler_for, place_after, first_state, after_steps, first_slots, slots_of}
@@ -33,10 +34,6 @@ no_defect number offset (Some wrong) e = absurd (cc)
 right_of_unless : (b : Bool) (wrong : Defect) → unless b wrong ≡ None → b ≡ true
 right_of_unless true wrong e = refl
 right_of_unless false wrong e = absurd (let no : Some wrong ≡ None = e in cc)
-
-and_parts : (a b : Bool) → a && b ≡ true → (a ≡ true) × (b ≡ true)
-and_parts true b e = (refl, e)
-and_parts false b e = absurd (let no : false ≡ true = e in cc)
 
 int_slot : (slot : Slot) → is_int_slot slot ≡ true → slot ≡ Scalar Int
 int_slot (Scalar Int) e = refl
