@@ -1,5 +1,5 @@
 -- The flow of operands through straight-line code: where control comes with how many ints, and which faults are there.
-use Rattle.std.proofs.Common.{◌≡◌, ◌≢◌, ℕ, zero, suc, ◌+◌, ◌<◌, ◌≤◌, Bool, true, false, ◌&&◌, List, [], ◌∷◌, ◌++◌, length, replicate, Option, Some, None, refl, sym, ap, ◌∙◌, subst, inl, inr, ◌⊎◌, ⊎_elim, arith, append_assoc, slice_get, slice_index_or}
+use Rattle.std.proofs.Common.{◌≡◌, ◌≢◌, ℕ, zero, suc, ◌+◌, ◌<◌, ◌≤◌, Bool, true, false, ◌&&◌, List, [], ◌∷◌, ◌++◌, length, replicate, Option, Some, None, refl, sym, ap, ◌∙◌, subst, append-nil, inl, inr, ◌⊎◌, ⊎_elim, arith, append_assoc, slice_get, slice_index_or}
 use Rattle.std.specs.List.{list_all, Contains}
 use Rattle.bytecode.specs.Code.{width_of, code_length, instruction_at}
 use Rattle.bytecode.specs.Contents.{ProcedureContents, ModuleContents}
@@ -17,8 +17,9 @@ use Rattle.verifier.specs.declared.fault.Defect.{Defect}
 use Rattle.verifier.specs.declared.fault.Defect.TheVariants.{OperandDepth, OperandKind, FallsOffEnd}
 use Rattle.verifier.specs.declared.fault.Fault.{Fault}
 use Rattle.verifier.proofs.Offsets.{instruction_at-append, code_length-append, same_front, width_of-pos}
-use Rattle.verifier.proofs.Straight.{depth_after, passed, passed-append, Ahead, Ahead-drop}
-use Rattle.verifier.proofs.Straight as straight
+use Rattle.verifier.specs.Straight.{depth_after, passed, Ahead, Stops, StopsAt, at_end, at_instruction}
+use Rattle.verifier.specs.Straight as straight
+use Rattle.verifier.proofs.Straight.{passed-append, Ahead-drop, and_then_some}
 use Rattle.std.proofs.lemmas.Bool.{and_parts}
 
 -- so many ints
@@ -213,3 +214,34 @@ module _ (m : ModuleContents) (procedure : ProcedureContents) (slots : list_all 
       let empty : place.ahead ≡ [] = nothing_left place.before place.ahead (ap code_length (sym place.whole) ∙ place.length_is) in
       let left : Ahead place.ahead place.depth = Ahead-drop place.before place.ahead 0 place.depth place.passes (subst (λ c. Ahead c 0) place.whole a) in
       no_ahead place.depth (subst (λ c. Ahead c place.depth) empty left)
+
+  -- control comes past instructions that find their operands, from where it came
+  pub reached_passed : list_all is_straight procedure.code ≡ true → (front before ahead : List Instruction) (depth next : ℕ) → procedure.code ≡ front ++ (before ++ ahead) → Reached m procedure (code_length front) (ints depth) → passed before depth ≡ Some next → Reached m procedure (code_length (front ++ before)) (ints next)
+  reached_passed s front [] ahead depth next e r p =
+      let same : depth ≡ next = cc in
+      let front_is : front ++ [] ≡ front = append-nil front in
+      subst (λ (c : List Instruction). Reached m procedure (code_length c) (ints next)) (sym front_is) (subst (λ (d : ℕ). Reached m procedure (code_length front) (ints d)) same r)
+  reached_passed s front (i ∷ before) ahead depth next e r p =
+      let split = and_then_some (depth_after i depth) (passed before) next p in
+      let near = reached_next front (before ++ ahead) i depth split.0 s e r split.1 in
+      let whole : procedure.code ≡ (front ++ i ∷ []) ++ (before ++ ahead) = e ∙ sym (append_assoc front (i ∷ []) (before ++ ahead)) in
+      subst (λ (c : List Instruction). Reached m procedure (code_length c) (ints next)) (append_assoc front (i ∷ []) before)
+      (reached_passed s (front ++ i ∷ []) before ahead split.0 next whole near split.2)
+
+  -- where control stops there is a fault
+  pub defect_at : list_all is_straight procedure.code ≡ true → (fault : Fault) → Stops procedure.code fault → IsFlowDefect m procedure fault.offset fault.defect
+  defect_at s fault stops =
+      let came : Reached m procedure (code_length stops.before) (ints stops.depth) = reached_passed s [] stops.before stops.ahead 0 stops.depth stops.whole start stops.passes in
+      subst (λ (at : ℕ). IsFlowDefect m procedure at fault.defect) (sym stops.offset_is)
+      (stopped s stops.before stops.ahead stops.depth fault.defect stops.whole came stops.stops)
+    where
+      stopped : list_all is_straight procedure.code ≡ true → (before ahead : List Instruction) (depth : ℕ) (wrong : Defect) → procedure.code ≡ before ++ ahead → Reached m procedure (code_length before) (ints depth) → StopsAt ahead depth wrong → IsFlowDefect m procedure (code_length before) wrong
+      stopped s before [] depth wrong whole r (at_end d) =
+          let same : code_length procedure.code ≡ code_length before = ap code_length (whole ∙ append-nil before) in
+          subst (λ (at : ℕ). IsFlowDefect m procedure at FallsOffEnd) same
+          (falls (ints depth) (subst (λ (at : ℕ). Reached m procedure at (ints depth)) (sym same) r))
+      stopped s before (i ∷ ahead) depth wrong whole r (at_instruction j code d differs none) =
+          let straight_here : is_straight i ≡ true = all_straight before ahead i (subst (λ c. list_all is_straight c ≡ true) whole s) in
+          ⊎_elim (λ back. absurd (differs back))
+          (λ missing. misses (code_length before) (ints depth) i OperandDepth r (at_length before ahead i whole) missing)
+          (effect_missing i depth straight_here none)

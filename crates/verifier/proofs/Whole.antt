@@ -20,7 +20,8 @@ use Rattle.verifier.specs.Safety.{HasRow, IsNeverStuck}
 use Rattle.verifier.specs.declared.fault.Defect.{Defect}
 use Rattle.verifier.specs.declared.fault.Defect.TheVariants.{SlotOrIndex}
 use Rattle.verifier.specs.declared.fault.Fault.{Fault}
-use Rattle.verifier.proofs.Straight.{IsRight, AreRight, Serves, Good, Good-row, runs, none, exec_good, Ahead}
+use Rattle.verifier.specs.Straight.{Ahead}
+use Rattle.verifier.proofs.Straight.{IsRight, AreRight, Serves, Good, Good-row, runs, none, exec_good}
 
 -- lists that join to nothing are nothing
 append_nothing : {X : Type 0} (xs ys : List X) → xs ++ ys ≡ [] → (xs ≡ []) × (ys ≡ [])

@@ -19,6 +19,8 @@ use Rattle.bytecode.specs.declared.parts.Direction.TheVariants.{Input, Output}
 use Rattle.verifier.specs.declared.fault.Defect.{Defect}
 use Rattle.verifier.specs.declared.fault.Defect.TheVariants as defect
 use Rattle.verifier.specs.declared.fault.Fault.{Fault}
+use Rattle.verifier.specs.declared.fault.VerifyFault.{VerifyFault}
+use Rattle.verifier.specs.declared.fault.VerifyFault.TheVariants.{NoMemory, Wrong}
 
 -- ---- the fixed faults
 
@@ -223,6 +225,11 @@ IsToldAfter m (first ∷ more) fault = fault ≡ first
 
 abbrev pub IsTold : ModuleContents → Fault → Type 0
 IsTold m fault = IsToldAfter m (fixed_faults m) fault
+
+-- the answer of a verifier that refuses a module
+abbrev pub IsToldOf : ModuleContents → VerifyFault → Type 0
+IsToldOf m NoMemory = Unit {0}
+IsToldOf m (Wrong fault) = IsTold m fault
 
 -- a module without a fault
 pub record HasNoFault (m : ModuleContents) : Type 0 where
