@@ -43,13 +43,12 @@ impl Verified {
     }
 }
 
-/// Verifies a module of straight-line code.
+/// Verifies a module.
 ///
 /// A module is refused where its code has a fault, and the fault that is told is there: the first one
 /// that an instruction or a handler has by itself, or else one of the flow of operands. The allocator is
 /// for what the flow of other code needs.
 pub fn verify(_alloc: Global, whole: Module) -> Result<Verified, VerifyFault>
-    requires { IsTrue (is_straight_line whole) }
     ensures value { IfOk result (λ verified. verified ≡ whole) }
     ensures safe { OnOk result (IsNeverStuck whole) }
     ensures faultless { OnOk result (HasNoFault whole) }
@@ -63,7 +62,6 @@ pub fn verify(_alloc: Global, whole: Module) -> Result<Verified, VerifyFault>
 
 // A fault of a module, or none.
 fn fault_of(whole: &Module) -> Option<Fault>
-    requires { IsTrue (is_straight_line whole.now) }
     ensures none { IfNone result (IsVerified whole.now) }
     ensures some { IfSome result (λ fault. IsTold whole.now fault) }
 {
