@@ -1,1 +1,3 @@
 pub mod Sink
+pub mod World
+pub mod WorldText
