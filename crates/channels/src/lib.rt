@@ -2,11 +2,13 @@
 #![tactic(auto)]
 
 pub mod defect;
+pub mod sent;
 pub mod sink;
 pub mod world;
 mod world_text;
 
 pub use defect::{WorldDefect, WorldFault};
 pub use labels::Pair;
+pub use sent::Sent;
 pub use sink::{Device, Sink, SinkFault, write_whole};
 pub use world::{InputList, World};
