@@ -1,9 +1,10 @@
 ghost use Rattle.bytecode.specs.Machine.{Ending};
-ghost use Rattle.machine.specs.Parts.{stepped, added, acted, going, grows, onward};
-ghost use Rattle.machine.specs.Standing.{standing_of};
-ghost use Rattle.std.specs.Prelude.{◌≡◌, ◌∷◌, slice_get, ◌<◌, ◌+◌, IfOk, IsSome, OnErr, OnOk, Some};
+ghost use Rattle.machine.specs.Parts.{StaysFine, standing_after, stepped, added, acted, going, grows, onward};
+ghost use Rattle.machine.specs.Standing.{IsStatus, IsStatusOf, WasGoing, option_ending, standing_of};
+ghost use Rattle.std.specs.Prelude.{◌≡◌, ◌≤◌, ◌∷◌, slice_get, ◌<◌, ◌+◌, IfOk, IsSome, OnErr, OnOk, Some};
 
 use crate::input::Input;
+use crate::status::Status;
 use bytecode::Instruction;
 use channels::{Pair, Sent};
 use std::alloc::{AllocError, AllocFailed};
@@ -168,5 +169,42 @@ impl Parts {
             unreachable!();
         };
         self.act(*instruction)
+    }
+}
+
+/// Takes at most so many steps, and answers how many it took and how the run then stands.
+pub fn advance(
+    code: &[Instruction],
+    parts: &mut Parts,
+    end: &mut Option<End>,
+    steps: u64,
+) -> (u64, Status)
+    requires { StaysFine code.now (standing_of end.old parts.old) }
+    ensures after { standing_of end.new parts.new ≡ standing_after code.now result.0 (standing_of end.old parts.old) }
+    ensures within { result.0 ≤ steps }
+    ensures going { WasGoing (λ k. standing_after code.now k (standing_of end.old parts.old)) result.0 }
+    ensures told { IsStatus steps result.0 result.1 (option_ending end.new) (slice_get code.now parts.new.place) }
+{
+    let mut taken = 0;
+    while taken < steps {
+        if end.is_some() {
+            break;
+        }
+        match parts.step(code) {
+            Ok(next) => *end = next,
+            Err(_) => return (taken, Status::NoMemory),
+        }
+        taken += 1;
+    }
+    (taken, status_of(*end))
+}
+
+fn status_of(end: Option<End>) -> Status
+    ensures { IsStatusOf result (option_ending end) }
+{
+    match end {
+        None => Status::Running,
+        Some(End::Finished) => Status::Finished,
+        Some(End::Threw(exception)) => Status::Threw(exception),
     }
 }
