@@ -2,3 +2,4 @@ pub mod Lists
 pub mod Rows
 pub mod Steps
 pub mod Lift
+pub mod Told

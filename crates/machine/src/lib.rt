@@ -1,8 +1,12 @@
 //! The machine: runs of verified modules, step by step.
 #![tactic(auto)]
 
+pub mod fault;
 mod input;
 mod parts;
+pub mod run;
 pub mod status;
 
+pub use fault::NewFault;
+pub use run::Machine;
 pub use status::Status;
