@@ -3,3 +3,4 @@ pub mod Rows
 pub mod Steps
 pub mod Lift
 pub mod Told
+pub mod First

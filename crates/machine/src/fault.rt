@@ -1,7 +1,3 @@
-ghost use Rattle.machine.specs.declared.fault.NewFault.TheVariants.{NoMemory};
-ghost use Rattle.std.specs.Prelude.{◌≡◌};
-
-use std::alloc::AllocError;
 use thiserror::Error;
 
 /// A machine was not made.
@@ -13,12 +9,4 @@ pub enum NewFault {
     /// 852: the names of the world's inputs are not those of the module's inputs, in order.
     #[error("unknown channel")]
     UnknownChannel,
-}
-
-impl From<AllocError> for NewFault {
-    ghost from_gives = { λ _ e. e ≡ NoMemory };
-
-    fn from(_error: AllocError) -> NewFault {
-        NewFault::NoMemory
-    }
 }
