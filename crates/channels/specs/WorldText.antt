@@ -8,6 +8,8 @@ use Rattle.std.specs.Str.{bytes_eq}
 use Rattle.std.specs.Str.Parse.{digits_value}
 use Rattle.lexer.specs.Words.{is_name_text}
 use Rattle.channels.specs.World.{InputNumbers}
+use Rattle.channels.specs.declared.world_table.LineFault.{LineFault}
+use Rattle.channels.specs.declared.world_table.LineFault.TheVariants.{NoMemory, Wrong}
 use Rattle.channels.specs.declared.defect.WorldDefect.{WorldDefect}
 use Rattle.channels.specs.declared.defect.WorldDefect.TheVariants.{Syntax, UnknownChannel, RepeatedChannel, NumberOutOfRange}
 
@@ -97,3 +99,39 @@ numbers_given (line ∷ lines) channel =
 -- the world that right lines write for these inputs
 abbrev pub world_of : List (List ℕ) → List (List (List ℕ)) → List InputNumbers
 world_of inputs lines = map (λ input. record { name = input; numbers = numbers_given lines input }) inputs
+
+-- ---- reading line by line
+
+-- what lines give to a channel: the numbers of the first line that names it
+abbrev pub given_by : List (List (List ℕ)) → List ℕ → Option (List ℤ)
+given_by [] channel = None
+given_by (line ∷ lines) channel = if gives_to channel line then Some (numbers_of line) else given_by lines channel
+
+-- what a table of inputs holds for each name, before a line: none for no input, and nothing so far for an input that no line named
+abbrev pub Table : Type 0
+Table = List ℕ → Option (Option (List ℤ))
+
+-- the table of these inputs after these lines
+abbrev pub table_after : List (List ℕ) → List (List (List ℕ)) → Table
+table_after inputs before name =
+    if list_any (λ input. bytes_eq name input) inputs then Some (given_by before name) else None
+
+abbrev pub entry_defect : Option (Option (List ℤ)) → List ℤ → Option WorldDefect
+entry_defect None numbers = Some UnknownChannel
+entry_defect (Some (Some given)) numbers = Some RepeatedChannel
+entry_defect (Some None) numbers = if list_all is_int numbers then None else Some NumberOutOfRange
+
+-- what is wrong with a line by a table
+abbrev pub table_defect : Table → List (List ℕ) → Option WorldDefect
+table_defect table [] = None
+table_defect table (name ∷ rest) =
+    if not (has_form (name ∷ rest)) then Some Syntax else entry_defect (table name) (numbers_of (name ∷ rest))
+
+-- a table after a right line
+abbrev pub table_with : Table → List (List ℕ) → Table
+table_with table [] name = table name
+table_with table (first ∷ rest) name = if bytes_eq first name then Some (Some (numbers_of (first ∷ rest))) else table name
+
+abbrev pub IsLineFault : Table → List (List ℕ) → LineFault → Type 0
+IsLineFault table line NoMemory = Unit {0}
+IsLineFault table line (Wrong defect) = table_defect table line ≡ Some defect

@@ -8,7 +8,7 @@ use lexer::is_name;
 use std::alloc::{AllocError, Global};
 
 // The lines of a text.
-fn lines_of(alloc: Global, text: &str) -> Result<Vec<&str>, AllocError>
+pub fn lines_of(alloc: Global, text: &str) -> Result<Vec<&str>, AllocError>
     ensures { IfOk result (λ lines. texts_of lines.items ≡ slice_split (λ byte. byte == 10) text.now) }
 {
     text.split('\n').collect(alloc)
@@ -22,7 +22,7 @@ fn parts_of(alloc: Global, line: &str) -> Result<Vec<&str>, AllocError>
 }
 
 // The words of a line.
-fn words_of(alloc: Global, line: &str) -> Result<Vec<&str>, AllocError>
+pub fn words_of(alloc: Global, line: &str) -> Result<Vec<&str>, AllocError>
     ensures { IfOk result (λ words. texts_of words.items ≡ spec.words_of line.now) }
 {
     let parts = parts_of(alloc, line)?;
@@ -57,7 +57,7 @@ fn is_number(word: &str) -> bool
 }
 
 // The number that a word writes, where it has 32 bits.
-fn number_of(word: &str) -> Option<i32>
+pub fn number_of(word: &str) -> Option<i32>
     requires { IsTrue (spec.is_number word.now) }
     ensures { result ≡ (if spec.is_int (spec.number_of word.now) then Some (spec.number_of word.now) else None) }
 {
@@ -76,7 +76,7 @@ fn are_numbers(words: &[&str]) -> bool
 }
 
 // Whether words are a line of a world.
-fn has_form(words: &[&str]) -> bool
+pub fn has_form(words: &[&str]) -> bool
     ensures { result ≡ spec.has_form (texts_of words.now) }
 {
     match words {
