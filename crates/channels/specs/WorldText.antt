@@ -10,6 +10,8 @@ use Rattle.lexer.specs.Words.{is_name_text}
 use Rattle.channels.specs.World.{InputNumbers}
 use Rattle.channels.specs.declared.world_table.LineFault.{LineFault}
 use Rattle.channels.specs.declared.world_table.LineFault.TheVariants.{NoMemory, Wrong}
+use Rattle.channels.specs.declared.defect.WorldFault.{WorldFault}
+use Rattle.channels.specs.declared.defect.WorldFault.TheVariants as fault
 use Rattle.channels.specs.declared.defect.WorldDefect.{WorldDefect}
 use Rattle.channels.specs.declared.defect.WorldDefect.TheVariants.{Syntax, UnknownChannel, RepeatedChannel, NumberOutOfRange}
 
@@ -135,3 +137,22 @@ table_with table (first ∷ rest) name = if bytes_eq first name then Some (Some 
 abbrev pub IsLineFault : Table → List (List ℕ) → LineFault → Type 0
 IsLineFault table line NoMemory = Unit {0}
 IsLineFault table line (Wrong defect) = table_defect table line ≡ Some defect
+
+-- what a table has of a name, as a list of numbers
+abbrev pub numbers_in : Option (Option (List ℤ)) → List ℤ
+numbers_in None = []
+numbers_in (Some None) = []
+numbers_in (Some (Some numbers)) = numbers
+
+abbrev pub input_of : Table → List ℕ → InputNumbers
+input_of table name = record { name = name; numbers = numbers_in (table name) }
+
+-- the answer of a reader that refuses a text: want of memory, or the first wrong line
+abbrev pub IsTextFault : List (List ℕ) → List (List (List ℕ)) → WorldFault → Type 0
+IsTextFault inputs lines fault.NoMemory = Unit {0}
+IsTextFault inputs lines (fault.Line line defect) = IsFirstDefect inputs lines line defect
+
+-- a fault of a line as that of the text
+abbrev pub told_at : LineFault → ℕ → WorldFault
+told_at NoMemory line = fault.NoMemory
+told_at (Wrong defect) line = fault.Line line defect

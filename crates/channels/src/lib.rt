@@ -5,6 +5,7 @@ pub mod defect;
 pub mod sent;
 pub mod sink;
 pub mod world;
+mod world_read;
 mod world_table;
 mod world_text;
 

@@ -1,6 +1,12 @@
-ghost use Rattle.std.specs.Prelude.{◌≡◌, map};
+ghost use Rattle.channels.specs.World.{input_names};
+ghost use Rattle.channels.specs.WorldText.{IsTextFault, IsWorldText, lines_of, world_of};
+ghost use Rattle.std.specs.Prelude.{◌≡◌, IfErr, IfOk, OnOk, map};
 ghost use Rattle.std.specs.String.{string_bytes};
 
+use crate::defect::WorldFault;
+use crate::world_read::{inputs_of, names_of, read_lines};
+use bytecode::Module;
+use std::alloc::Global;
 use std::marker::Model;
 
 /// An input of a module, with the numbers that a world has for it.
@@ -66,6 +72,26 @@ impl Model for World {
 }
 
 impl World {
+    /// The world that a text writes for the inputs of a module: for each input the numbers of the line that names
+    /// it, and none where no line does.
+    ///
+    /// The first wrong line is told, by its number from 1 and by what is wrong with it: another form, no input of
+    /// the module, an input that an earlier line names, or a number outside 32 bits, the first of these that it has.
+    pub fn read(alloc: Global, whole: &Module, text: &str) -> Result<World, WorldFault>
+        ensures right { OnOk result (IsWorldText (input_names whole.now) (lines_of text.now)) }
+        ensures world { IfOk result (λ world. world ≡ world_of (input_names whole.now) (lines_of text.now)) }
+        ensures wrong { IfErr result (λ fault. IsTextFault (input_names whole.now) (lines_of text.now) fault) }
+    {
+        let Ok(names) = names_of(alloc, whole.channels()) else {
+            return Err(WorldFault::NoMemory);
+        };
+        let table = read_lines(alloc, &names, text)?;
+        let Ok(inputs) = inputs_of(alloc, &names, &table) else {
+            return Err(WorldFault::NoMemory);
+        };
+        Ok(World { inputs })
+    }
+
     /// The inputs with their numbers, in order.
     pub fn inputs(&self) -> &[InputList]
         ensures { result.now ≡ self.now }
