@@ -1,5 +1,5 @@
 -- What parsing a word of a world gives.
-use Rattle.std.proofs.Common.{◌≡◌, ◌≢◌, ℕ, zero, suc, ◌<◌, ◌≤◌, ◌^◌, Bool, true, false, cond, eqb, not, List, [], ◌∷◌, length, drop, get_or, Option, Some, None, Result, Ok, Err, ℤ, pos, negsuc, neg_ℤ, refl, sym, ap, ◌∙◌, subst, arith, rules, IsTrue}
+use Rattle.std.proofs.Common.{◌≡◌, ◌≢◌, ℕ, zero, suc, ◌<◌, ◌≤◌, ◌^◌, Bool, true, false, cond, eqb, not, List, [], ◌∷◌, length, get_or, Option, Some, None, Result, Ok, Err, ℤ, pos, neg_ℤ, refl, ap, subst, arith, rules}
 use Rattle.std.specs.Result.{OkIff, result_ok}
 use Rattle.std.specs.List.{list_all}
 use Rattle.std.specs.Char.{is_ascii_digit}
@@ -7,7 +7,7 @@ use Rattle.std.specs.Int.{w32}
 use Rattle.std.specs.Str.Parse.{ParsesSigned, digits_value}
 use Rattle.std.proofs.lemmas.Bool.{and_parts}
 use Rattle.std.proofs.lemmas.Bool.Decides.{nat_tests}
-use Rattle.std.proofs.lemmas.Str.Parse.{IsNumeralModel, IsDigitsTest, numerals_by_value, parse_signed_minus, parse_signed_plain}
+use Rattle.std.proofs.lemmas.Str.Parse.{IsNumeralModel, numerals_by_value, parse_signed_minus, parse_signed_plain}
 use Rattle.channels.specs.WorldText.{is_digits, is_number, number_of, is_int}
 
 own : IsNumeralModel (λ ds. list_all is_ascii_digit ds ≡ true) (digits_value 10)

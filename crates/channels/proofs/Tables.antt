@@ -1,5 +1,5 @@
 -- The table of inputs after lines of a world's text.
-use Rattle.std.proofs.Common.{◌≡◌, ℕ, zero, suc, ◌+◌, ◌<◌, ◌≤◌, Bool, true, false, not, ◌&&◌, ◌||◌, cond, List, [], ◌∷◌, ◌++◌, length, map, take, get_or, Option, Some, None, is_some, ℤ, refl, sym, ap, ◌∙◌, subst, arith, append_assoc, eqb, below_more, Bor}
+use Rattle.std.proofs.Common.{◌≡◌, ℕ, zero, suc, ◌+◌, ◌<◌, Bool, true, false, not, ◌||◌, cond, List, [], ◌∷◌, ◌++◌, length, map, take, get_or, Option, Some, None, is_some, ℤ, refl, sym, ap, ◌∙◌, arith, append_assoc, eqb, below_more, Bor}
 use Rattle.std.specs.Option.{option_map}
 use Rattle.std.specs.HashMap.{get_by}
 use Rattle.std.specs.declared.alloc.Global.{Global}
@@ -13,8 +13,7 @@ use Rattle.channels.specs.declared.world_table.LineFault.TheVariants.{NoMemory, 
 use Rattle.std.specs.List.{list_all, list_any}
 use Rattle.std.specs.Str.{bytes_eq}
 use Rattle.std.proofs.lemmas.Slice.Eq.{bytes_eq-Decides}
-use Rattle.channels.specs.World.{InputNumbers}
-use Rattle.channels.specs.WorldText.{Table, table_after, table_with, table_defect, entry_defect, given_by, gives_to, numbers_of, numbers_given, has_form, is_int, defect_of, world_of, numbers_in, input_of, texts_of, lines_of, words_of, defect_at, IsRightBefore, IsFirstDefect, IsLineFault, IsTextFault, told_at}
+use Rattle.channels.specs.WorldText.{Table, table_after, table_with, table_defect, entry_defect, given_by, gives_to, numbers_of, numbers_given, has_form, is_int, defect_of, world_of, numbers_in, input_of, texts_of, lines_of, words_of, defect_at, IsRightBefore, IsLineFault, IsTextFault, told_at}
 use Rattle.channels.specs.declared.defect.WorldDefect.{WorldDefect}
 use Rattle.channels.specs.declared.defect.WorldDefect.TheVariants.{Syntax, UnknownChannel, RepeatedChannel, NumberOutOfRange}
 

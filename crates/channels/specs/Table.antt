@@ -1,6 +1,6 @@
 -- The table of a module's inputs that is kept while a world's text is read.
 -- Source: our own.
-use Rattle.std.specs.Prelude.{◌≡◌, ℕ, Bool, List, Option, Some, None, Result, ℤ}
+use Rattle.std.specs.Prelude.{ℕ, List, Option, ℤ}
 use Rattle.std.specs.Option.{option_map}
 use Rattle.std.specs.Borrow.{Bor}
 use Rattle.std.specs.Str.{bytes_eq}

@@ -1,6 +1,6 @@
 -- The text of a world: which lines are right, and the numbers that they give to each input of a module.
 -- Source: our own.
-use Rattle.std.specs.Prelude.{◌≡◌, ℕ, ◌+◌, ◌<◌, ◌==◌, nat_lt, Bool, true, false, ◌&&◌, not, if◌then◌else◌, List, [], ◌∷◌, length, take, map, filter, Option, Some, None, ℤ, pos, negsuc, neg_ℤ, int_le, slice_index_or}
+use Rattle.std.specs.Prelude.{◌≡◌, ℕ, ◌+◌, ◌<◌, ◌==◌, Bool, true, false, ◌&&◌, not, if◌then◌else◌, List, [], ◌∷◌, length, take, map, filter, Option, Some, None, ℤ, pos, negsuc, neg_ℤ, int_le, slice_index_or}
 use Rattle.std.specs.List.{slice_split, list_any, list_all}
 use Rattle.std.specs.Borrow.{Bor}
 use Rattle.std.specs.Char.{is_ascii_digit}

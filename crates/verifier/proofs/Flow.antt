@@ -1,20 +1,19 @@
 -- The flow of operands through straight-line code: where control comes with how many ints, and which faults are there.
-use Rattle.std.proofs.Common.{◌≡◌, ◌≢◌, ℕ, zero, suc, ◌+◌, ◌<◌, ◌≤◌, Bool, true, false, ◌&&◌, List, [], ◌∷◌, ◌++◌, length, replicate, Option, Some, None, refl, sym, ap, ◌∙◌, subst, append-nil, inl, inr, ◌⊎◌, ⊎_elim, arith, append_assoc, slice_get, slice_index_or}
+use Rattle.std.proofs.Common.{◌≡◌, ℕ, zero, suc, ◌+◌, ◌<◌, true, false, List, [], ◌∷◌, ◌++◌, length, replicate, Option, Some, None, refl, sym, ap, ◌∙◌, subst, append-nil, inl, inr, ◌⊎◌, ⊎_elim, arith, append_assoc, slice_get, slice_index_or}
 use Rattle.std.specs.List.{list_all, Contains}
 use Rattle.bytecode.specs.Code.{width_of, code_length, instruction_at}
 use Rattle.bytecode.specs.Contents.{ProcedureContents, ModuleContents}
-use Rattle.bytecode.specs.StraightLine.{is_straight, is_addition, is_int_slot}
-use Rattle.bytecode.specs.declared.instruction.Arithmetic.TheVariants.{Add, Subtract, Multiply, Divide, Remainder}
+use Rattle.bytecode.specs.StraightLine.{is_straight, is_int_slot}
 use Rattle.bytecode.specs.declared.instruction.Instruction.{Instruction}
-use Rattle.bytecode.specs.declared.instruction.Instruction.TheVariants.{Push, PushBoolean, Pop, Load, Store, LoadGlobal, StoreGlobal, LoadElement, StoreElement, LoadGlobalElement, StoreGlobalElement, Clear, Compute, Negate, Not, Compare, SameBoolean, OtherBoolean, Jump, JumpIfFalse, Call, Return, ReturnValue, Receive, Send, Throw}
+use Rattle.bytecode.specs.declared.instruction.Instruction.TheVariants.{Push, Load, Store, Compute, Return, Receive, Send}
 use Rattle.bytecode.specs.declared.parts.Handler.{Handler}
 use Rattle.bytecode.specs.declared.parts.Kind.{Kind}
 use Rattle.bytecode.specs.declared.parts.Kind.TheVariants.{Int, Boolean}
 use Rattle.bytecode.specs.declared.parts.Slot.{Slot}
 use Rattle.bytecode.specs.declared.parts.Slot.TheVariants.{Scalar, Array}
-use Rattle.verifier.specs.Faults.{Effect, Leaves, Misses, effect, leads, slot_kind, Reached, start, goes, caught, IsFlowDefect, misses, lengths_differ, kinds_differ, falls, IsFlowFault}
+use Rattle.verifier.specs.Faults.{Leaves, Misses, effect, leads, slot_kind, Reached, start, goes, caught, IsFlowDefect, misses, lengths_differ, kinds_differ, falls}
 use Rattle.verifier.specs.declared.fault.Defect.{Defect}
-use Rattle.verifier.specs.declared.fault.Defect.TheVariants.{OperandDepth, OperandKind, FallsOffEnd}
+use Rattle.verifier.specs.declared.fault.Defect.TheVariants.{OperandDepth, FallsOffEnd}
 use Rattle.verifier.specs.declared.fault.Fault.{Fault}
 use Rattle.verifier.proofs.Offsets.{instruction_at-append, code_length-append, same_front, width_of-pos}
 use Rattle.verifier.specs.Straight.{depth_after, passed, Ahead, Stops, StopsAt, at_end, at_instruction}

@@ -1,5 +1,5 @@
 -- What the verifier's loops keep, instruction by instruction.
-use Rattle.std.proofs.Common.{◌≡◌, ◌≢◌, ℕ, zero, suc, ◌+◌, ◌<◌, ◌≤◌, ◌^◌, Bool, true, false, IsTrue, List, [], ◌∷◌, ◌++◌, length, take, drop, get_or, slice_get, Option, Some, None, refl, sym, ap, ◌∙◌, subst, arith}
+use Rattle.std.proofs.Common.{◌≡◌, ◌≢◌, ℕ, zero, suc, ◌+◌, ◌<◌, ◌≤◌, IsTrue, List, [], ◌∷◌, ◌++◌, length, take, drop, get_or, slice_get, Option, Some, None, refl, sym, ap, ◌∙◌, subst, arith}
 use Rattle.std.specs.List.{list_all}
 use Rattle.std.proofs.lemmas.Bool.{and_parts}
 use Rattle.std.proofs.lemmas.List.{take_more, drop_more, take-append-drop, drop_all}
@@ -7,12 +7,11 @@ use Rattle.bytecode.specs.Code.{width_of, code_length}
 use Rattle.bytecode.specs.Contents.{ProcedureContents, ModuleContents}
 use Rattle.bytecode.specs.StraightLine.{is_straight}
 use Rattle.bytecode.specs.declared.instruction.Instruction.{Instruction}
-use Rattle.bytecode.specs.declared.instruction.Instruction.TheVariants.{Push, PushBoolean, Pop, Load, Store, LoadGlobal, StoreGlobal, LoadElement, StoreElement, LoadGlobalElement, StoreGlobalElement, Clear, Compute, Negate, Not, Compare, SameBoolean, OtherBoolean, Jump, JumpIfFalse, Call, Return, ReturnValue, Receive, Send, Throw}
+use Rattle.bytecode.specs.declared.instruction.Instruction.TheVariants.{Push, Load, Store, Compute, Return, Receive, Send}
 use Rattle.verifier.specs.Faults.{instruction_defect, instruction_faults, fault_list}
 use Rattle.verifier.specs.Straight.{depth_after, passed, and_then, Ahead, ends, Stops, StopsAt, at_end, at_instruction}
 use Rattle.verifier.specs.declared.fault.Defect.{Defect}
 use Rattle.verifier.specs.declared.fault.Defect.TheVariants.{OperandDepth, FallsOffEnd}
-use Rattle.verifier.specs.declared.fault.Fault.{Fault}
 use Rattle.verifier.proofs.Offsets.{parts_at}
 use Rattle.verifier.proofs.Straight.{passed-append, Ahead-append}
 

@@ -1,13 +1,12 @@
 -- Straight-line code whose operands suffice up to a return: no run of it is stuck.
-use Rattle.std.proofs.Common.{◌≡◌, ℕ, zero, suc, ◌+◌, ◌<◌, ◌≤◌, Bool, true, false, List, [], ◌∷◌, ◌++◌, length, Option, Some, None, refl, sym, ap, ◌∙◌, subst, arith, append_assoc, ℤ, ◌+ℤ◌, slice_get}
+use Rattle.std.proofs.Common.{◌≡◌, ℕ, zero, suc, ◌+◌, List, [], ◌∷◌, ◌++◌, Option, Some, None, refl, sym, ap, ◌∙◌, subst, arith, append_assoc, ℤ, ◌+ℤ◌, slice_get}
 use Rattle.labels.specs.declared.sent.Pair.{Pair}
 use Rattle.bytecode.specs.Code.{width_of, code_length, instruction_at}
-use Rattle.bytecode.specs.Machine.{Operand, Number, Truth, Frame, Caller, State, Ending, Machine, Running, Ended, Stuck, Header, Program, Threw, Finished, act, acts, step, exec, place_after, slots_of, scalar_cell, changed, takes, end_of_input}
+use Rattle.bytecode.specs.Machine.{Operand, Number, Truth, State, Ending, Machine, Running, Ended, Stuck, Header, Program, Threw, Finished, act, step, exec, place_after, slots_of, scalar_cell, changed, takes, end_of_input}
 use Rattle.std.specs.Int.{w32, int_wrap}
-use Rattle.bytecode.specs.declared.instruction.Arithmetic.{Arithmetic}
-use Rattle.bytecode.specs.declared.instruction.Arithmetic.TheVariants.{Add, Subtract, Multiply, Divide, Remainder}
+use Rattle.bytecode.specs.declared.instruction.Arithmetic.TheVariants.{Add}
 use Rattle.bytecode.specs.declared.instruction.Instruction.{Instruction}
-use Rattle.bytecode.specs.declared.instruction.Instruction.TheVariants.{Push, PushBoolean, Pop, Load, Store, LoadGlobal, StoreGlobal, LoadElement, StoreElement, LoadGlobalElement, StoreGlobalElement, Clear, Compute, Negate, Not, Compare, SameBoolean, OtherBoolean, Jump, JumpIfFalse, Call, Return, ReturnValue, Receive, Send, Throw}
+use Rattle.bytecode.specs.declared.instruction.Instruction.TheVariants.{Push, Load, Store, Compute, Return, Receive, Send}
 use Rattle.bytecode.specs.declared.parts.Kind.TheVariants.{Int}
 use Rattle.bytecode.specs.declared.parts.Slot.TheVariants.{Scalar}
 use Rattle.bytecode.specs.declared.parts.Direction.TheVariants.{Input, Output}

@@ -1,25 +1,24 @@
 -- Modules of straight-line code without a fixed fault: they serve their code, and where operands suffice they are never stuck.
-use Rattle.std.proofs.Common.{◌≡◌, ℕ, zero, suc, ◌+◌, ◌<◌, ◌≤◌, Bool, true, false, ◌&&◌, List, [], ◌∷◌, ◌++◌, length, Option, Some, None, refl, sym, ap, ◌∙◌, subst, arith, ℤ, slice_get, map}
+use Rattle.std.proofs.Common.{◌≡◌, ℕ, zero, suc, ◌+◌, Bool, true, false, List, [], ◌∷◌, ◌++◌, Option, Some, None, refl, ap, ◌∙◌, slice_get, map}
 use Rattle.std.specs.List.{list_all}
 use Rattle.std.proofs.lemmas.Bool.{and_parts}
-use Rattle.bytecode.specs.Code.{width_of, code_length, instruction_at}
+use Rattle.bytecode.specs.Code.{width_of, instruction_at}
 use Rattle.bytecode.specs.Contents.{ProcedureContents, ModuleContents}
-use Rattle.bytecode.specs.Machine.{Machine, Running, Program, program_of, header_of, code_of, handlers_of, handler_for, place_after, first_state, after_steps, first_slots, slots_of}
+use Rattle.bytecode.specs.Machine.{Running, program_of, header_of, code_of, handlers_of, handler_for, place_after, first_state, after_steps, slots_of}
 use Rattle.bytecode.specs.StraightLine.{is_straight, is_addition, is_int_slot}
 use Rattle.bytecode.specs.declared.instruction.Arithmetic.{Arithmetic}
 use Rattle.bytecode.specs.declared.instruction.Arithmetic.TheVariants.{Add, Subtract, Multiply, Divide, Remainder}
 use Rattle.bytecode.specs.declared.instruction.Instruction.{Instruction}
-use Rattle.bytecode.specs.declared.instruction.Instruction.TheVariants.{Push, PushBoolean, Pop, Load, Store, LoadGlobal, StoreGlobal, LoadElement, StoreElement, LoadGlobalElement, StoreGlobalElement, Clear, Compute, Negate, Not, Compare, SameBoolean, OtherBoolean, Jump, JumpIfFalse, Call, Return, ReturnValue, Receive, Send, Throw}
+use Rattle.bytecode.specs.declared.instruction.Instruction.TheVariants.{Load, Store, Compute, Receive, Send}
 use Rattle.bytecode.specs.declared.parts.Kind.TheVariants.{Int, Boolean}
 use Rattle.bytecode.specs.declared.parts.Slot.{Slot}
 use Rattle.bytecode.specs.declared.parts.Slot.TheVariants.{Scalar, Array}
 use Rattle.bytecode.specs.declared.parts.Direction.{Direction}
 use Rattle.bytecode.specs.declared.parts.Direction.TheVariants.{Input, Output}
 use Rattle.verifier.specs.Faults.{instruction_defect, instruction_faults, fault_list, is_scalar, is_input, is_output, unless}
-use Rattle.verifier.specs.Safety.{HasRow, IsNeverStuck}
+use Rattle.verifier.specs.Safety.{IsNeverStuck}
 use Rattle.verifier.specs.declared.fault.Defect.{Defect}
 use Rattle.verifier.specs.declared.fault.Defect.TheVariants.{SlotOrIndex}
-use Rattle.verifier.specs.declared.fault.Fault.{Fault}
 use Rattle.verifier.specs.Straight.{Ahead}
 use Rattle.verifier.proofs.Straight.{IsRight, AreRight, Serves, Good, Good-row, runs, none, exec_good}
 

@@ -2,11 +2,11 @@
 -- in which they are told. The others are seen in the flow of operands: the kinds of the operands with which control reaches an
 -- instruction.
 -- Source: our own; the rules are those of a bytecode verifier, as that of the Java virtual machine.
-use Rattle.std.specs.Prelude.{◌≡◌, ◌≢◌, ℕ, zero, suc, ◌+◌, ◌≤◌, ◌<◌, ◌==◌, nat_lt, Bool, true, false, not, ◌&&◌, ◌||◌, if◌then◌else◌, List, [], ◌∷◌, ◌++◌, length, reverse, slice_get, Option, Some, None, is_some, is_none}
+use Rattle.std.specs.Prelude.{◌≡◌, ◌≢◌, ℕ, ◌+◌, ◌≤◌, ◌<◌, ◌==◌, nat_lt, Bool, true, false, ◌&&◌, ◌||◌, if◌then◌else◌, List, [], ◌∷◌, ◌++◌, length, reverse, slice_get, Option, Some, None, is_some}
 use Rattle.std.specs.List.{Contains}
 use Rattle.bytecode.specs.Contents.{ProcedureContents, ModuleContents}
 use Rattle.bytecode.specs.Code.{width_of, code_length, instruction_at}
-use Rattle.bytecode.specs.Machine.{same_kind, header_of, Header, program_of}
+use Rattle.bytecode.specs.Machine.{same_kind, Header, program_of}
 use Rattle.bytecode.specs.declared.instruction.Instruction.{Instruction}
 use Rattle.bytecode.specs.declared.instruction.Instruction.TheVariants.{Push, PushBoolean, Pop, Load, Store, LoadGlobal, StoreGlobal, LoadElement, StoreElement, LoadGlobalElement, StoreGlobalElement, Clear, Compute, Negate, Not, Compare, SameBoolean, OtherBoolean, Jump, JumpIfFalse, Call, Return, ReturnValue, Receive, Send, Throw}
 use Rattle.bytecode.specs.declared.parts.Kind.{Kind}

@@ -2,7 +2,7 @@ use Rattle.std.proofs.Common.{refl, sym, ◌∙◌, take, ap, [], ◌∷◌, ◌
 use Rattle.std.specs.Int.{w32}
 use Rattle.std.specs.Prelude.{FitsSigned}
 use Rattle.std.proofs.lemmas.Int.{to_z-of_z}
-use Rattle.channels.specs.WorldText.{is_int, number_of, texts_of}
+use Rattle.channels.specs.WorldText.{number_of, texts_of}
 use Rattle.channels.proofs.Words.{word_number, some_outside, none_outside, some_inside, numbers_more, all_more}
 use Rattle.channels.proofs.world_table.numbers_of.Goals as goal
 

@@ -1,4 +1,4 @@
-use Rattle.std.proofs.Common.{sym, ◌∙◌, ap, [], ◌∷◌, ◌++◌, List, ℕ, ℤ, Bor, ◌≡◌, Option, Some, get_or}
+use Rattle.std.proofs.Common.{sym, ◌∙◌, ap, [], List, ℕ, ℤ, Bor, ◌≡◌, Option, Some, get_or}
 use Rattle.std.specs.Option.{option_map}
 use Rattle.std.specs.declared.alloc.Global.{Global}
 use Rattle.std.specs.declared.vec.Vec.{Vec}

@@ -1,4 +1,4 @@
-use Rattle.std.proofs.Common.{sym, ◌∙◌}
+use Rattle.std.proofs.Common.{◌∙◌}
 use Rattle.channels.proofs.Numbers.{number_gives}
 use Rattle.channels.proofs.world_text.number_of.Goals as goal
 

@@ -1,5 +1,5 @@
 use Rattle.std.proofs.Common.{arith, sym, ap, ◌∙◌, below_more, ◌≡◌, false, is_some}
-use Rattle.machine.specs.Parts.{Standing, standing_after}
+use Rattle.machine.specs.Parts.{Standing}
 use Rattle.machine.specs.Standing.{standing_of}
 use Rattle.machine.proofs.Steps.{after_more, no_end}
 use Rattle.machine.proofs.parts.advance.Goals as goal

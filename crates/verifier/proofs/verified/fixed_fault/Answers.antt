@@ -1,4 +1,4 @@
-use Rattle.std.proofs.Common.{arith, ap, sym, ◌∙◌, Some, None, rules, drop, ◌+◌}
+use Rattle.std.proofs.Common.{arith, ap, sym, ◌∙◌, drop, ◌+◌}
 use Rattle.bytecode.specs.Code.{code_length}
 use Rattle.verifier.specs.Faults.{instruction_faults}
 use Rattle.bytecode.specs.declared.instruction.Instruction.TheVariants.{Push}

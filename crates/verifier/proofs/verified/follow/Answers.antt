@@ -1,4 +1,4 @@
-use Rattle.std.proofs.Common.{arith, ap, sym, ◌∙◌, Some, None, rules}
+use Rattle.std.proofs.Common.{arith, sym, ◌∙◌}
 use Rattle.bytecode.specs.declared.instruction.Instruction.TheVariants.{Push}
 use Rattle.std.proofs.Common.{pos}
 use Rattle.verifier.proofs.Loops.{depth_after-le, passed_more, ahead_at, stops_at, stops_end}
