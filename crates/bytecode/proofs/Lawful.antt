@@ -1,5 +1,5 @@
 -- The module file is coherent: its two laws hold.
-use Rattle.std.proofs.Common.{◌≡◌, ℕ, zero, suc, ◌^◌, ◌<◌, Bool, true, false, cond, ltb, eqb, List, [], ◌∷◌, length, get_or, Option, Some, None, refl, sym, ap, subst, ◌∙◌, arith, inl, inr, ◌⊎◌, ◌&&◌, lit<}
+use Rattle.std.proofs.Common.{◌≡◌, ℕ, zero, suc, ◌+◌, ◌^◌, ◌<◌, Bool, true, false, cond, ltb, eqb, List, [], ◌∷◌, length, get_or, Option, Some, None, refl, sym, ap, subst, ◌∙◌, arith, inl, inr, ◌⊎◌, ◌&&◌, lit<}
 use Rattle.std.specs.Int.{w32, cast_signed, cast_unsigned, to_be_bytes, from_be_bytes}
 use Rattle.std.specs.List.{find, AllByRecursion}
 use Rattle.std.proofs.lemmas.Bool.{ltb-true, eqb-true}
@@ -13,9 +13,10 @@ use Rattle.bytecode.specs.declared.parts.Slot.TheVariants as slot
 use Rattle.bytecode.specs.declared.parts.Global.TheVariants as global
 use Rattle.bytecode.specs.declared.fault.Refusal.TheVariants.{BadValue}
 use Rattle.bytecode.specs.Contents.{ProcedureContents}
+use Rattle.bytecode.specs.Code.{width_of}
 use Rattle.bytecode.specs.Form.{Form, Number, Checked, Fits}
 use Rattle.bytecode.specs.Opcodes.{opcode_of, operand_of, number_operand, numbered, plain, flagged, with_opcode, instruction_of, width_after, is_admitted, instructions}
-use Rattle.bytecode.specs.Format.{new_name, number_below, principals, pair_after, hierarchy, exceptions, direction_of, direction_byte, direction, reader_after, policy_after, label, channel_after, channels, kind_of, kind_byte, variable_kind, of_scalar, first_value, global_of, global_parts, global_after, globals, slot_of, slot_parts, slot_kind, slot_after, slots, returned_of, returned_byte, returned, parameters, handler, handlers, procedure, procedures, main, contents, module_file}
+use Rattle.bytecode.specs.Format.{name_after, number_below, principals, pair_after, hierarchy, exceptions, direction_of, direction_byte, direction, reader_after, policy_after, label, channel_after, channels, kind_of, kind_byte, variable_kind, of_scalar, first_value, global_of, global_parts, global_after, globals, slot_of, slot_parts, slot_kind, slot_after, slots, returned_of, returned_byte, returned, parameters, handler, handlers, procedure, procedures, main, declared, program, contents, module_file}
 use Rattle.bytecode.proofs.Steps.{IsBytes}
 use Rattle.bytecode.proofs.Coherent.{IsLawful, Coherent}
 
@@ -65,7 +66,27 @@ spelled_by byte (a ∷ b ∷ c ∷ []) x fits size e = absurd (elim size [ inl h
 spelled_by byte (a ∷ b ∷ c ∷ d ∷ []) x fits size e = four_has byte (a ∷ b ∷ c ∷ d ∷ []) x refl fits e
 spelled_by byte (a ∷ b ∷ c ∷ d ∷ f ∷ rest) x fits size e = absurd (elim size [ inl h ↦ omega arith | inr more ↦ elim more [ inl h ↦ omega arith | inr h ↦ omega arith ] ])
 
-one_width : (admitted four one none : Bool) (n : ℕ) → cond admitted (cond four (Some 4) (cond one (Some 1) (cond none (Some 0) None))) None ≡ Some n → (n ≡ 0) ⊎ ((n ≡ 1) ⊎ (n ≡ 4))
+-- and it is as wide as they are
+abbrev IsWide : ℕ → Instruction → Type 0
+IsWide width x = width_of x ≡ width
+
+with_width : (byte width : ℕ) (all : List Instruction) (x : Instruction) → AllByRecursion (IsWide width) all → with_opcode byte all ≡ Some x → width_of x ≡ width
+with_width byte width all x have e = (found (λ y. eqb (opcode_of y) byte) (IsWide width) all x have e).1
+
+flagged_width : (byte : ℕ) (x : Instruction) (zero_is one_is : Bool) → with_opcode byte (cond zero_is (PushBoolean false ∷ []) (cond one_is (PushBoolean true ∷ []) [])) ≡ Some x → width_of x ≡ 2
+flagged_width byte x true one_is e = with_width byte 2 (PushBoolean false ∷ []) x (refl, tt) e
+flagged_width byte x false true e = with_width byte 2 (PushBoolean true ∷ []) x (refl, tt) e
+flagged_width byte x false false e = absurd cc
+
+pub width_by : (byte : ℕ) (operand : List ℕ) (x : Instruction) → (length operand ≡ 0) ⊎ ((length operand ≡ 1) ⊎ (length operand ≡ 4)) → instruction_of byte operand ≡ Some x → width_of x ≡ 1 + length operand
+width_by byte [] x size e = with_width byte 1 plain x (refl, (refl, (refl, (refl, (refl, (refl, (refl, (refl, (refl, (refl, (refl, (refl, (refl, (refl, (refl, (refl, (refl, (refl, tt)))))))))))))))))) e
+width_by byte (b ∷ []) x size e = flagged_width byte x (eqb b 0) (eqb b 1) e
+width_by byte (a ∷ b ∷ []) x size e = absurd (elim size [ inl h ↦ omega arith | inr more ↦ elim more [ inl h ↦ omega arith | inr h ↦ omega arith ] ])
+width_by byte (a ∷ b ∷ c ∷ []) x size e = absurd (elim size [ inl h ↦ omega arith | inr more ↦ elim more [ inl h ↦ omega arith | inr h ↦ omega arith ] ])
+width_by byte (a ∷ b ∷ c ∷ d ∷ []) x size e = with_width byte 5 (numbered (from_be_bytes w32 (a ∷ b ∷ c ∷ d ∷ []))) x (refl, (refl, (refl, (refl, (refl, (refl, (refl, (refl, (refl, (refl, (refl, (refl, (refl, (refl, (refl, (refl, tt)))))))))))))))) e
+width_by byte (a ∷ b ∷ c ∷ d ∷ f ∷ rest) x size e = absurd (elim size [ inl h ↦ omega arith | inr more ↦ elim more [ inl h ↦ omega arith | inr h ↦ omega arith ] ])
+
+pub one_width : (admitted four one none : Bool) (n : ℕ) → cond admitted (cond four (Some 4) (cond one (Some 1) (cond none (Some 0) None))) None ≡ Some n → (n ≡ 0) ⊎ ((n ≡ 1) ⊎ (n ≡ 4))
 one_width true true one none n e = inr (inr cc)
 one_width true false true none n e = inr (inl cc)
 one_width true false false true n e = inl cc
@@ -92,21 +113,29 @@ direction-back n e = elim (byte_back n e) [ inl h ↦ rw h refl | inr h ↦ rw h
 kind-back : (n : ℕ) → ltb n 2 ≡ true → kind_byte (kind_of n) ≡ n
 kind-back n e = elim (byte_back n e) [ inl h ↦ rw h refl | inr h ↦ rw h refl ]
 
-pub new_name-coherent : (taken : List (List ℕ)) → Coherent (new_name taken)
-unfolding new_name
-new_name-coherent taken = tt
+pub name_after-coherent : (taken : List ℕ → Bool) (before : List (List ℕ)) → Coherent (name_after taken before)
+unfolding name_after
+name_after-coherent taken before = tt
 
 pub number_below-coherent : (count : ℕ) → Coherent (number_below count)
 unfolding number_below
 number_below-coherent count = tt
 
+pub principals-coherent : Coherent principals
+unfolding principals
+principals-coherent = name_after-coherent _
+
+pub pair_after-coherent : (count : ℕ) (before : List (ℕ × ℕ)) → Coherent (pair_after count before)
+unfolding pair_after
+pair_after-coherent count before = (number_below-coherent count, λ _. number_below-coherent count)
+
 pub hierarchy-coherent : Coherent hierarchy
-unfolding hierarchy principals pair_after
-hierarchy-coherent = ((new_name-coherent, λ names before. (number_below-coherent (length names), λ _. number_below-coherent (length names))), λ parts fits. refl)
+unfolding hierarchy
+hierarchy-coherent = ((principals-coherent, λ names before. pair_after-coherent (length names) before), λ parts fits. refl)
 
 pub exceptions-coherent : Coherent exceptions
 unfolding exceptions
-exceptions-coherent = λ before. new_name-coherent _
+exceptions-coherent = name_after-coherent _
 
 pub label-coherent : (count : ℕ) → Coherent (label count)
 unfolding label policy_after reader_after
@@ -114,7 +143,7 @@ label-coherent count = λ before. ((number_below-coherent count, λ owner reader
 
 pub channels-coherent : (count : ℕ) (declared : List (List ℕ)) → Coherent (channels count declared)
 unfolding channels channel_after direction
-channels-coherent count declared = λ before. (((tt, λ byte fits. direction-back byte fits.1), λ _. (new_name-coherent _, λ _. label-coherent count)), λ parts fits. refl)
+channels-coherent count declared = λ before. (((tt, λ byte fits. direction-back byte fits.1), λ _. (name_after-coherent _ _, λ _. label-coherent count)), λ parts fits. refl)
 
 of_scalar-coherent : (b : Bool) (form : Form ℕ) → Coherent form → Coherent (of_scalar b form)
 of_scalar-coherent true form h = h
@@ -182,6 +211,14 @@ main-coherent : (all : List ProcedureContents) → Coherent (main all)
 unfolding main
 main-coherent all = tt
 
+pub declared-coherent : (count : ℕ) → Coherent (declared count)
+unfolding declared
+declared-coherent count = (exceptions-coherent, channels-coherent count)
+
+pub program-coherent : Coherent program
+unfolding program
+program-coherent = (globals-coherent, λ _. (procedures-coherent, main-coherent))
+
 pub module_file-coherent : Coherent module_file
 unfolding module_file contents
-module_file-coherent = (lit< tt, (lit< tt, ((hierarchy-coherent, λ h. (exceptions-coherent, λ declared. (channels-coherent (length h.names) declared, λ _. (globals-coherent, λ _. (procedures-coherent, λ all. main-coherent all))))), λ parts fits. refl)))
+module_file-coherent = (lit< tt, (lit< tt, ((hierarchy-coherent, λ h. (declared-coherent (length h.names), λ _. program-coherent)), λ parts fits. refl)))

@@ -5,3 +5,8 @@ pub mod Again
 pub mod Lawful
 pub mod Loop
 pub mod Straight
+pub mod Widths
+pub mod NewNames
+pub mod Facts
+pub mod Both
+pub mod Written

@@ -16,7 +16,7 @@ use Rattle.bytecode.specs.Contents.{ProcedureContents, ModuleContents}
 use Rattle.bytecode.specs.Code.{width_of, code_length}
 use Rattle.bytecode.specs.Form.{Form, Fits, FitEach, IsCoded, spelled_instruction, spelled_code, Code}
 use Rattle.bytecode.specs.Opcodes.{instructions}
-use Rattle.bytecode.specs.Format.{slot_parts, slot_of, slot_after, slot_kind, slots, returned, parameters, handlers, procedure, procedures, main, contents, module_file}
+use Rattle.bytecode.specs.Format.{slot_parts, slot_of, slot_after, slot_kind, slots, returned, parameters, handlers, procedure, procedures, main, program, contents, module_file}
 use Rattle.bytecode.specs.StraightLine.{is_straight, is_int_slot, has_none, is_straight_procedure, is_only_procedure, is_straight_line}
 
 both : (a b : Bool) → a ≡ true → b ≡ true → (a && b) ≡ true
@@ -145,7 +145,7 @@ unfolding procedure
 straight_procedure p h =
     let size : ltb (code_length p.code) 4294967296 ≡ true = lt-ltb _ _ (rw (spelled-length p.code) at h.0.1.1.1.0.0) in
     both _ _ (no_result p.returned h.0.0) (both _ _ (no_parameter p.parameters h.0.1.0) (both _ _ (no_handler p.handlers h.0.1.1.1.1)
-        (both _ _ (only_ints p.parameters p.slots h.0.1.1.0) (both _ _ (straight_code p.code h.0.1.1.1.0.1) size))))
+    (both _ _ (only_ints p.parameters p.slots h.0.1.1.0) (both _ _ (straight_code p.code h.0.1.1.1.0.1) size))))
 
 only_procedure : (ps : List ProcedureContents) → Fits procedures ps → is_only_procedure ps ≡ true
 unfolding procedures
@@ -160,6 +160,10 @@ first_starts (p ∷ []) zero h m = refl
 first_starts (p ∷ []) (suc n) h m = absurd (cc m.1)
 first_starts (p ∷ q ∷ ps) n h m = absurd (omega (arith, eqb-true _ _ h.1))
 
+straight_program : (m : ModuleContents) → Fits program (m.globals, (m.procedures, m.main)) → is_straight_line m ≡ true
+unfolding program
+straight_program m h = both _ _ (first_starts m.procedures m.main h.1.0 h.1.1) (only_procedure m.procedures h.1.0)
+
 pub straight : (m : ModuleContents) → Fits module_file m → is_straight_line m ≡ true
 unfolding module_file contents
-straight m h = both _ _ (first_starts m.procedures m.main h.0.1.1.1.1.0 h.0.1.1.1.1.1) (only_procedure m.procedures h.0.1.1.1.1.0)
+straight m h = straight_program m h.0.1.1

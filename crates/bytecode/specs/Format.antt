@@ -62,12 +62,13 @@ is_above_last cmp (Some last) x = is_less (cmp last x)
 abbrev pub is_above : {A : Type 0} → (A → A → Ordering) → List A → A → Bool
 is_above cmp before x = is_above_last cmp (slice_get before (length before - 1)) x
 
--- a text is one whole name, and none of those that are taken
-abbrev pub is_taken : List (List ℕ) → List ℕ → Bool
-is_taken taken name = list_any (λ other. bytes_eq other name) taken
+-- a text is one whole name, and neither taken nor one of those before it
+abbrev pub is_among : List (List ℕ) → List ℕ → Bool
+is_among names name = list_any (λ other. bytes_eq other name) names
 
-unfoldable pub is_new_name : List (List ℕ) → List ℕ → Bool
-is_new_name taken name = is_utf8 name && is_name_text name && not (is_taken taken name)
+abbrev pub is_new_name : (List ℕ → Bool) → List (List ℕ) → List ℕ → Bool
+is_new_name taken before name =
+    is_utf8 name && is_name_text name && not (taken name || is_among before name)
 
 -- the cells of a variable by its size, which is 0 for a scalar
 abbrev pub cells_of_size : ℕ → ℕ
@@ -79,8 +80,8 @@ is_size cells size = nat_le size most_elements && nat_le (cells + cells_of_size 
 
 -- ---- names and numbers
 
-unfoldable pub new_name : List (List ℕ) → Form (List ℕ)
-new_name taken = Checked BadValue (is_new_name taken) Text
+unfoldable pub name_after : (List ℕ → Bool) → List (List ℕ) → Form (List ℕ)
+name_after taken before = Checked BadValue (is_new_name taken before) Text
 
 -- the number of one of so many things
 unfoldable pub number_below : ℕ → Form ℕ
@@ -89,7 +90,7 @@ number_below count = Checked BadValue (λ n. nat_lt n count) Number
 -- ---- the hierarchy
 
 unfoldable pub principals : Form (List (List ℕ))
-principals = Counted (λ count. nat_le count most_principals) new_name
+principals = Counted (λ count. nat_le count most_principals) (name_after (λ _. false))
 
 -- pairs ascend by their first number, then by their second
 abbrev pub pair_cmp : ℕ × ℕ → ℕ × ℕ → Ordering
@@ -109,8 +110,11 @@ hierarchy =
 abbrev pub built_in : List (List ℕ)
 built_in = codes "Arith" ∷ codes "Bounds" ∷ codes "End" ∷ []
 
+abbrev pub is_built_in : List ℕ → Bool
+is_built_in name = is_among built_in name
+
 unfoldable pub exceptions : Form (List (List ℕ))
-exceptions = Counted none_so_far (λ before. new_name (built_in ++ before))
+exceptions = Counted none_so_far (name_after is_built_in)
 
 abbrev pub direction_of : ℕ → Direction
 direction_of byte = if byte == 0 then Input else Output
@@ -137,14 +141,21 @@ policy_after count before =
 unfoldable pub label : ℕ → Form Label
 label count = Counted any (policy_after count)
 
-unfoldable pub channel_after : ℕ → List (List ℕ) → List ChannelContents → Form ChannelContents
-channel_after count declared before =
+abbrev pub channel_names : List ChannelContents → List (List ℕ)
+channel_names channels = map (λ channel. channel.name) channels
+
+unfoldable pub channel_after : ℕ → (List ℕ → Bool) → List ChannelContents → Form ChannelContents
+channel_after count taken before =
     Named (λ parts. record { direction = parts.0; name = parts.1.0; label = parts.1.1 })
     (λ channel. (channel.direction, (channel.name, channel.label)))
-    (Then direction (λ _. Then (new_name (built_in ++ declared ++ map (λ channel. channel.name) before)) (λ _. label count)))
+    (Then direction (λ _. Then (name_after taken (channel_names before)) (λ _. label count)))
 
 unfoldable pub channels : ℕ → List (List ℕ) → Form (List ChannelContents)
-channels count declared = Counted any (channel_after count declared)
+channels count declared = Counted any (channel_after count (λ name. is_built_in name || is_among declared name))
+
+-- the names of the declared exceptions, and the channels
+unfoldable pub declared : ℕ → Form (List (List ℕ) × List ChannelContents)
+declared count = Then exceptions (channels count)
 
 -- ---- globals and slots
 
@@ -274,13 +285,16 @@ magic = 0x464c4f42
 abbrev pub version : ℕ
 version = 1
 
+-- the globals, the procedures, and the number of the one where a run starts
+unfoldable pub program : Form (List Global × (List ProcedureContents × ℕ))
+program = Then globals (λ _. Then procedures main)
+
 unfoldable pub contents : Form ModuleContents
 contents =
     Named
-    (λ parts. record { hierarchy = parts.0; exceptions = parts.1.0; channels = parts.1.1.0; globals = parts.1.1.1.0; procedures = parts.1.1.1.1.0; main = parts.1.1.1.1.1 })
-    (λ m. (m.hierarchy, (m.exceptions, (m.channels, (m.globals, (m.procedures, m.main))))))
-    (Then hierarchy (λ h. Then exceptions (λ declared. Then (channels (length h.names) declared) (λ _. Then globals (λ _.
-        Then procedures (λ procedures. main procedures))))))
+    (λ parts. record { hierarchy = parts.0; exceptions = parts.1.0.0; channels = parts.1.0.1; globals = parts.1.1.0; procedures = parts.1.1.1.0; main = parts.1.1.1.1 })
+    (λ m. (m.hierarchy, ((m.exceptions, m.channels), (m.globals, (m.procedures, m.main)))))
+    (Then hierarchy (λ h. Then (declared (length h.names)) (λ _. program)))
 
 unfoldable pub module_file : Form ModuleContents
 module_file = Marked Magic magic (Marked Version version contents)

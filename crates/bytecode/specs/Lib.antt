@@ -7,3 +7,5 @@ pub mod Format
 pub mod Reading
 pub mod Machine
 pub mod StraightLine
+pub mod Decoded
+pub mod Writing

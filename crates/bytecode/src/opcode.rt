@@ -1,7 +1,9 @@
 ghost use Rattle.bytecode.specs.Opcodes.{instruction_of, is_admitted, numbered, opcode_of, operand_of, plain, width_after, with_opcode};
-ghost use Rattle.std.specs.Prelude.{if◌then◌else◌, length, None, ◌≡◌};
+ghost use Rattle.bytecode.specs.Opcodes.{flagged};
+ghost use Rattle.std.specs.Prelude.{IfSome, if◌then◌else◌, length, None, ◌<◌, ◌≡◌, ◌≤◌};
 
 use crate::instruction::{Arithmetic, Comparison, Instruction};
+use byteorder::{BigEndian, ByteOrder};
 
 /// The opcode of an instruction.
 pub(crate) fn opcode(instruction: Instruction) -> u8
@@ -47,7 +49,7 @@ pub(crate) fn opcode(instruction: Instruction) -> u8
 }
 
 /// The instruction with an opcode that is followed by a number.
-pub(crate) fn numbered(opcode: u8, number: u32) -> Option<Instruction>
+fn numbered(opcode: u8, number: u32) -> Option<Instruction>
     ensures { result ≡ with_opcode opcode (numbered number) }
 {
     match opcode {
@@ -72,7 +74,7 @@ pub(crate) fn numbered(opcode: u8, number: u32) -> Option<Instruction>
 }
 
 /// The instruction with an opcode that has no operand.
-pub(crate) fn plain(opcode: u8) -> Option<Instruction>
+fn plain(opcode: u8) -> Option<Instruction>
     ensures { result ≡ with_opcode opcode plain }
 {
     match opcode {
@@ -98,9 +100,33 @@ pub(crate) fn plain(opcode: u8) -> Option<Instruction>
     }
 }
 
+/// The instruction with an opcode that is followed by the byte of a boolean.
+fn flagged(opcode: u8, flag: u8) -> Option<Instruction>
+    ensures { result ≡ with_opcode opcode (flagged flag) }
+{
+    match (opcode, flag) {
+        (0x02, 0) => Some(Instruction::PushBoolean(false)),
+        (0x02, 1) => Some(Instruction::PushBoolean(true)),
+        _ => None,
+    }
+}
+
+/// The instruction that an opcode and its operand spell, if any.
+pub(crate) fn spelled(opcode: u8, operand: &[u8]) -> Option<Instruction>
+    requires { 1 < length operand.now → 4 ≤ length operand.now }
+    ensures { result ≡ instruction_of opcode operand.now }
+{
+    match operand {
+        [] => plain(opcode),
+        [flag] => flagged(opcode, *flag),
+        _ => numbered(opcode, BigEndian::read_u32(operand)),
+    }
+}
+
 /// How many bytes of operand follow an opcode, or none where modules have no such opcode.
 pub(crate) fn operand_width(opcode: u8) -> Option<usize>
-    ensures { result ≡ (if is_admitted opcode then width_after opcode else None) }
+    ensures width { result ≡ (if is_admitted opcode then width_after opcode else None) }
+    ensures wide { IfSome result (λ width. 1 < width → 4 ≤ width) }
 {
     match opcode {
         0x01 | 0x04 | 0x05 | 0x25 | 0x26 => Some(4),

@@ -64,7 +64,8 @@ impl Module {
 
     /// The principals, and who acts for whom.
     pub fn hierarchy(&self) -> &Hierarchy
-        ensures { result.now ≡ self.now.hierarchy }
+        ensures hierarchy { result.now ≡ self.now.hierarchy }
+        ensures spelled { Fits module_file self.now }
     {
         &self.hierarchy
     }
