@@ -10,3 +10,6 @@ pub mod status;
 pub use fault::NewFault;
 pub use run::Machine;
 pub use status::Status;
+
+#[cfg(test)]
+mod tests;
