@@ -1,6 +1,15 @@
 //! Labels of the decentralized label model: who may read what, and what may flow where.
 #![tactic(auto)]
 
+pub mod joins;
+pub mod label_sets;
+pub mod laws;
+pub mod policies;
+pub mod rules;
 pub mod sent;
 
+pub use joins::join;
+pub use label_sets::Label;
+pub use policies::Policy;
+pub use rules::{flows, may_read};
 pub use sent::Pair;

@@ -1,7 +1,8 @@
 -- A token as contracts see it, without references: a terminal symbol of a grammar, with its text and its place.
--- Source: the usual notion of a terminal symbol.
-use Rattle.std.specs.Prelude.{ℕ, List, map}
+-- Source: the usual notion of a terminal symbol, and of an end marker behind the last one.
+use Rattle.std.specs.Prelude.{◌≡◌, ◌≢◌, ◌⊎◌, ℕ, List, [], ◌∷◌, map}
 use Rattle.lexer.specs.declared.token.Kind.{Kind}
+use Rattle.lexer.specs.declared.token.Kind.TheVariants.{End}
 use Rattle.lexer.specs.declared.token.Token.{Token}
 
 -- a kind, the bytes of the text, the place of its first byte and the place past its last one
@@ -19,3 +20,9 @@ terminal_of token =
 -- the tokens of a list, each as a contract sees it
 abbrev pub terminals_of : List Token → List Terminal
 terminals_of tokens = map terminal_of tokens
+
+-- the last terminal is the end marker, and no earlier one is
+abbrev pub IsTerminated : List Terminal → Type 0
+IsTerminated [] = ⊥
+IsTerminated (first ∷ rest) =
+    ((first.kind ≡ End) × (rest ≡ [])) ⊎ ((first.kind ≢ End) × IsTerminated rest)

@@ -1,1 +1,3 @@
 pub mod ActsFor
+pub mod Table
+pub mod Inside

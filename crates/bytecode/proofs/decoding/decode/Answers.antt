@@ -1,0 +1,31 @@
+use Rattle.std.proofs.Common.{Err, Ok, arith, sym, ◌∙◌, ◌≡◌}
+use Rattle.bytecode.specs.Contents.{ModuleContents}
+use Rattle.bytecode.specs.Form.{read_all}
+use Rattle.bytecode.specs.Format.{module_file}
+use Rattle.bytecode.specs.Reading.{contents_of}
+use Rattle.bytecode.proofs.Both.{module_again, module_taken}
+use Rattle.bytecode.proofs.Inside.{stop_inside}
+use Rattle.bytecode.proofs.Steps.{same_value}
+use Rattle.bytecode.proofs.decoding.decode.Goals as goal
+
+pub module_of-requires : goal.module_of-requires
+module_of-requires c =
+    (module_taken c.args.bytes.now (contents_of c.in-Ok.parts) (record { below = λ i. omega (arith, c.type_inv.bytes i) }) c.in-Ok.ensures).0
+
+pub returns-in-Ok-clause-found : goal.returns-in-Ok-clause-found
+returns-in-Ok-clause-found c =
+    rw c.module_of.ensures (module_taken c.args.bytes.now (contents_of c.in-Ok.parts) (record { below = λ i. omega (arith, c.type_inv.bytes i) }) c.in-Ok.ensures)
+
+pub returns-in-Ok-clause-only : goal.returns-in-Ok-clause-only
+returns-in-Ok-clause-only c = λ m spells.
+    c.module_of.ensures ∙ same_value (contents_of c.in-Ok.parts) m (sym c.in-Ok.ensures ∙ module_again c.args.bytes.now m spells)
+
+pub returns-in-Err-Stop-clause-only : goal.returns-in-Err-Stop-clause-only
+returns-in-Err-Stop-clause-only c = λ m spells.
+    let stopped : read_all module_file c.args.bytes.now ≡ Err c.in-Err-Stop.stop = rw c.in-Err-Stop.field-0-is at c.in-Err-Stop.ensures in
+    absurd (cc (stopped, module_again c.args.bytes.now m spells))
+
+pub overflow_sub-offset : goal.overflow_sub-offset
+overflow_sub-offset c =
+    let stopped : read_all module_file c.args.bytes.now ≡ Err c.in-Err-Stop.stop = rw c.in-Err-Stop.field-0-is at c.in-Err-Stop.ensures in
+    omega (arith, stop_inside module_file c.args.bytes.now c.in-Err-Stop.stop stopped)

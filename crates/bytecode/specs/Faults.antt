@@ -1,0 +1,13 @@
+-- The numbers of the refusals of bytes.
+-- Source: our own.
+use Rattle.std.specs.Prelude.{ℕ}
+use Rattle.bytecode.specs.declared.fault.Refusal.{Refusal}
+use Rattle.bytecode.specs.declared.fault.Refusal.TheVariants.{Magic, Version, Short, BadValue, NotCanonical, Trailing}
+
+abbrev pub refusal_number : Refusal → ℕ
+refusal_number Magic = 801
+refusal_number Version = 802
+refusal_number Short = 803
+refusal_number BadValue = 804
+refusal_number NotCanonical = 805
+refusal_number Trailing = 806

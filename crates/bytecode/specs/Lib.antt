@@ -1,0 +1,11 @@
+pub mod Contents
+pub mod Code
+pub mod Faults
+pub mod Form
+pub mod Opcodes
+pub mod Format
+pub mod Reading
+pub mod Machine
+pub mod StraightLine
+pub mod Decoded
+pub mod Writing

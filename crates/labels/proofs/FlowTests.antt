@@ -1,0 +1,76 @@
+-- The laws of reading and of flow, as facts about the tests.
+use Rattle.std.proofs.Common.{◌≡◌, ℕ, Bool, [], ◌++◌, ◌&&◌, ◌↔◌}
+use Rattle.std.specs.Prelude.{Contains, IsTrue}
+use Rattle.std.proofs.lemmas.Bool.Decides.{same_from_decides}
+use Rattle.std.proofs.lemmas.List.Folds.{list_all-append}
+use Rattle.principals.specs.ActsFor.{PrincipalHierarchy}
+use Rattle.labels.specs.Label.{ReaderPolicy, Label, policy_allows, may_read, flows}
+use Rattle.labels.specs.Lattice.{IsLattice}
+use Rattle.labels.specs.Sets.{SameSet}
+use Rattle.labels.proofs.Flow.{FlowsTo-itself, FlowsTo-through, FlowsTo-join_left, FlowsTo-join_right, FlowsTo-join_least, FlowsTo-least, FlowsTo-subset, FlowsTo-same, MayRead-flowing, MayRead-subset, MayRead-least, MayRead-same}
+use Rattle.labels.proofs.Tests.{may_read-decides, flows-decides}
+
+-- tests of two facts that follow from one another answer the same
+same_answer : {P Q : Type 0} (a b : Bool) → (IsTrue a ↔ P) → (IsTrue b ↔ Q) → (P ↔ Q) → a ≡ b
+same_answer a b left right both =
+    same_from_decides a b left (λ t. both.1 (right.0 t), λ fact. right.1 (both.0 fact))
+
+pub flows-itself : (h : PrincipalHierarchy) (a : Label) → IsTrue (flows h a a)
+flows-itself h a = (flows-decides h a a).1 (FlowsTo-itself h a)
+
+pub flows-through : (h : PrincipalHierarchy) (a b c : Label) → IsTrue (flows h a b) → IsTrue (flows h b c) → IsTrue (flows h a c)
+flows-through h a b c first second =
+    (flows-decides h a c).1 (FlowsTo-through h a b c ((flows-decides h a b).0 first) ((flows-decides h b c).0 second))
+
+pub flows-join_left : (h : PrincipalHierarchy) (a b : Label) → IsTrue (flows h a (a ++ b))
+flows-join_left h a b = (flows-decides h a (a ++ b)).1 (FlowsTo-join_left h a b)
+
+pub flows-join_right : (h : PrincipalHierarchy) (a b : Label) → IsTrue (flows h b (a ++ b))
+flows-join_right h a b = (flows-decides h b (a ++ b)).1 (FlowsTo-join_right h a b)
+
+pub flows-join_least : (h : PrincipalHierarchy) (a b c : Label) → IsTrue (flows h a c) → IsTrue (flows h b c) → IsTrue (flows h (a ++ b) c)
+flows-join_least h a b c left right =
+    (flows-decides h (a ++ b) c).1 (FlowsTo-join_least h a b c ((flows-decides h a c).0 left) ((flows-decides h b c).0 right))
+
+-- the least label flows everywhere
+pub flows-least : (h : PrincipalHierarchy) (a : Label) → IsTrue (flows h [] a)
+flows-least h a = (flows-decides h [] a).1 (FlowsTo-least h a)
+
+-- a label flows to each label that has its policies
+pub flows-subset : (h : PrincipalHierarchy) (a b : Label) → ((policy : ReaderPolicy) → Contains a policy → Contains b policy) → IsTrue (flows h a b)
+flows-subset h a b more = (flows-decides h a b).1 (FlowsTo-subset h a b more)
+
+pub IsLattice-flows : (h : PrincipalHierarchy) → IsLattice (λ a b. IsTrue (flows h a b)) (λ a b. a ++ b) []
+IsLattice-flows h = record {
+  reflexive = flows-itself h;
+  transitive = flows-through h;
+  above_left = flows-join_left h;
+  above_right = flows-join_right h;
+  least_above = flows-join_least h;
+  below_all = flows-least h;
+}
+
+-- where a label flows to another one, every reader of the other one reads it
+pub may_read-flowing : (h : PrincipalHierarchy) (a b : Label) (p : ℕ) → IsTrue (flows h a b) → IsTrue (may_read h p b) → IsTrue (may_read h p a)
+may_read-flowing h a b p flow reads =
+    (may_read-decides h p a).1 (MayRead-flowing h a b p ((flows-decides h a b).0 flow) ((may_read-decides h p b).0 reads))
+
+pub may_read-subset : (h : PrincipalHierarchy) (a b : Label) (p : ℕ) → ((policy : ReaderPolicy) → Contains a policy → Contains b policy) → IsTrue (may_read h p b) → IsTrue (may_read h p a)
+may_read-subset h a b p more reads = (may_read-decides h p a).1 (MayRead-subset h a b p more ((may_read-decides h p b).0 reads))
+
+-- the readers of a join are the readers of both
+pub may_read-join : (h : PrincipalHierarchy) (p : ℕ) (a b : Label) → may_read h p (a ++ b) ≡ (may_read h p a && may_read h p b)
+may_read-join h p a b = list_all-append (λ policy. policy_allows h p policy) a b
+
+pub may_read-least : (h : PrincipalHierarchy) (p : ℕ) → IsTrue (may_read h p [])
+may_read-least h p = (may_read-decides h p []).1 (MayRead-least h p)
+
+-- only the set of policies counts
+pub may_read-same : (h : PrincipalHierarchy) (p : ℕ) (a b : Label) → SameSet a b → may_read h p a ≡ may_read h p b
+may_read-same h p a b same =
+    let reads = MayRead-same h p a b same in
+    same_answer (may_read h p a) (may_read h p b) (may_read-decides h p a) (may_read-decides h p b) reads
+
+pub flows-same : (h : PrincipalHierarchy) (a b c d : Label) → SameSet a b → SameSet c d → flows h a c ≡ flows h b d
+flows-same h a b c d left right =
+    same_answer (flows h a c) (flows h b d) (flows-decides h a c) (flows-decides h b d) (FlowsTo-same h a b c d left right)

@@ -1,0 +1,9 @@
+use Rattle.labels.proofs.Flow.{IsLattice-flow}
+use Rattle.labels.proofs.FlowTests.{IsLattice-flows}
+use Rattle.labels.proofs.laws.labels_form_a_lattice.Goals as goal
+
+pub returns-clause-relation : goal.returns-clause-relation
+returns-clause-relation c = IsLattice-flow
+
+pub returns-clause-test : goal.returns-clause-test
+returns-clause-test c = IsLattice-flows

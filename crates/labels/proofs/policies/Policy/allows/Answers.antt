@@ -1,0 +1,9 @@
+use Rattle.std.proofs.Common.{◌≡◌, rules}
+use Rattle.labels.specs.Label.{policy_allows}
+use Rattle.labels.proofs.Tests.{policy_allows-decides}
+use Rattle.labels.proofs.policies.Policy.allows.Goals as goal
+
+pub returns-else-acts_for-clause-allows : goal.returns-else-acts_for-clause-allows
+returns-else-acts_for-clause-allows c =
+    let test : c.acts_for_some.result ≡ policy_allows c.args.hierarchy.now c.args.principal c.args.self.now = search rules in
+    rw test (policy_allows-decides c.args.hierarchy.now c.args.principal c.args.self.now)

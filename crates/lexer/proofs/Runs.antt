@@ -1,0 +1,49 @@
+-- Two ways to part one list.
+use Rattle.std.proofs.Common.{◌≡◌, ℕ, ◌+◌, ◌<◌, ◌≤◌, ◌&&◌, Bool, true, false, List, [], ◌∷◌, ◌++◌, length, refl, sym, ap, subst, ◌∙◌, arith, length-append}
+use Rattle.std.specs.List.{list_all}
+use Rattle.std.proofs.lemmas.Bool.{and_parts, both_ways}
+
+-- the list is empty, or its first element fails the test
+abbrev pub Stops : (ℕ → Bool) → List ℕ → Type 0
+Stops p [] = Unit {0}
+Stops p (c ∷ cs) = p c ≡ false
+
+-- a front that passes is no longer than one after which the test fails
+pub run_longest : (p : ℕ → Bool) (a r b m : List ℕ) → Stops p r → list_all p b ≡ true → a ++ r ≡ b ++ m
+    → length b ≤ length a
+run_longest p [] r [] m s all e = omega arith
+run_longest p [] [] (c ∷ b) m s all e = absurd cc
+run_longest p [] (d ∷ r) (c ∷ b) m s all e =
+    let same : d ≡ c = cc in
+    absurd (both_ways (p c) (subst (λ x. p x ≡ false) same s) (and_parts (p c) (list_all p b) all).0)
+run_longest p (d ∷ a) r [] m s all e = omega arith
+run_longest p (d ∷ a) r (c ∷ b) m s all e =
+    let tail : a ++ r ≡ b ++ m = cc in
+    let shorter : length b ≤ length a = run_longest p a r b m s (and_parts (p c) (list_all p b) all).1 tail in
+    omega arith
+
+-- of two fronts of one list the longer goes on from the shorter
+pub longer_front : (a r b m : List ℕ) → a ++ r ≡ b ++ m → length a ≤ length b
+    → (x : List ℕ) × ((b ≡ a ++ x) × (r ≡ x ++ m))
+longer_front [] r b m e short = (b, (refl, e))
+longer_front (c ∷ a) r [] m e short = absurd (omega arith)
+longer_front (c ∷ a) r (d ∷ b) m e short =
+    let tail : a ++ r ≡ b ++ m = cc in
+    let h = longer_front a r b m tail (omega arith) in
+    let same : d ≡ c = cc in
+    (h.0, (let k = h.1.0 in cc, h.1.1))
+
+-- fronts of one length are the same
+pub same_front : (a r b m : List ℕ) → a ++ r ≡ b ++ m → length a ≡ length b → (a ≡ b) × (r ≡ m)
+same_front [] r [] m e same = (refl, e)
+same_front [] r (d ∷ b) m e same = absurd (omega arith)
+same_front (c ∷ a) r [] m e same = absurd (omega arith)
+same_front (c ∷ a) r (d ∷ b) m e same =
+    let tail : a ++ r ≡ b ++ m = cc in
+    let h = same_front a r b m tail (omega arith) in
+    let k = h.0 in
+    (cc, h.1)
+
+-- no front is longer than the list
+pub whole_longest : (a b m : List ℕ) → a ≡ b ++ m → length b ≤ length a
+whole_longest a b m e = let n : length a ≡ length b + length m = ap length e ∙ length-append b m in omega arith

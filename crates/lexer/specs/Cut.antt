@@ -1,0 +1,62 @@
+-- How a text is cut into tokens by longest match, and what the first refusal in it is.
+-- Source: the rule of the longest match, as lexical analysis states it; the three refusals are our own.
+use Rattle.std.specs.Prelude.{◌≡◌, ℕ, ◌+◌, ◌≤◌, List, [], ◌∷◌, ◌++◌, length}
+use Rattle.std.specs.Str.{chars, encode_utf8_all}
+use Rattle.lexer.specs.Terminal.{Terminal}
+use Rattle.lexer.specs.Lexeme.{Lexeme, Word, Gap, LargeLiteral, OpenComment, IsLexeme}
+use Rattle.lexer.specs.declared.token.Kind.{Kind}
+use Rattle.lexer.specs.declared.token.Kind.TheVariants.{End}
+use Rattle.lexer.specs.declared.fault.LexFault.{LexFault}
+use Rattle.lexer.specs.declared.fault.LexFault.TheVariants.{NoMemory, NoToken, LiteralTooLarge, UnclosedComment}
+
+-- the text begins with the lexeme `front`, and with no longer one; `rest` follows
+pub record IsNext (text : List ℕ) (lexeme : Lexeme) (front rest : List ℕ) : Type 0 where
+  pub parts : text ≡ front ++ rest
+  pub is : IsLexeme lexeme front
+  pub longest : (other : Lexeme) (longer more : List ℕ) → IsLexeme other longer → text ≡ longer ++ more
+    → length longer ≤ length front
+
+-- how many bytes the characters take
+abbrev pub size : List ℕ → ℕ
+size cs = length (encode_utf8_all cs)
+
+-- the token with these characters that begins at the byte `start`
+abbrev pub terminal_at : ℕ → Kind → List ℕ → Terminal
+terminal_at start kind cs = record { kind = kind; text = encode_utf8_all cs; start = start; end = start + size cs }
+
+-- `text` begins at the byte `start`; its front is cut into `tokens`; `rest` is left, and begins at the byte `end`
+pub data Cuts : ℕ → List ℕ → List Terminal → ℕ → List ℕ → Type 0 where
+  Nothing : (start : ℕ) (text : List ℕ) → Cuts start text [] start text
+  Token : (start : ℕ) (text : List ℕ) (kind : Kind) (front left : List ℕ) (tokens : List Terminal) (end : ℕ)
+    (rest : List ℕ) → IsNext text (Word kind) front left → Cuts (start + size front) left tokens end rest
+    → Cuts start text (terminal_at start kind front ∷ tokens) end rest
+  Between : (start : ℕ) (text front left : List ℕ) (tokens : List Terminal) (end : ℕ) (rest : List ℕ)
+    → IsNext text Gap front left → Cuts (start + size front) left tokens end rest → Cuts start text tokens end rest
+
+-- the tokens of the whole text, with the end marker behind them
+pub record IsCut (text : List ℕ) (tokens : List Terminal) : Type 0 where
+  pub words : List Terminal
+  pub cuts : Cuts 0 (chars text) words (length text) []
+  pub ended : tokens ≡ words ++ terminal_at (length text) End [] ∷ []
+
+-- no lexeme stands at the front of the text, and it does not end here
+pub record HasNoLexeme (text : List ℕ) : Type 0 where
+  pub goes_on : text ≡ [] → ⊥
+  pub none : (lexeme : Lexeme) (front rest : List ℕ) → IsLexeme lexeme front → text ≡ front ++ rest → ⊥
+
+-- the fault is that the text goes on at the byte `start` with a refused lexeme, or with none
+abbrev pub IsStuck : ℕ → List ℕ → LexFault → Type 0
+IsStuck start text NoMemory = ⊥
+IsStuck start text (NoToken at) = (at ≡ start) × HasNoLexeme text
+IsStuck start text (LiteralTooLarge at) =
+    (at ≡ start) × ((front : List ℕ) × (rest : List ℕ) × IsNext text LargeLiteral front rest)
+IsStuck start text (UnclosedComment at) =
+    (at ≡ start) × ((front : List ℕ) × (rest : List ℕ) × IsNext text OpenComment front rest)
+
+-- what stands before the fault is cut into tokens, and the fault is what comes then
+pub record IsRefused (text : List ℕ) (fault : LexFault) : Type 0 where
+  pub words : List Terminal
+  pub place : ℕ
+  pub rest : List ℕ
+  pub cuts : Cuts 0 (chars text) words place rest
+  pub stuck : IsStuck place rest fault

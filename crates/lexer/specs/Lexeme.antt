@@ -1,0 +1,67 @@
+-- What may stand at the front of a text: a token, white space, a comment, or one of two pieces that are refused.
+-- Source: the usual notion of a lexeme; which there are is our own.
+use Rattle.std.specs.Prelude.{◌≡◌, ◌≢◌, ℕ, ◌<◌, ◌≤◌, ◌==◌, not, List, [], ◌∷◌, ◌++◌, Option, Some, bytes_eq, codes, length, IsTrue}
+use Rattle.std.specs.Char.{is_ascii_digit}
+use Rattle.std.specs.List.{list_all}
+use Rattle.std.specs.Map.{lookup}
+use Rattle.std.specs.Str.Parse.{digits_value}
+use Rattle.lexer.specs.Words.{is_white_space, is_name, keyword_of}
+use Rattle.lexer.specs.declared.token.Kind.{Kind}
+use Rattle.lexer.specs.declared.token.Kind.TheVariants.{OpenBrace, CloseBrace, OpenParenthesis, CloseParenthesis, OpenBracket, CloseBracket, Semicolon, Comma, Colon, Assign, EqualTo, NotEqualTo, LessThan, AtMost, GreaterThan, AtLeast, Plus, Minus, Star, Slash, Percent, Not, And, Or, Name, Integer}
+
+-- the signs, each with the kind of its token
+abbrev pub signs : List (List ℕ × Kind)
+signs =
+    (codes "{", OpenBrace) ∷ (codes "}", CloseBrace) ∷ (codes "(", OpenParenthesis) ∷ (codes ")", CloseParenthesis)
+    ∷ (codes "[", OpenBracket) ∷ (codes "]", CloseBracket) ∷ (codes ";", Semicolon) ∷ (codes ",", Comma)
+    ∷ (codes ":", Colon) ∷ (codes "=", Assign) ∷ (codes "==", EqualTo) ∷ (codes "!=", NotEqualTo)
+    ∷ (codes "<", LessThan) ∷ (codes "<=", AtMost) ∷ (codes ">", GreaterThan) ∷ (codes ">=", AtLeast)
+    ∷ (codes "+", Plus) ∷ (codes "-", Minus) ∷ (codes "*", Star) ∷ (codes "/", Slash) ∷ (codes "%", Percent)
+    ∷ (codes "!", Not) ∷ (codes "&&", And) ∷ (codes "||", Or) ∷ []
+
+-- the kind of the sign that the characters are, if they are one
+abbrev pub sign_of : List ℕ → Option Kind
+sign_of cs = lookup (bytes_eq cs) signs
+
+-- one decimal digit or more
+pub record IsNumeral (cs : List ℕ) : Type 0 where
+  pub nonempty : 0 < length cs
+  pub digits : IsTrue (list_all is_ascii_digit cs)
+
+-- the greatest integer that a program may write
+abbrev pub greatest_literal : ℕ
+greatest_literal = 2147483647
+
+-- no character is a line feed
+abbrev pub IsInLine : List ℕ → Type 0
+IsInLine cs = IsTrue (list_all (λ c. not (c == 10)) cs)
+
+-- no `*/` stands in the characters
+abbrev pub IsOpen : List ℕ → Type 0
+IsOpen cs = (before after : List ℕ) → cs ≢ before ++ (codes "*/" ++ after)
+
+-- the characters end with `*/`, and no other `*/` stands in them
+pub record IsClosed (cs : List ℕ) : Type 0 where
+  pub inner : List ℕ
+  pub ends : cs ≡ inner ++ codes "*/"
+  pub once : (before after : List ℕ) → cs ≡ before ++ (codes "*/" ++ after) → after ≡ []
+
+-- what a lexeme is: a token of a kind, a gap between tokens, an integer above the greatest, a comment without an end
+pub data Lexeme : Type 0 where
+  Word : Kind → Lexeme
+  Gap : Lexeme
+  LargeLiteral : Lexeme
+  OpenComment : Lexeme
+
+-- the characters are such a lexeme
+pub data IsLexeme : Lexeme → List ℕ → Type 0 where
+  Blank : (c : ℕ) → IsTrue (is_white_space c) → IsLexeme Gap (c ∷ [])
+  LineComment : (cs : List ℕ) → IsInLine cs → IsLexeme Gap (codes "//" ++ cs)
+  BlockComment : (cs : List ℕ) → IsClosed cs → IsLexeme Gap (codes "/*" ++ cs)
+  Unended : (cs : List ℕ) → IsOpen cs → IsLexeme OpenComment (codes "/*" ++ cs)
+  Keyword : (cs : List ℕ) (kind : Kind) → keyword_of cs ≡ Some kind → IsLexeme (Word kind) cs
+  Identifier : (cs : List ℕ) → IsTrue (is_name cs) → IsLexeme (Word Name) cs
+  Literal : (cs : List ℕ) → IsNumeral cs → digits_value 10 cs ≤ greatest_literal
+    → IsLexeme (Word (Integer (digits_value 10 cs))) cs
+  TooLarge : (cs : List ℕ) → IsNumeral cs → greatest_literal < digits_value 10 cs → IsLexeme LargeLiteral cs
+  Sign : (cs : List ℕ) (kind : Kind) → sign_of cs ≡ Some kind → IsLexeme (Word kind) cs

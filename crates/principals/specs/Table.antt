@@ -1,0 +1,24 @@
+-- A table of bits, for the relation that a hierarchy is asked for. Our own.
+use Rattle.std.specs.Prelude.{ℕ, suc, zero, ◌/◌, ◌%◌, List, [], ◌∷◌, Bool, false, ◌&&◌, ◌||◌, ◌==◌, slice_index}
+use Rattle.std.specs.Int.{bit_at}
+use Rattle.std.specs.List.{list_any}
+use Rattle.principals.specs.declared.row.Row.{Row}
+
+-- whether the bit of a number is set in a row
+abbrev pub has : Row → ℕ → Bool
+has row number = bit_at (slice_index row.words (number / 64)) (number % 64) == 1
+
+-- whether the bit of b is set in row a
+abbrev pub related : List Row → ℕ → ℕ → Bool
+related [] a b = false
+related (row ∷ rows) zero b = has row b
+related (row ∷ rows) (suc a) b = related rows a b
+
+-- what is written: b is a itself, or (a, b) is one of the pairs
+abbrev pub is_written : List (ℕ × ℕ) → ℕ → ℕ → Bool
+is_written pairs a b = a == b || list_any (λ pair. pair.0 == a && pair.1 == b) pairs
+
+-- from a to b by steps of a relation, by way of numbers below a limit alone
+abbrev pub by_way_below : ℕ → (ℕ → ℕ → Bool) → ℕ → ℕ → Bool
+by_way_below zero step a b = step a b
+by_way_below (suc k) step a b = by_way_below k step a b || (by_way_below k step a k && by_way_below k step k b)

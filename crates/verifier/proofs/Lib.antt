@@ -1,0 +1,3 @@
+pub mod Offsets
+pub mod Straight
+pub mod Whole

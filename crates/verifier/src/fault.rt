@@ -1,0 +1,35 @@
+use thiserror::Error;
+
+/// What is wrong in a module's code.
+#[derive(Clone, Copy, Debug, PartialEq, Eq)]
+pub enum Defect {
+    /// 811: a target that is no instruction, or a handler with wrong places.
+    Jump,
+    /// 812: an operand of the wrong kind.
+    OperandKind,
+    /// 813: too few operands, or two ways that meet with different numbers of them.
+    OperandDepth,
+    /// 814: a slot, global, array, procedure, channel or exception that is not there or of another sort.
+    SlotOrIndex,
+    /// 815: control comes to the end of the code.
+    FallsOffEnd,
+}
+
+/// A fault of a module's code: what is wrong, and the procedure and the byte offset where.
+#[derive(Clone, Copy, Debug, PartialEq, Eq)]
+pub struct Fault {
+    pub defect: Defect,
+    pub procedure: u32,
+    pub offset: u32,
+}
+
+/// A module was not verified.
+#[derive(Clone, Copy, Debug, PartialEq, Eq, Error)]
+pub enum VerifyFault {
+    /// A growth of memory was refused.
+    #[error("no memory")]
+    NoMemory,
+    /// The module has this fault.
+    #[error("a fault in the code")]
+    Wrong(Fault),
+}

@@ -1,0 +1,6 @@
+//! The verifier of modules: no step of any run of a verified module lacks a row of the machine's table.
+#![tactic(auto)]
+
+pub mod fault;
+
+pub use fault::{Defect, Fault, VerifyFault};
