@@ -1,1 +1,4 @@
 pub mod Sink
+pub mod World
+pub mod WorldText
+pub mod Table

@@ -1,6 +1,6 @@
 -- What a sink of bytes does with what it is given.
 -- Source: our own.
-use Rattle.std.specs.Prelude.{ℕ, List, [], ◌∷◌, Bool, true, false, ◌||◌, Option, Result, Ok, Err, length, nat_lt, ◌==◌, ◌&&◌}
+use Rattle.std.specs.Prelude.{ℕ, List, Bool, true, Option, Result, Ok, Err, length, nat_lt, ◌==◌, ◌&&◌}
 use Rattle.std.specs.Io.KnownBytes.{Appends}
 use Rattle.labels.specs.Sent.{Begins}
 

@@ -1,6 +1,19 @@
-//! Where a run's numbers come from and go to: sinks of bytes.
+//! Where a run's numbers come from and go to: worlds and their text, sinks of bytes.
 #![tactic(auto)]
 
+pub mod defect;
+pub mod sent;
 pub mod sink;
+pub mod world;
+mod world_read;
+mod world_table;
+mod world_text;
 
+pub use defect::{WorldDefect, WorldFault};
+pub use labels::Pair;
+pub use sent::Sent;
 pub use sink::{Device, Sink, SinkFault, write_whole};
+pub use world::{InputList, World};
+
+#[cfg(test)]
+mod tests;

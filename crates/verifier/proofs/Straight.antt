@@ -1,37 +1,18 @@
 -- Straight-line code whose operands suffice up to a return: no run of it is stuck.
-use Rattle.std.proofs.Common.{◌≡◌, ℕ, zero, suc, ◌+◌, ◌<◌, ◌≤◌, Bool, true, false, List, [], ◌∷◌, ◌++◌, length, Option, Some, None, refl, sym, ap, ◌∙◌, subst, arith, append_assoc, ℤ, ◌+ℤ◌, slice_get}
+use Rattle.std.proofs.Common.{◌≡◌, ℕ, zero, suc, ◌+◌, List, [], ◌∷◌, ◌++◌, Option, Some, None, refl, sym, ap, ◌∙◌, subst, arith, append_assoc, ℤ, ◌+ℤ◌, slice_get}
 use Rattle.labels.specs.declared.sent.Pair.{Pair}
 use Rattle.bytecode.specs.Code.{width_of, code_length, instruction_at}
-use Rattle.bytecode.specs.Machine.{Operand, Number, Truth, Frame, Caller, State, Ending, Machine, Running, Ended, Stuck, Header, Program, Threw, Finished, act, acts, step, exec, place_after, slots_of, scalar_cell, changed, takes, end_of_input}
+use Rattle.bytecode.specs.Machine.{Operand, Number, Truth, State, Ending, Machine, Running, Ended, Stuck, Header, Program, Threw, Finished, act, step, exec, place_after, slots_of, scalar_cell, changed, takes, end_of_input}
 use Rattle.std.specs.Int.{w32, int_wrap}
-use Rattle.bytecode.specs.declared.instruction.Arithmetic.{Arithmetic}
-use Rattle.bytecode.specs.declared.instruction.Arithmetic.TheVariants.{Add, Subtract, Multiply, Divide, Remainder}
+use Rattle.bytecode.specs.declared.instruction.Arithmetic.TheVariants.{Add}
 use Rattle.bytecode.specs.declared.instruction.Instruction.{Instruction}
-use Rattle.bytecode.specs.declared.instruction.Instruction.TheVariants.{Push, PushBoolean, Pop, Load, Store, LoadGlobal, StoreGlobal, LoadElement, StoreElement, LoadGlobalElement, StoreGlobalElement, Clear, Compute, Negate, Not, Compare, SameBoolean, OtherBoolean, Jump, JumpIfFalse, Call, Return, ReturnValue, Receive, Send, Throw}
+use Rattle.bytecode.specs.declared.instruction.Instruction.TheVariants.{Push, Load, Store, Compute, Return, Receive, Send}
 use Rattle.bytecode.specs.declared.parts.Kind.TheVariants.{Int}
 use Rattle.bytecode.specs.declared.parts.Slot.TheVariants.{Scalar}
 use Rattle.bytecode.specs.declared.parts.Direction.TheVariants.{Input, Output}
 use Rattle.verifier.specs.Safety.{HasRow}
+use Rattle.verifier.specs.Straight.{depth_after, and_then, passed, Ahead, ends, goes}
 use Rattle.verifier.proofs.Offsets.{instruction_at-append, code_length-append}
-
--- how many operands an instruction leaves of so many; none where it misses one, or ends the run
-abbrev pub depth_after : Instruction → ℕ → Option ℕ
-depth_after (Push n) depth = Some (suc depth)
-depth_after (Load k) depth = Some (suc depth)
-depth_after (Receive channel) depth = Some (suc depth)
-depth_after (Store k) (suc depth) = Some depth
-depth_after (Send channel) (suc depth) = Some depth
-depth_after (Compute operator) (suc (suc depth)) = Some (suc depth)
-depth_after _ depth = None
-
-abbrev pub and_then : {A B : Type 0} → Option A → (A → Option B) → Option B
-and_then None f = None
-and_then (Some x) f = f x
-
--- how many operands instructions leave, one after another
-abbrev pub passed : List Instruction → ℕ → Option ℕ
-passed [] depth = Some depth
-passed (i ∷ code) depth = and_then (depth_after i depth) (passed code)
 
 -- where a second part followed, the first gave something
 pub and_then_some : {B : Type 0} (o : Option ℕ) (f : ℕ → Option B) (y : B) → and_then o f ≡ Some y → (n : ℕ) × (o ≡ Some n) × (f n ≡ Some y)
@@ -43,11 +24,6 @@ passed-append [] ys d e h = let same : d ≡ e = cc in ap (passed ys) same
 passed-append (x ∷ xs) ys d e h =
     let split = and_then_some (depth_after x d) (passed xs) e h in
     ap (λ o. and_then o (passed (xs ++ ys))) split.1 ∙ passed-append xs ys split.0 e split.2
-
--- from here on the operands suffice up to a return
-pub data Ahead : List Instruction → ℕ → Type 0 where
-  ends : (code : List Instruction) (depth : ℕ) → Ahead (Return ∷ code) depth
-  goes : (i : Instruction) (code : List Instruction) (depth next : ℕ) → depth_after i depth ≡ Some next → Ahead code next → Ahead (i ∷ code) depth
 
 -- what passes leads to what is ahead, and the other way round
 pub Ahead-append : (xs ys : List Instruction) (d e : ℕ) → passed xs d ≡ Some e → Ahead ys e → Ahead (xs ++ ys) d

@@ -1,25 +1,26 @@
 -- Modules of straight-line code without a fixed fault: they serve their code, and where operands suffice they are never stuck.
-use Rattle.std.proofs.Common.{◌≡◌, ℕ, zero, suc, ◌+◌, ◌<◌, ◌≤◌, Bool, true, false, ◌&&◌, List, [], ◌∷◌, ◌++◌, length, Option, Some, None, refl, sym, ap, ◌∙◌, subst, arith, ℤ, slice_get, map}
+use Rattle.std.proofs.Common.{◌≡◌, ℕ, zero, suc, ◌+◌, Bool, true, false, List, [], ◌∷◌, ◌++◌, Option, Some, None, refl, ap, ◌∙◌, slice_get, map}
 use Rattle.std.specs.List.{list_all}
-use Rattle.bytecode.specs.Code.{width_of, code_length, instruction_at}
+use Rattle.std.proofs.lemmas.Bool.{and_parts}
+use Rattle.bytecode.specs.Code.{width_of, instruction_at}
 use Rattle.bytecode.specs.Contents.{ProcedureContents, ModuleContents}
-use Rattle.bytecode.specs.Machine.{Machine, Running, Program, program_of, header_of, code_of, handlers_of, handler_for, place_after, first_state, after_steps, first_slots, slots_of}
+use Rattle.bytecode.specs.Machine.{Running, program_of, header_of, code_of, handlers_of, handler_for, place_after, first_state, after_steps, slots_of}
 use Rattle.bytecode.specs.StraightLine.{is_straight, is_addition, is_int_slot}
 use Rattle.bytecode.specs.declared.instruction.Arithmetic.{Arithmetic}
 use Rattle.bytecode.specs.declared.instruction.Arithmetic.TheVariants.{Add, Subtract, Multiply, Divide, Remainder}
 use Rattle.bytecode.specs.declared.instruction.Instruction.{Instruction}
-use Rattle.bytecode.specs.declared.instruction.Instruction.TheVariants.{Push, PushBoolean, Pop, Load, Store, LoadGlobal, StoreGlobal, LoadElement, StoreElement, LoadGlobalElement, StoreGlobalElement, Clear, Compute, Negate, Not, Compare, SameBoolean, OtherBoolean, Jump, JumpIfFalse, Call, Return, ReturnValue, Receive, Send, Throw}
+use Rattle.bytecode.specs.declared.instruction.Instruction.TheVariants.{Load, Store, Compute, Receive, Send}
 use Rattle.bytecode.specs.declared.parts.Kind.TheVariants.{Int, Boolean}
 use Rattle.bytecode.specs.declared.parts.Slot.{Slot}
 use Rattle.bytecode.specs.declared.parts.Slot.TheVariants.{Scalar, Array}
 use Rattle.bytecode.specs.declared.parts.Direction.{Direction}
 use Rattle.bytecode.specs.declared.parts.Direction.TheVariants.{Input, Output}
 use Rattle.verifier.specs.Faults.{instruction_defect, instruction_faults, fault_list, is_scalar, is_input, is_output, unless}
-use Rattle.verifier.specs.Safety.{HasRow, IsNeverStuck}
+use Rattle.verifier.specs.Safety.{IsNeverStuck}
 use Rattle.verifier.specs.declared.fault.Defect.{Defect}
 use Rattle.verifier.specs.declared.fault.Defect.TheVariants.{SlotOrIndex}
-use Rattle.verifier.specs.declared.fault.Fault.{Fault}
-use Rattle.verifier.proofs.Straight.{IsRight, AreRight, Serves, Good, Good-row, runs, none, exec_good, Ahead}
+use Rattle.verifier.specs.Straight.{Ahead}
+use Rattle.verifier.proofs.Straight.{IsRight, AreRight, Serves, Good, Good-row, runs, none, exec_good}
 
 -- lists that join to nothing are nothing
 append_nothing : {X : Type 0} (xs ys : List X) → xs ++ ys ≡ [] → (xs ≡ []) × (ys ≡ [])
@@ -33,10 +34,6 @@ no_defect number offset (Some wrong) e = absurd (cc)
 right_of_unless : (b : Bool) (wrong : Defect) → unless b wrong ≡ None → b ≡ true
 right_of_unless true wrong e = refl
 right_of_unless false wrong e = absurd (let no : Some wrong ≡ None = e in cc)
-
-and_parts : (a b : Bool) → a && b ≡ true → (a ≡ true) × (b ≡ true)
-and_parts true b e = (refl, e)
-and_parts false b e = absurd (let no : false ≡ true = e in cc)
 
 int_slot : (slot : Slot) → is_int_slot slot ≡ true → slot ≡ Scalar Int
 int_slot (Scalar Int) e = refl

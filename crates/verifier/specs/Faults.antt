@@ -2,11 +2,11 @@
 -- in which they are told. The others are seen in the flow of operands: the kinds of the operands with which control reaches an
 -- instruction.
 -- Source: our own; the rules are those of a bytecode verifier, as that of the Java virtual machine.
-use Rattle.std.specs.Prelude.{◌≡◌, ◌≢◌, ℕ, zero, suc, ◌+◌, ◌≤◌, ◌<◌, ◌==◌, nat_lt, Bool, true, false, not, ◌&&◌, ◌||◌, if◌then◌else◌, List, [], ◌∷◌, ◌++◌, length, reverse, slice_get, Option, Some, None, is_some, is_none}
+use Rattle.std.specs.Prelude.{◌≡◌, ◌≢◌, ℕ, ◌+◌, ◌≤◌, ◌<◌, ◌==◌, nat_lt, Bool, true, false, ◌&&◌, ◌||◌, if◌then◌else◌, List, [], ◌∷◌, ◌++◌, length, reverse, slice_get, Option, Some, None, is_some}
 use Rattle.std.specs.List.{Contains}
 use Rattle.bytecode.specs.Contents.{ProcedureContents, ModuleContents}
 use Rattle.bytecode.specs.Code.{width_of, code_length, instruction_at}
-use Rattle.bytecode.specs.Machine.{same_kind, header_of, Header, program_of}
+use Rattle.bytecode.specs.Machine.{same_kind, Header, program_of}
 use Rattle.bytecode.specs.declared.instruction.Instruction.{Instruction}
 use Rattle.bytecode.specs.declared.instruction.Instruction.TheVariants.{Push, PushBoolean, Pop, Load, Store, LoadGlobal, StoreGlobal, LoadElement, StoreElement, LoadGlobalElement, StoreGlobalElement, Clear, Compute, Negate, Not, Compare, SameBoolean, OtherBoolean, Jump, JumpIfFalse, Call, Return, ReturnValue, Receive, Send, Throw}
 use Rattle.bytecode.specs.declared.parts.Kind.{Kind}
@@ -19,6 +19,8 @@ use Rattle.bytecode.specs.declared.parts.Direction.TheVariants.{Input, Output}
 use Rattle.verifier.specs.declared.fault.Defect.{Defect}
 use Rattle.verifier.specs.declared.fault.Defect.TheVariants as defect
 use Rattle.verifier.specs.declared.fault.Fault.{Fault}
+use Rattle.verifier.specs.declared.fault.VerifyFault.{VerifyFault}
+use Rattle.verifier.specs.declared.fault.VerifyFault.TheVariants.{NoMemory, Wrong}
 
 -- ---- the fixed faults
 
@@ -223,6 +225,11 @@ IsToldAfter m (first ∷ more) fault = fault ≡ first
 
 abbrev pub IsTold : ModuleContents → Fault → Type 0
 IsTold m fault = IsToldAfter m (fixed_faults m) fault
+
+-- the answer of a verifier that refuses a module
+abbrev pub IsToldOf : ModuleContents → VerifyFault → Type 0
+IsToldOf m NoMemory = Unit {0}
+IsToldOf m (Wrong fault) = IsTold m fault
 
 -- a module without a fault
 pub record HasNoFault (m : ModuleContents) : Type 0 where

@@ -2,5 +2,10 @@
 #![tactic(auto)]
 
 pub mod fault;
+pub mod verified;
 
 pub use fault::{Defect, Fault, VerifyFault};
+pub use verified::{Verified, verify};
+
+#[cfg(test)]
+mod tests;

@@ -14,7 +14,8 @@ moved front rest bytes n whole =
     ∙ whole
 
 pub loop-rest-preserved : goal.loop-rest-preserved
-loop-rest-preserved g c =
-    (c.loop-rest.invariant.0 ++ take c.in_ok-count.count c.loop-rest.rest.now,
-    moved _ c.loop-rest.rest.now _ _ c.loop-rest.invariant.1,
-    Appends-trans _ _ _ _ _ c.loop-rest.invariant.2 c.in_ok-count.ensures.taken)
+loop-rest-preserved g c = (
+  c.loop-rest.invariant.0 ++ take c.in_ok-count.count c.loop-rest.rest.now,
+  moved _ c.loop-rest.rest.now _ _ c.loop-rest.invariant.1,
+  Appends-trans _ _ _ _ _ c.loop-rest.invariant.2 c.in_ok-count.ensures.taken,
+)

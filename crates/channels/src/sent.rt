@@ -1,0 +1,47 @@
+ghost use Rattle.std.specs.Prelude.{◌≡◌, ◌∷◌, ◌++◌, [], OnErr, OnOk};
+
+use labels::Pair;
+use std::alloc::{AllocError, Global};
+use std::marker::Model;
+
+/// The pairs of channel and number that a run has sent, in order.
+#[derive(Debug, Drop)]
+pub struct Sent {
+    pairs: Vec<Pair>,
+}
+
+impl Model for Sent {
+    ghost use Rattle.labels.specs.declared.sent.Pair.{Pair};
+    ghost use Rattle.std.specs.Prelude.{List};
+
+    ghost Value = { List Pair };
+
+    ghost view = { λ sent. sent.pairs.items };
+}
+
+impl Sent {
+    /// Nothing sent so far.
+    pub fn new(alloc: Global) -> Sent
+        ensures { result ≡ [] }
+    {
+        Sent {
+            pairs: Vec::new(alloc),
+        }
+    }
+
+    /// Adds a pair at the end, or changes nothing where memory is refused.
+    pub fn push(&mut self, pair: Pair) -> Result<(), AllocError>
+        ensures ok { OnOk result (self.new ≡ self.old ++ pair ∷ []) }
+        ensures err { OnErr result (self.new ≡ self.old) }
+    {
+        self.pairs.push(pair)?;
+        Ok(())
+    }
+
+    /// The pairs.
+    pub fn pairs(&self) -> &[Pair]
+        ensures { result.now ≡ self.now }
+    {
+        &self.pairs
+    }
+}

@@ -1,0 +1,70 @@
+ghost use Rattle.channels.specs.Table.{table_of};
+ghost use Rattle.channels.specs.WorldText as spec;
+ghost use Rattle.channels.specs.WorldText.{table_defect, table_with, texts_of};
+ghost use Rattle.std.specs.List.{list_all};
+ghost use Rattle.std.specs.Option.{option_map};
+ghost use Rattle.std.specs.Prelude.{◌≡◌, ℕ, List, IfErr, IfOk, IsTrue, None, OnOk, Some, if◌then◌else◌, map};
+
+use crate::defect::WorldDefect;
+use crate::world_text::{has_form, number_of};
+use std::alloc::{AllocError, Global};
+use std::collections::HashMap;
+
+/// What a table of inputs holds: nothing so far, or the numbers of the line that names the input.
+pub type Inputs<'a> = HashMap<&'a str, Option<Vec<i32>>>;
+
+/// Why a line was not read.
+#[derive(Clone, Copy, Debug, PartialEq, Eq)]
+pub enum LineFault {
+    NoMemory,
+    Wrong(WorldDefect),
+}
+
+// The numbers that words write, where each has 32 bits.
+fn numbers_of(alloc: Global, words: &[&str]) -> Result<Option<Vec<i32>>, AllocError>
+    requires { IsTrue (list_all spec.is_number (texts_of words.now)) }
+    ensures { IfOk result (λ numbers. option_map (λ n. n.items) numbers
+        ≡ (if list_all spec.is_int (map spec.number_of (texts_of words.now)) then Some (map spec.number_of (texts_of words.now)) else None)) }
+{
+    let mut numbers = Vec::new(alloc);
+    for word in words {
+        let Some(number) = number_of(word) else {
+            return Ok(None);
+        };
+        numbers.push(number)?;
+    }
+    Ok(Some(numbers))
+}
+
+/// Reads a line into the table, or tells what is wrong with it.
+pub fn read_line<'a>(
+    alloc: Global,
+    inputs: &mut Inputs<'a>,
+    words: &[&'a str],
+) -> Result<(), LineFault>
+    ensures right { OnOk result (table_defect (table_of inputs.old) (texts_of words.now) ≡ None) }
+    ensures table { OnOk result ((name : List ℕ) → table_of inputs.new name ≡ table_with (table_of inputs.old) (texts_of words.now) name) }
+    ensures wrong { IfErr result (λ fault. spec.IsLineFault (table_of inputs.old) (texts_of words.now) fault) }
+{
+    if !has_form(words) {
+        return Err(LineFault::Wrong(WorldDefect::Syntax));
+    }
+    let [name, _, rest @ ..] = words else {
+        return Ok(());
+    };
+    match inputs.get(*name) {
+        None => return Err(LineFault::Wrong(WorldDefect::UnknownChannel)),
+        Some(Some(_)) => return Err(LineFault::Wrong(WorldDefect::RepeatedChannel)),
+        Some(None) => {}
+    }
+    let Ok(numbers) = numbers_of(alloc, rest) else {
+        return Err(LineFault::NoMemory);
+    };
+    let Some(numbers) = numbers else {
+        return Err(LineFault::Wrong(WorldDefect::NumberOutOfRange));
+    };
+    let Ok(_) = inputs.insert(*name, Some(numbers)) else {
+        return Err(LineFault::NoMemory);
+    };
+    Ok(())
+}

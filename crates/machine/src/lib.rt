@@ -1,0 +1,15 @@
+//! The machine: runs of verified modules, step by step.
+#![tactic(auto)]
+
+pub mod fault;
+mod input;
+mod parts;
+pub mod run;
+pub mod status;
+
+pub use fault::NewFault;
+pub use run::Machine;
+pub use status::Status;
+
+#[cfg(test)]
+mod tests;

@@ -1,0 +1,14 @@
+/// How a run stands.
+#[derive(Clone, Copy, Debug, PartialEq, Eq)]
+pub enum Status {
+    /// It has not ended.
+    Running,
+    /// It returned from its outermost frame.
+    Finished,
+    /// It ended with this exception, which nothing took.
+    Threw(u32),
+    /// It ended because it had as many frames as a run may have.
+    Deep,
+    /// The next step was refused memory. Nothing has changed, and it may be tried again.
+    NoMemory,
+}
