@@ -1,9 +1,9 @@
 -- The two laws of the module file, over all of the bytes.
-use Rattle.std.proofs.Common.{◌≡◌, ℕ, Bool, true, false, cond, eqb, List, [], ◌++◌, length, Result, Ok, Err, refl, sym, ap, ◌∙◌}
+use Rattle.std.proofs.Common.{◌≡◌, ℕ, cond, eqb, List, [], ◌++◌, length, Ok, Err, sym, ap, ◌∙◌}
 use Rattle.std.proofs.lemmas.Bool.{eqb-true}
 use Rattle.std.proofs.lemmas.List.{append-nil, nil_from_length}
 use Rattle.bytecode.specs.Contents.{ModuleContents}
-use Rattle.bytecode.specs.Form.{Form, Fits, Spells, spelled, Read, read, read_all, stop_at, ◌>>=◌}
+use Rattle.bytecode.specs.Form.{Form, Spells, spelled, Read, read, read_all, stop_at, ◌>>=◌}
 use Rattle.bytecode.specs.Format.{module_file}
 use Rattle.bytecode.specs.declared.fault.Refusal.TheVariants.{Trailing}
 use Rattle.bytecode.proofs.Again.{again}

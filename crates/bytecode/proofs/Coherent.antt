@@ -1,6 +1,6 @@
 -- What a format owes for its two laws: parts are what a value was made of, and an instruction that was read has the opcode and
 -- the operand that it was read from.
-use Rattle.std.proofs.Common.{◌≡◌, ℕ, ◌^◌, ◌<◌, List, length, Option, Some}
+use Rattle.std.proofs.Common.{◌≡◌, ℕ, ◌^◌, ◌<◌, List, length, Some}
 use Rattle.bytecode.specs.Form.{Coding, Form, Byte, Number, Text, Nothing, Marked, Checked, Then, Counted, Code, Named, Fits}
 use Rattle.bytecode.proofs.Steps.{IsBytes}
 

@@ -1,13 +1,12 @@
 -- What hierarchies, policies and labels that fit the format are.
-use Rattle.std.proofs.Common.{◌≡◌, ◌≢◌, ℕ, zero, suc, ◌+◌, ◌-◌, ◌<◌, ◌≤◌, Bool, true, false, cond, not, ◌&&◌, ◌||◌, ltb, eqb, leb, List, [], ◌∷◌, ◌++◌, length, get_or, All, Option, Some, None, Ok, refl, sym, ap, subst, ◌∙◌, append_assoc, length-append, arith, inl, inr, leb-true}
+use Rattle.std.proofs.Common.{◌≡◌, ◌≢◌, ℕ, ◌+◌, ◌-◌, ◌<◌, ◌≤◌, Bool, true, false, not, ◌&&◌, ◌||◌, eqb, List, [], ◌∷◌, ◌++◌, length, get_or, All, Option, Some, Ok, refl, sym, ap, subst, ◌∙◌, append_assoc, length-append, arith, inl, inr, leb-true}
 use Rattle.std.specs.Prelude.{bytes_eq, Contains, slice_get}
-use Rattle.std.specs.List.{list_any, AllByRecursion}
+use Rattle.std.specs.List.{AllByRecursion}
 use Rattle.std.specs.List.Sorted.{IsStrictlyIncreasing, IsStrictlySortedBy}
 use Rattle.std.specs.Ordering.{nat_cmp}
-use Rattle.std.specs.Cmp.{IsTotalOrder}
 use Rattle.std.specs.declared.cmp.Ordering.{Ordering}
 use Rattle.std.specs.declared.cmp.Ordering.TheVariants.{Less, Equal, Greater}
-use Rattle.std.proofs.lemmas.Bool.{ltb-true, eqb-true, eq-eqb, cases_lt}
+use Rattle.std.proofs.lemmas.Bool.{ltb-true, eq-eqb, cases_lt}
 use Rattle.std.proofs.lemmas.Cmp.{nat_cmp_total}
 use Rattle.std.proofs.lemmas.List.{append-nil, get_or_push, get_or_append_left}
 use Rattle.std.proofs.lemmas.List.Elements.{All-push, All-from_recursion}
@@ -20,14 +19,14 @@ use Rattle.bytecode.specs.declared.reading.ReadError.TheVariants as errors
 use Rattle.bytecode.specs.Reading.{Fails}
 use Rattle.principals.specs.ActsFor.{PrincipalHierarchy, AllDifferent, AllBelow}
 use Rattle.labels.proofs.Ascending.{sorted_nil}
-use Rattle.labels.specs.Label.{ReaderPolicy, Label}
+use Rattle.labels.specs.Label.{Label}
 use Rattle.labels.specs.Canonical.{policy_cmp, IsCanonicalPolicy}
 use Rattle.labels.specs.PolicyOrder.{policy_cmp-total}
-use Rattle.bytecode.specs.Form.{Form, Fits, FitEach, Counted, read}
+use Rattle.bytecode.specs.Form.{Fits, FitEach, Counted, read}
 use Rattle.bytecode.proofs.Steps.{IsBytes}
 use Rattle.bytecode.proofs.Taken.{taken}
 use Rattle.bytecode.proofs.Lawful.{number_below-coherent, principals-coherent, pair_after-coherent}
-use Rattle.bytecode.specs.Format.{any, hierarchy, is_less, is_above_last, is_above, is_among, is_new_name, name_after, number_below, principals, pair_after, pair_cmp, reader_after, policy_after, label}
+use Rattle.bytecode.specs.Format.{any, hierarchy, is_less, is_above_last, is_above, is_among, name_after, number_below, principals, pair_after, reader_after, policy_after, label}
 
 -- ---- along a list, each element after those before it
 

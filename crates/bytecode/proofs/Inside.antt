@@ -3,9 +3,8 @@ use Rattle.std.proofs.Common.{◌≡◌, ℕ, zero, suc, ◌-◌, ◌≤◌, Boo
 use Rattle.std.proofs.lemmas.List.{length-drop}
 use Rattle.std.specs.Int.{w32, from_be_bytes}
 use Rattle.bytecode.specs.declared.fault.Stop.{Stop}
-use Rattle.bytecode.specs.declared.fault.Refusal.{Refusal}
 use Rattle.bytecode.specs.declared.fault.Refusal.TheVariants.{BadValue, Trailing}
-use Rattle.bytecode.specs.Form.{Coding, Form, Byte, Number, Text, Nothing, Marked, Checked, Then, Counted, Code, Named, stop_at, short, ◌>>=◌, Read, byte_at, number_at, bytes_at, each_at, meant, operand_at, instruction_in, code_at, spelled_instruction, read, read_all}
+use Rattle.bytecode.specs.Form.{Coding, Form, Byte, Number, Text, Nothing, Marked, Checked, Then, Counted, Code, Named, stop_at, short, ◌>>=◌, Read, number_at, bytes_at, each_at, meant, operand_at, instruction_in, code_at, spelled_instruction, read, read_all}
 
 -- at most so many bytes are left, after the value or at the refusal
 abbrev IsInside : {A : Type 0} → ℕ → Read A → Type 0
@@ -92,12 +91,12 @@ answer b x other = cond b (Ok x) (Err other)
 
 trailing : {A : Type 0} (b : Bool) (x : A) (other stop : Stop) (n : ℕ) → answer b x other ≡ Err stop → other.left ≤ n → stop.left ≤ n
 trailing true x other stop n e h = absurd cc
-trailing false x other stop n e h = subst (λ (s : Stop). s.left ≤ n) (cc) h
+trailing false x other stop n e h = let same : other ≡ stop = cc in subst (λ (s : Stop). s.left ≤ n) same h
 
 -- all of the bytes as a value of the format
 all_inside : {A : Type 0} (form : Form A) (bytes : List ℕ) (r : Read A) → IsInside (length bytes) r → (stop : Stop) → (r >>= λ found. cond (eqb (length found.1) 0) (Ok found.0) (Err (stop_at Trailing found.1))) ≡ Err stop → stop.left ≤ length bytes
 all_inside form bytes (Ok x) h stop e = trailing (eqb (length x.1) 0) x.0 (stop_at Trailing x.1) stop (length bytes) e h
-all_inside form bytes (Err other) h stop e = subst (λ (s : Stop). s.left ≤ length bytes) (cc) h
+all_inside form bytes (Err other) h stop e = let same : other ≡ stop = cc in subst (λ (s : Stop). s.left ≤ length bytes) same h
 
 pub stop_inside : {A : Type 0} (form : Form A) (bytes : List ℕ) (stop : Stop) → read_all form bytes ≡ Err stop → stop.left ≤ length bytes
 stop_inside form bytes stop e = all_inside form bytes (read form bytes) (inside form bytes) stop e

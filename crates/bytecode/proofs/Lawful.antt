@@ -1,6 +1,6 @@
 -- The module file is coherent: its two laws hold.
-use Rattle.std.proofs.Common.{◌≡◌, ℕ, zero, suc, ◌+◌, ◌^◌, ◌<◌, Bool, true, false, cond, ltb, eqb, List, [], ◌∷◌, length, get_or, Option, Some, None, refl, sym, ap, subst, ◌∙◌, arith, inl, inr, ◌⊎◌, ◌&&◌, lit<}
-use Rattle.std.specs.Int.{w32, cast_signed, cast_unsigned, to_be_bytes, from_be_bytes}
+use Rattle.std.proofs.Common.{◌≡◌, ℕ, zero, suc, ◌+◌, ◌^◌, ◌<◌, Bool, true, false, cond, ltb, eqb, List, [], ◌∷◌, length, Option, Some, None, refl, sym, ap, subst, ◌∙◌, arith, inl, inr, ◌⊎◌, ◌&&◌, lit<}
+use Rattle.std.specs.Int.{w32, cast_signed, cast_unsigned, from_be_bytes}
 use Rattle.std.specs.List.{find, AllByRecursion}
 use Rattle.std.proofs.lemmas.Bool.{ltb-true, eqb-true}
 use Rattle.std.proofs.lemmas.Int.{of_z-to_z}
@@ -15,8 +15,8 @@ use Rattle.bytecode.specs.declared.fault.Refusal.TheVariants.{BadValue}
 use Rattle.bytecode.specs.Contents.{ProcedureContents}
 use Rattle.bytecode.specs.Code.{width_of}
 use Rattle.bytecode.specs.Form.{Form, Number, Checked, Fits}
-use Rattle.bytecode.specs.Opcodes.{opcode_of, operand_of, number_operand, numbered, plain, flagged, with_opcode, instruction_of, width_after, is_admitted, instructions}
-use Rattle.bytecode.specs.Format.{name_after, number_below, principals, pair_after, hierarchy, exceptions, direction_of, direction_byte, direction, reader_after, policy_after, label, channel_after, channels, kind_of, kind_byte, variable_kind, of_scalar, first_value, global_of, global_parts, global_after, globals, slot_of, slot_parts, slot_kind, slot_after, slots, returned_of, returned_byte, returned, parameters, handler, handlers, procedure, procedures, main, declared, program, contents, module_file}
+use Rattle.bytecode.specs.Opcodes.{opcode_of, operand_of, number_operand, numbered, plain, with_opcode, instruction_of, instructions}
+use Rattle.bytecode.specs.Format.{name_after, number_below, principals, pair_after, hierarchy, exceptions, direction_of, direction_byte, direction, reader_after, policy_after, label, channel_after, channels, kind_of, kind_byte, variable_kind, of_scalar, first_value, global_of, global_parts, global_after, globals, slot_parts, slot_kind, slot_after, slots, returned_of, returned_byte, returned, parameters, handler, handlers, procedure, procedures, main, declared, program, contents, module_file}
 use Rattle.bytecode.proofs.Steps.{IsBytes}
 use Rattle.bytecode.proofs.Coherent.{IsLawful, Coherent}
 

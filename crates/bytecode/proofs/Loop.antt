@@ -1,6 +1,5 @@
 -- Reading values one after the other, as a loop does.
-use Rattle.std.proofs.Common.{◌≡◌, ℕ, suc, ◌-◌, ◌+◌, ◌<◌, List, [], ◌∷◌, ◌++◌, Result, Ok, Err, sym, ap, ◌∙◌, arith}
-use Rattle.bytecode.specs.declared.fault.Stop.{Stop}
+use Rattle.std.proofs.Common.{◌≡◌, ℕ, suc, ◌-◌, ◌+◌, ◌<◌, List, [], ◌∷◌, ◌++◌, Ok, sym, ap, ◌∙◌, arith}
 use Rattle.bytecode.specs.declared.reading.ReadError.{ReadError}
 use Rattle.bytecode.specs.declared.reading.ReadError.TheVariants as errors
 use Rattle.bytecode.specs.Form.{Read, each_at, ◌>>=◌}

@@ -1,6 +1,6 @@
 -- A module that has a spelling is straight-line code: so far modules have no other.
-use Rattle.std.proofs.Common.{◌≡◌, ℕ, zero, suc, ◌+◌, ◌^◌, ◌<◌, Bool, true, false, cond, ltb, eqb, not, ◌&&◌, List, [], ◌∷◌, ◌++◌, length, Option, Some, None, refl, sym, ap, subst, ◌∙◌, arith, length-append, lit<}
-use Rattle.std.specs.Prelude.{is_none, slice_get}
+use Rattle.std.proofs.Common.{leb, ◌||◌, ◌≡◌, ℕ, zero, suc, Bool, true, false, cond, ltb, eqb, ◌&&◌, List, [], ◌∷◌, ◌++◌, length, Option, Some, None, refl, sym, ap, ◌∙◌, arith, length-append}
+use Rattle.std.specs.Prelude.{is_none}
 use Rattle.std.specs.List.{list_all, AllByRecursion}
 use Rattle.std.proofs.lemmas.Bool.{lt-ltb, eqb-true}
 use Rattle.bytecode.specs.declared.instruction.Arithmetic.TheVariants.{Add, Subtract, Multiply, Divide, Remainder}
@@ -14,9 +14,9 @@ use Rattle.bytecode.specs.declared.parts.Slot.TheVariants as slot
 use Rattle.bytecode.specs.declared.parts.Handler.{Handler}
 use Rattle.bytecode.specs.Contents.{ProcedureContents, ModuleContents}
 use Rattle.bytecode.specs.Code.{width_of, code_length}
-use Rattle.bytecode.specs.Form.{Form, Fits, FitEach, IsCoded, spelled_instruction, spelled_code, Code}
+use Rattle.bytecode.specs.Form.{Fits, FitEach, IsCoded, spelled_instruction, spelled_code}
 use Rattle.bytecode.specs.Opcodes.{instructions}
-use Rattle.bytecode.specs.Format.{slot_parts, slot_of, slot_after, slot_kind, slots, returned, parameters, handlers, procedure, procedures, main, program, contents, module_file}
+use Rattle.bytecode.specs.Format.{is_size, slot_cells, slot_after, slot_kind, slots, returned, parameters, handlers, procedure, procedures, main, program, contents, module_file}
 use Rattle.bytecode.specs.StraightLine.{is_straight, is_int_slot, has_none, is_straight_procedure, is_only_procedure, is_straight_line}
 
 both : (a b : Bool) → a ≡ true → b ≡ true → (a && b) ≡ true
@@ -111,8 +111,8 @@ unfolding slot_after slot_kind
 straight_slot count before (slot.Scalar kind.Int) h = refl
 straight_slot count before (slot.Scalar kind.Boolean) h = absurd (cc h.0.0.0.1)
 straight_slot count before (slot.Array kind size) h =
-    let scalar : eqb size 0 ≡ true = second _ _ h.0.1.1 in
-    let made = ap (λ (b : Bool). cond b (slot.Scalar kind) (slot.Array kind size)) (sym scalar) ∙ h.1 in
+    let scalar : eqb size 0 ≡ true = second (is_size (slot_cells before) size && (leb count (length before) || eqb size 0)) (eqb size 0) h.0.1.1 in
+    let made : slot.Scalar kind ≡ slot.Array kind size = ap (λ (b : Bool). cond b (slot.Scalar kind) (slot.Array kind size)) (sym scalar) ∙ h.1 in
     absurd (cc made)
 
 straight_slots : (count : ℕ) (before xs : List Slot) → FitEach (λ seen x. Fits (slot_after count seen) x) before xs → list_all is_int_slot xs ≡ true

@@ -1,8 +1,7 @@
 -- What is written of a module is its spelling, and its lengths and counts fit four bytes.
-use Rattle.std.proofs.Common.{◌≡◌, ℕ, zero, suc, ◌+◌, ◌^◌, ◌<◌, Bool, true, false, cond, eqb, ltb, ◌||◌, List, [], ◌∷◌, ◌++◌, length, map, All, Option, Some, None, refl, sym, ap, subst, ◌∙◌, arith, length-append, append_assoc}
-use Rattle.std.specs.Int.{w32, to_be_bytes, cast_signed, cast_unsigned}
+use Rattle.std.proofs.Common.{◌≡◌, ℕ, Bool, true, false, cond, eqb, ltb, ◌||◌, List, [], ◌∷◌, ◌++◌, length, All, refl, sym, ap, ◌∙◌, arith, length-append, append_assoc}
+use Rattle.std.specs.Int.{w32, cast_signed}
 use Rattle.std.specs.List.{flat_map, AllByRecursion, sum_by}
-use Rattle.std.proofs.lemmas.Bool.{eqb-true, leb-true}
 use Rattle.std.proofs.lemmas.List.{length-map}
 use Rattle.std.proofs.lemmas.List.Elements.{All-from_recursion, recursion_from_All}
 use Rattle.std.proofs.lemmas.List.Sums.{sum_by-cons}
@@ -13,7 +12,6 @@ use Rattle.bytecode.proofs.Straight.{spelled-width}
 use Rattle.labels.specs.Label.{ReaderPolicy, Label}
 use Rattle.principals.specs.ActsFor.{PrincipalHierarchy}
 use Rattle.bytecode.specs.declared.instruction.Instruction.{Instruction}
-use Rattle.bytecode.specs.declared.parts.Kind.{Kind}
 use Rattle.bytecode.specs.declared.parts.Kind.TheVariants as kind
 use Rattle.bytecode.specs.declared.parts.Slot.{Slot}
 use Rattle.bytecode.specs.declared.parts.Global.{Global}
@@ -22,9 +20,9 @@ use Rattle.bytecode.specs.declared.parts.Handler.{Handler}
 use Rattle.bytecode.specs.declared.fault.Refusal.TheVariants.{BadValue}
 use Rattle.bytecode.specs.Contents.{ChannelContents, ProcedureContents, ModuleContents}
 use Rattle.bytecode.specs.Code.{width_of}
-use Rattle.bytecode.specs.Form.{Form, Number, Checked, Fits, FitEach, spelled, spelled_each, spelled_code, IsCoded, Spells}
-use Rattle.bytecode.specs.Opcodes.{instructions, opcode_of, operand_of}
-use Rattle.bytecode.specs.Format.{any, direction_byte, kind_byte, returned_byte, magic, version, is_built_in, is_among, channel_names, name_after, number_below, principals, pair_after, hierarchy, exceptions, direction, reader_after, policy_after, label, channel_after, channels, declared, of_scalar, first_value, global_after, globals, slot_after, slots, slot_kind, variable_kind, returned, parameters, handler, handlers, procedure, procedures, main, program, contents, module_file}
+use Rattle.bytecode.specs.Form.{Form, Number, Checked, Fits, FitEach, spelled, spelled_each, spelled_code}
+use Rattle.bytecode.specs.Opcodes.{instructions}
+use Rattle.bytecode.specs.Format.{direction_byte, kind_byte, returned_byte, magic, version, is_built_in, is_among, channel_names, name_after, number_below, principals, pair_after, hierarchy, exceptions, direction, reader_after, policy_after, label, channel_after, channels, declared, of_scalar, global_after, globals, slot_after, slots, slot_kind, variable_kind, returned, parameters, handler, handlers, procedure, procedures, main, program, contents, module_file}
 use Rattle.bytecode.specs.Writing.{number_bytes, list_bytes, text_bytes, pair_bytes, policy_bytes, channel_bytes, variable_bytes, slot_bytes, handler_bytes, instruction_bytes, code_bytes, procedure_bytes, module_bytes, IsShort, PolicyFits, ChannelFits, ProcedureFits, ModuleFits}
 
 -- ---- lists

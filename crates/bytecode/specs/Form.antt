@@ -1,7 +1,7 @@
 -- Formats of fields that are read from left to right, each as one value: which bytes spell a value, and the first refusal of
 -- bytes that spell none. A list of bytes is a list of numbers below 256.
 -- Source: our own.
-use Rattle.std.specs.Prelude.{◌≡◌, ℕ, zero, suc, ◌+◌, ◌-◌, ◌^◌, ◌<◌, Bool, true, false, List, [], ◌∷◌, ◌++◌, length, take, drop, Option, Some, None, Result, Ok, Err, nat_lt, nat_le, ◌==◌, if◌then◌else◌}
+use Rattle.std.specs.Prelude.{◌≡◌, ℕ, zero, suc, ◌-◌, ◌^◌, ◌<◌, Bool, true, List, [], ◌∷◌, ◌++◌, length, take, drop, Option, Some, None, Result, Ok, Err, nat_lt, ◌==◌, if◌then◌else◌}
 use Rattle.std.specs.Int.{w32, to_be_bytes, from_be_bytes}
 use Rattle.std.specs.List.{flat_map, AllByRecursion}
 use Rattle.bytecode.specs.declared.fault.Refusal.{Refusal}

@@ -1,6 +1,6 @@
 -- The module file: the one spelling of each module, field by field, and with it the first refusal of other bytes.
 -- Source: our own.
-use Rattle.std.specs.Prelude.{ℕ, ◌+◌, ◌-◌, ◌==◌, nat_lt, nat_le, Bool, true, false, not, ◌&&◌, ◌||◌, if◌then◌else◌, List, [], ◌∷◌, ◌++◌, length, map, sum_by, slice_get, codes, Option, Some, None, is_none, bytes_eq}
+use Rattle.std.specs.Prelude.{ℕ, ◌+◌, ◌-◌, ◌==◌, nat_lt, nat_le, Bool, true, false, not, ◌&&◌, ◌||◌, if◌then◌else◌, List, [], ◌∷◌, length, map, sum_by, slice_get, codes, Option, Some, None, is_none, bytes_eq}
 use Rattle.std.specs.Int.{w32, cast_signed, cast_unsigned}
 use Rattle.std.specs.List.{list_any}
 use Rattle.std.specs.Ordering.{nat_cmp, on, then_cmp}
@@ -12,7 +12,6 @@ use Rattle.principals.specs.ActsFor.{PrincipalHierarchy}
 use Rattle.labels.specs.Label.{ReaderPolicy, Label}
 use Rattle.labels.specs.Canonical.{policy_cmp}
 use Rattle.bytecode.specs.declared.fault.Refusal.TheVariants.{Magic, Version, BadValue, NotCanonical}
-use Rattle.bytecode.specs.declared.instruction.Instruction.{Instruction}
 use Rattle.bytecode.specs.declared.parts.Kind.{Kind}
 use Rattle.bytecode.specs.declared.parts.Kind.TheVariants as kind
 use Rattle.bytecode.specs.declared.parts.Slot.{Slot}
@@ -23,7 +22,7 @@ use Rattle.bytecode.specs.declared.parts.Handler.{Handler}
 use Rattle.bytecode.specs.declared.parts.Direction.{Direction}
 use Rattle.bytecode.specs.declared.parts.Direction.TheVariants.{Input, Output}
 use Rattle.bytecode.specs.Contents.{ChannelContents, ProcedureContents, ModuleContents}
-use Rattle.bytecode.specs.Form.{Form, Byte, Number, Text, Nothing, Marked, Checked, Then, Counted, Code, Named, Spells}
+use Rattle.bytecode.specs.Form.{Form, Byte, Number, Text, Nothing, Marked, Checked, Then, Counted, Code, Named}
 use Rattle.bytecode.specs.Opcodes.{instructions}
 
 -- ---- limits and tests

@@ -1,3 +1,7 @@
+pub use Rattle.principals.specs.ActsFor
+pub use Rattle.labels.specs.Canonical
+pub use Rattle.labels.specs.Label
+pub use Rattle.lexer.specs.Words
 pub mod Contents
 pub mod Code
 pub mod Faults

@@ -3,7 +3,7 @@
 use Rattle.std.specs.Prelude.{ℕ, ◌^◌, ◌<◌, List, [], ◌∷◌, ◌++◌, length, All, if◌then◌else◌}
 use Rattle.std.specs.Int.{w32, cast_unsigned, to_be_bytes}
 use Rattle.std.specs.List.{flat_map}
-use Rattle.labels.specs.Label.{ReaderPolicy, Label}
+use Rattle.labels.specs.Label.{ReaderPolicy}
 use Rattle.bytecode.specs.declared.instruction.Instruction.{Instruction}
 use Rattle.bytecode.specs.declared.parts.Slot.{Slot}
 use Rattle.bytecode.specs.declared.parts.Global.{Global}

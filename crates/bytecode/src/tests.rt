@@ -137,82 +137,86 @@ fn refuses_beginnings_and_more(rt: HostRuntime) -> Result<(), Fail> {
     Ok(())
 }
 
+// Changes of `SENDS`, each with its refusal and where it stands.
+const CHANGED_SENDS: [(&[(usize, u8)], Refusal, usize); 29] = [
+    (&[(0, 0x47)], Refusal::Magic, 0),
+    (&[(3, 0x62), (7, 2)], Refusal::Magic, 0),
+    (&[(7, 2)], Refusal::Version, 4),
+    // 257 principals, and 4278190080 of them
+    (&[(10, 1), (11, 1)], Refusal::BadValue, 8),
+    (&[(8, 0xff)], Refusal::BadValue, 8),
+    // an empty name
+    (&[(11, 1)], Refusal::BadValue, 12),
+    // a pair of principals that are not there, also with a count that is not there
+    (&[(15, 1)], Refusal::BadValue, 16),
+    (
+        &[(12, 0xff), (13, 0xff), (14, 0xff), (15, 0xff)],
+        Refusal::BadValue,
+        16,
+    ),
+    // a declared exception
+    (&[(19, 1)], Refusal::BadValue, 16),
+    // more channels than there are
+    (
+        &[(20, 0xff), (21, 0xff), (22, 0xff), (23, 0xff)],
+        Refusal::BadValue,
+        37,
+    ),
+    (&[(24, 2)], Refusal::BadValue, 24),
+    // names: `1ub`, no UTF-8, `int`, `End`, one that passes the end
+    (&[(29, 0x31)], Refusal::BadValue, 25),
+    (&[(29, 0xff)], Refusal::BadValue, 25),
+    (&[(29, 0x69), (30, 0x6e), (31, 0x74)], Refusal::BadValue, 25),
+    (&[(29, 0x45), (30, 0x6e), (31, 0x64)], Refusal::BadValue, 25),
+    (&[(25, 0xff)], Refusal::Short, 76),
+    // an owner that is not there
+    (&[(35, 1)], Refusal::BadValue, 36),
+    // a global; two procedures; a result; a parameter; a slot that is an array
+    (&[(39, 1)], Refusal::BadValue, 36),
+    (&[(43, 2)], Refusal::BadValue, 40),
+    (&[(44, 1)], Refusal::BadValue, 44),
+    (&[(48, 1)], Refusal::BadValue, 45),
+    (&[(52, 1)], Refusal::BadValue, 54),
+    // code: one byte more, one less, too short for its first instruction, other opcodes
+    (&[(56, 12)], Refusal::BadValue, 68),
+    (&[(56, 10)], Refusal::BadValue, 67),
+    (&[(56, 4)], Refusal::BadValue, 57),
+    (&[(57, 0x20)], Refusal::BadValue, 57),
+    (&[(67, 0x24)], Refusal::BadValue, 67),
+    // a handler; a procedure that is not there
+    (&[(71, 1)], Refusal::BadValue, 68),
+    (&[(75, 1)], Refusal::BadValue, 72),
+];
+
+// The same of `PEOPLE`.
+const CHANGED_PEOPLE: [(&[(usize, u8)], Refusal, usize); 11] = [
+    // a principal named twice, and a channel
+    (&[(21, 0x41)], Refusal::BadValue, 17),
+    (&[(70, 0x71)], Refusal::BadValue, 66),
+    // pairs: equal, falling, and one of a principal that is not there
+    (&[(46, 0)], Refusal::NotCanonical, 39),
+    (&[(38, 1), (46, 0)], Refusal::NotCanonical, 39),
+    (&[(38, 3)], Refusal::BadValue, 35),
+    // readers: the owner, falling, one that is not there
+    (&[(86, 0)], Refusal::NotCanonical, 83),
+    (&[(86, 2), (90, 1)], Refusal::NotCanonical, 87),
+    (&[(90, 3)], Refusal::BadValue, 87),
+    // policies: one that begins the one before it, and an owner that is not there
+    (&[(94, 0)], Refusal::NotCanonical, 91),
+    (&[(94, 3)], Refusal::BadValue, 91),
+    // a slot that is a boolean
+    (&[(116, 1)], Refusal::BadValue, 116),
+];
+
 #[test]
 fn refuses_changed_bytes(rt: HostRuntime) {
-    let sends: [(&[(usize, u8)], Refusal, usize); 29] = [
-        (&[(0, 0x47)], Refusal::Magic, 0),
-        (&[(3, 0x62), (7, 2)], Refusal::Magic, 0),
-        (&[(7, 2)], Refusal::Version, 4),
-        // 257 principals, and 4278190080 of them
-        (&[(10, 1), (11, 1)], Refusal::BadValue, 8),
-        (&[(8, 0xff)], Refusal::BadValue, 8),
-        // an empty name
-        (&[(11, 1)], Refusal::BadValue, 12),
-        // a pair of principals that are not there, also with a count that is not there
-        (&[(15, 1)], Refusal::BadValue, 16),
-        (
-            &[(12, 0xff), (13, 0xff), (14, 0xff), (15, 0xff)],
-            Refusal::BadValue,
-            16,
-        ),
-        // a declared exception
-        (&[(19, 1)], Refusal::BadValue, 16),
-        // more channels than there are
-        (
-            &[(20, 0xff), (21, 0xff), (22, 0xff), (23, 0xff)],
-            Refusal::BadValue,
-            37,
-        ),
-        (&[(24, 2)], Refusal::BadValue, 24),
-        // names: `1ub`, no UTF-8, `int`, `End`, one that passes the end
-        (&[(29, 0x31)], Refusal::BadValue, 25),
-        (&[(29, 0xff)], Refusal::BadValue, 25),
-        (&[(29, 0x69), (30, 0x6e), (31, 0x74)], Refusal::BadValue, 25),
-        (&[(29, 0x45), (30, 0x6e), (31, 0x64)], Refusal::BadValue, 25),
-        (&[(25, 0xff)], Refusal::Short, 76),
-        // an owner that is not there
-        (&[(35, 1)], Refusal::BadValue, 36),
-        // a global; two procedures; a result; a parameter; a slot that is an array
-        (&[(39, 1)], Refusal::BadValue, 36),
-        (&[(43, 2)], Refusal::BadValue, 40),
-        (&[(44, 1)], Refusal::BadValue, 44),
-        (&[(48, 1)], Refusal::BadValue, 45),
-        (&[(52, 1)], Refusal::BadValue, 54),
-        // code: one byte more, one less, too short for its first instruction, other opcodes
-        (&[(56, 12)], Refusal::BadValue, 68),
-        (&[(56, 10)], Refusal::BadValue, 67),
-        (&[(56, 4)], Refusal::BadValue, 57),
-        (&[(57, 0x20)], Refusal::BadValue, 57),
-        (&[(67, 0x24)], Refusal::BadValue, 67),
-        // a handler; a procedure that is not there
-        (&[(71, 1)], Refusal::BadValue, 68),
-        (&[(75, 1)], Refusal::BadValue, 72),
-    ];
-    for (changes, refusal, at) in sends {
+    for (changes, refusal, at) in CHANGED_SENDS {
         assert_eq!(rt;
             fault_of_changed(rt.alloc(), &SENDS, changes),
             Some(FormatFault::Refused(refusal, at))
         );
     }
-    let people: [(&[(usize, u8)], Refusal, usize); 11] = [
-        // a principal named twice, and a channel
-        (&[(21, 0x41)], Refusal::BadValue, 17),
-        (&[(70, 0x71)], Refusal::BadValue, 66),
-        // pairs: equal, falling, and one of a principal that is not there
-        (&[(46, 0)], Refusal::NotCanonical, 39),
-        (&[(38, 1), (46, 0)], Refusal::NotCanonical, 39),
-        (&[(38, 3)], Refusal::BadValue, 35),
-        // readers: the owner, falling, one that is not there
-        (&[(86, 0)], Refusal::NotCanonical, 83),
-        (&[(86, 2), (90, 1)], Refusal::NotCanonical, 87),
-        (&[(90, 3)], Refusal::BadValue, 87),
-        // policies: one that begins the one before it, and an owner that is not there
-        (&[(94, 0)], Refusal::NotCanonical, 91),
-        (&[(94, 3)], Refusal::BadValue, 91),
-        // a slot that is a boolean
-        (&[(116, 1)], Refusal::BadValue, 116),
-    ];
-    for (changes, refusal, at) in people {
+    for (changes, refusal, at) in CHANGED_PEOPLE {
         assert_eq!(rt;
             fault_of_changed(rt.alloc(), &PEOPLE, changes),
             Some(FormatFault::Refused(refusal, at))

@@ -3,45 +3,45 @@ use Rattle.std.proofs.Common.{ℕ, [], ◌++◌, ◌↔◌, ⊎_elim, inl, inr}
 use Rattle.std.specs.Prelude.{Any, Contains}
 use Rattle.std.proofs.lemmas.List.Elements.{Contains-append_left, Contains-append_right, Contains-append_cases, All-nil}
 use Rattle.principals.specs.ActsFor.{PrincipalHierarchy, ActsFor, itself, through}
-use Rattle.labels.specs.Label.{ReaderPolicy, Label, Allows, MayRead, PolicyFlowsTo, FlowsTo}
+use Rattle.labels.specs.Label.{ReaderPolicy, Label, PolicyAllows, MayRead, PolicyFlowsTo, FlowsTo}
 use Rattle.labels.specs.Lattice.{IsLattice}
 use Rattle.labels.specs.Sets.{SameSet}
 use Rattle.labels.proofs.Elements.{All-from_each, each_from_All, Any-from_some, Any-elim}
 
 -- whoever acts for a principal whom a policy allows is allowed too
-pub Allows-acting : (h : PrincipalHierarchy) (policy : ReaderPolicy) (p q : ℕ) → ActsFor h.pairs q p → Allows h policy p → Allows h policy q
-Allows-acting h policy p q acts allowed =
+pub PolicyAllows-acting : (h : PrincipalHierarchy) (policy : ReaderPolicy) (p q : ℕ) → ActsFor h.pairs q p → PolicyAllows h p policy → PolicyAllows h q policy
+PolicyAllows-acting h policy p q acts allowed =
     ⊎_elim
     (λ owner. inl (through q p policy.owner acts owner))
-    (λ some. Any-elim (λ reader. ActsFor h.pairs p reader) policy.readers (Allows h policy q) some
+    (λ some. Any-elim (λ reader. ActsFor h.pairs p reader) policy.readers (PolicyAllows h q policy) some
     (λ reader contained reads. inr (Any-from_some (λ r. ActsFor h.pairs q r) policy.readers reader contained (through q p reader acts reads))))
     allowed
 
 -- a policy allows its owner and its readers
-pub Allows-owner : (h : PrincipalHierarchy) (policy : ReaderPolicy) → Allows h policy policy.owner
-Allows-owner h policy = inl (itself policy.owner)
+pub PolicyAllows-owner : (h : PrincipalHierarchy) (policy : ReaderPolicy) → PolicyAllows h policy.owner policy
+PolicyAllows-owner h policy = inl (itself policy.owner)
 
-pub Allows-reader : (h : PrincipalHierarchy) (policy : ReaderPolicy) (reader : ℕ) → Contains policy.readers reader → Allows h policy reader
-Allows-reader h policy reader contained = inr (Any-from_some (λ r. ActsFor h.pairs reader r) policy.readers reader contained (itself reader))
+pub PolicyAllows-reader : (h : PrincipalHierarchy) (policy : ReaderPolicy) (reader : ℕ) → Contains policy.readers reader → PolicyAllows h reader policy
+PolicyAllows-reader h policy reader contained = inr (Any-from_some (λ r. ActsFor h.pairs reader r) policy.readers reader contained (itself reader))
 
 -- where a policy flows to another one, it allows each principal that the other one allows
-pub Allows-flowing : (h : PrincipalHierarchy) (from to : ReaderPolicy) (p : ℕ) → PolicyFlowsTo h from to → Allows h to p → Allows h from p
-Allows-flowing h from to p flow allowed =
+pub PolicyAllows-flowing : (h : PrincipalHierarchy) (from to : ReaderPolicy) (p : ℕ) → PolicyFlowsTo h from to → PolicyAllows h p to → PolicyAllows h p from
+PolicyAllows-flowing h from to p flow allowed =
     ⊎_elim
     (λ owner. inl (through p to.owner from.owner owner flow.0))
-    (λ some. Any-elim (λ reader. ActsFor h.pairs p reader) to.readers (Allows h from p) some
+    (λ some. Any-elim (λ reader. ActsFor h.pairs p reader) to.readers (PolicyAllows h p from) some
     (λ reader contained reads.
-    Allows-acting h from reader p reads (each_from_All (λ r. Allows h from r) to.readers flow.1 reader contained)))
+    PolicyAllows-acting h from reader p reads (each_from_All (λ r. PolicyAllows h r from) to.readers flow.1 reader contained)))
     allowed
 
 pub PolicyFlowsTo-itself : (h : PrincipalHierarchy) (policy : ReaderPolicy) → PolicyFlowsTo h policy policy
-PolicyFlowsTo-itself h policy = (itself policy.owner, All-from_each (λ r. Allows h policy r) policy.readers (Allows-reader h policy))
+PolicyFlowsTo-itself h policy = (itself policy.owner, All-from_each (λ r. PolicyAllows h r policy) policy.readers (PolicyAllows-reader h policy))
 
 pub PolicyFlowsTo-through : (h : PrincipalHierarchy) (a b c : ReaderPolicy) → PolicyFlowsTo h a b → PolicyFlowsTo h b c → PolicyFlowsTo h a c
 PolicyFlowsTo-through h a b c first second = (
   through c.owner b.owner a.owner second.0 first.0,
-  All-from_each (λ r. Allows h a r) c.readers
-      (λ reader contained. Allows-flowing h a b reader first (each_from_All (λ r. Allows h b r) c.readers second.1 reader contained)),
+  All-from_each (λ r. PolicyAllows h r a) c.readers
+      (λ reader contained. PolicyAllows-flowing h a b reader first (each_from_All (λ r. PolicyAllows h r b) c.readers second.1 reader contained)),
 )
 
 -- a flow, policy by policy
@@ -102,10 +102,10 @@ IsLattice-flow h = record {
 -- where a label flows to another one, every reader of the other one reads it
 pub MayRead-flowing : (h : PrincipalHierarchy) (from to : Label) (p : ℕ) → FlowsTo h from to → MayRead h p to → MayRead h p from
 MayRead-flowing h from to p flow reads =
-    All-from_each (λ policy. Allows h policy p) from
+    All-from_each (λ policy. PolicyAllows h p policy) from
     (λ policy contained.
     let found = FlowsTo-elim h from to flow policy contained in
-    Allows-flowing h policy found.0 p found.2 (each_from_All (λ other. Allows h other p) to reads found.0 found.1))
+    PolicyAllows-flowing h policy found.0 p found.2 (each_from_All (λ other. PolicyAllows h p other) to reads found.0 found.1))
 
 -- each principal that may read a label may read each label that has no other policies
 pub MayRead-subset : (h : PrincipalHierarchy) (a b : Label) (p : ℕ) → ((policy : ReaderPolicy) → Contains a policy → Contains b policy) → MayRead h p b → MayRead h p a
@@ -114,11 +114,11 @@ MayRead-subset h a b p more = MayRead-flowing h a b p (FlowsTo-subset h a b more
 -- the readers of a join are the readers of both
 pub MayRead-join : (h : PrincipalHierarchy) (p : ℕ) (a b : Label) → MayRead h p a → MayRead h p b → MayRead h p (a ++ b)
 MayRead-join h p a b left right =
-    All-from_each (λ policy. Allows h policy p) (a ++ b)
+    All-from_each (λ policy. PolicyAllows h p policy) (a ++ b)
     (λ policy contained.
     ⊎_elim
-    (each_from_All (λ x. Allows h x p) a left policy)
-    (each_from_All (λ x. Allows h x p) b right policy)
+    (each_from_All (λ x. PolicyAllows h p x) a left policy)
+    (each_from_All (λ x. PolicyAllows h p x) b right policy)
     (Contains-append_cases a b policy contained))
 
 pub MayRead-join_left : (h : PrincipalHierarchy) (p : ℕ) (a b : Label) → MayRead h p (a ++ b) → MayRead h p a

@@ -4,10 +4,10 @@ use Rattle.std.specs.Prelude.{Contains, IsTrue}
 use Rattle.std.proofs.lemmas.Bool.Decides.{same_from_decides}
 use Rattle.std.proofs.lemmas.List.Folds.{list_all-append}
 use Rattle.principals.specs.ActsFor.{PrincipalHierarchy}
-use Rattle.labels.specs.Label.{ReaderPolicy, Label, policy_allows, may_read, flows}
+use Rattle.labels.specs.Label.{ReaderPolicy, Label, policy_allows, may_read, flows, FlowsTo}
 use Rattle.labels.specs.Lattice.{IsLattice}
 use Rattle.labels.specs.Sets.{SameSet}
-use Rattle.labels.proofs.Flow.{FlowsTo-itself, FlowsTo-through, FlowsTo-join_left, FlowsTo-join_right, FlowsTo-join_least, FlowsTo-least, FlowsTo-subset, FlowsTo-same, MayRead-flowing, MayRead-subset, MayRead-least, MayRead-same}
+use Rattle.labels.proofs.Flow.{FlowsTo-itself, FlowsTo-through, FlowsTo-join_left, FlowsTo-join_right, FlowsTo-join_least, FlowsTo-least, FlowsTo-subset, FlowsTo-same, IsLattice-flow, MayRead-flowing, MayRead-subset, MayRead-least, MayRead-same}
 use Rattle.labels.proofs.Tests.{may_read-decides, flows-decides}
 
 -- tests of two facts that follow from one another answer the same
@@ -40,15 +40,19 @@ flows-least h a = (flows-decides h [] a).1 (FlowsTo-least h a)
 pub flows-subset : (h : PrincipalHierarchy) (a b : Label) → ((policy : ReaderPolicy) → Contains a policy → Contains b policy) → IsTrue (flows h a b)
 flows-subset h a b more = (flows-decides h a b).1 (FlowsTo-subset h a b more)
 
-pub IsLattice-flows : (h : PrincipalHierarchy) → IsLattice (λ a b. IsTrue (flows h a b)) (λ a b. a ++ b) []
-IsLattice-flows h = record {
-  reflexive = flows-itself h;
-  transitive = flows-through h;
-  above_left = flows-join_left h;
-  above_right = flows-join_right h;
-  least_above = flows-join_least h;
-  below_all = flows-least h;
+-- a lattice's laws go by what its order says
+pub IsLattice-like : {V : Type 0} (leq like : V → V → Type 0) (join : V → V → V) (least : V) → ((a b : V) → like a b ↔ leq a b) → IsLattice leq join least → IsLattice like join least
+IsLattice-like leq like join least same laws = record {
+  reflexive = λ a. (same a a).1 (laws.reflexive a);
+  transitive = λ a b c first second. (same a c).1 (laws.transitive a b c ((same a b).0 first) ((same b c).0 second));
+  above_left = λ a b. (same a (join a b)).1 (laws.above_left a b);
+  above_right = λ a b. (same b (join a b)).1 (laws.above_right a b);
+  least_above = λ a b c left right. (same (join a b) c).1 (laws.least_above a b c ((same a c).0 left) ((same b c).0 right));
+  below_all = λ a. (same least a).1 (laws.below_all a);
 }
+
+pub IsLattice-flows : (h : PrincipalHierarchy) → IsLattice (λ a b. IsTrue (flows h a b)) (λ a b. a ++ b) []
+IsLattice-flows h = IsLattice-like (FlowsTo h) (λ a b. IsTrue (flows h a b)) (λ a b. a ++ b) [] (flows-decides h) (IsLattice-flow h)
 
 -- where a label flows to another one, every reader of the other one reads it
 pub may_read-flowing : (h : PrincipalHierarchy) (a b : Label) (p : ℕ) → IsTrue (flows h a b) → IsTrue (may_read h p b) → IsTrue (may_read h p a)

@@ -2,6 +2,8 @@ pub mod Ascending
 pub mod Elements
 pub mod Flow
 pub mod FlowTests
+pub mod Joined
+pub mod Meaning
 pub mod Merge
 pub mod Order
 pub mod Tests

@@ -8,7 +8,7 @@ use Rattle.std.proofs.lemmas.List.Folds.{Any-from_list_any, list_any-from_Any}
 use Rattle.std.proofs.lemmas.List.Sums.{AllPass-from_list_all, list_all-from_AllPass}
 use Rattle.principals.specs.ActsFor.{PrincipalHierarchy, ActsFor, acts_for}
 use Rattle.principals.proofs.Closure.{acts_for-decides}
-use Rattle.labels.specs.Label.{ReaderPolicy, Label, Allows, MayRead, PolicyFlowsTo, Covers, FlowsTo, policy_allows, may_read, policy_flows, covers, flows}
+use Rattle.labels.specs.Label.{ReaderPolicy, Label, PolicyAllows, MayRead, PolicyFlowsTo, Covers, FlowsTo, policy_allows, may_read, policy_flows, covers, flows}
 use Rattle.labels.proofs.Elements.{Any-weaker}
 
 -- a test of both sides, and one of either
@@ -35,7 +35,7 @@ list_any-decides test P xs each = (
   λ some. list_any-from_Any test xs (Any-weaker P (λ x. test x ≡ true) xs xs (λ x c. c) (λ x. (each x).1) some),
 )
 
-pub policy_allows-decides : (h : PrincipalHierarchy) (p : ℕ) (policy : ReaderPolicy) → IsTrue (policy_allows h p policy) ↔ Allows h policy p
+pub policy_allows-decides : (h : PrincipalHierarchy) (p : ℕ) (policy : ReaderPolicy) → IsTrue (policy_allows h p policy) ↔ PolicyAllows h p policy
 policy_allows-decides h p policy =
     either_decides (acts_for h.pairs p policy.owner) (list_any (λ reader. acts_for h.pairs p reader) policy.readers)
     (acts_for-decides h.pairs p policy.owner)
@@ -43,13 +43,13 @@ policy_allows-decides h p policy =
 
 pub may_read-decides : (h : PrincipalHierarchy) (p : ℕ) (label : Label) → IsTrue (may_read h p label) ↔ MayRead h p label
 may_read-decides h p label =
-    list_all-decides (λ policy. policy_allows h p policy) (λ policy. Allows h policy p) label (policy_allows-decides h p)
+    list_all-decides (λ policy. policy_allows h p policy) (λ policy. PolicyAllows h p policy) label (policy_allows-decides h p)
 
 pub policy_flows-decides : (h : PrincipalHierarchy) (from to : ReaderPolicy) → IsTrue (policy_flows h from to) ↔ PolicyFlowsTo h from to
 policy_flows-decides h from to =
     both_decide (acts_for h.pairs to.owner from.owner) (list_all (λ reader. policy_allows h reader from) to.readers)
     (acts_for-decides h.pairs to.owner from.owner)
-    (list_all-decides (λ reader. policy_allows h reader from) (λ reader. Allows h from reader) to.readers
+    (list_all-decides (λ reader. policy_allows h reader from) (λ reader. PolicyAllows h reader from) to.readers
     (λ reader. policy_allows-decides h reader from))
 
 pub covers-decides : (h : PrincipalHierarchy) (to : Label) (policy : ReaderPolicy) → IsTrue (covers h to policy) ↔ Covers h to policy

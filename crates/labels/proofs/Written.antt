@@ -1,5 +1,5 @@
 -- What a written policy and a written label come to: they are canonical, and sorting and dropping what stands twice makes them.
-use Rattle.std.proofs.Common.{◌≡◌, ℕ, Bool, true, List, [], ◌++◌, ◌↔◌, refl, sym, subst, not, arith}
+use Rattle.std.proofs.Common.{◌≡◌, ℕ, Bool, true, List, [], ◌++◌, ◌↔◌, refl, sym, subst, not, arith, ◌∙◌, filter, ap}
 use Rattle.std.specs.Prelude.{All, Contains, IsTrue, ◌==◌}
 use Rattle.std.specs.List.{dedup}
 use Rattle.std.specs.List.Sorted.{IsPermutation, IsSorted}
@@ -58,6 +58,12 @@ dedup-sorted_policies = dedup-sorted policy_cmp-total policy_cmp-exact policy_eq
 
 -- ---- a written policy
 
+-- the readers sorted, then each once, then without the owner
+pub readers_beside-made : (owner : ℕ) (readers sorted once kept : List ℕ) → IsPermutation readers sorted → IsSorted nat_cmp sorted → once ≡ dedup ◌==◌ sorted →
+    kept ≡ filter (λ reader. not (reader == owner)) once → kept ≡ readers_beside owner readers
+readers_beside-made owner readers sorted once kept moved ascending each_once filtered =
+    filtered ∙ ap (λ items. filter (λ reader. not (reader == owner)) items) (each_once ∙ dedup-sorted_numbers readers sorted moved ascending)
+
 pub readers_beside-owner : (owner : ℕ) (readers : List ℕ) → ¬ Contains (readers_beside owner readers) owner
 readers_beside-owner owner readers contained =
     let passes : not (owner == owner) ≡ true =
@@ -76,6 +82,11 @@ IsCanonicalPolicy-written owner readers = record {
 
 -- ---- a written label
 
+-- the policies sorted, then each once
+pub written_label-made : (policies sorted once : List ReaderPolicy) → IsPermutation policies sorted → IsSorted policy_cmp sorted → once ≡ dedup policy_eq sorted →
+    once ≡ written_label policies
+written_label-made policies sorted once moved ascending each_once = each_once ∙ dedup-sorted_policies policies sorted moved ascending
+
 pub IsCanonicalLabel-written : (policies : List ReaderPolicy) → All IsCanonicalPolicy policies → IsCanonicalLabel (written_label policies)
 IsCanonicalLabel-written policies each = record {
   policies_ascend = ascending_set-sorted policy_cmp-total policies;
@@ -83,6 +94,9 @@ IsCanonicalLabel-written policies each = record {
       All-from_each IsCanonicalPolicy (written_label policies)
       (λ policy contained. each_from_All IsCanonicalPolicy policies each policy ((ascending_set-SameSet policy_cmp-exact policies policy).0 contained));
 }
+
+pub SameSet-written : (policies : List ReaderPolicy) → SameSet (written_label policies) policies
+SameSet-written policies = ascending_set-SameSet policy_cmp-exact policies
 
 -- a set of policies is one canonical label
 pub IsCanonicalLabel-unique : (a b : Label) → IsCanonicalLabel a → IsCanonicalLabel b → SameSet a b → a ≡ b

@@ -1,6 +1,8 @@
 -- Labels, who may read what they guard, and what may flow where: the decentralized label model with its complete relabelling
 -- rule. Each definition stands twice: as a relation, to be read and believed, and as a test that computes its answer. The
 -- contracts of `flows` and `may_read` state both, and `tests_decide` in src/laws.rt proves that the two say the same.
+-- With Alice, Bob and Carol, of whom Carol acts for Bob, `{Alice: Bob}` is one policy, whose owner is Alice and whose one reader
+-- is Bob. Alice, Bob and Carol may read it, and Alice alone may read `{Alice:}`; `{Alice: Bob}` flows to `{Alice:}` and not back.
 -- Source: Myers and Liskov 1997 and 2000.
 use Rattle.std.specs.Prelude.{ℕ, ◌⊎◌, List, Bool, ◌&&◌, ◌||◌, All, Any}
 use Rattle.std.specs.List.{list_any, list_all}
@@ -16,16 +18,16 @@ abbrev pub Label : Type 0
 Label = List ReaderPolicy
 
 -- a policy allows a principal: it acts for the policy's owner or for some of its readers
-abbrev pub Allows : PrincipalHierarchy → ReaderPolicy → ℕ → Type 0
-Allows h policy p = ActsFor h.pairs p policy.owner ⊎ Any (λ reader. ActsFor h.pairs p reader) policy.readers
+abbrev pub PolicyAllows : PrincipalHierarchy → ℕ → ReaderPolicy → Type 0
+PolicyAllows h p policy = ActsFor h.pairs p policy.owner ⊎ Any (λ reader. ActsFor h.pairs p reader) policy.readers
 
 -- a principal may read what a label guards: each policy of the label allows it
 abbrev pub MayRead : PrincipalHierarchy → ℕ → Label → Type 0
-MayRead h p label = All (λ policy. Allows h policy p) label
+MayRead h p label = All (λ policy. PolicyAllows h p policy) label
 
 -- a policy flows to another one: the other one's owner acts for its owner, and it allows each of the other one's readers
 abbrev pub PolicyFlowsTo : PrincipalHierarchy → ReaderPolicy → ReaderPolicy → Type 0
-PolicyFlowsTo h from to = ActsFor h.pairs to.owner from.owner × All (λ reader. Allows h from reader) to.readers
+PolicyFlowsTo h from to = ActsFor h.pairs to.owner from.owner × All (λ reader. PolicyAllows h reader from) to.readers
 
 -- a label covers a policy: the policy flows to some policy of the label
 abbrev pub Covers : PrincipalHierarchy → Label → ReaderPolicy → Type 0

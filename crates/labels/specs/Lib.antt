@@ -3,5 +3,6 @@ pub mod Canonical
 pub mod Label
 pub mod Lattice
 pub mod PolicyOrder
+pub mod Printed
 pub mod Sent
 pub mod Sets

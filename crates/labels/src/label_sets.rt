@@ -8,7 +8,8 @@ use crate::policies::Policy;
 use std::alloc::{AllocError, Global};
 use std::marker::Model;
 
-/// A set of policies, in ascending order by owner and then by the list of readers, each policy once.
+/// A label of the decentralized label model (Myers and Liskov 1997): a set of policies, in ascending order by owner and then by
+/// the list of readers, each policy once.
 #[derive(Debug, Drop)]
 pub struct Label {
     policies: Vec<Policy>,
@@ -55,7 +56,7 @@ impl Label {
     {
         policies.sort_unstable();
         policies.dedup();
-        Label { policies }
+        Label::of(policies)
     }
 
     /// The policies, in ascending order.

@@ -1,15 +1,16 @@
 //! Laws of reading and of flow, over all hierarchies and all labels: each stated of the relations and of the tests.
 
-ghost use Rattle.labels.specs.Label.{Allows, Covers, FlowsTo, Label, MayRead, PolicyFlowsTo, ReaderPolicy, covers, flows, may_read, policy_allows, policy_flows};
+ghost use Rattle.labels.specs.Canonical.{IsCanonicalLabel, IsCanonicalPolicy, joined, written_label, written_policy};
+ghost use Rattle.labels.specs.Label.{Covers, FlowsTo, Label, MayRead, PolicyAllows, PolicyFlowsTo, ReaderPolicy, covers, flows, may_read, policy_allows, policy_flows};
 ghost use Rattle.labels.specs.Lattice.{IsLattice};
 ghost use Rattle.labels.specs.Sets.{SameSet};
 ghost use Rattle.principals.specs.ActsFor.{PrincipalHierarchy};
-ghost use Rattle.std.specs.Prelude.{IsTrue, [], ℕ, ◌&&◌, ◌++◌, ◌↔◌, ◌≡◌};
+ghost use Rattle.std.specs.Prelude.{All, Contains, IsTrue, List, [], ℕ, ◌&&◌, ◌++◌, ◌↔◌, ◌≡◌, ◌≢◌};
 
 /// Each test answers yes exactly where its relation holds.
 pub fn tests_decide()
     ensures allows { (h : PrincipalHierarchy) (p : ℕ) (policy : ReaderPolicy) →
-        IsTrue (policy_allows h p policy) ↔ Allows h policy p }
+        IsTrue (policy_allows h p policy) ↔ PolicyAllows h p policy }
     ensures reads { (h : PrincipalHierarchy) (p : ℕ) (label : Label) → IsTrue (may_read h p label) ↔ MayRead h p label }
     ensures policy { (h : PrincipalHierarchy) (from to : ReaderPolicy) →
         IsTrue (policy_flows h from to) ↔ PolicyFlowsTo h from to }
@@ -19,10 +20,12 @@ pub fn tests_decide()
 {}
 
 /// Under each hierarchy flow is reflexive and transitive, the union is a least upper bound of two labels, and the empty label
-/// flows everywhere.
+/// flows everywhere. So too with the join in canonical form.
 pub fn labels_form_a_lattice()
     ensures relation { (h : PrincipalHierarchy) → IsLattice (FlowsTo h) ◌++◌ [] }
     ensures test { (h : PrincipalHierarchy) → IsLattice (λ a b. IsTrue (flows h a b)) ◌++◌ [] }
+    ensures canonical_relation { (h : PrincipalHierarchy) → IsLattice (FlowsTo h) joined [] }
+    ensures canonical_test { (h : PrincipalHierarchy) → IsLattice (λ a b. IsTrue (flows h a b)) joined [] }
 {}
 
 /// The soundness of the whole model: where a label flows to another one, every reader of the other one reads it.
@@ -39,14 +42,42 @@ pub fn join_is_read_by_readers_of_both()
         MayRead h p (a ++ b) ↔ (MayRead h p a × MayRead h p b) }
     ensures test { (h : PrincipalHierarchy) (p : ℕ) (a b : Label) →
         may_read h p (a ++ b) ≡ (may_read h p a && may_read h p b) }
+    ensures canonical { (h : PrincipalHierarchy) (p : ℕ) (a b : Label) →
+        MayRead h p (joined a b) ↔ (MayRead h p a × MayRead h p b) }
     ensures least { (h : PrincipalHierarchy) (p : ℕ) → MayRead h p [] }
 {}
 
 /// Only the set of a label's policies counts, not their order and not how often each stands there.
 pub fn only_the_set_of_policies_counts()
-    ensures reads_relation { (h : PrincipalHierarchy) (p : ℕ) (a b : Label) → SameSet a b → MayRead h p a ↔ MayRead h p b }
-    ensures reads_test { (h : PrincipalHierarchy) (p : ℕ) (a b : Label) → SameSet a b → may_read h p a ≡ may_read h p b }
+    ensures reads_relation { (h : PrincipalHierarchy) (p : ℕ) (a b : Label) → SameSet a b →
+        MayRead h p a ↔ MayRead h p b }
+    ensures reads_test { (h : PrincipalHierarchy) (p : ℕ) (a b : Label) → SameSet a b →
+        may_read h p a ≡ may_read h p b }
     ensures flow_relation { (h : PrincipalHierarchy) (a b c d : Label) → SameSet a b → SameSet c d →
         FlowsTo h a c ↔ FlowsTo h b d }
-    ensures flow_test { (h : PrincipalHierarchy) (a b c d : Label) → SameSet a b → SameSet c d → flows h a c ≡ flows h b d }
+    ensures flow_test { (h : PrincipalHierarchy) (a b c d : Label) → SameSet a b → SameSet c d →
+        flows h a c ≡ flows h b d }
+{}
+
+/// A written policy is kept without a loss: it has the readers that are written but its owner, allows whom the policy as it is
+/// written allows, and each of the two flows to the other.
+pub fn written_policy_keeps_its_meaning()
+    ensures readers { (owner : ℕ) (readers : List ℕ) (reader : ℕ) →
+        Contains (written_policy owner readers).readers reader ↔ (Contains readers reader × (reader ≢ owner)) }
+    ensures canonical { (owner : ℕ) (readers : List ℕ) → IsCanonicalPolicy (written_policy owner readers) }
+    ensures allows { (h : PrincipalHierarchy) (owner : ℕ) (readers : List ℕ) (p : ℕ) →
+        PolicyAllows h p (written_policy owner readers) ↔ PolicyAllows h p (record { owner = owner; readers = readers }) }
+    ensures flow { (h : PrincipalHierarchy) (owner : ℕ) (readers : List ℕ) →
+        PolicyFlowsTo h (written_policy owner readers) (record { owner = owner; readers = readers })
+        × PolicyFlowsTo h (record { owner = owner; readers = readers }) (written_policy owner readers) }
+{}
+
+/// A written label is kept without a loss, and so is a join: each is the set of the policies that it is made of. Two canonical
+/// labels that are the same set are equal.
+pub fn written_label_keeps_its_policies()
+    ensures written { (policies : List ReaderPolicy) → SameSet (written_label policies) policies }
+    ensures joined { (left right : Label) → SameSet (joined left right) (left ++ right) }
+    ensures canonical { (policies : List ReaderPolicy) → All IsCanonicalPolicy policies →
+        IsCanonicalLabel (written_label policies) }
+    ensures unique { (a b : Label) → IsCanonicalLabel a → IsCanonicalLabel b → SameSet a b → a ≡ b }
 {}

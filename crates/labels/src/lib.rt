@@ -5,11 +5,16 @@ pub mod joins;
 pub mod label_sets;
 pub mod laws;
 pub mod policies;
+pub mod printed;
 pub mod rules;
 pub mod sent;
 
 pub use joins::join;
 pub use label_sets::Label;
 pub use policies::Policy;
+pub use printed::PrintedLabel;
 pub use rules::{flows, may_read};
 pub use sent::Pair;
+
+#[cfg(test)]
+mod examples;

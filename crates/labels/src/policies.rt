@@ -10,8 +10,8 @@ use std::alloc::AllocError;
 use std::cmp::Ordering;
 use std::marker::Model;
 
-/// An owner, and the readers whom it allows beside itself. The readers ascend, each once, and leave out the owner, who reads
-/// anyway.
+/// A policy of the decentralized label model (Myers and Liskov 1997): an owner, and the readers whom it allows beside itself,
+/// by the numbers of principals. The readers ascend, each once, and leave out the owner, who reads anyway.
 #[derive(Debug, Drop)]
 pub struct Policy {
     owner: u32,
@@ -48,7 +48,7 @@ impl Policy {
         readers.sort_unstable();
         readers.dedup();
         readers.retain(|reader| *reader != owner);
-        Policy { owner, readers }
+        Policy::of(owner, readers)
     }
 
     /// The owner's number.
@@ -71,9 +71,10 @@ impl Clone for Policy {
     ghost is_clone = { λ policy copy. copy ≡ policy };
 
     fn clone(&self) -> Result<Policy, AllocError> {
+        let Policy { owner, readers } = self;
         Ok(Policy {
-            owner: self.owner,
-            readers: self.readers.clone()?,
+            owner: *owner,
+            readers: readers.clone()?,
         })
     }
 }
@@ -115,8 +116,9 @@ impl Ord for Policy {
     ghost matches_eq = { λ _ _. refl };
 
     fn cmp(&self, other: &Policy) -> Ordering {
-        self.owner
+        let Policy { owner, readers } = self;
+        owner
             .cmp(&other.owner)
-            .then_with(|| self.readers.as_slice().cmp(&other.readers.as_slice()))
+            .then_with(|| readers.as_slice().cmp(&other.readers.as_slice()))
     }
 }

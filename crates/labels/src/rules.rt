@@ -1,5 +1,5 @@
 //! Who may read what a label guards, and what may flow where.
-ghost use Rattle.labels.specs.Label.{Allows, Covers, FlowsTo, MayRead, PolicyFlowsTo, covers, flows, may_read, policy_allows, policy_flows};
+ghost use Rattle.labels.specs.Label.{Covers, FlowsTo, MayRead, PolicyAllows, PolicyFlowsTo, covers, flows, may_read, policy_allows, policy_flows};
 ghost use Rattle.principals.specs.ActsFor.{acts_for};
 ghost use Rattle.std.specs.List.{list_all, list_any};
 ghost use Rattle.std.specs.Prelude.{IsTrue, ◌↔◌, ◌≡◌};
@@ -38,7 +38,7 @@ fn covers_each(hierarchy: &Hierarchy, label: &Label, policies: &[Policy]) -> boo
 impl Policy {
     /// Whether the policy allows a principal to read: it acts for the owner or for some reader. It takes no memory.
     pub fn allows(&self, hierarchy: &Hierarchy, principal: u32) -> bool
-        ensures allows { IsTrue result ↔ Allows hierarchy.now self.now principal }
+        ensures allows { IsTrue result ↔ PolicyAllows hierarchy.now principal self.now }
         ensures test { result ≡ policy_allows hierarchy.now principal self.now }
     {
         hierarchy.acts_for(principal, self.owner())
@@ -68,7 +68,8 @@ impl Label {
     }
 }
 
-/// Whether a label flows to another one: the other one covers each of its policies. It takes no memory.
+/// Whether a label flows to another one: the other one covers each of its policies. It takes no memory. This is the complete
+/// relabelling rule of the decentralized label model (Myers and Liskov 2000).
 pub fn flows(hierarchy: &Hierarchy, from: &Label, to: &Label) -> bool
     ensures flows { IsTrue result ↔ FlowsTo hierarchy.now from.now to.now }
     ensures test { result ≡ flows hierarchy.now from.now to.now }
@@ -76,7 +77,8 @@ pub fn flows(hierarchy: &Hierarchy, from: &Label, to: &Label) -> bool
     covers_each(hierarchy, to, from.policies())
 }
 
-/// Whether a principal may read what a label guards: each policy of the label allows it. It takes no memory.
+/// Whether a principal may read what a label guards: each policy of the label allows it. It takes no memory. A number that is
+/// no principal acts for itself alone (Myers and Liskov 1997).
 pub fn may_read(hierarchy: &Hierarchy, principal: u32, label: &Label) -> bool
     ensures reads { IsTrue result ↔ MayRead hierarchy.now principal label.now }
     ensures test { result ≡ may_read hierarchy.now principal label.now }

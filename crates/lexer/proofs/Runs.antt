@@ -1,5 +1,5 @@
 -- Two ways to part one list.
-use Rattle.std.proofs.Common.{◌≡◌, ℕ, ◌+◌, ◌<◌, ◌≤◌, ◌&&◌, Bool, true, false, List, [], ◌∷◌, ◌++◌, length, refl, sym, ap, subst, ◌∙◌, arith, length-append}
+use Rattle.std.proofs.Common.{◌≡◌, ℕ, ◌+◌, ◌≤◌, Bool, true, false, List, [], ◌∷◌, ◌++◌, length, refl, sym, ap, subst, ◌∙◌, arith, length-append}
 use Rattle.std.specs.List.{list_all}
 use Rattle.std.proofs.lemmas.Bool.{and_parts, both_ways}
 
@@ -47,3 +47,9 @@ same_front (c ∷ a) r (d ∷ b) m e same =
 -- no front is longer than the list
 pub whole_longest : (a b m : List ℕ) → a ≡ b ++ m → length b ≤ length a
 whole_longest a b m e = let n : length a ≡ length b + length m = ap length e ∙ length-append b m in omega arith
+
+-- what stands before one tail is the same
+pub same_before : (a b r : List ℕ) → a ++ r ≡ b ++ r → a ≡ b
+same_before a b r e =
+    let n : length a + length r ≡ length b + length r = sym (length-append a r) ∙ (ap length e ∙ length-append b r) in
+    (same_front a r b r e (omega arith)).0

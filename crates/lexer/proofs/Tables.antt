@@ -1,11 +1,10 @@
 -- Texts in tables: what passes a test in each row holds of a text that was found.
-use Rattle.std.proofs.Common.{◌≡◌, ℕ, ◌<◌, Bool, true, false, cond, ◌&&◌, List, [], ◌∷◌, Option, Some, None, refl, sym, ap, subst, ◌∙◌, inl, inr}
-use Rattle.std.proofs.lemmas.Bool.{cases_Bool, and_parts, cond-true, cond-false, ltb-true}
+use Rattle.std.proofs.Common.{◌≡◌, ℕ, Bool, true, cond, List, [], ◌∷◌, Some, refl, sym, ap, subst, ◌∙◌, inl, inr}
+use Rattle.std.proofs.lemmas.Bool.{cases_Bool, and_parts, cond-false, ltb-true}
 use Rattle.std.proofs.lemmas.Bool.Decides.{same_from_decides}
 use Rattle.std.proofs.lemmas.Slice.Eq.{bytes_eq-Decides}
 use Rattle.std.proofs.lemmas.Str.{chars-IsAscii, encodes-IsAscii, encodes-chars}
 use Rattle.std.proofs.lemmas.Str.Ascii.{IsAscii-nil, IsAscii-cons}
-use Rattle.std.specs.Bool.{Decides}
 use Rattle.std.specs.Char.{is_ascii}
 use Rattle.std.specs.List.{list_all}
 use Rattle.std.specs.Map.{lookup}
@@ -17,7 +16,7 @@ pub found_passes : {K : Type 0} (test : List ℕ → Bool) (table : List (List �
 found_passes test [] all cs kind found = absurd cc
 found_passes {K} test (row ∷ rows) all cs kind found =
     elim (cases_Bool (bytes_eq cs row.0)) [
-      inl same ↦ subst (λ x. test x ≡ true) (sym ((bytes_eq-Decides cs row.0).0 same)) (and_parts _ _ all).0
+      | inl same ↦ subst (λ x. test x ≡ true) (sym ((bytes_eq-Decides cs row.0).0 same)) (and_parts _ _ all).0
       | inr other ↦ found_passes test rows (and_parts _ _ all).1 cs kind (sym (cond-false (bytes_eq cs row.0) (Some row.1) (lookup (bytes_eq cs) rows) other) ∙ found)
     ]
 

@@ -14,7 +14,7 @@ pub record IsNext (text : List ℕ) (lexeme : Lexeme) (front rest : List ℕ) : 
   pub parts : text ≡ front ++ rest
   pub is : IsLexeme lexeme front
   pub longest : (other : Lexeme) (longer more : List ℕ) → IsLexeme other longer → text ≡ longer ++ more
-    → length longer ≤ length front
+      → length longer ≤ length front
 
 -- how many bytes the characters take
 abbrev pub size : List ℕ → ℕ
@@ -26,12 +26,15 @@ terminal_at start kind cs = record { kind = kind; text = encode_utf8_all cs; sta
 
 -- `text` begins at the byte `start`; its front is cut into `tokens`; `rest` is left, and begins at the byte `end`
 pub data Cuts : ℕ → List ℕ → List Terminal → ℕ → List ℕ → Type 0 where
+  -- nothing is cut off
   Nothing : (start : ℕ) (text : List ℕ) → Cuts start text [] start text
+  -- the next lexeme is a token, and the cut goes on behind it
   Token : (start : ℕ) (text : List ℕ) (kind : Kind) (front left : List ℕ) (tokens : List Terminal) (end : ℕ)
-    (rest : List ℕ) → IsNext text (Word kind) front left → Cuts (start + size front) left tokens end rest
-    → Cuts start text (terminal_at start kind front ∷ tokens) end rest
+      (rest : List ℕ) → IsNext text (Word kind) front left → Cuts (start + size front) left tokens end rest
+      → Cuts start text (terminal_at start kind front ∷ tokens) end rest
+  -- the next lexeme gives no token, and the cut goes on behind it
   Between : (start : ℕ) (text front left : List ℕ) (tokens : List Terminal) (end : ℕ) (rest : List ℕ)
-    → IsNext text Gap front left → Cuts (start + size front) left tokens end rest → Cuts start text tokens end rest
+      → IsNext text Gap front left → Cuts (start + size front) left tokens end rest → Cuts start text tokens end rest
 
 -- the tokens of the whole text, with the end marker behind them
 pub record IsCut (text : List ℕ) (tokens : List Terminal) : Type 0 where

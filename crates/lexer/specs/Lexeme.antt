@@ -1,5 +1,6 @@
--- What may stand at the front of a text: a token, white space, a comment, or one of two pieces that are refused.
--- Source: the usual notion of a lexeme; which there are is our own.
+-- Lexemes: the pieces of which a text is made, as tokens, white space and comments, and two that are refused.
+-- A text is the list of its characters, each by its code.
+-- Source: the usual notion of a lexeme in lexical analysis; which lexemes there are is our own.
 use Rattle.std.specs.Prelude.{◌≡◌, ◌≢◌, ℕ, ◌<◌, ◌≤◌, ◌==◌, not, List, [], ◌∷◌, ◌++◌, Option, Some, bytes_eq, codes, length, IsTrue}
 use Rattle.std.specs.Char.{is_ascii_digit}
 use Rattle.std.specs.List.{list_all}
@@ -46,22 +47,35 @@ pub record IsClosed (cs : List ℕ) : Type 0 where
   pub ends : cs ≡ inner ++ codes "*/"
   pub once : (before after : List ℕ) → cs ≡ before ++ (codes "*/" ++ after) → after ≡ []
 
--- what a lexeme is: a token of a kind, a gap between tokens, an integer above the greatest, a comment without an end
+-- what a lexeme is
 pub data Lexeme : Type 0 where
+  -- a token of this kind
   Word : Kind → Lexeme
+  -- white space or a comment, which give no token
   Gap : Lexeme
+  -- an integer above the greatest, which is refused
   LargeLiteral : Lexeme
+  -- a comment without an end, which is refused
   OpenComment : Lexeme
 
 -- the characters are such a lexeme
 pub data IsLexeme : Lexeme → List ℕ → Type 0 where
+  -- one character of white space
   Blank : (c : ℕ) → IsTrue (is_white_space c) → IsLexeme Gap (c ∷ [])
+  -- `//` and characters of the same line
   LineComment : (cs : List ℕ) → IsInLine cs → IsLexeme Gap (codes "//" ++ cs)
+  -- `/*` and what follows up to the first `*/`
   BlockComment : (cs : List ℕ) → IsClosed cs → IsLexeme Gap (codes "/*" ++ cs)
+  -- `/*` and what follows, where no `*/` stands
   Unended : (cs : List ℕ) → IsOpen cs → IsLexeme OpenComment (codes "/*" ++ cs)
+  -- a word of the table of keywords
   Keyword : (cs : List ℕ) (kind : Kind) → keyword_of cs ≡ Some kind → IsLexeme (Word kind) cs
+  -- an identifier that is no keyword
   Identifier : (cs : List ℕ) → IsTrue (is_name cs) → IsLexeme (Word Name) cs
+  -- decimal digits, read in decimal
   Literal : (cs : List ℕ) → IsNumeral cs → digits_value 10 cs ≤ greatest_literal
-    → IsLexeme (Word (Integer (digits_value 10 cs))) cs
+      → IsLexeme (Word (Integer (digits_value 10 cs))) cs
+  -- decimal digits of a number above the greatest
   TooLarge : (cs : List ℕ) → IsNumeral cs → greatest_literal < digits_value 10 cs → IsLexeme LargeLiteral cs
+  -- a sign of the table
   Sign : (cs : List ℕ) (kind : Kind) → sign_of cs ≡ Some kind → IsLexeme (Word kind) cs

@@ -1,3 +1,7 @@
+ghost use Rattle.std.specs.Prelude.{◌≡◌};
+ghost use Rattle.lexer.specs.declared.fault.LexFault.TheVariants.{NoMemory};
+
+use std::alloc::AllocFailed;
 use thiserror::Error;
 
 /// Why a text gave no tokens. Each place is a byte of the text.
@@ -15,4 +19,12 @@ pub enum LexFault {
     /// At this byte a comment opens that never ends.
     #[error("open comment")]
     UnclosedComment(usize),
+}
+
+impl<T: Drop> From<AllocFailed<T>> for LexFault {
+    ghost from_gives = { λ _ fault. fault ≡ NoMemory };
+
+    fn from(_failed: AllocFailed<T>) -> LexFault {
+        LexFault::NoMemory
+    }
 }

@@ -1,12 +1,21 @@
-//! Tokens of a text by longest match, and places in it.
+//! Tokens of a text by longest match, names, and places in a text.
+//!
+//! [`lex`] cuts a text into tokens or tells its first refusal; [`is_name`] tests a whole text for
+//! one name; [`place`] tells the line and the column of a byte.
 #![tactic(auto)]
 
 pub mod fault;
+pub mod lexing;
 pub mod names;
+mod pieces;
 pub mod places;
 pub mod token;
 
 pub use fault::LexFault;
+pub use lexing::{lex, one_reading};
 pub use names::is_name;
 pub use places::place;
 pub use token::{Kind, Place, Span, Token};
+
+#[cfg(test)]
+mod tests;

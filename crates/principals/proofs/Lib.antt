@@ -4,3 +4,7 @@ mod Paths
 mod Rows
 pub mod Names
 mod Inclusion
+mod Automaton
+mod Building
+mod Uniqueness
+mod Spots

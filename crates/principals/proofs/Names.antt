@@ -1,5 +1,5 @@
 -- Names and their numbers.
-use Rattle.std.proofs.Common.{◌≡◌, ◌≢◌, ◌↔◌, ◌⊎◌, ℕ, ◌+◌, ◌<◌, ◌≤◌, Bool, false, not, cond, ltb, List, [], ◌∷◌, map, length, get_or, take, Option, None, Some, String, Global, refl, sym, ap, ◌∙◌, subst, ⊎_elim, inl, inr, arith, lt-ltb, length-take-le, get_or-take}
+use Rattle.std.proofs.Common.{◌≡◌, ◌≢◌, ◌↔◌, ◌⊎◌, ℕ, ◌+◌, ◌<◌, ◌≤◌, Bool, true, false, not, cond, ltb, List, [], ◌∷◌, map, length, get_or, take, Option, None, Some, String, Global, refl, sym, ap, ◌∙◌, subst, ⊎_elim, inl, inr, arith, lt-ltb, length-take-le, get_or-take}
 use Rattle.std.specs.Prelude.{Contains, slice_get, position, bytes_eq, string_bytes}
 use Rattle.std.proofs.lemmas.List.Elements.{length_all_zip}
 use Rattle.std.specs.List.{AllZip, list_any, prefix_len, position_or_len}
@@ -12,7 +12,9 @@ use Rattle.std.proofs.lemmas.List.Quantifiers.{position-Some}
 use Rattle.std.proofs.lemmas.List.Sums.{position_or_len_is}
 use Rattle.std.proofs.lemmas.Option.{none-some, slice_get_within, slice_get-get_or, get_or_from_slice_get}
 use Rattle.std.proofs.lemmas.Slice.Eq.{bytes_eq-Decides}
+use Rattle.std.proofs.lemmas.Bool.{or_cases, or_left, or_right, false≢true}
 use Rattle.principals.specs.ActsFor.{AllDifferent}
+use Rattle.principals.proofs.Closure.{none_in_nil, Contains-cons_cases, Contains-first, Contains-later}
 
 -- ---- names that are all different
 
@@ -126,3 +128,21 @@ bytes_at bytes xs k d name h =
     let within : k < length (map bytes xs) = slice_get_within (map bytes xs) k name h in
     let inside : k < length xs = omega (arith, length-map xs bytes) in
     (inside, sym (get_or_from_slice_get (map bytes xs) k name name h) ∙ get_or-map bytes xs k d name inside)
+
+-- a name is found among texts exactly where the list of their bytes contains it
+pub listed_iff : {X : Type 0} (bytes : X → List ℕ) (xs : List X) (name : List ℕ) → (list_any (λ x. bytes_eq name (bytes x)) xs ≡ true) ↔ Contains (map bytes xs) name
+listed_iff bytes [] name = (λ h. cc, λ h. absurd (none_in_nil name h))
+listed_iff bytes (x ∷ xs) name =
+    let later = listed_iff bytes xs name in (
+      λ h. ⊎_elim
+          (λ e. subst (λ y. Contains (bytes x ∷ map bytes xs) y) (sym ((bytes_eq-Decides name (bytes x)).0 e)) (Contains-first (bytes x) (map bytes xs)))
+          (λ k. Contains-later (bytes x) (map bytes xs) name (later.0 k))
+          (or_cases (bytes_eq name (bytes x)) _ h),
+      λ h. ⊎_elim
+          (λ e. or_left (bytes_eq name (bytes x)) _ ((bytes_eq-Decides name (bytes x)).1 (sym e)))
+          (λ k. or_right (bytes_eq name (bytes x)) _ (later.1 k))
+          (Contains-cons_cases (bytes x) (map bytes xs) name h),
+    )
+
+pub not_listed : {X : Type 0} (bytes : X → List ℕ) (xs : List X) (name : List ℕ) → list_any (λ x. bytes_eq name (bytes x)) xs ≡ false → Contains (map bytes xs) name → ⊥
+not_listed bytes xs name h c = false≢true (sym h ∙ (listed_iff bytes xs name).1 c)

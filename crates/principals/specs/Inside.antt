@@ -1,12 +1,12 @@
 -- What a hierarchy keeps inside. Our own.
-use Rattle.std.specs.Prelude.{◌≡◌, ℕ, ◌<◌, length, map, string_bytes}
+use Rattle.std.specs.Prelude.{◌≡◌, ℕ, ◌<◌, length}
 use Rattle.principals.specs.ActsFor.{PrincipalHierarchy, IsHierarchy, acts_for}
-use Rattle.principals.specs.Table.{related}
+use Rattle.principals.specs.Table.{names_of, related}
 use Rattle.principals.specs.declared.Hierarchy.TheInside.{Inside}
 
 -- the names in the order of their numbers, and the written pairs
 abbrev pub hierarchy_of : Inside → PrincipalHierarchy
-hierarchy_of inside = record { names = map (λ name. string_bytes name) inside.names.keys; pairs = inside.pairs.items }
+hierarchy_of inside = record { names = names_of inside.names; pairs = inside.pairs.items }
 
 -- the table has a row for each principal, which answers acts-for
 pub record IsKept (inside : Inside) : Type 0 where

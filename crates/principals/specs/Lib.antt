@@ -1,3 +1,5 @@
 pub mod ActsFor
 pub mod Table
 pub mod Inside
+pub mod HierarchyText
+pub mod Reading

@@ -1,8 +1,14 @@
--- A table of bits, for the relation that a hierarchy is asked for. Our own.
-use Rattle.std.specs.Prelude.{ℕ, suc, zero, ◌/◌, ◌%◌, List, [], ◌∷◌, Bool, false, ◌&&◌, ◌||◌, ◌==◌, slice_index}
+-- What a hierarchy keeps its names in, and a table of bits for the relation that it is asked for. Our own.
+use Rattle.std.specs.Prelude.{String, string_bytes, map, ℕ, suc, zero, ◌/◌, ◌%◌, List, [], ◌∷◌, Bool, false, ◌&&◌, ◌||◌, ◌==◌, slice_index}
 use Rattle.std.specs.Int.{bit_at}
 use Rattle.std.specs.List.{list_any}
+use Rattle.std.specs.HashSet.{HashSet}
+use Rattle.std.specs.declared.alloc.Global.{Global}
 use Rattle.principals.specs.declared.row.Row.{Row}
+
+-- the bytes of a table's names, in their order
+abbrev pub names_of : {S : Type 0} → HashSet (String Global) S → List (List ℕ)
+names_of table = map (λ name. string_bytes name) table.keys
 
 -- whether the bit of a number is set in a row
 abbrev pub has : Row → ℕ → Bool

@@ -2,14 +2,21 @@
 #![tactic(auto)]
 
 ghost use Rattle.principals.specs.ActsFor.{acts_for, ActsFor, AllBelow, AllDifferent, HasName, IsHierarchy, number_of};
+ghost use Rattle.principals.specs.Table.{names_of};
 ghost use Rattle.std.specs.Prelude.{Contains, IfOk, IsTrue, None, Some, length, map, option_map, slice_get, string_bytes, vec_len, ℕ, ◌↔◌, ◌≡◌, ◌≤◌};
 
 mod contained;
+mod declaring;
+pub mod fault;
 pub mod laws;
+mod read;
+mod reading;
 mod row;
 mod table;
 
+pub use fault::HierFault;
 use indexmap::IndexSet;
+pub use read::GREATEST_TEXT;
 use row::Row;
 use std::alloc::{AllocError, Global};
 use std::marker::Model;
@@ -78,8 +85,23 @@ impl Hierarchy {
         ensures names { IfOk result (λ hierarchy. hierarchy.names ≡ map (λ name. string_bytes name) names.items) }
         ensures pairs { IfOk result (λ hierarchy. hierarchy.pairs ≡ pairs.items) }
     {
-        let table = table::closed(alloc, names.len() as u32, pairs.as_slice())?;
         let names = numbered(alloc, names)?;
+        Hierarchy::closed(alloc, names, pairs)
+    }
+
+    // The hierarchy of a table of names and of written pairs.
+    fn closed(
+        alloc: Global,
+        names: IndexSet<String>,
+        pairs: Vec<(u32, u32)>,
+    ) -> Result<Hierarchy, AllocError>
+        requires few { length (names_of names) ≤ 256 }
+        requires different { AllDifferent (names_of names) }
+        requires there { AllBelow (length (names_of names)) pairs.items }
+        ensures names { IfOk result (λ hierarchy. hierarchy.names ≡ names_of names) }
+        ensures pairs { IfOk result (λ hierarchy. hierarchy.pairs ≡ pairs.items) }
+    {
+        let table = table::closed(alloc, names.len() as u32, pairs.as_slice())?;
         Ok(Hierarchy {
             names,
             pairs,
@@ -141,3 +163,6 @@ impl Hierarchy {
         }
     }
 }
+
+#[cfg(test)]
+mod tests;

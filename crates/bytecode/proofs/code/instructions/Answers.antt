@@ -1,7 +1,5 @@
 use Rattle.std.proofs.lemmas.Result.{err_from_is_err_and}
 use Rattle.std.proofs.Common.{arith, length-append, ◌∷◌, []}
-use Rattle.bytecode.specs.Form.{code_at}
-use Rattle.bytecode.specs.Opcodes.{instructions}
 use Rattle.bytecode.proofs.Widths.{code_goes_on, code_fails, some_width}
 use Rattle.bytecode.proofs.code.instructions.Goals as goal
 

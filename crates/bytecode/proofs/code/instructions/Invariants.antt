@@ -1,4 +1,4 @@
-use Rattle.std.proofs.Common.{[], ℕ, length, ◌+◌, ◌-◌, ◌≡◌, ◌≤◌}
+use Rattle.std.proofs.Common.{[], length, ◌+◌, ◌-◌, ◌≡◌, ◌≤◌}
 use Rattle.bytecode.specs.Form.{code_at}
 use Rattle.bytecode.specs.Opcodes.{instructions}
 use Rattle.bytecode.proofs.code.instructions.Given as goal

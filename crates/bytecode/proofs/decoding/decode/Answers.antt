@@ -1,5 +1,4 @@
-use Rattle.std.proofs.Common.{Err, Ok, arith, sym, ◌∙◌, ◌≡◌}
-use Rattle.bytecode.specs.Contents.{ModuleContents}
+use Rattle.std.proofs.Common.{Err, arith, sym, ◌∙◌, ◌≡◌}
 use Rattle.bytecode.specs.Form.{read_all}
 use Rattle.bytecode.specs.Format.{module_file}
 use Rattle.bytecode.specs.Reading.{contents_of}

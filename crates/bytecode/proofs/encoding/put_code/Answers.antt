@@ -1,5 +1,5 @@
-use Rattle.std.proofs.Common.{List, arith, length, subst, ◌++◌, ◌∙◌, ◌≡◌, ℕ}
-use Rattle.bytecode.specs.Writing.{code_bytes, number_bytes}
+use Rattle.std.proofs.Common.{arith, subst, ◌++◌, ◌∙◌, ◌≡◌, ℕ}
+use Rattle.bytecode.specs.Writing.{number_bytes}
 use Rattle.bytecode.proofs.Written.{code_size-is}
 use Rattle.bytecode.proofs.encoding.put_code.Goals as goal
 

@@ -1,12 +1,9 @@
-use Rattle.std.proofs.Common.{[], List, ℕ, ap, sym, ◌++◌, ◌∙◌, ◌∷◌, ◌≡◌}
+use Rattle.std.proofs.Common.{[], ◌++◌, ◌∷◌, ◌≡◌}
 use Rattle.std.specs.BTreeSet.{contains_text}
 use Rattle.std.proofs.lemmas.List.{map_push}
 use Rattle.std.proofs.lemmas.Result.{err_from_is_err_and}
 use Rattle.std.specs.String.{string_bytes}
-use Rattle.bytecode.specs.Form.{Read, each_at, read}
-use Rattle.bytecode.specs.Format.{name_after}
 use Rattle.bytecode.specs.Reading.{texts}
-use Rattle.bytecode.proofs.Loop.{each_fails, each_goes_on}
 use Rattle.bytecode.proofs.NewNames.{in_set_more, names_fails, names_go_on}
 use Rattle.bytecode.proofs.names.names.Goals as goal
 

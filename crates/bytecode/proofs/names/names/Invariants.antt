@@ -1,4 +1,4 @@
-use Rattle.std.proofs.Common.{[], Bool, List, ℕ, ◌-◌, ◌||◌, ◌≡◌}
+use Rattle.std.proofs.Common.{[], List, ℕ, ◌-◌, ◌||◌, ◌≡◌}
 use Rattle.std.specs.BTreeSet.{contains_text}
 use Rattle.bytecode.specs.Form.{each_at, read}
 use Rattle.bytecode.specs.Format.{is_among, name_after}

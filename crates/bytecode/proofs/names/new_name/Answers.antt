@@ -1,4 +1,4 @@
-use Rattle.std.proofs.Common.{ap, sym, ◌∙◌, List, ℕ}
+use Rattle.std.proofs.Common.{ap, sym, ◌∙◌}
 use Rattle.lexer.specs.Words.{is_name_text}
 use Rattle.std.specs.BTreeSet.{contains_text}
 use Rattle.bytecode.proofs.NewNames.{no_text, is_new, no_name, not_new}

@@ -1,5 +1,4 @@
 use Rattle.std.proofs.Common.{arith}
-use Rattle.bytecode.specs.Form.{Fits}
 use Rattle.bytecode.specs.Format.{label}
 use Rattle.bytecode.proofs.Facts.{policies-ascend, policies-canonical}
 use Rattle.bytecode.proofs.Lawful.{label-coherent}

@@ -1,6 +1,4 @@
-use Rattle.std.proofs.Common.{rules}
 use Rattle.std.proofs.lemmas.Result.{err_from_is_err_and}
-use Rattle.bytecode.specs.Form.{each_at}
 use Rattle.bytecode.proofs.Loop.{each_goes_on, each_fails}
 use Rattle.bytecode.proofs.reading.each.Goals as goal
 

@@ -1,5 +1,6 @@
 use Rattle.labels.proofs.Flow.{MayRead-join, MayRead-join_left, MayRead-join_right, MayRead-least}
 use Rattle.labels.proofs.FlowTests.{may_read-join}
+use Rattle.labels.proofs.Joined.{MayRead-joined}
 use Rattle.labels.proofs.laws.join_is_read_by_readers_of_both.Goals as goal
 
 pub returns-clause-relation : goal.returns-clause-relation
@@ -11,3 +12,6 @@ returns-clause-test c = may_read-join
 
 pub returns-clause-least : goal.returns-clause-least
 returns-clause-least c = MayRead-least
+
+pub returns-clause-canonical : goal.returns-clause-canonical
+returns-clause-canonical c = MayRead-joined

@@ -1,9 +1,9 @@
-use Rattle.std.proofs.Common.{◌≡◌, ◌+◌, ◌==◌, ℕ, List, not, take, sym, ap, subst, ◌∙◌, map-id}
+use Rattle.std.proofs.Common.{◌≡◌, ◌+◌, ◌==◌, not, take, sym, ap, subst, ◌∙◌, map-id}
 use Rattle.std.proofs.lemmas.Iterator.{YieldsList-from_chars}
 use Rattle.std.proofs.lemmas.Iterator.Consumers.{YieldsList-end}
 use Rattle.std.proofs.lemmas.Str.{IsUtf8-take}
 use Rattle.std.specs.List.{suffix_len, count_by}
-use Rattle.std.specs.Str.{chars, IsUtf8, IsCharBoundary}
+use Rattle.std.specs.Str.{chars, IsUtf8}
 use Rattle.lexer.proofs.places.place.Goals as goal
 
 -- all characters before the place were seen

@@ -1,0 +1,477 @@
+-- Each end that the meaning gives is among the possible ends, and each exception of an expression among those that it can raise.
+use Rattle.std.proofs.Common.{arith, ◌≡◌, refl, sym, ap, ◌∙◌, ℕ, zero, suc, Bool, true, false, not, ◌&&◌, ◌||◌, List, [], ◌∷◌, ◌++◌, append_assoc, ⊎_elim, ℤ, pos, negsuc, neg_ℤ, ◌+ℤ◌}
+use Rattle.std.specs.Prelude.{Option, Some, None, if◌then◌else◌, ◌==◌, filter}
+use Rattle.std.specs.List.{list_any, list_all}
+use Rattle.std.proofs.lemmas.List.Folds.{list_any-append}
+use Rattle.std.proofs.lemmas.List.{append-nil}
+use Rattle.std.proofs.lemmas.Bool.{or_left, or_right, or_cases, and_parts, eq-eqb}
+use Rattle.std.proofs.lemmas.Map.Views.{any-filter_same}
+use Rattle.std.proofs.lemmas.Int.{int_wrap-add_right, int_wrap_fits, SFits-int_wrap}
+use Rattle.std.proofs.Math.IntN.{+ℤ_invr, +ℤ_idr}
+use Rattle.std.specs.Int.{int_wrap}
+use mir.Syntax.{w32}
+use Rattle.resolved.specs.declared.expression.Variable.{Variable}
+use Rattle.resolved.specs.declared.expression.Value.{Value}
+use Rattle.resolved.specs.declared.expression.Value.TheVariants.{Number, Truth}
+use Rattle.resolved.specs.declared.expression.Prefix.TheVariants.{Negate}
+use Rattle.resolved.specs.declared.expression.Operator.{Operator}
+use Rattle.resolved.specs.declared.expression.Operator.TheVariants.{Add, Subtract, Multiply, Divide, Remainder, LessThan, AtMost, GreaterThan, AtLeast, Equal, Unequal, Same, Different}
+use Rattle.resolved.specs.declared.statement.Exit.{Exit}
+use Rattle.resolved.specs.declared.statement.Exit.TheVariants.{Normal, Return, Break, Continue, Throw}
+use Rattle.resolved.specs.Tree.{Expression, Integer, Logical, Read, Element, Unary, Binary, Short, Statement, Assign, Clear, Store, Receive, Send, Call, If, While, Leave, ReturnWith, Try, Nested, Block, Empty, Then, Handlers, NoMore, Catch}
+use Rattle.resolved.specs.Program.{Program, procedure_at}
+use Rattle.resolved.specs.Value.{Evaluated, Gives, Raises, then_with, truth_in, number_in, wrapped, literal_number, is_zero, unless_zero, operator_value, decides, in_range, position_of, checked_index, arith_exception, bounds_exception, end_exception}
+use Rattle.resolved.specs.State.{State, value_of, values_of, cells, cell_at, assigned, stored, cleared}
+use Rattle.resolved.specs.Meaning.{OutOfTurns, Outcome, Ended, Stopped, normally, thrown, after, evaluated, looped, turns, caught, leaving, returned_to, received, sending, Calls, statement_meaning, block_meaning, handlers_meaning, frame_of, calls_with}
+use Rattle.resolved.specs.Ends.{same_exit, has_end, index_can_raise, divisor_can_raise, index_raises, operator_raises, raises, raises_all, thrown_ends, declared_by, leaves_loop, handles, passes, then_ends, statement_ends, block_ends, handlers_ends}
+use Rattle.resolved.specs.EndFaults.{may_end}
+use Rattle.isolation.specs.Runs.{EndsAmong}
+
+-- whether an exception is in a list
+abbrev pub raised_in : List ℕ → ℕ → Bool
+raised_in xs x = list_any (λ y. x == y) xs
+
+pub any-left : {X : Type 0} (p : X → Bool) (xs ys : List X) → list_any p xs ≡ true → list_any p (xs ++ ys) ≡ true
+any-left p xs ys h = list_any-append p xs ys ∙ or_left (list_any p xs) (list_any p ys) h
+
+pub any-right : {X : Type 0} (p : X → Bool) (xs ys : List X) → list_any p ys ≡ true → list_any p (xs ++ ys) ≡ true
+any-right p xs ys h = list_any-append p xs ys ∙ or_right (list_any p xs) (list_any p ys) h
+
+-- the exceptions among the ends are those of the list, and nothing else is
+pub thrown-is : (xs : List ℕ) (x : ℕ) → has_end (thrown_ends xs) (Throw x) ≡ raised_in xs x
+thrown-is [] x = refl
+thrown-is (y ∷ xs) x = ap (λ b. (x == y) || b) (thrown-is xs x)
+
+pub thrown-among : (xs : List ℕ) (x : ℕ) → raised_in xs x ≡ true → has_end (thrown_ends xs) (Throw x) ≡ true
+thrown-among xs x h = thrown-is xs x ∙ h
+
+-- ways out that the test takes for the same are the same
+pub same-exit : (a b : Exit) → same_exit a b ≡ true → a ≡ b
+same-exit Normal Normal h = refl
+same-exit Return Return h = refl
+same-exit Break Break h = refl
+same-exit Continue Continue h = refl
+same-exit (Throw a) (Throw b) h = ap (λ x. Throw x) (grind (arith, h))
+same-exit a b h = let e : true ≡ false = sym h in absurd (cc)
+
+pub same_exit-itself : (a : Exit) → same_exit a a ≡ true
+same_exit-itself Normal = refl
+same_exit-itself Return = refl
+same_exit-itself Break = refl
+same_exit-itself Continue = refl
+same_exit-itself (Throw a) = eq-eqb a a refl
+
+-- the ends of a list that pass a test
+pub end-filter : (p : Exit → Bool) (ends : List Exit) (exit : Exit) → has_end (filter p ends) exit ≡ (p exit && has_end ends exit)
+end-filter p ends exit = any-filter_same (same_exit exit) p (p exit) (λ e h. sym (ap p (same-exit exit e h))) ends
+
+-- the exceptions of what was evaluated are in a list
+pub record RaisesAmong {A : Type 0} (xs : List ℕ) (o : Evaluated A) : Type 0 where
+  pub among : (x : ℕ) → o ≡ Raises x → raised_in xs x ≡ true
+
+raises-none : {A : Type 0} (xs : List ℕ) (v : A) → RaisesAmong xs (Gives v)
+raises-none xs v = record { among = λ x e. absurd (cc) }
+
+raises-this : {A : Type 0} (xs : List ℕ) (y : ℕ) → raised_in xs y ≡ true → RaisesAmong {A = A} xs (Raises y)
+raises-this xs y h = record { among = λ x e. let f : y ≡ x = cc in rw (← f) h }
+
+raises-then : {A B : Type 0} (xs ys : List ℕ) (o : Evaluated A) (next : A → Evaluated B) → RaisesAmong xs o →
+    ((v : A) → o ≡ Gives v → RaisesAmong ys (next v)) → RaisesAmong (xs ++ ys) (then_with o next)
+raises-then xs ys (Gives v) next h rest = record { among = λ x e. any-right (λ y. x == y) xs ys ((rest v refl).among x e) }
+raises-then xs ys (Raises z) next h rest = raises-this (xs ++ ys) z (any-left (λ y. z == y) xs ys (h.among z refl))
+
+raises-more : {A : Type 0} (xs ys : List ℕ) (o : Evaluated A) → RaisesAmong xs o → RaisesAmong (xs ++ ys) o
+raises-more xs ys o h = record { among = λ x e. any-left (λ y. x == y) xs ys (h.among x e) }
+
+raises-last : {A : Type 0} (xs ys : List ℕ) (o : Evaluated A) → RaisesAmong ys o → RaisesAmong (xs ++ ys) o
+raises-last xs ys o h = record { among = λ x e. any-right (λ y. x == y) xs ys (h.among x e) }
+
+-- an index that cannot raise is in range
+pub index-in_range : (s : State) (index : Expression) (length : ℕ) (v : Value) → index_can_raise index length ≡ false →
+    value_of s index ≡ Gives v → in_range (number_in v) length ≡ true
+index-in_range s (Integer n) length v h e = go (in_range (literal_number n) length) refl
+  where
+    go : (b : Bool) → in_range (literal_number n) length ≡ b → in_range (number_in v) length ≡ true
+    go true f = let g : Number (literal_number n) ≡ v = cc in rw (← g) f
+    go false f = let i : true ≡ false = sym (ap not f) ∙ h in absurd (cc)
+index-in_range s other length v h e = let i : true ≡ false = h in absurd (cc)
+
+-- a divisor that cannot raise is not zero
+zero-is : (z : ℤ) → is_zero z ≡ true → z ≡ pos 0
+zero-is (pos n) h = ap (λ m. pos m) (grind (arith, h))
+zero-is (negsuc n) h = let e : true ≡ false = sym h in absurd (cc)
+
+negated-zero : (z : ℤ) → wrapped (neg_ℤ (wrapped z)) ≡ pos 0 → wrapped z ≡ pos 0
+unfolding int_wrap
+negated-zero z h =
+    let y : ℤ = wrapped z in
+    let fits : int_wrap w32 y ≡ y = int_wrap_fits w32 y (SFits-int_wrap w32 z) in
+    let right : int_wrap w32 (y +ℤ int_wrap w32 (neg_ℤ y)) ≡ int_wrap w32 (y +ℤ neg_ℤ y) = int_wrap-add_right w32 y (neg_ℤ y) in
+    sym fits ∙ sym (ap (λ a. int_wrap w32 a) (ap (λ b. y +ℤ b) h ∙ +ℤ_idr y)) ∙ right ∙ ap (λ a. int_wrap w32 a) (+ℤ_invr y)
+
+pub divisor-not_zero : (s : State) (e : Expression) (w : Value) → divisor_can_raise e ≡ false → value_of s e ≡ Gives w →
+    is_zero (number_in w) ≡ false
+divisor-not_zero s (Integer n) w h e =
+    let g : Number (literal_number n) ≡ w = cc in rw (← g) h
+divisor-not_zero s (Unary Negate (Integer n)) w h e = go (is_zero (wrapped (neg_ℤ (literal_number n)))) refl
+  where
+    go : (b : Bool) → is_zero (wrapped (neg_ℤ (literal_number n))) ≡ b → is_zero (number_in w) ≡ false
+    go false f = let g : Number (wrapped (neg_ℤ (literal_number n))) ≡ w = cc in rw (← g) f
+    go true f =
+        let zero : literal_number n ≡ pos 0 = negated-zero (pos n) (zero-is (wrapped (neg_ℤ (literal_number n))) f) in
+        let i : true ≡ false = sym (ap is_zero zero) ∙ h in absurd (cc)
+divisor-not_zero s other w h e = let i : true ≡ false = h in absurd (cc)
+
+raises-checked_index : (s : State) (index : Expression) (length : ℕ) (v : Value) → value_of s index ≡ Gives v →
+    RaisesAmong (index_raises index length) (checked_index v length)
+raises-checked_index s index length v e = go (index_can_raise index length) refl (in_range (number_in v) length) refl
+  where
+    go : (b : Bool) → index_can_raise index length ≡ b → (c : Bool) → in_range (number_in v) length ≡ c →
+        RaisesAmong (index_raises index length) (checked_index v length)
+    go b f true g = rw g (raises-none (index_raises index length) (position_of (number_in v)))
+    go true f false g = rw (f, g) (raises-this (bounds_exception ∷ []) bounds_exception refl)
+    go false f false g = let i : true ≡ false = sym (index-in_range s index length v f e) ∙ g in absurd (cc)
+
+raises-division : (s : State) (e : Expression) (w : Value) (result : ℤ) → value_of s e ≡ Gives w →
+    RaisesAmong (if divisor_can_raise e then arith_exception ∷ [] else []) (unless_zero (number_in w) result)
+raises-division s e w result f = go (divisor_can_raise e) refl (is_zero (number_in w)) refl
+  where
+    go : (b : Bool) → divisor_can_raise e ≡ b → (c : Bool) → is_zero (number_in w) ≡ c →
+        RaisesAmong (if divisor_can_raise e then arith_exception ∷ [] else []) (unless_zero (number_in w) result)
+    go b g false h = rw h (raises-none (if divisor_can_raise e then arith_exception ∷ [] else []) (Number (wrapped result)))
+    go true g true h = rw (g, h) (raises-this (arith_exception ∷ []) arith_exception refl)
+    go false g true h = let i : true ≡ false = sym h ∙ divisor-not_zero s e w g f in absurd (cc)
+
+raises-operator : (s : State) (operator : Operator) (e : Expression) (v w : Value) → value_of s e ≡ Gives w →
+    RaisesAmong (operator_raises operator e) (operator_value operator v w)
+raises-operator s Divide e v w f = raises-division s e w _ f
+raises-operator s Remainder e v w f = raises-division s e w _ f
+raises-operator s Add e v w f = raises-none [] _
+raises-operator s Subtract e v w f = raises-none [] _
+raises-operator s Multiply e v w f = raises-none [] _
+raises-operator s LessThan e v w f = raises-none [] _
+raises-operator s AtMost e v w f = raises-none [] _
+raises-operator s GreaterThan e v w f = raises-none [] _
+raises-operator s AtLeast e v w f = raises-none [] _
+raises-operator s Equal e v w f = raises-none [] _
+raises-operator s Unequal e v w f = raises-none [] _
+raises-operator s Same e v w f = raises-none [] _
+raises-operator s Different e v w f = raises-none [] _
+
+raises-if : {A : Type 0} (xs : List ℕ) (b : Bool) (o p : Evaluated A) → RaisesAmong xs o → RaisesAmong xs p →
+    RaisesAmong xs (if b then o else p)
+raises-if xs true o p h i = h
+raises-if xs false o p h i = i
+
+-- an expression raises only what it can raise
+pub expression-raises : (s : State) (e : Expression) → RaisesAmong (raises e) (value_of s e)
+expression-raises s (Integer n) = raises-none [] (Number (literal_number n))
+expression-raises s (Logical b) = raises-none [] (Truth b)
+expression-raises s (Read x) = raises-none [] (cell_at (cells s x) 0)
+expression-raises s (Element array length index) =
+    raises-then (raises index) (index_raises index length) (value_of s index)
+    (λ v. then_with (checked_index v length) (λ i. Gives (cell_at (cells s array) i))) (expression-raises s index) (λ v e.
+    rw (← append-nil (index_raises index length)) (raises-then (index_raises index length) [] (checked_index v length)
+    (λ i. Gives (cell_at (cells s array) i)) (raises-checked_index s index length v e)
+    (λ i f. raises-none [] (cell_at (cells s array) i))))
+expression-raises s (Unary prefix e) =
+    rw (← append-nil (raises e)) (raises-then (raises e) [] (value_of s e) _ (expression-raises s e) (λ v f. raises-none [] _))
+expression-raises s (Binary operator d e) =
+    rw append_assoc (raises-then (raises d) (raises e ++ operator_raises operator e) (value_of s d)
+    (λ v. then_with (value_of s e) (λ w. operator_value operator v w)) (expression-raises s d) (λ v f.
+    raises-then (raises e) (operator_raises operator e) (value_of s e) (λ w. operator_value operator v w) (expression-raises s e) (λ w g.
+    raises-operator s operator e v w g)))
+expression-raises s (Short connective d e) =
+    raises-then (raises d) (raises e) (value_of s d) (λ v. if decides connective v then Gives v else value_of s e) (expression-raises s d) (λ v f.
+    raises-if (raises e) (decides connective v) (Gives v) (value_of s e) (raises-none (raises e) v) (expression-raises s e))
+
+pub expressions-raise : (s : State) (es : List Expression) → RaisesAmong (raises_all es) (values_of s es)
+expressions-raise s [] = raises-none [] []
+expressions-raise s (e ∷ rest) =
+    raises-then (raises e) (raises_all rest) (value_of s e) (λ v. then_with (values_of s rest) (λ vs. Gives (v ∷ vs))) (expression-raises s e) (λ v f.
+    rw (← append-nil (raises_all rest)) (raises-then (raises_all rest) [] (values_of s rest) (λ vs. Gives (v ∷ vs))
+    (expressions-raise s rest) (λ vs g. raises-none [] (v ∷ vs))))
+
+-- the end of an outcome is in a list
+pub record Among (ends : List Exit) (o : Outcome) : Type 0 where
+  pub among : EndsAmong ends o
+
+among-more : (xs ys : List Exit) (o : Outcome) → ((exit : Exit) → has_end xs exit ≡ true → has_end ys exit ≡ true) → Among xs o →
+    Among ys o
+among-more xs ys (Ended exit r s) more h = record { among = more exit h.among }
+among-more xs ys (Stopped stop s) more h = record { among = tt }
+
+among-left : (xs ys : List Exit) (o : Outcome) → Among xs o → Among (xs ++ ys) o
+among-left xs ys o h = among-more xs (xs ++ ys) o (λ exit f. any-left (same_exit exit) xs ys f) h
+
+among-right : (xs ys : List Exit) (o : Outcome) → Among ys o → Among (xs ++ ys) o
+among-right xs ys o h = among-more ys (xs ++ ys) o (λ exit f. any-right (same_exit exit) xs ys f) h
+
+among-first : (exit : Exit) (rest : List Exit) (r : Option Value) (s : State) → Among (exit ∷ rest) (Ended exit r s)
+among-first exit rest r s = record { among = or_left (same_exit exit exit) (has_end rest exit) (same_exit-itself exit) }
+
+among-rest : (exit : Exit) (rest : List Exit) (o : Outcome) → Among rest o → Among (exit ∷ rest) o
+among-rest exit rest o h = among-more rest (exit ∷ rest) o (λ e f. or_right (same_exit e exit) (has_end rest e) f) h
+
+among-thrown : (xs : List ℕ) (x : ℕ) (s : State) → raised_in xs x ≡ true → Among (thrown_ends xs) (thrown x s)
+among-thrown xs x s h = record { among = thrown-among xs x h }
+
+among-evaluated : {A : Type 0} (xs : List ℕ) (ends : List Exit) (e : Evaluated A) (s : State) (next : A → Outcome) →
+    RaisesAmong xs e → ((exit : Exit) → has_end (thrown_ends xs) exit ≡ true → has_end ends exit ≡ true) →
+    ((v : A) → e ≡ Gives v → Among ends (next v)) → Among ends (evaluated e s next)
+among-evaluated xs ends (Gives v) s next h more rest = rest v refl
+among-evaluated xs ends (Raises x) s next h more rest = record { among = more (Throw x) (thrown-among xs x (h.among x refl)) }
+
+among-if : (ends : List Exit) (b : Bool) (x y : Outcome) → Among ends x → Among ends y → Among ends (if b then x else y)
+among-if ends true x y h i = h
+among-if ends false x y h i = i
+
+-- an end other than the normal one is an end of what follows too
+then-other : (first rest : List Exit) (exit : Exit) → same_exit Normal exit ≡ false → has_end first exit ≡ true →
+    has_end (then_ends first rest) exit ≡ true
+then-other first rest exit other h = go (has_end first Normal) refl
+  where
+    go : (b : Bool) → has_end first Normal ≡ b → has_end (then_ends first rest) exit ≡ true
+    go true e = rw e (any-left (same_exit exit) (filter (λ x. not (same_exit Normal x)) first) rest
+        (end-filter (λ x. not (same_exit Normal x)) first exit ∙ rw (other, h) refl))
+    go false e = rw e h
+
+then-normal : (first rest : List Exit) (o : Outcome) → has_end first Normal ≡ true → Among rest o → Among (then_ends first rest) o
+then-normal first rest o h among = rw h (among-right (filter (λ x. not (same_exit Normal x)) first) rest o among)
+
+among-after : (first rest : List Exit) (o : Outcome) (next : State → Outcome) → Among first o →
+    ((t : State) → Among rest (next t)) → Among (then_ends first rest) (after o next)
+among-after first rest (Ended Normal r s) next h onward = then-normal first rest (next s) h.among (onward s)
+among-after first rest (Ended Return r s) next h onward = record { among = then-other first rest Return refl h.among }
+among-after first rest (Ended Break r s) next h onward = record { among = then-other first rest Break refl h.among }
+among-after first rest (Ended Continue r s) next h onward = record { among = then-other first rest Continue refl h.among }
+among-after first rest (Ended (Throw x) r s) next h onward = record { among = then-other first rest (Throw x) refl h.among }
+among-after first rest (Stopped stop s) next h onward = record { among = tt }
+
+-- the ends of a loop, by the exceptions of its condition and the ends of its body
+abbrev loop_ends : List ℕ → List Exit → List Exit
+loop_ends xs body = Normal ∷ (thrown_ends xs ++ filter leaves_loop body)
+
+loop-leaving : (xs : List ℕ) (body : List Exit) (exit : Exit) → leaves_loop exit ≡ true → has_end body exit ≡ true →
+    has_end (loop_ends xs body) exit ≡ true
+loop-leaving xs body exit leaves h =
+    or_right (same_exit exit Normal) (has_end (thrown_ends xs ++ filter leaves_loop body) exit)
+    (any-right (same_exit exit) (thrown_ends xs) (filter leaves_loop body) (end-filter leaves_loop body exit ∙ rw (leaves, h) refl))
+
+among-looped : (xs : List ℕ) (body : List Exit) (o : Outcome) (again : State → Outcome) → Among body o →
+    ((t : State) → Among (loop_ends xs body) (again t)) → Among (loop_ends xs body) (looped o again)
+among-looped xs body (Ended Normal r s) again h onward = onward s
+among-looped xs body (Ended Return r s) again h onward = record { among = loop-leaving xs body Return refl h.among }
+among-looped xs body (Ended Break r s) again h onward = record { among = refl }
+among-looped xs body (Ended Continue r s) again h onward = onward s
+among-looped xs body (Ended (Throw x) r s) again h onward = record { among = loop-leaving xs body (Throw x) refl h.among }
+among-looped xs body (Stopped stop s) again h onward = record { among = tt }
+
+loop-thrown : (xs : List ℕ) (body : List Exit) (exit : Exit) → has_end (thrown_ends xs) exit ≡ true →
+    has_end (loop_ends xs body) exit ≡ true
+loop-thrown xs body exit h =
+    or_right (same_exit exit Normal) (has_end (thrown_ends xs ++ filter leaves_loop body) exit)
+    (any-left (same_exit exit) (thrown_ends xs) (filter leaves_loop body) h)
+
+among-turns : (k : ℕ) (xs : List ℕ) (ends : List Exit) (condition : State → Evaluated Value) (body : State → Outcome) →
+    ((t : State) → RaisesAmong xs (condition t)) → ((t : State) → Among ends (body t)) → (s : State) →
+    Among (loop_ends xs ends) (turns k condition body s)
+among-turns zero xs ends condition body raised h s =
+    among-evaluated xs (loop_ends xs ends) (condition s) s (λ v. if truth_in v then Stopped OutOfTurns s else normally s) (raised s)
+    (loop-thrown xs ends) (λ v e.
+    among-if (loop_ends xs ends) (truth_in v) (Stopped OutOfTurns s) (normally s) (record { among = tt }) (record { among = refl }))
+among-turns (suc k) xs ends condition body raised h s =
+    among-evaluated xs (loop_ends xs ends) (condition s) s (λ v. if truth_in v then looped (body s)
+    (turns k condition body) else normally s) (raised s) (loop-thrown xs ends) (λ v e.
+    among-if (loop_ends xs ends) (truth_in v) (looped (body s) (turns k condition body)) (normally s)
+    (among-looped xs ends (body s) (turns k condition body) (h s) (among-turns k xs ends condition body raised h))
+    (record { among = refl }))
+
+-- an end that passes the handlers
+try-passing : (handlers : Handlers) (block others : List Exit) (exit : Exit) → passes handlers exit ≡ true →
+    has_end block exit ≡ true → has_end (filter (passes handlers) block ++ others) exit ≡ true
+try-passing handlers block others exit passing h =
+    any-left (same_exit exit) (filter (passes handlers) block) others (end-filter (passes handlers) block exit ∙ rw (passing, h) refl)
+
+among-caught : (handlers : Handlers) (block others : List Exit) (o : Outcome) (handle : ℕ → State → Outcome) → Among block o →
+    ((x : ℕ) (t : State) → has_end block (Throw x) ≡ true → Among (filter (passes handlers) block ++ others) (handle x t)) →
+    Among (filter (passes handlers) block ++ others) (caught o handle)
+among-caught handlers block others (Ended (Throw x) r s) handle h onward = onward x s h.among
+among-caught handlers block others (Ended Normal r s) handle h onward = record { among = try-passing handlers block others Normal refl h.among }
+among-caught handlers block others (Ended Return r s) handle h onward = record { among = try-passing handlers block others Return refl h.among }
+among-caught handlers block others (Ended Break r s) handle h onward = record { among = try-passing handlers block others Break refl h.among }
+among-caught handlers block others (Ended Continue r s) handle h onward = record { among = try-passing handlers block others Continue refl h.among }
+among-caught handlers block others (Stopped stop s) handle h onward = record { among = tt }
+
+-- the ends of a call: normal, and the exceptions that the procedure declares
+abbrev pub call_ends : Program → ℕ → List Exit
+call_ends program f = Normal ∷ thrown_ends (declared_by (procedure_at program f).throws)
+
+abbrev pub CallsAmong : Program → Calls → Type 0
+CallsAmong program calls = (f : ℕ) (vs : List Value) (s : State) → Among (call_ends program f) (calls f vs s)
+
+thrown-both : (xs ys : List ℕ) → thrown_ends (xs ++ ys) ≡ thrown_ends xs ++ thrown_ends ys
+thrown-both [] ys = refl
+thrown-both (x ∷ xs) ys = ap (λ l. Throw x ∷ l) (thrown-both xs ys)
+
+pub thrown-left : (xs ys : List ℕ) (exit : Exit) → has_end (thrown_ends xs) exit ≡ true →
+    has_end (thrown_ends (xs ++ ys)) exit ≡ true
+thrown-left xs ys exit h = rw (thrown-both xs ys) (any-left (same_exit exit) (thrown_ends xs) (thrown_ends ys) h)
+
+pub thrown-right : (xs ys : List ℕ) (exit : Exit) → has_end (thrown_ends ys) exit ≡ true →
+    has_end (thrown_ends (xs ++ ys)) exit ≡ true
+thrown-right xs ys exit h = rw (thrown-both xs ys) (any-right (same_exit exit) (thrown_ends xs) (thrown_ends ys) h)
+
+pub behind : (first : Exit) (rest : List Exit) (exit : Exit) → has_end rest exit ≡ true → has_end (first ∷ rest) exit ≡ true
+behind first rest exit h = or_right (same_exit exit first) (has_end rest exit) h
+
+among-returned_to : (ends : List Exit) (target : Option Variable) (o : Outcome) → Among (Normal ∷ ends) o →
+    Among (Normal ∷ ends) (returned_to target o)
+among-returned_to ends (Some x) (Ended Normal (Some v) t) h = record { among = refl }
+among-returned_to ends (Some x) (Ended Normal None t) h = record { among = refl }
+among-returned_to ends (Some x) (Ended Return r t) h = record { among = h.among }
+among-returned_to ends (Some x) (Ended Break r t) h = record { among = h.among }
+among-returned_to ends (Some x) (Ended Continue r t) h = record { among = h.among }
+among-returned_to ends (Some x) (Ended (Throw e) r t) h = record { among = h.among }
+among-returned_to ends (Some x) (Stopped stop t) h = record { among = tt }
+among-returned_to ends None (Ended Normal r t) h = record { among = refl }
+among-returned_to ends None (Ended Return r t) h = record { among = h.among }
+among-returned_to ends None (Ended Break r t) h = record { among = h.among }
+among-returned_to ends None (Ended Continue r t) h = record { among = h.among }
+among-returned_to ends None (Ended (Throw e) r t) h = record { among = h.among }
+among-returned_to ends None (Stopped stop t) h = record { among = tt }
+
+among-received : (numbers : List ℤ) (channel : ℕ) (target : Option Variable) (s : State) →
+    Among (Normal ∷ Throw end_exception ∷ []) (received numbers channel target s)
+among-received [] channel target s = record { among = refl }
+among-received (z ∷ rest) channel target s = record { among = refl }
+
+-- what is the normal end or declared stays so in a longer list
+call-more : (xs ys : List ℕ) (exit : Exit) → ((e : Exit) → has_end (thrown_ends xs) e ≡ true → has_end (thrown_ends ys) e ≡ true) →
+    has_end (Normal ∷ thrown_ends xs) exit ≡ true → has_end (Normal ∷ thrown_ends ys) exit ≡ true
+call-more xs ys Normal more h = refl
+call-more xs ys Return more h = more Return h
+call-more xs ys Break more h = more Break h
+call-more xs ys Continue more h = more Continue h
+call-more xs ys (Throw x) more h = more (Throw x) h
+
+-- one handler and those after it
+handler-among : (ends : List Exit) (here later : Bool) (x y : Outcome) (P : Type 0) → ((here || later) ≡ false → P) → Among ends x →
+    ((later ≡ false → P) → Among ends y) → Among ends (if here then x else y)
+handler-among ends true later x y P passing h rest = h
+handler-among ends false later x y P passing h rest = rest passing
+
+mutual
+  pub statement-among : (statement : Statement) (program : Program) (calls : Calls) (k : ℕ) → CallsAmong program calls →
+      (s : State) → Among (statement_ends program statement) (statement_meaning calls k statement s)
+  statement-among (Assign at x e) program calls k h s =
+      among-evaluated (raises e) (Normal ∷ thrown_ends (raises e)) (value_of s e) s (λ v. normally (assigned s x v)) (expression-raises s e)
+      (behind Normal (thrown_ends (raises e))) (λ v f.
+      among-first Normal (thrown_ends (raises e)) None (assigned s x v))
+  statement-among (Clear at slot) program calls k h s = among-first Normal [] None (cleared s slot)
+  statement-among (Store at array len index e) program calls k h s =
+      let xs : List ℕ = raises index ++ raises e ++ index_raises index len in
+      among-evaluated (raises index) (Normal ∷ thrown_ends xs) (value_of s index) s _ (expression-raises s index)
+      (λ exit f. behind Normal (thrown_ends xs) exit (thrown-left (raises index ++ raises e) (index_raises index len) exit
+      (thrown-left (raises index) (raises e) exit f))) (λ v f.
+      among-evaluated (raises e) (Normal ∷ thrown_ends xs) (value_of s e) s _ (expression-raises s e)
+      (λ exit g. behind Normal (thrown_ends xs) exit (thrown-left (raises index ++ raises e) (index_raises index len) exit
+      (thrown-right (raises index) (raises e) exit g))) (λ w g.
+      among-evaluated (index_raises index len) (Normal ∷ thrown_ends xs) (checked_index v len) s (λ i. normally (stored s array i w))
+      (raises-checked_index s index len v f)
+      (λ exit i. behind Normal (thrown_ends xs) exit (thrown-right (raises index ++ raises e) (index_raises index len) exit i)) (λ i j.
+      among-first Normal (thrown_ends xs) None (stored s array i w))))
+  statement-among (Receive at channel target) program calls k h s = among-received (s.inputs channel) channel target s
+  statement-among (Send at channel e) program calls k h s =
+      among-evaluated (raises e) (Normal ∷ thrown_ends (raises e)) (value_of s e) s (λ v. normally (sending channel v s))
+      (expression-raises s e) (behind Normal (thrown_ends (raises e))) (λ v f.
+      among-first Normal (thrown_ends (raises e)) None (sending channel v s))
+  statement-among (Call at procedure arguments target) program calls k h s =
+      let declared : List ℕ = declared_by (procedure_at program procedure).throws in
+      let xs : List ℕ = raises_all arguments ++ declared in
+      among-evaluated (raises_all arguments) (Normal ∷ thrown_ends xs) (values_of s arguments) s
+      (λ vs. returned_to target (calls procedure vs s)) (expressions-raise s arguments)
+      (λ exit f. behind Normal (thrown_ends xs) exit (thrown-left (raises_all arguments) declared exit f)) (λ vs f.
+      among-returned_to (thrown_ends xs) target (calls procedure vs s)
+      (among-more (Normal ∷ thrown_ends declared) (Normal ∷ thrown_ends xs) (calls procedure vs s)
+      (λ exit g. call-more declared xs exit (thrown-right (raises_all arguments) declared) g) (h procedure vs s)))
+  statement-among (If at e yes_block no_block) program calls k h s =
+      let yes_ends : List Exit = block_ends program yes_block in
+      let no_ends : List Exit = block_ends program no_block in
+      among-evaluated (raises e) (thrown_ends (raises e) ++ yes_ends ++ no_ends) (value_of s e) s
+      (λ v. if truth_in v then block_meaning calls k yes_block s else block_meaning calls k no_block s) (expression-raises s e)
+      (λ exit f. any-left (same_exit exit) (thrown_ends (raises e) ++ yes_ends) no_ends
+      (any-left (same_exit exit) (thrown_ends (raises e)) yes_ends f)) (λ v f.
+      among-if (thrown_ends (raises e) ++ yes_ends ++ no_ends) (truth_in v) (block_meaning calls k yes_block s) (block_meaning calls k no_block s)
+      (among-left (thrown_ends (raises e) ++ yes_ends) no_ends (block_meaning calls k yes_block s)
+      (among-right (thrown_ends (raises e)) yes_ends (block_meaning calls k yes_block s) (block-among yes_block program calls k h s)))
+      (among-right (thrown_ends (raises e) ++ yes_ends) no_ends (block_meaning calls k no_block s) (block-among no_block program calls k h s)))
+  statement-among (While at loop e body) program calls k h s =
+      among-turns k (raises e) (block_ends program body) (λ t. value_of t e) (block_meaning calls k body) (λ t. expression-raises t e)
+      (block-among body program calls k h) s
+  statement-among (Leave at exit) program calls k h s = among-first exit [] None s
+  statement-among (ReturnWith at None) program calls k h s = among-first Return [] None s
+  statement-among (ReturnWith at (Some e)) program calls k h s =
+      among-evaluated (raises e) (Return ∷ thrown_ends (raises e)) (value_of s e) s (λ v. Ended Return (Some v) s) (expression-raises s e)
+      (behind Return (thrown_ends (raises e))) (λ v f.
+      among-first Return (thrown_ends (raises e)) (Some v) s)
+  statement-among (Try at block handlers) program calls k h s =
+      let ends : List Exit = block_ends program block in
+      among-caught handlers ends (handlers_ends program handlers) (block_meaning calls k block s) (handlers_meaning calls k handlers)
+      (block-among block program calls k h s) (λ x t f.
+      handlers-among handlers program calls k h (filter (passes handlers) ends ++ handlers_ends program handlers) x t
+      (λ none. try-passing handlers ends (handlers_ends program handlers) (Throw x) (rw none refl) f)
+      (λ exit g. any-right (same_exit exit) (filter (passes handlers) ends) (handlers_ends program handlers) g))
+  statement-among (Nested at block) program calls k h s = block-among block program calls k h s
+
+  pub block-among : (block : Block) (program : Program) (calls : Calls) (k : ℕ) → CallsAmong program calls → (s : State) →
+      Among (block_ends program block) (block_meaning calls k block s)
+  block-among Empty program calls k h s = among-first Normal [] None s
+  block-among (Then statement rest) program calls k h s =
+      among-after (statement_ends program statement) (block_ends program rest) (statement_meaning calls k statement s)
+      (block_meaning calls k rest) (statement-among statement program calls k h s) (block-among rest program calls k h)
+
+  handlers-among : (handlers : Handlers) (program : Program) (calls : Calls) (k : ℕ) → CallsAmong program calls →
+      (ends : List Exit) (x : ℕ) (s : State) → (handles handlers x ≡ false → has_end ends (Throw x) ≡ true) →
+      ((exit : Exit) → has_end (handlers_ends program handlers) exit ≡ true → has_end ends exit ≡ true) →
+      Among ends (handlers_meaning calls k handlers x s)
+  handlers-among NoMore program calls k h ends x s passing more = record { among = passing refl }
+  handlers-among (Catch at handled body rest) program calls k h ends x s passing more =
+      handler-among ends (x == handled) (handles rest x) (block_meaning calls k body s) (handlers_meaning calls k rest x s)
+      (has_end ends (Throw x) ≡ true) passing
+      (among-more (block_ends program body) ends (block_meaning calls k body s)
+      (λ exit f. more exit (any-left (same_exit exit) (block_ends program body) (handlers_ends program rest) f))
+      (block-among body program calls k h s))
+      (λ onward. handlers-among rest program calls k h ends x s onward
+      (λ exit f. more exit (any-right (same_exit exit) (block_ends program body) (handlers_ends program rest) f)))
+
+-- a procedure that may end so does
+pub all-has : (p : Exit → Bool) (ends : List Exit) (exit : Exit) → list_all p ends ≡ true → has_end ends exit ≡ true → p exit ≡ true
+all-has p [] exit h f = let e : true ≡ false = sym f in absurd (cc)
+all-has p (first ∷ rest) exit h f =
+    let parts = and_parts (p first) (list_all p rest) h in
+    ⊎_elim (λ g. rw (same-exit exit first g) parts.0) (all-has p rest exit parts.1) (or_cases (same_exit exit first) (has_end rest exit) f)
+
+-- each procedure ends only as it may
+abbrev pub EndsAsDeclared : Program → Type 0
+EndsAsDeclared program = (f : ℕ) → list_all (may_end (procedure_at program f)) (block_ends program (procedure_at program f).body) ≡ true
+
+among-leaving : (program : Program) (f : ℕ) (back : State → State) (o : Outcome) → EndsAsDeclared program →
+    Among (block_ends program (procedure_at program f).body) o → Among (call_ends program f) (leaving back o)
+among-leaving program f back (Ended Normal r s) declared h = record { among = refl }
+among-leaving program f back (Ended Return r s) declared h = record { among = refl }
+among-leaving program f back (Ended Break r s) declared h =
+    record { among = all-has (may_end (procedure_at program f)) (block_ends program (procedure_at program f).body) Break (declared f) h.among }
+among-leaving program f back (Ended Continue r s) declared h =
+    record { among = all-has (may_end (procedure_at program f)) (block_ends program (procedure_at program f).body) Continue (declared f) h.among }
+among-leaving program f back (Ended (Throw x) r s) declared h =
+    record { among = all-has (may_end (procedure_at program f)) (block_ends program (procedure_at program f).body) (Throw x) (declared f) h.among }
+among-leaving program f back (Stopped stop s) declared h = record { among = tt }
+
+pub calls-among : (program : Program) (k frames : ℕ) → EndsAsDeclared program → CallsAmong program (calls_with program k frames)
+calls-among program k zero declared f vs s = record { among = tt }
+calls-among program k (suc frames) declared f vs s =
+    let inner : State = record s { locals = frame_of (procedure_at program f).slots vs } in
+    among-leaving program f (λ t. record t { locals = s.locals })
+    (block_meaning (calls_with program k frames) k (procedure_at program f).body inner) declared
+    (block-among (procedure_at program f).body program (calls_with program k frames) k (calls-among program k frames declared) inner)

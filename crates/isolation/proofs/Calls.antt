@@ -1,0 +1,331 @@
+-- Two calls of one procedure from states that are the same for an observer, by the two runs of its body.
+use Rattle.std.proofs.Common.{arith, ◌≡◌, refl, sym, ap, ◌∙◌, ℕ, Bool, true, false, List, [], ◌∷◌, ◌++◌, ◌||◌, map, flat_map}
+use Rattle.std.specs.Prelude.{Option, Some, None, ◌==◌}
+use Rattle.std.specs.List.{list_all}
+use Rattle.std.proofs.lemmas.Bool.{and_parts, or_right, and_from}
+use Rattle.principals.specs.ActsFor.{PrincipalHierarchy}
+use Rattle.labels.specs.declared.sent.Pair.{Pair}
+use Rattle.labels.specs.Sent.{Begins}
+use Rattle.resolved.specs.declared.expression.Variable.{Variable}
+use Rattle.resolved.specs.declared.expression.Variable.TheVariants.{Global, Local}
+use Rattle.resolved.specs.declared.expression.Value.{Value}
+use Rattle.resolved.specs.declared.statement.Exit.{Exit}
+use Rattle.resolved.specs.declared.statement.Exit.TheVariants.{Normal, Return, Break, Continue, Throw}
+use Rattle.resolved.specs.Program.{Program, ProcedureEntry, ThrownEntry}
+use Rattle.resolved.specs.State.{State, assigned, cells}
+use Rattle.resolved.specs.Meaning.{Stop, Outcome, Ended, Stopped, leaving, returned_to, state_after}
+use Rattle.resolved.specs.Ends.{same_exit, has_end, one_end, thrown_ends, declared_by}
+use Rattle.resolved.specs.EndFaults.{may_end}
+use Rattle.resolved.specs.Labelled.{Labelling, Marks, Demand, demand, Fits, label_if, any_of, thrown_label, as_one_end, end_demands}
+use Rattle.isolation.proofs.Grows.{Grows, grows-itself, grows-returned_to}
+use Rattle.isolation.proofs.Among.{Among, same-exit, same_exit-itself, all-has, raised_in, thrown-is}
+use Rattle.isolation.proofs.Observer.{Reader, View, view_of, shown, AgreeFor, agree-back, agree-through, agree-unread, agree-with_cells, unread-left, unread-right}
+use Rattle.isolation.proofs.Kept.{Hidden, hidden_end, hidden_return, hidden_stop, Kept}
+use Rattle.isolation.proofs.Related.{Related, same_end, same_return, apart, first_stops, second_stops, both-kept, stopped-begins, agree-begins}
+use Rattle.isolation.proofs.Closed.{read_marks, one-same}
+use Rattle.isolation.proofs.Confined.{KeptCall, HiddenCall, call_end, call_thrown, call_stop, unread_marks, kept-returned_to, unread-label_if, fits-left, fits-right, unread-demand}
+
+-- two calls: they end in the same way, or the observer reads the label of neither end; and a stopped one begins the other
+pub data RelatedCall (view : View) (value : Bool) (marks : Exit → Bool) : Outcome → Outcome → Type 0 where
+  same_call : (r q : Option Value) (s t : State) → AgreeFor view s t → (value ≡ true → r ≡ q) →
+      RelatedCall view value marks (Ended Normal r s) (Ended Normal q t)
+  same_thrown : (x : ℕ) (s t : State) → AgreeFor view s t →
+      RelatedCall view value marks (Ended (Throw x) None s) (Ended (Throw x) None t)
+  apart_calls : (o p : Outcome) → HiddenCall value marks o → HiddenCall value marks p →
+      AgreeFor view (state_after o) (state_after p) → RelatedCall view value marks o p
+  first_call_stops : (stop : Stop) (s : State) (p : Outcome) → Begins (shown view s.sent) (shown view (state_after p).sent) →
+      RelatedCall view value marks (Stopped stop s) p
+  second_call_stops : (o : Outcome) (stop : Stop) (t : State) → Begins (shown view t.sent) (shown view (state_after o).sent) →
+      RelatedCall view value marks o (Stopped stop t)
+
+grown-returned_to : (target : Option Variable) (o : Outcome) → Grows (state_after o) (returned_to target o)
+grown-returned_to target o = grows-returned_to (state_after o) target o (grows-itself (state_after o) (state_after o) refl o refl)
+
+-- a target of which the value is the same where it is read
+target-unread : (view : View) (result : Bool) (x : Variable) (r q : Option Value) → (view.variable x ≡ true → result ≡ true) →
+    (result ≡ true → r ≡ q) → (r ≡ q → ⊥) → view.variable x ≡ false
+target-unread view result x r q read same differ = go (view.variable x) refl
+  where
+    go : (b : Bool) → view.variable x ≡ b → view.variable x ≡ false
+    go true e = absurd (differ (same (read e)))
+    go false e = e
+
+returned-same : (view : View) (result value : Bool) (more : Exit → Bool) (x : Variable) (r q : Option Value) (s t : State) →
+    AgreeFor view s t → (view.variable x ≡ true → result ≡ true) → (result ≡ true → r ≡ q) →
+    Related view value more (returned_to (Some x) (Ended Normal r s)) (returned_to (Some x) (Ended Normal q t))
+returned-same view result value more x None None s t agree read same = same_end Normal s t agree
+returned-same view result value more x (Some v) (Some w) s t agree read same =
+    same_end Normal (assigned s x v) (assigned t x w) (agree-with_cells view s t x (v ∷ []) (w ∷ []) agree (λ e.
+    let both : Some v ≡ Some w = same (read e) in
+    let values : v ≡ w = cc in ap (λ u. u ∷ []) values))
+returned-same view result value more x (Some v) None s t agree read same =
+    let unread = target-unread view result x (Some v) None read same (λ e. cc) in
+    same_end Normal (assigned s x v) t (agree-through view (assigned s x v) s t
+    (agree-back view s (assigned s x v) (agree-unread view s x (v ∷ []) unread)) agree)
+returned-same view result value more x None (Some w) s t agree read same =
+    let unread = target-unread view result x None (Some w) read same (λ e. cc) in
+    same_end Normal s (assigned t x w) (agree-through view s t (assigned t x w) agree (agree-unread view t x (w ∷ []) unread))
+
+pub related-returned_to : (view : View) (result value : Bool) (marks more : Exit →
+    Bool) (target : Option Variable) (o p : Outcome) → RelatedCall view result marks o p →
+    ((exit : Exit) → marks exit ≡ false → more exit ≡ false) →
+    (marks Normal ≡ false → (x : Variable) → target ≡ Some x → view.variable x ≡ false) →
+    ((x : Variable) → target ≡ Some x → view.variable x ≡ true → result ≡ true) →
+    Related view value more (returned_to target o) (returned_to target p)
+related-returned_to view result value marks more None o p (same_call r q s t h i) weaker unread read = same_end Normal s t h
+related-returned_to view result value marks more (Some x) o p (same_call r q s t h i) weaker unread read =
+    returned-same view result value more x r q s t h (read x refl) i
+related-returned_to view result value marks more None o p (same_thrown y s t h) weaker unread read = same_end (Throw y) s t h
+related-returned_to view result value marks more (Some x) o p (same_thrown y s t h) weaker unread read = same_end (Throw y) s t h
+related-returned_to view result value marks more target o p (apart_calls _ _ h i j) weaker unread read =
+    both-kept view value more (state_after o) (state_after p) (returned_to target o) (returned_to target p) j
+    (kept-returned_to view result value marks more target o h weaker unread)
+    (kept-returned_to view result value marks more target p i weaker unread)
+related-returned_to view result value marks more None o p (first_call_stops stop s _ h) weaker unread read =
+    first_stops stop s (returned_to None p) (stopped-begins view s p (returned_to None p) h (grown-returned_to None p))
+related-returned_to view result value marks more (Some x) o p (first_call_stops stop s _ h) weaker unread read =
+    first_stops stop s (returned_to (Some x) p) (stopped-begins view s p (returned_to (Some x) p) h (grown-returned_to (Some x) p))
+related-returned_to view result value marks more None o p (second_call_stops _ stop t h) weaker unread read =
+    second_stops (returned_to None o) stop t (stopped-begins view t o (returned_to None o) h (grown-returned_to None o))
+related-returned_to view result value marks more (Some x) o p (second_call_stops _ stop t h) weaker unread read =
+    second_stops (returned_to (Some x) o) stop t (stopped-begins view t o (returned_to (Some x) o) h (grown-returned_to (Some x) o))
+
+-- what a procedure declares of its ends, for its callers
+abbrev pub declared_label : ProcedureEntry → Marks
+declared_label callee Normal = label_if (any_of callee.throws) callee.end_label
+declared_label callee (Throw exception) = thrown_label callee.throws exception
+declared_label callee _ = []
+
+-- the state of a caller that has its frame again
+abbrev pub home : State → State → State
+home s t = record t { locals = s.locals }
+
+-- the same for the observer in the callee is the same in the caller
+pub agree-home : {h : PrincipalHierarchy} (reader : Reader h) (program : Program) (caller callee : ProcedureEntry) (labels inner : Labelling) (s t s' t' : State) → AgreeFor (view_of reader (record { program = program; procedure = caller; labelling = labels })) s t → AgreeFor (view_of reader (record { program = program; procedure = callee; labelling = inner })) s' t' → AgreeFor (view_of reader (record { program = program; procedure = caller; labelling = labels })) (home s s') (home t t')
+agree-home reader program caller callee labels inner s t s' t' outer within = record {
+  variables = variables;
+  inputs = within.inputs;
+  sent = within.sent;
+}
+  where
+    variables : (x : Variable) → (view_of reader (record { program = program; procedure = caller; labelling = labels })).variable x ≡ true →
+        cells (home s s') x ≡ cells (home t t') x
+    variables (Global n) e = within.variables (Global n) e
+    variables (Local n) e = outer.variables (Local n) e
+
+-- neither `break` nor `continue` is an exception
+thrown-not_break : (xs : List ℕ) → has_end (thrown_ends xs) Break ≡ true → ⊥
+thrown-not_break [] h = let e : true ≡ false = sym h in cc
+thrown-not_break (x ∷ xs) h = thrown-not_break xs h
+
+thrown-not_continue : (xs : List ℕ) → has_end (thrown_ends xs) Continue ≡ true → ⊥
+thrown-not_continue [] h = let e : true ≡ false = sym h in cc
+thrown-not_continue (x ∷ xs) h = thrown-not_continue xs h
+
+-- a body that ends as it may, of which nothing is seen
+module _ (callee : ProcedureEntry) (ends : List Exit) (declared : list_all (may_end callee) ends ≡ true) (back : State → State) (value : Bool) where
+  pub hidden-shape : (marks : Exit → Bool) (o : Outcome) → Among ends o → Hidden value marks o →
+      HiddenCall value unread_marks (leaving back o)
+  hidden-shape marks o among (hidden_end Normal t m) = call_end None (back t) refl (λ e. refl)
+  hidden-shape marks o among (hidden_end Return t m) = call_end None (back t) refl (λ e. refl)
+  hidden-shape marks o among (hidden_end Break t m) = absurd (thrown-not_break (declared_by callee.throws)
+      (all-has (may_end callee) ends Break declared among.among))
+  hidden-shape marks o among (hidden_end Continue t m) = absurd
+      (thrown-not_continue (declared_by callee.throws) (all-has (may_end callee) ends Continue declared among.among))
+  hidden-shape marks o among (hidden_end (Throw x) t m) = call_thrown x (back t) refl
+  hidden-shape marks o among (hidden_return r t m none) = call_end r (back t) refl none
+  hidden-shape marks o among (hidden_stop stop t) = call_stop stop (back t)
+
+-- normal and return counted as one end
+as_one-has : (ends : List Exit) (exit : Exit) → has_end ends exit ≡ true → has_end (map as_one_end ends) (as_one_end exit) ≡ true
+as_one-has [] exit h = h
+as_one-has (first ∷ rest) exit h = go (same_exit exit first) refl (as_one-has rest exit)
+  where
+    go : (b : Bool) → same_exit exit first ≡ b → (has_end rest exit ≡ true →
+        has_end (map as_one_end rest) (as_one_end exit) ≡ true) →
+        (same_exit (as_one_end exit) (as_one_end first) || has_end (map as_one_end rest) (as_one_end exit)) ≡ true
+    go true e later = rw (same-exit exit first e, same_exit-itself (as_one_end first)) refl
+    go false e later = or_right (same_exit (as_one_end exit) (as_one_end first)) (has_end (map as_one_end rest) (as_one_end exit)) (later (rw e at h))
+
+among-as_one : (ends : List Exit) (back : State → State) (o : Outcome) → Among ends o → Among (map as_one_end ends) (leaving back o)
+among-as_one ends back (Ended Normal r s) h = record { among = as_one-has ends Normal h.among }
+among-as_one ends back (Ended Return r s) h = record { among = as_one-has ends Return h.among }
+among-as_one ends back (Ended Break r s) h = record { among = as_one-has ends Break h.among }
+among-as_one ends back (Ended Continue r s) h = record { among = as_one-has ends Continue h.among }
+among-as_one ends back (Ended (Throw x) r s) h = record { among = as_one-has ends (Throw x) h.among }
+among-as_one ends back (Stopped stop s) h = record { among = tt }
+
+-- two hidden calls that have one end only
+calls-one : (view : View) (value : Bool) (marks more : Exit → Bool) (ends : List Exit) (o p : Outcome) → one_end ends ≡ true →
+    Among ends o → Among ends p → HiddenCall value marks o → HiddenCall value marks p →
+    AgreeFor view (state_after o) (state_after p) → RelatedCall view value more o p
+calls-one view value marks more ends o p one among among' (call_end r s m none) (call_end q t m' none') agree =
+    same_call r q s t agree (λ e. none e ∙ sym (none' e))
+calls-one view value marks more ends o p one among among' (call_end r s m none) (call_thrown x t m') agree =
+    let e : Normal ≡ Throw x = one-same ends Normal (Throw x) one among.among among'.among in absurd (cc)
+calls-one view value marks more ends o p one among among' (call_thrown x s m) (call_end q t m' none') agree =
+    let e : Throw x ≡ Normal = one-same ends (Throw x) Normal one among.among among'.among in absurd (cc)
+calls-one view value marks more ends o p one among among' (call_thrown x s m) (call_thrown y t m') agree =
+    let e : Throw x ≡ Throw y = one-same ends (Throw x) (Throw y) one among.among among'.among in
+    let same : x ≡ y = cc in rw same (same_thrown y s t agree)
+calls-one view value marks more ends o p one among among' (call_stop stop s) h agree =
+    first_call_stops stop s p (agree-begins view s (state_after p) agree)
+calls-one view value marks more ends o p one among among' h (call_stop stop t) agree =
+    second_call_stops o stop t (agree-begins view t (state_after o) (agree-back view (state_after o) t agree))
+
+-- where no exception is declared, a body that ends as it may has one end only
+no_throws-one : (callee : ProcedureEntry) (ends : List Exit) → any_of callee.throws ≡ false →
+    list_all (may_end callee) ends ≡ true → list_all (same_exit Normal) (map as_one_end ends) ≡ true
+no_throws-one callee [] none declared = refl
+no_throws-one callee (first ∷ rest) none declared =
+    let parts = and_parts (may_end callee first) (list_all (may_end callee) rest) declared in
+    and_from (same_exit Normal (as_one_end first)) (list_all (same_exit Normal) (map as_one_end rest)) (one first parts.0)
+    (no_throws-one callee rest none parts.1)
+  where
+    nothing : (throws : List ThrownEntry) (exit : Exit) → any_of throws ≡ false →
+        has_end (thrown_ends (declared_by throws)) exit ≡ true → ⊥
+    nothing [] exit e f = let i : true ≡ false = sym f in cc
+    nothing (entry ∷ more) exit e f = let i : true ≡ false = e in cc
+
+    one : (exit : Exit) → may_end callee exit ≡ true → same_exit Normal (as_one_end exit) ≡ true
+    one Normal e = refl
+    one Return e = refl
+    one Break e = absurd (nothing callee.throws Break none e)
+    one Continue e = absurd (nothing callee.throws Continue none e)
+    one (Throw x) e = absurd (nothing callee.throws (Throw x) none e)
+
+some-throws : (callee : ProcedureEntry) (ends : List Exit) (exit : Exit) → list_all (may_end callee) ends ≡ true →
+    has_end ends exit ≡ true → one_end (map as_one_end ends) ≡ false → any_of callee.throws ≡ true
+some-throws callee [] exit declared h several = let i : true ≡ false = sym h in absurd (cc)
+some-throws callee (first ∷ rest) exit declared h several = go (any_of callee.throws) refl
+  where
+    normal : (e : Exit) → same_exit Normal e ≡ true → Normal ≡ e
+    normal e f = same-exit Normal e f
+
+    go : (b : Bool) → any_of callee.throws ≡ b → any_of callee.throws ≡ true
+    go true e = e
+    go false e =
+        let all = no_throws-one callee (first ∷ rest) e declared in
+        let parts = and_parts (same_exit Normal (as_one_end first)) (list_all (same_exit Normal) (map as_one_end rest)) all in
+        let single : one_end (map as_one_end (first ∷ rest)) ≡ true = rw (← same-exit Normal (as_one_end first) parts.0) parts.1 in
+        let i : true ≡ false = sym single ∙ several in absurd (cc)
+
+-- the label that is declared of an exception which is not read
+unread-thrown : {h : PrincipalHierarchy} (reader : Reader h) (at : ℕ) (x : Marks) (throws : List ThrownEntry) (y : ℕ) →
+    Fits h (flat_map (λ (entry : ThrownEntry). demand at 13 (x (Throw entry.exception)) entry.label) throws) →
+    raised_in (declared_by throws) y ≡ true → reader.reads (x (Throw y)) ≡ false → reader.reads (thrown_label throws y) ≡ false
+unread-thrown reader at x [] y fits declared unread = let i : true ≡ false = sym declared in absurd (cc)
+unread-thrown {h} reader at x (entry ∷ rest) y fits declared unread = go (y == entry.exception) refl
+    (unread-thrown reader at x rest y (fits-right h first others fits))
+  where
+    first : List Demand
+    first = demand at 13 (x (Throw entry.exception)) entry.label
+
+    others : List Demand
+    others = flat_map (λ (entry : ThrownEntry). demand at 13 (x (Throw entry.exception)) entry.label) rest
+
+    go : (b : Bool) → (y == entry.exception) ≡ b → (raised_in (declared_by rest) y ≡ true → reader.reads (x (Throw y)) ≡ false →
+        reader.reads (thrown_label rest y) ≡ false) → reader.reads (thrown_label (entry ∷ rest) y) ≡ false
+    go true e later =
+        let same : y ≡ entry.exception = grind (arith, e) in
+        rw e (unread-demand reader at 13 (x (Throw entry.exception)) entry.label (fits-left h first others fits)
+        (ap (λ z. reader.reads (x (Throw z))) (sym same) ∙ unread))
+    go false e later = rw e (later (rw e at declared) unread)
+
+-- the demands on the ends of a procedure that has several
+several-demands : (h : PrincipalHierarchy) (callee : ProcedureEntry) (ends : List Exit) (x : Marks) →
+    one_end (map as_one_end ends) ≡ false → Fits h (end_demands callee ends x) →
+    Fits h (demand callee.at 13 (x Normal ++ x Return) callee.end_label ++ flat_map
+    (λ (entry : ThrownEntry). demand callee.at 13 (x (Throw entry.exception)) entry.label) callee.throws)
+several-demands h callee ends x several fits = rw several at fits
+
+module _ {h : PrincipalHierarchy} (reader : Reader h) (callee : ProcedureEntry) (ends : List Exit)
+    (declared : list_all (may_end callee) ends ≡ true) (x : Marks) (fits : Fits h (end_demands callee ends x)) (back : State → State)
+    (value : Bool) where
+  normal-unread : one_end (map as_one_end ends) ≡ false → (exit : Exit) → has_end ends exit ≡ true →
+      reader.reads (x Normal ++ x Return) ≡ false → reader.reads (declared_label callee Normal) ≡ false
+  normal-unread several exit among unread =
+      let front = fits-left h (demand callee.at 13 (x Normal ++ x Return) callee.end_label)
+      (flat_map (λ (entry : ThrownEntry). demand callee.at 13 (x (Throw entry.exception)) entry.label) callee.throws)
+      (several-demands h callee ends x several fits) in
+      unread-label_if reader (any_of callee.throws) callee.end_label (some-throws callee ends exit declared among several)
+      (unread-demand reader callee.at 13 (x Normal ++ x Return) callee.end_label front unread)
+
+  hidden-leaving : (o : Outcome) → one_end (map as_one_end ends) ≡ false → Among ends o → Hidden value (read_marks reader x) o →
+      HiddenCall value (read_marks reader (declared_label callee)) (leaving back o)
+  hidden-leaving o several among (hidden_end Normal t m) =
+      call_end None (back t) (normal-unread several Normal among.among (unread-left reader (x Normal) (x Return) m)) (λ e. refl)
+  hidden-leaving o several among (hidden_end Return t m) =
+      call_end None (back t) (normal-unread several Return among.among (unread-right reader (x Normal) (x Return) m)) (λ e. refl)
+  hidden-leaving o several among (hidden_end Break t m) = absurd
+      (thrown-not_break (declared_by callee.throws) (all-has (may_end callee) ends Break declared among.among))
+  hidden-leaving o several among (hidden_end Continue t m) = absurd
+      (thrown-not_continue (declared_by callee.throws) (all-has (may_end callee) ends Continue declared among.among))
+  hidden-leaving o several among (hidden_end (Throw y) t m) =
+      call_thrown y (back t) (unread-thrown reader callee.at x callee.throws y
+      (fits-right h (demand callee.at 13 (x Normal ++ x Return) callee.end_label)
+      (flat_map (λ (entry : ThrownEntry). demand callee.at 13 (x (Throw entry.exception)) entry.label) callee.throws)
+      (several-demands h callee ends x several fits))
+      (sym (thrown-is (declared_by callee.throws) y) ∙ all-has (may_end callee) ends (Throw y) declared among.among) m)
+  hidden-leaving o several among (hidden_return r t m none) =
+      call_end r (back t) (normal-unread several Return among.among (unread-right reader (x Normal) (x Return) m)) none
+  hidden-leaving o several among (hidden_stop stop t) = call_stop stop (back t)
+
+after-leaving : (back : State → State) (o : Outcome) → state_after (leaving back o) ≡ back (state_after o)
+after-leaving back (Ended Normal r s) = refl
+after-leaving back (Ended Return r s) = refl
+after-leaving back (Ended Break r s) = refl
+after-leaving back (Ended Continue r s) = refl
+after-leaving back (Ended (Throw x) r s) = refl
+after-leaving back (Stopped stop s) = refl
+
+begins-outside : (inner outer : View) (xs ys : List Pair) → ((zs : List Pair) → shown inner zs ≡ shown outer zs) →
+    Begins (shown inner xs) (shown inner ys) → Begins (shown outer xs) (shown outer ys)
+begins-outside inner outer xs ys same h = (h.0, ap (λ l. l ++ h.0) (sym (same xs)) ∙ h.1 ∙ same ys)
+
+-- one run of a body of which nothing is seen, for the caller
+pub kept-leaving : (callee : ProcedureEntry) (ends : List Exit) (inner outer : View) (value : Bool) (marks : Exit →
+    Bool) (s u : State) (o : Outcome) → list_all (may_end callee) ends ≡ true →
+    ((t' : State) → AgreeFor inner u t' → AgreeFor outer s (home s t')) → Among ends o → Kept inner value marks u o →
+    KeptCall outer value unread_marks s (leaving (home s) o)
+kept-leaving callee ends inner outer value marks s u o declared back among h = record {
+  agree = rw (after-leaving (home s) o) (back (state_after o) h.agree);
+  hidden = hidden-shape callee ends declared (home s) value marks o among h.hidden;
+}
+
+-- two runs of a body, seen by the caller
+pub related-leaving : {h : PrincipalHierarchy} (reader : Reader h) (callee : ProcedureEntry) (ends : List Exit) (x : Marks) (inner outer : View) (value : Bool) (s t : State) (o p : Outcome) → list_all (may_end callee) ends ≡ true → Fits h (end_demands callee ends x) → ((s' t' : State) → AgreeFor inner s' t' → AgreeFor outer (home s s') (home t t')) → ((xs : List Pair) → shown inner xs ≡ shown outer xs) → Among ends o → Among ends p → Related inner value (read_marks reader x) o p → RelatedCall outer value (read_marks reader (declared_label callee)) (leaving (home s) o) (leaving (home t) p)
+related-leaving reader callee ends x inner outer value s t o p declared fits back same_shown among among' (same_end Normal u w h) =
+    same_call None None (home s u) (home t w) (back u w h) (λ e. refl)
+related-leaving reader callee ends x inner outer value s t o p declared fits back same_shown among among' (same_end Return u w h) =
+    same_call None None (home s u) (home t w) (back u w h) (λ e. refl)
+related-leaving reader callee ends x inner outer value s t o p declared fits back same_shown among among' (same_end Break u w h) =
+    absurd (thrown-not_break (declared_by callee.throws) (all-has (may_end callee) ends Break declared among.among))
+related-leaving reader callee ends x inner outer value s t o p declared fits back same_shown among among' (same_end Continue u w h) =
+    absurd (thrown-not_continue (declared_by callee.throws) (all-has (may_end callee) ends Continue declared among.among))
+related-leaving reader callee ends x inner outer value s t o p declared fits back same_shown among among' (same_end (Throw y) u w h) =
+    same_thrown y (home s u) (home t w) (back u w h)
+related-leaving reader callee ends x inner outer value s t o p declared fits back same_shown among among' (same_return r q u w h i) =
+    same_call r q (home s u) (home t w) (back u w h) i
+related-leaving reader callee ends x inner outer value s t o p declared fits back same_shown among among' (apart _ _ h i j) = go
+    (one_end (map as_one_end ends)) refl
+  where
+    agree : AgreeFor outer (state_after (leaving (home s) o)) (state_after (leaving (home t) p))
+    agree = rw (after-leaving (home s) o, after-leaving (home t) p) (back (state_after o) (state_after p) j)
+
+    go : (b : Bool) → one_end (map as_one_end ends) ≡ b →
+        RelatedCall outer value (read_marks reader (declared_label callee)) (leaving (home s) o) (leaving (home t) p)
+    go true e = calls-one outer value unread_marks (read_marks reader (declared_label callee)) (map as_one_end ends) (leaving (home s) o)
+        (leaving (home t) p) e
+        (among-as_one ends (home s) o among) (among-as_one ends (home t) p among')
+        (hidden-shape callee ends declared (home s) value (read_marks reader x) o among h)
+        (hidden-shape callee ends declared (home t) value (read_marks reader x) p among' i) agree
+    go false e = apart_calls (leaving (home s) o) (leaving (home t) p)
+        (hidden-leaving reader callee ends declared x fits (home s) value o e among h)
+        (hidden-leaving reader callee ends declared x fits (home t) value p e among' i) agree
+related-leaving reader callee ends x inner outer value s t o p declared fits back same_shown among among' (first_stops stop u _ h) =
+    first_call_stops stop (home s u) (leaving (home t) p) (rw (after-leaving (home t) p)
+    (begins-outside inner outer u.sent (state_after p).sent same_shown h))
+related-leaving reader callee ends x inner outer value s t o p declared fits back same_shown among among' (second_stops _ stop u h) =
+    second_call_stops (leaving (home s) o) stop (home t u) (rw (after-leaving (home s) o)
+    (begins-outside inner outer u.sent (state_after o).sent same_shown h))

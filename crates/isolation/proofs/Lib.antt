@@ -1,0 +1,17 @@
+pub mod Among
+pub mod Calls
+pub mod Closed
+pub mod Confined
+pub mod Declared
+pub mod Grows
+pub mod Isolated
+pub mod Kept
+pub mod Laws
+pub mod Longer
+pub mod Observer
+pub mod Readers
+pub mod Related
+pub mod Secure
+pub mod Unread
+pub mod Values
+pub mod Waiting

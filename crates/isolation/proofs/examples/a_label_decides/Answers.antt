@@ -1,0 +1,47 @@
+use Rattle.std.proofs.Common.{arith, ◌≡◌, refl, ap, ℕ, zero, suc, List, [], ◌∷◌, true, false, ℤ, pos, negsuc, ⊎_elim}
+use Rattle.labels.specs.declared.sent.Pair.{Pair}
+use Rattle.labels.specs.Sent.{Begins}
+use Rattle.resolved.specs.Meaning.{frame_limit}
+use Rattle.resolved.specs.Labelled.{channel_label}
+use Rattle.resolved.specs.Isolated.{Agree}
+use Rattle.isolation.specs.Examples.{relay, comes, sends, bob, two_principals}
+use Rattle.isolation.proofs.examples.a_label_decides.Goals as goal
+
+pub returns-clause-faultless : goal.returns-clause-faultless
+returns-clause-faultless c = refl
+
+pub returns-clause-labelled : goal.returns-clause-labelled
+returns-clause-labelled c = (λ f. record { local_label = λ n. []; loop_label = λ n. [] }, refl)
+
+pub returns-clause-sent : goal.returns-clause-sent
+unfolding frame_limit
+returns-clause-sent c = refl
+
+pub returns-clause-refused : goal.returns-clause-refused
+returns-clause-refused c labelled = let e : false ≡ true = labelled.1 in cc
+
+-- Bob may not read the one input
+same_for_bob : (first second : ℤ) → Agree two_principals (channel_label (relay [])) (relay []) bob (comes first) (comes second)
+same_for_bob first second zero within is_input reads = let e : false ≡ true = reads in absurd (cc)
+same_for_bob first second (suc channel) within is_input reads = refl
+
+-- the first number of a list of pairs
+first_of_list : List Pair → ℤ
+first_of_list [] = pos 0
+first_of_list (pair ∷ rest) = pair.number
+
+size : ℤ → ℕ
+size (pos n) = n
+size (negsuc n) = n
+
+apart : (m n : ℕ) → Begins (sends (pos m)) (sends (pos n)) → m ≡ n
+unfolding first_of_list size
+apart m n begins = ap (λ l. size (first_of_list l)) begins.1
+
+pub returns-clause-leaks : goal.returns-clause-leaks
+unfolding frame_limit
+returns-clause-leaks c isolated =
+    ⊎_elim
+    (λ begins. let e : 5 ≡ 6 = apart 5 6 begins in omega (arith, e))
+    (λ begins. let e : 6 ≡ 5 = apart 6 5 begins in omega (arith, e))
+    (isolated bob (comes (pos 5)) (comes (pos 6)) (same_for_bob (pos 5) (pos 6)) 1 1)

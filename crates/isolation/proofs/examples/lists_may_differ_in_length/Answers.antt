@@ -1,0 +1,48 @@
+use Rattle.std.proofs.Common.{◌≡◌, refl, ap, ℕ, zero, suc, List, [], true, false, pos, Some}
+use Rattle.std.specs.Int.{int_wrap}
+use Rattle.labels.specs.declared.sent.Pair.{Pair}
+use Rattle.labels.specs.Sent.{seen}
+use Rattle.resolved.specs.declared.expression.Variable.TheVariants.{Local}
+use Rattle.resolved.specs.declared.expression.Operator.TheVariants.{GreaterThan}
+use Rattle.resolved.specs.Tree.{Integer, Read, Binary, Assign, Receive, Send, Try, Empty, Then, NoMore, Catch}
+use Rattle.resolved.specs.Program.{procedure_at}
+use Rattle.resolved.specs.Value.{end_exception}
+use Rattle.resolved.specs.State.{State, value_of}
+use Rattle.resolved.specs.Meaning.{Outcome, after, leaving, entering, block_meaning, calls_with, first_state, state_after, frame_limit}
+use Rattle.resolved.specs.Labelled.{channel_label}
+use Rattle.isolation.specs.Examples.{for_alice, two_principals, bob, comes, waiting}
+use Rattle.isolation.proofs.Waiting.{waits-for_ever}
+use Rattle.isolation.proofs.examples.lists_may_differ_in_length.Goals as goal
+
+pub returns-clause-faultless : goal.returns-clause-faultless
+returns-clause-faultless c = refl
+
+pub returns-clause-labelled : goal.returns-clause-labelled
+returns-clause-labelled c = (λ f. record { local_label = λ n. []; loop_label = λ n. for_alice }, refl)
+
+pub returns-clause-agree : goal.returns-clause-agree
+returns-clause-agree c zero within is_input reads = let e : false ≡ true = reads in absurd (cc)
+returns-clause-agree c (suc channel) within is_input reads = refl
+
+pub returns-clause-all : goal.returns-clause-all
+unfolding frame_limit int_wrap
+returns-clause-all c zero = refl
+returns-clause-all c (suc k) = refl
+
+-- the state in which the loop is reached, and the run from there on
+reached : (k : ℕ) → State
+reached k =
+    state_after (block_meaning (calls_with waiting k 511) k
+    (Then (Assign 0 (Local 0) (Integer 0)) (Then (Try 0 (Then (Receive 0 0 (Some (Local 0))) Empty) (Catch 0 end_exception Empty NoMore)) Empty))
+    (entering (procedure_at waiting 0) [] (first_state waiting (comes (pos 1)))))
+
+seen_from : (k : ℕ) → Outcome → List Pair
+seen_from k o =
+    seen two_principals (channel_label waiting) bob
+    (state_after (leaving (λ t. record t { locals = λ n. [] }) (after o (block_meaning (calls_with waiting k 511) k (Then (Send 0 1 (Integer 1)) Empty))))).sent
+
+pub returns-clause-nothing : goal.returns-clause-nothing
+unfolding frame_limit int_wrap reached seen_from
+returns-clause-nothing c k =
+    ap (seen_from k)
+    (waits-for_ever k (λ t. value_of t (Binary GreaterThan (Read (Local 0)) (Integer 0))) (block_meaning (calls_with waiting k 511) k Empty) (reached k) refl refl)

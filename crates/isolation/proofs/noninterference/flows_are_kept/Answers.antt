@@ -1,0 +1,13 @@
+use Rattle.isolation.specs.Larger.{number_by_name}
+use Rattle.isolation.proofs.Readers.{carried-flow, names-keep}
+use Rattle.isolation.proofs.noninterference.flows_are_kept.Goals as goal
+
+pub returns-clause-renumbered : goal.returns-clause-renumbered
+returns-clause-renumbered c = carried-flow
+
+pub returns-clause-names : goal.returns-clause-names
+returns-clause-names c = names-keep
+
+pub returns-clause-by_name : goal.returns-clause-by_name
+returns-clause-by_name c part whole is_part is_whole contains =
+    carried-flow part whole (number_by_name part whole) (names-keep part whole is_part is_whole contains)

@@ -1,0 +1,53 @@
+-- Confinement: what a labelled statement may do that is reached on a way of which a principal may not read the label.
+-- Source: confinement of Volpano, Smith and Irvine 1996; with a label for each way out as in JFlow (Myers 1999).
+use Rattle.std.specs.Prelude.{◌≡◌, ℕ, List, [], Bool, IsTrue, IsFalse}
+use Rattle.labels.specs.declared.sent.Pair.{Pair}
+use Rattle.labels.specs.Label.{Label, may_read}
+use Rattle.labels.specs.Sent.{seen}
+use Rattle.resolved.specs.declared.expression.Variable.{Variable}
+use Rattle.resolved.specs.declared.statement.Exit.{Exit}
+use Rattle.resolved.specs.Tree.{Statement}
+use Rattle.resolved.specs.State.{State, cells}
+use Rattle.resolved.specs.Meaning.{Outcome, Ended, Stopped, state_after, statement_meaning, calls_with}
+use Rattle.resolved.specs.Ends.{has_end, statement_ends}
+use Rattle.resolved.specs.EndFaults.{end_faults, inner_faults}
+use Rattle.resolved.specs.Labelled.{Scope, Marks, Fits, Labelled, variable_label, channel_label, statement_demands, statement_marks}
+
+-- whether a principal may read a label, and what it sees in a state of what was sent, under the program's own hierarchy
+abbrev pub reads : Scope → (p : ℕ) → Label → Bool
+reads scope p label = may_read scope.program.hierarchy p label
+
+abbrev pub sees : Scope → (p : ℕ) → State → List Pair
+sees scope p s = seen scope.program.hierarchy (channel_label scope.program) p s.sent
+
+-- two states are the same for a principal: each variable and each input that it may read, and what it sees of what was sent
+pub record SameFor (scope : Scope) (p : ℕ) (before after : State) : Type 0 where
+  pub variables : (x : Variable) → IsTrue (reads scope p (variable_label scope x)) → cells before x ≡ cells after x
+  pub inputs : (channel : ℕ) → IsTrue (reads scope p (channel_label scope.program channel)) → before.inputs channel ≡ after.inputs channel
+  pub sent : sees scope p before ≡ sees scope p after
+
+-- the label of the end that was reached, if one was, is one that the principal may not read
+abbrev pub UnreadEnd : Scope → (p : ℕ) → Marks → Outcome → Type 0
+UnreadEnd scope p marks (Ended exit returned s) = IsFalse (reads scope p (marks exit))
+UnreadEnd scope p marks (Stopped stop s) = Unit {0}
+
+-- in a labelled program without a fault of its ends, a labelled statement at a label that a principal may not read changes nothing
+-- that the principal may read, and ends at a label that it may not read; also where it is stopped
+abbrev pub StatementsAreConfined : Scope → Type 0
+StatementsAreConfined scope =
+    end_faults scope.program ≡ [] → Labelled scope.program
+    → (p : ℕ) (pc : Label) → IsFalse (reads scope p pc)
+    → (statement : Statement) → Fits scope.program.hierarchy (statement_demands scope pc statement)
+    → (frames k : ℕ) (s : State)
+    → SameFor scope p s (state_after (statement_meaning (calls_with scope.program k frames) k statement s))
+    × UnreadEnd scope p (statement_marks scope pc statement)
+    (statement_meaning (calls_with scope.program k frames) k statement s)
+
+-- each possible end of such a statement, if that has no fault of its ends, has a label that the principal may not read
+abbrev pub PossibleEndsAreUnread : Scope → Type 0
+PossibleEndsAreUnread scope =
+    (p : ℕ) (pc : Label) → IsFalse (reads scope p pc)
+    → (in_loop : Bool) (statement : Statement) → inner_faults scope.program in_loop statement ≡ []
+    → Fits scope.program.hierarchy (statement_demands scope pc statement)
+    → (exit : Exit) → IsTrue (has_end (statement_ends scope.program statement) exit)
+    → IsFalse (reads scope p (statement_marks scope pc statement exit))

@@ -1,0 +1,78 @@
+-- Programs that show what the laws are about: one that is labelled and sends what it received, the same with another label on its
+-- output, which is refused, and one of which two runs that agree for a principal show it lists of different lengths.
+-- Source: our own.
+use Rattle.std.specs.Prelude.{ℕ, zero, suc, List, [], ◌∷◌, ℤ, Some, None}
+use Rattle.principals.specs.ActsFor.{PrincipalHierarchy}
+use Rattle.labels.specs.declared.sent.Pair.{Pair}
+use Rattle.labels.specs.Label.{Label}
+use Rattle.labels.specs.Sent.{seen}
+use Rattle.resolved.specs.declared.expression.Base.TheVariants.{Int}
+use Rattle.resolved.specs.declared.expression.Variable.TheVariants.{Local}
+use Rattle.resolved.specs.declared.expression.Operator.TheVariants.{GreaterThan}
+use Rattle.resolved.specs.declared.tables.Direction.TheVariants.{Input, Output}
+use Rattle.resolved.specs.Tree.{Integer, Read, Binary, Assign, Receive, Send, While, Try, Block, Empty, Then, NoMore, Catch}
+use Rattle.resolved.specs.Program.{Program, ThrownEntry}
+use Rattle.resolved.specs.Value.{end_exception}
+use Rattle.resolved.specs.State.{World}
+use Rattle.resolved.specs.Meaning.{sent_by}
+use Rattle.resolved.specs.Labelled.{channel_label}
+
+-- `principal Alice, Bob;`
+abbrev pub two_principals : PrincipalHierarchy
+two_principals = record { names = (65 ∷ []) ∷ (66 ∷ []) ∷ []; pairs = [] }
+
+abbrev pub bob : ℕ
+bob = 1
+
+-- the label `{Alice:}`
+abbrev pub for_alice : Label
+for_alice = record { owner = 0; readers = [] } ∷ []
+
+-- a program with the channels `input{Alice:} s; output OUT out;` and `main` alone, whose one slot is `int{Alice:} x`
+abbrev pub program_of : (out : Label) → List ThrownEntry → (end_label : Label) → Block → Program
+program_of out throws end_label body = record {
+  hierarchy = two_principals;
+  channels = record { direction = Input; name = 115 ∷ []; label = for_alice }
+      ∷ record { direction = Output; name = 111 ∷ []; label = out } ∷ [];
+  exceptions = [];
+  globals = [];
+  procedures = record {
+    at = 0;
+    name = 109 ∷ [];
+    result = None;
+    begin_label = [];
+    end_label = end_label;
+    throws = throws;
+    parameters = 0;
+    slots = record { base = Int; size = None; written = Some for_alice; at = 0; name = 120 ∷ [] } ∷ [];
+    loops = 1;
+    body = body;
+  } ∷ [];
+  main = 0;
+}
+
+-- `void main() throws (End{Alice:}) { int{Alice:} x = receive s; send out, x; }`
+abbrev pub relay : (out : Label) → Program
+relay out = program_of out (record { exception = end_exception; label = for_alice } ∷ []) for_alice
+    (Then (Receive 0 0 (Some (Local 0))) (Then (Send 0 1 (Read (Local 0))) Empty))
+
+-- `void main() { int{Alice:} x = 0; try { x = receive s; } catch (End) { } while (x > 0) { } send out, 1; }`, with `output{} out;`
+abbrev pub waiting : Program
+waiting = program_of [] [] []
+    (Then (Assign 0 (Local 0) (Integer 0))
+    (Then (Try 0 (Then (Receive 0 0 (Some (Local 0))) Empty) (Catch 0 end_exception Empty NoMore))
+    (Then (While 0 0 (Binary GreaterThan (Read (Local 0)) (Integer 0)) Empty)
+    (Then (Send 0 1 (Integer 1)) Empty))))
+
+-- the world in which one number comes on s
+abbrev pub comes : ℤ → World
+comes z zero = z ∷ []
+comes z (suc channel) = []
+
+-- one pair on out
+abbrev pub sends : ℤ → List Pair
+sends z = record { channel = 1; number = z } ∷ []
+
+-- what Bob sees of the first k turns of the waiting program
+abbrev pub bob_sees : World → (k : ℕ) → List Pair
+bob_sees world k = seen two_principals (channel_label waiting) bob (sent_by waiting world k)

@@ -1,0 +1,56 @@
+-- What the laws of runs say: which ends a statement comes to, and how a run goes on with more turns.
+-- Source: our own.
+use Rattle.std.specs.Prelude.{◌≡◌, ℕ, ◌≤◌, List, [], ◌∷◌, IsTrue}
+use Rattle.labels.specs.Sent.{Begins}
+use Rattle.resolved.specs.declared.expression.Value.{Value}
+use Rattle.resolved.specs.declared.statement.Exit.{Exit}
+use Rattle.resolved.specs.declared.statement.Exit.TheVariants.{Normal}
+use Rattle.resolved.specs.Tree.{Statement, Block}
+use Rattle.resolved.specs.Program.{Program, procedure_at}
+use Rattle.resolved.specs.State.{World, State}
+use Rattle.resolved.specs.Meaning.{Outcome, Ended, Stopped, OutOfTurns, Deep, state_after, statement_meaning, block_meaning, calls_with, run_within, sent_by}
+use Rattle.resolved.specs.Ends.{has_end, thrown_ends, declared_by, statement_ends, block_ends}
+use Rattle.resolved.specs.EndFaults.{end_faults}
+
+-- the end that was reached, if one was, is one of these
+abbrev pub EndsAmong : List Exit → Outcome → Type 0
+EndsAmong ends (Ended exit returned s) = IsTrue (has_end ends exit)
+EndsAmong ends (Stopped stop s) = Unit {0}
+
+-- in a program without a fault of its ends, each end that a statement or a block comes to is one of its possible ends
+abbrev pub StatementsEndAsTheyMay : Program → Type 0
+StatementsEndAsTheyMay program =
+    end_faults program ≡ [] → (frames k : ℕ) (statement : Statement) (s : State)
+    → EndsAmong (statement_ends program statement) (statement_meaning (calls_with program k frames) k statement s)
+
+abbrev pub BlocksEndAsTheyMay : Program → Type 0
+BlocksEndAsTheyMay program =
+    end_faults program ≡ [] → (frames k : ℕ) (block : Block) (s : State)
+    → EndsAmong (block_ends program block) (block_meaning (calls_with program k frames) k block s)
+
+-- and a call ends normally or by an exception that its procedure declares
+abbrev pub CallsEndAsDeclared : Program → Type 0
+CallsEndAsDeclared program =
+    end_faults program ≡ [] → (frames k f : ℕ) (arguments : List Value) (s : State)
+    → EndsAmong (Normal ∷ thrown_ends (declared_by (procedure_at program f).throws)) (calls_with program k frames f arguments s)
+
+-- what was sent before a statement stays sent, and what it sends comes after it
+abbrev pub SentStaysSent : Program → Type 0
+SentStaysSent program =
+    (frames k : ℕ) (statement : Statement) (s : State)
+    → Begins s.sent (state_after (statement_meaning (calls_with program k frames) k statement s)).sent
+
+-- the second outcome is that of the first run with more turns: where the first run was out of turns, the second has sent what
+-- the first has, and perhaps more; where it had come to an end, or was too deep, the second is the same
+abbrev pub GoesOn : Outcome → Outcome → Type 0
+GoesOn (Stopped OutOfTurns s) more = Begins s.sent (state_after more).sent
+GoesOn (Stopped Deep s) more = more ≡ Stopped Deep s
+GoesOn (Ended exit returned s) more = more ≡ Ended exit returned s
+
+-- so it is for all runs of a program, and what it sends with fewer turns begins what it sends with more
+abbrev pub RunsGoOn : Program → Type 0
+RunsGoOn program =
+    (frames : ℕ) (world : World) (k m : ℕ) → k ≤ m → GoesOn (run_within frames program world k) (run_within frames program world m)
+
+abbrev pub SentOnlyGrows : Program → Type 0
+SentOnlyGrows program = (world : World) (k m : ℕ) → k ≤ m → Begins (sent_by program world k) (sent_by program world m)

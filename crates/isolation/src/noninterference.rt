@@ -1,0 +1,43 @@
+//! Isolation: what a principal sees of the outputs tells it nothing of the inputs that it may not read.
+
+ghost use Rattle.isolation.specs.TwoRuns.{StatementsAgree};
+ghost use Rattle.isolation.specs.Larger.{FlowsAreKept, FlowsStayByName, IsolatedCarried, KeepsActsFor, NamesKeepActsFor, number_by_name};
+ghost use Rattle.principals.specs.ActsFor.{ContainsHierarchy, IsHierarchy, PrincipalHierarchy};
+ghost use Rattle.resolved.specs.EndFaults.{end_faults};
+ghost use Rattle.resolved.specs.Isolated.{Isolated};
+ghost use Rattle.resolved.specs.Labelled.{Labelled, Scope};
+ghost use Rattle.resolved.specs.Program.{Program};
+ghost use Rattle.std.specs.Prelude.{[], ℕ, ◌≡◌};
+
+/// Two runs of a labelled statement from states that are the same for a principal agree for it, at whatever label the statement is
+/// reached and with whatever turns: where both end, their states are the same for it, and where it may read the label of either
+/// end, both ended so; where one is stopped, what the principal sees of it begins what it sees of the other.
+pub fn two_runs_agree()
+    ensures { (scope : Scope) → StatementsAgree scope }
+{}
+
+/// Every labelled program without a fault of its ends is isolated: for every principal, all worlds that agree for it and all two
+/// bounds on the turns of loops, one of the lists that it sees begins the other.
+pub fn labelled_programs_are_isolated()
+    ensures { (program : Program) → end_faults program ≡ [] → Labelled program → Isolated program }
+{}
+
+/// The same where readers, agreement and observers are taken under another hierarchy that keeps the acts-for of the program's own:
+/// under every renumbering of principals that does, and by name under every hierarchy that contains the program's own.
+pub fn labelled_programs_stay_isolated()
+    ensures renumbered { (program : Program) (whole : PrincipalHierarchy) (carry : ℕ → ℕ) →
+        end_faults program ≡ [] → Labelled program → KeepsActsFor program.hierarchy whole carry →
+        IsolatedCarried program whole carry }
+    ensures by_name { (program : Program) (whole : PrincipalHierarchy) →
+        end_faults program ≡ [] → Labelled program →
+        IsHierarchy program.hierarchy → IsHierarchy whole → ContainsHierarchy whole program.hierarchy →
+        IsolatedCarried program whole (number_by_name program.hierarchy whole) }
+{}
+
+/// A flow that holds under a hierarchy holds under each one that keeps its acts-for. A hierarchy that contains another one keeps
+/// its acts-for by name, and so its flows.
+pub fn flows_are_kept()
+    ensures renumbered { (part whole : PrincipalHierarchy) (carry : ℕ → ℕ) → FlowsAreKept part whole carry }
+    ensures names { (part whole : PrincipalHierarchy) → NamesKeepActsFor part whole }
+    ensures by_name { (part whole : PrincipalHierarchy) → FlowsStayByName part whole }
+{}

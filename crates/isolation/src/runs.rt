@@ -1,0 +1,24 @@
+//! Laws of runs: how they end, and how they go on with more turns.
+
+ghost use Rattle.isolation.specs.Runs.{BlocksEndAsTheyMay, CallsEndAsDeclared, RunsGoOn, SentOnlyGrows, SentStaysSent, StatementsEndAsTheyMay};
+ghost use Rattle.resolved.specs.Program.{Program};
+
+/// Each way out that the meaning gives a statement or a block is one of its possible ends, in every program without a fault of its
+/// ends, from every state, with every number of turns and of frames. A call ends normally or by an exception that its procedure
+/// declares.
+pub fn ends_are_possible()
+    ensures statements { (program : Program) → StatementsEndAsTheyMay program }
+    ensures blocks { (program : Program) → BlocksEndAsTheyMay program }
+    ensures calls { (program : Program) → CallsEndAsDeclared program }
+{}
+
+/// Nothing that was sent is taken back: what was sent before a statement begins what is sent after it.
+pub fn sent_stays_sent()
+    ensures { (program : Program) → SentStaysSent program }
+{}
+
+/// More turns change no end that was reached, and add to what was sent at its end only.
+pub fn more_turns_go_on()
+    ensures runs { (program : Program) → RunsGoOn program }
+    ensures sent { (program : Program) → SentOnlyGrows program }
+{}

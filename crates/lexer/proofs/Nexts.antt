@@ -1,0 +1,247 @@
+-- The next lexeme of a text, by what the text begins with; there is at most one.
+use Rattle.std.proofs.Common.{◌≡◌, ℕ, suc, ◌≤◌, ◌==◌, true, not, List, [], ◌∷◌, ◌++◌, Option, Some, None, length, codes, refl, sym, ap, subst, ◌∙◌, inl, inr, arith, unwrap_or, is_some, append_assoc, append-nil}
+use Rattle.std.proofs.lemmas.Bool.{cases_Bool, cases_lt, and_from, leb-true, leb-false, cond-true, cond-false}
+use Rattle.std.specs.Char.{is_ascii_digit}
+use Rattle.std.specs.List.{list_all}
+use Rattle.std.specs.Prelude.{nat_le}
+use Rattle.std.specs.Str.Parse.{digits_value}
+use Rattle.lexer.specs.Words.{is_white_space, is_identifier, may_begin, may_continue, keyword_of}
+use Rattle.lexer.specs.Lexeme.{Lexeme, Word, Gap, OpenComment, IsLexeme, Blank, LineComment, BlockComment, Unended, Keyword, Identifier, Literal, TooLarge, Sign, IsInLine, IsOpen, IsClosed, IsNumeral, sign_of, greatest_literal}
+use Rattle.lexer.specs.Cut.{IsNext, HasNoLexeme}
+use Rattle.lexer.specs.Scan.{IsNoDouble}
+use Rattle.lexer.specs.declared.token.Kind.{Kind}
+use Rattle.lexer.specs.declared.token.Kind.TheVariants.{Slash, Name}
+use Rattle.lexer.proofs.Letters.{Class, White, Digit, Letter, Solidus, Other, class_of, class-White, class-Digit, class-Letter, class-Solidus}
+use Rattle.lexer.proofs.Fronts.{Front, AfterSolidus, Alone, Line, Block, Unclosed, word_kind, literal_of, shape, nonempty}
+use Rattle.lexer.proofs.Runs.{Stops, run_longest, longer_front, same_front, whole_longest}
+
+-- a lexeme at the front of a text that begins with c, where c is of this class
+opened : (k : Class) (c : ℕ) (cs : List ℕ) → class_of c ≡ k → (lexeme : Lexeme) (front more : List ℕ)
+    → IsLexeme lexeme front → c ∷ cs ≡ front ++ more
+    → (tail : List ℕ) × ((front ≡ c ∷ tail) × ((cs ≡ tail ++ more) × Front k c tail lexeme))
+opened k c cs class lexeme [] more h e = absurd (nonempty lexeme [] h refl)
+opened k c cs class lexeme (d ∷ tail) more h e =
+    let first : d ≡ c = cc in
+    let others : cs ≡ tail ++ more = cc in
+    let here : d ∷ tail ≡ c ∷ tail = ap (λ x. x ∷ tail) first in
+    (tail, (here, (others, subst (λ x. Front x c tail lexeme) class (shape lexeme (d ∷ tail) c tail h here))))
+
+-- the lexemes that pass a bound on what follows their first character are no longer than the front
+bounded : (k : Class) (c : ℕ) (cs : List ℕ) (most : ℕ) → class_of c ≡ k
+    → ((lexeme : Lexeme) (tail more : List ℕ) → cs ≡ tail ++ more → Front k c tail lexeme → length tail ≤ most)
+    → (other : Lexeme) (longer more : List ℕ) → IsLexeme other longer → c ∷ cs ≡ longer ++ more
+    → length longer ≤ suc most
+bounded k c cs most class bound other longer more h e =
+    let (tail, (here, (others, front))) = opened k c cs class other longer more h e in
+    let n : length longer ≡ length (c ∷ tail) = ap length here in
+    let short : length tail ≤ most = bound other tail more others front in
+    omega arith
+
+pub next_white : (c : ℕ) (cs : List ℕ) → is_white_space c ≡ true → IsNext (c ∷ cs) Gap (c ∷ []) cs
+next_white c cs white = record {
+  parts = refl;
+  is = Blank c white;
+  longest = bounded White c cs 0 (class-White c white)
+      (λ lexeme tail more e front. let n = ap length front.1 in omega arith);
+}
+
+-- an integer is a lexeme, and of one kind
+literal_is : (cs : List ℕ) → IsNumeral cs → IsLexeme (literal_of cs) cs
+literal_is cs numeral =
+    let P : Lexeme → Type 0 = λ lexeme. IsLexeme lexeme cs in
+    elim (cases_Bool (nat_le (digits_value 10 cs) greatest_literal)) [
+      | inl small ↦ subst P (sym (cond-true (nat_le (digits_value 10 cs) greatest_literal) _ _ small)) (Literal cs numeral (leb-true _ _ small))
+      | inr large ↦ subst P (sym (cond-false (nat_le (digits_value 10 cs) greatest_literal) _ _ large)) (TooLarge cs numeral (leb-false _ _ large))
+    ]
+
+pub next_literal : (c : ℕ) (cs rest : List ℕ) → is_ascii_digit c ≡ true → list_all is_ascii_digit cs ≡ true
+    → Stops is_ascii_digit rest → IsNext (c ∷ (cs ++ rest)) (literal_of (c ∷ cs)) (c ∷ cs) rest
+next_literal c cs rest digit digits stops = record {
+  parts = refl;
+  is = literal_is (c ∷ cs) (record { nonempty = omega arith; digits = and_from _ _ digit digits });
+  longest = bounded Digit c (cs ++ rest) (length cs) (class-Digit c digit)
+      (λ lexeme tail more e front. run_longest is_ascii_digit cs rest tail more stops front.1 e);
+}
+
+-- an identifier is a lexeme, and of one kind
+word_is : (cs : List ℕ) → is_identifier cs ≡ true → IsLexeme (Word (word_kind cs)) cs
+word_is cs identifier = word_at (keyword_of cs) refl
+  where
+    word_at : (found : Option Kind) → keyword_of cs ≡ found → IsLexeme (Word (unwrap_or found Name)) cs
+    word_at None e = Identifier cs (and_from _ _ identifier (ap (λ o. not (is_some o)) e))
+    word_at (Some kind) e = Keyword cs kind e
+
+pub next_word : (c : ℕ) (cs rest : List ℕ) → may_begin c ≡ true → list_all may_continue cs ≡ true
+    → Stops may_continue rest → IsNext (c ∷ (cs ++ rest)) (Word (word_kind (c ∷ cs))) (c ∷ cs) rest
+next_word c cs rest begins continues stops = record {
+  parts = refl;
+  is = word_is (c ∷ cs) (and_from _ _ begins continues);
+  longest = bounded Letter c (cs ++ rest) (length cs) (class-Letter c begins)
+      (λ lexeme tail more e front. run_longest may_continue cs rest tail more stops front.1 e);
+}
+
+-- `/` and `*` are two characters
+parted : (xs ys : List ℕ) → 47 ∷ xs ≡ 42 ∷ ys → ⊥
+parted xs ys e = let first : ◌≡◌ {A = ℕ} 47 42 = cc in omega arith
+
+-- what follows a `/`, which is the list `cs`, and what a lexeme takes of it
+after_line : (cs rest : List ℕ) → Stops (λ c. not (c == 10)) rest → (lexeme : Lexeme) (tail more : List ℕ)
+    → 47 ∷ (cs ++ rest) ≡ tail ++ more → AfterSolidus tail lexeme → length tail ≤ suc (length cs)
+after_line cs rest stops lexeme tail more e Alone = omega arith
+after_line cs rest stops lexeme tail more e (Line body line) =
+    let others : cs ++ rest ≡ body ++ more = cc in
+    let short : length body ≤ length cs = run_longest (λ c. not (c == 10)) cs rest body more stops line others in
+    omega arith
+after_line cs rest stops lexeme tail more e (Block body closed) = absurd (parted _ _ e)
+after_line cs rest stops lexeme tail more e (Unclosed body unclosed) = absurd (parted _ _ e)
+
+pub next_line : (cs rest : List ℕ) → IsInLine cs → Stops (λ c. not (c == 10)) rest
+    → IsNext (47 ∷ 47 ∷ (cs ++ rest)) Gap (47 ∷ 47 ∷ cs) rest
+next_line cs rest line stops = record {
+  parts = refl;
+  is = LineComment cs line;
+  longest = bounded Solidus 47 (47 ∷ (cs ++ rest)) (suc (length cs)) class-Solidus (after_line cs rest stops);
+}
+
+-- no lexeme goes on behind the first `*/` of a comment
+closed_shortest : (cs rest body more : List ℕ) → IsClosed cs → cs ++ rest ≡ body ++ more
+    → ((before after : List ℕ) → body ≡ before ++ (codes "*/" ++ after) → after ≡ []) → length body ≤ length cs
+closed_shortest cs rest body more closed e once =
+    elim (cases_lt (length cs) (length body)) [
+      | inr short ↦ short
+      | inl long ↦
+          let (x, (goes_on, _)) = longer_front cs rest body more e (omega arith) in
+          let apart : body ≡ closed.inner ++ (codes "*/" ++ x) = goes_on ∙ (ap (λ l. l ++ x) closed.ends ∙ append_assoc closed.inner (codes "*/") x) in
+          let none = ap length (once closed.inner x apart) in
+          let whole : body ≡ cs = goes_on ∙ (ap (λ l. cs ++ l) (once closed.inner x apart) ∙ append-nil cs) in
+          let n = ap length whole in
+          omega arith
+    ]
+
+after_block : (cs rest : List ℕ) → IsClosed cs → (lexeme : Lexeme) (tail more : List ℕ)
+    → 42 ∷ (cs ++ rest) ≡ tail ++ more → AfterSolidus tail lexeme → length tail ≤ suc (length cs)
+after_block cs rest closed lexeme tail more e Alone = omega arith
+after_block cs rest closed lexeme tail more e (Line body line) = absurd (parted _ _ (sym e))
+after_block cs rest closed lexeme tail more e (Block body other) =
+    let others : cs ++ rest ≡ body ++ more = cc in
+    let short : length body ≤ length cs = closed_shortest cs rest body more closed others other.once in
+    omega arith
+after_block cs rest closed lexeme tail more e (Unclosed body unclosed) =
+    let others : cs ++ rest ≡ body ++ more = cc in
+    let short : length body ≤ length cs = closed_shortest cs rest body more closed others (λ before after h. absurd (unclosed before after h)) in
+    omega arith
+
+pub next_block : (cs rest : List ℕ) → IsClosed cs → IsNext (47 ∷ 42 ∷ (cs ++ rest)) Gap (47 ∷ 42 ∷ cs) rest
+next_block cs rest closed = record {
+  parts = refl;
+  is = BlockComment cs closed;
+  longest = bounded Solidus 47 (42 ∷ (cs ++ rest)) (suc (length cs)) class-Solidus (after_block cs rest closed);
+}
+
+pub next_open : (cs : List ℕ) → IsOpen cs → IsNext (47 ∷ 42 ∷ cs) OpenComment (47 ∷ 42 ∷ cs) []
+next_open cs unclosed = record {
+  parts = sym (append-nil (47 ∷ 42 ∷ cs));
+  is = Unended cs unclosed;
+  longest = λ other longer more h e. whole_longest (47 ∷ 42 ∷ cs) longer more e;
+}
+
+-- the list does not begin with the character
+abbrev pub IsNotFirst : ℕ → List ℕ → Type 0
+IsNotFirst c [] = Unit {0}
+IsNotFirst c (d ∷ cs) = d ≡ c → ⊥
+
+after_alone : (cs : List ℕ) → IsNotFirst 47 cs → IsNotFirst 42 cs → (lexeme : Lexeme) (tail more : List ℕ)
+    → cs ≡ tail ++ more → AfterSolidus tail lexeme → length tail ≤ 0
+after_alone cs no_line no_block lexeme tail more e Alone = omega arith
+after_alone cs no_line no_block lexeme tail more e (Line body line) = absurd (subst (IsNotFirst 47) e no_line refl)
+after_alone cs no_line no_block lexeme tail more e (Block body closed) = absurd (subst (IsNotFirst 42) e no_block refl)
+after_alone cs no_line no_block lexeme tail more e (Unclosed body unclosed) = absurd (subst (IsNotFirst 42) e no_block refl)
+
+pub next_solidus : (cs : List ℕ) → IsNotFirst 47 cs → IsNotFirst 42 cs → IsNext (47 ∷ cs) (Word Slash) (47 ∷ []) cs
+next_solidus cs no_line no_block = record {
+  parts = refl;
+  is = Sign (47 ∷ []) Slash refl;
+  longest = bounded Solidus 47 cs 0 class-Solidus (after_alone cs no_line no_block);
+}
+
+pub next_double : (c d : ℕ) (cs : List ℕ) (kind : Kind) → class_of c ≡ Other → sign_of (c ∷ d ∷ []) ≡ Some kind
+    → IsNext (c ∷ d ∷ cs) (Word kind) (c ∷ d ∷ []) cs
+next_double c d cs kind class found = record {
+  parts = refl;
+  is = Sign (c ∷ d ∷ []) kind found;
+  longest = bounded Other c (d ∷ cs) 1 class (λ lexeme tail more e front. front.1.1.1);
+}
+
+single : (c : ℕ) (cs : List ℕ) → IsNoDouble c cs → (lexeme : Lexeme) (tail more : List ℕ) → cs ≡ tail ++ more
+    → Front Other c tail lexeme → tail ≡ []
+single c cs alone lexeme [] more e front = refl
+single c cs alone lexeme (d ∷ []) more e front =
+    let none : sign_of (c ∷ d ∷ []) ≡ None = subst (IsNoDouble c) e alone in
+    let some = front.1.0 in
+    absurd cc
+single c cs alone lexeme (d ∷ f ∷ tail) more e front = let short = front.1.1.1 in absurd (omega arith)
+
+pub next_single : (c : ℕ) (cs : List ℕ) (kind : Kind) → class_of c ≡ Other → sign_of (c ∷ []) ≡ Some kind
+    → IsNoDouble c cs → IsNext (c ∷ cs) (Word kind) (c ∷ []) cs
+next_single c cs kind class found alone = record {
+  parts = refl;
+  is = Sign (c ∷ []) kind found;
+  longest = bounded Other c cs 0 class
+      (λ lexeme tail more e front. let n = ap length (single c cs alone lexeme tail more e front) in omega arith);
+}
+
+pub none_next : (c : ℕ) (cs : List ℕ) → class_of c ≡ Other → sign_of (c ∷ []) ≡ None → IsNoDouble c cs
+    → HasNoLexeme (c ∷ cs)
+none_next c cs class absent alone = record {
+  goes_on = λ e. cc;
+  none = λ lexeme front rest h e.
+      let (tail, (here, (others, shape))) = opened Other c cs class lexeme front rest h e in
+      let empty = single c cs alone lexeme tail rest others shape in
+      let some : sign_of (c ∷ []) ≡ Some shape.0 = ap (λ t. sign_of (c ∷ t)) (sym empty) ∙ shape.1.0 in
+      cc;
+}
+
+-- one text after a `/` is one lexeme
+one_after : (a b : List ℕ) (l m : Lexeme) → AfterSolidus a l → AfterSolidus b m → a ≡ b → l ≡ m
+one_after a b l m Alone Alone e = refl
+one_after a b l m Alone (Line y k) e = absurd cc
+one_after a b l m Alone (Block y k) e = absurd cc
+one_after a b l m Alone (Unclosed y k) e = absurd cc
+one_after a b l m (Line x h) Alone e = absurd cc
+one_after a b l m (Line x h) (Line y k) e = refl
+one_after a b l m (Line x h) (Block y k) e = absurd (parted _ _ e)
+one_after a b l m (Line x h) (Unclosed y k) e = absurd (parted _ _ e)
+one_after a b l m (Block x h) Alone e = absurd cc
+one_after a b l m (Block x h) (Line y k) e = absurd (parted _ _ (sym e))
+one_after a b l m (Block x h) (Block y k) e = refl
+one_after a b l m (Block x h) (Unclosed y k) e = let same : x ≡ y = cc in absurd (k h.inner [] (sym same ∙ h.ends))
+one_after a b l m (Unclosed x h) Alone e = absurd cc
+one_after a b l m (Unclosed x h) (Line y k) e = absurd (parted _ _ (sym e))
+one_after a b l m (Unclosed x h) (Block y k) e = let same : x ≡ y = cc in absurd (h k.inner [] (same ∙ k.ends))
+one_after a b l m (Unclosed x h) (Unclosed y k) e = refl
+
+one_front : (k : Class) (c : ℕ) (cs : List ℕ) (l m : Lexeme) → Front k c cs l → Front k c cs m → l ≡ m
+one_front White c cs l m h k = h.0 ∙ sym k.0
+one_front Digit c cs l m h k = h.0 ∙ sym k.0
+one_front Letter c cs l m h k = h.0 ∙ sym k.0
+one_front Solidus c cs l m h k = one_after cs cs l m h k refl
+one_front Other c cs l m h k =
+    let both : Some h.0 ≡ Some k.0 = sym h.1.0 ∙ k.1.0 in
+    let same : h.0 ≡ k.0 = cc in
+    h.1.1.0 ∙ (ap Word same ∙ sym k.1.1.0)
+
+-- one list of characters is one lexeme
+pub one_lexeme : (cs : List ℕ) (l m : Lexeme) → IsLexeme l cs → IsLexeme m cs → l ≡ m
+one_lexeme [] l m h k = absurd (nonempty l [] h refl)
+one_lexeme (c ∷ cs) l m h k =
+    one_front (class_of c) c cs l m (shape l (c ∷ cs) c cs h refl) (shape m (c ∷ cs) c cs k refl)
+
+-- a text has one next lexeme
+pub one_next : (text front rest other more : List ℕ) (l m : Lexeme) → IsNext text l front rest
+    → IsNext text m other more → (l ≡ m) × ((front ≡ other) × (rest ≡ more))
+one_next text front rest other more l m h k =
+    let e : front ++ rest ≡ other ++ more = sym h.parts ∙ k.parts in
+    let below : length other ≤ length front = h.longest m other more k.is k.parts in
+    let above : length front ≤ length other = k.longest l front rest h.is h.parts in
+    let same = same_front front rest other more e (omega arith) in
+    (one_lexeme front l m h.is (subst (IsLexeme m) (sym same.0) k.is), same)

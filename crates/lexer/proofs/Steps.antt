@@ -1,0 +1,77 @@
+-- One step over the characters of a text, and the functions of the scanner there.
+use Rattle.std.proofs.Common.{◌≡◌, ℕ, ◌+◌, ◌-◌, ◌<◌, ◌≤◌, ◌==◌, ◌&&◌, Bool, true, false, cond, List, [], ◌∷◌, ◌++◌, Some, length, take, sym, ap, subst, ◌∙◌, arith, length-append}
+use Rattle.std.proofs.lemmas.Bool.{cond-true, cond-false}
+use Rattle.std.proofs.lemmas.Str.{chars-nil, chars_past_char, IsUtf8-past_char, length-encode, len_utf8_bounds, encodes-chars, encodes-append, IsCharBoundary-at_seam, IsUtf8-take, chars-append}
+use Rattle.std.proofs.lemmas.List.{take-append-le, take_all}
+use Rattle.std.specs.Char.{encode_utf8}
+use Rattle.std.specs.Str.{chars, IsUtf8, IsCharBoundary, encode_utf8_all}
+use Rattle.lexer.specs.Scan.{after_run, after_close, IsTail}
+
+-- no byte, no character
+pub chars-empty : (bs : List ℕ) → length bs ≡ 0 → chars bs ≡ []
+chars-empty [] e = chars-nil
+chars-empty (b ∷ bs) e = absurd (omega arith)
+
+-- a character comes off the front
+pub record Step (before after : List ℕ) (c : ℕ) : Type 0 where
+  pub characters : chars before ≡ c ∷ chars after
+  pub utf8 : IsUtf8 after
+  pub shorter : length after < length before
+
+pub step : (before after : List ℕ) (c : ℕ) → IsUtf8 before → before ≡ encode_utf8 c ++ after → Step before after c
+step before after c utf8 e =
+    let n : length before ≡ length (encode_utf8 c) + length after = ap length e ∙ length-append (encode_utf8 c) after in
+    let width = length-encode c in
+    let some = (len_utf8_bounds c).0 in
+    record {
+      characters = chars_past_char before after c utf8 e;
+      utf8 = IsUtf8-past_char before after c utf8 e;
+      shorter = omega arith;
+    }
+
+pub run_on : (p : ℕ → Bool) (cs rest : List ℕ) (c : ℕ) → cs ≡ c ∷ rest → p c ≡ true → after_run p rest ≡ after_run p cs
+run_on p cs rest c e h = sym (ap (after_run p) e ∙ cond-true (p c) (after_run p rest) (c ∷ rest) h)
+
+pub run_stop : (p : ℕ → Bool) (cs rest : List ℕ) (c : ℕ) → cs ≡ c ∷ rest → p c ≡ false → cs ≡ after_run p cs
+run_stop p cs rest c e h = e ∙ sym (ap (after_run p) e ∙ cond-false (p c) (after_run p rest) (c ∷ rest) h)
+
+pub run_end : (p : ℕ → Bool) (cs : List ℕ) → cs ≡ [] → cs ≡ after_run p cs
+run_end p cs e = e ∙ sym (ap (after_run p) e)
+
+pub close_found : (starred : Bool) (cs rest : List ℕ) (c : ℕ) → cs ≡ c ∷ rest → starred ≡ true → c ≡ 47
+    → after_close starred cs ≡ Some rest
+close_found starred cs rest c e h k =
+    ap (after_close starred) e
+    ∙ (ap (λ s. cond (s && c == 47) (Some rest) (after_close (c == 42) rest)) h
+    ∙ ap (λ d. cond (d == 47) (Some rest) (after_close (c == 42) rest)) k)
+
+pub close_on : (starred : Bool) (cs rest : List ℕ) (c : ℕ) → cs ≡ c ∷ rest → (starred && c == 47) ≡ false
+    → after_close starred cs ≡ after_close (c == 42) rest
+close_on starred cs rest c e h = ap (after_close starred) e ∙ cond-false (starred && c == 47) _ _ h
+
+-- the bytes before a tail
+pub record Parted (text rest : List ℕ) : Type 0 where
+  pub shorter : length rest ≤ length text
+  pub boundary : IsCharBoundary text (length text - length rest)
+  pub bytes : text ≡ take (length text - length rest) text ++ rest
+  pub parts : chars text ≡ chars (take (length text - length rest) text) ++ chars rest
+
+pub parted : (text rest : List ℕ) → IsUtf8 text → IsUtf8 rest → IsTail (chars text) (chars rest) → Parted text rest
+parted text rest utf8 tail_utf8 (cs, e) =
+    let front : List ℕ = encode_utf8_all cs in
+    let bytes : text ≡ front ++ rest =
+    sym (encodes-chars text utf8) ∙ (ap encode_utf8_all e ∙ (encodes-append cs (chars rest) ∙ ap (λ r. front ++ r) (encodes-chars rest tail_utf8))) in
+    let n : length text ≡ length front + length rest = ap length bytes ∙ length-append front rest in
+    let mid : length front ≡ length text - length rest = omega arith in
+    let boundary : IsCharBoundary text (length text - length rest) =
+    subst (IsCharBoundary text) mid (IsCharBoundary-at_seam text front rest bytes tail_utf8) in
+    let taken : take (length text - length rest) text ≡ front =
+    ap (λ k. take k text) (sym mid) ∙ (ap (take (length front)) bytes ∙ (take-append-le (length front) front rest (omega arith) ∙ take_all (length front) front (omega arith))) in
+    let whole : text ≡ take (length text - length rest) text ++ rest = bytes ∙ ap (λ l. l ++ rest) (sym taken) in
+    let front_utf8 = IsUtf8-take text (length text - length rest) utf8 boundary in
+    record {
+      shorter = omega arith;
+      boundary = boundary;
+      bytes = whole;
+      parts = ap chars whole ∙ chars-append _ rest front_utf8;
+    }

@@ -1,0 +1,124 @@
+use Rattle.std.proofs.Common.{◌≡◌, ◌⊎◌, inl, Option, Result, Some, None, Ok, Err, refl, sym, ap, subst, ◌∙◌, arith, rules}
+use Rattle.std.proofs.lemmas.List.{map-append}
+use Rattle.std.specs.Str.{chars, IsUtf8}
+use Rattle.lexer.specs.declared.token.Kind.{Kind}
+use Rattle.lexer.specs.declared.fault.LexFault.{LexFault}
+use Rattle.lexer.specs.declared.fault.LexFault.TheVariants.{NoMemory}
+use Rattle.std.specs.Result.{MatchResult, IfErr}
+use Rattle.lexer.specs.Cut.{IsCut, IsRefused}
+use Rattle.lexer.specs.Listing.{IsFaultAtCharacter}
+use Rattle.lexer.specs.Scan.{Reads}
+use Rattle.lexer.specs.Terminal.{terminal_of, terminals_of}
+use Rattle.lexer.proofs.Growing.{IsCutSoFar, GrowsBy, begin, gap, token, shorter_by, refused, whole}
+use Rattle.lexer.proofs.Listed.{Listed, listed, refused_at}
+use Rattle.lexer.proofs.Cutting.{has_one_cut, not_cut_and_refused, has_one_refusal}
+use Rattle.lexer.proofs.lexing.lex.Goals as goal
+
+pub loop-first-init : goal.loop-first-init
+loop-first-init c = (c.utf8.src, subst (λ ts. IsCutSoFar c.args.src.now c.args.src.now (terminals_of ts)) (sym c.new-tokens.ensures.items) (begin c.args.src.now))
+
+pub overflow_sub-end : goal.overflow_sub-end
+overflow_sub-end c =
+    let left_ok : IsUtf8 c.in_ok-kind.field-0.rest.now = search rules in
+    let shorter = shorter_by c.loop-first.rest.now c.in_ok-kind.field-0.rest.now c.in_ok-kind.field-0.kind c.loop-first.invariant.0 left_ok c.in_ok-kind.ensures in
+    let within = c.loop-first.invariant.1.within in
+    omega arith
+
+-- the cut with the token that was pushed
+pushed : (c : goal.In_ok-push) → GrowsBy c.args.src.now c.loop-first.rest.now c.in_ok-kind.field-0.rest.now (terminals_of c.push.new.self.items)
+pushed c =
+    let rest = c.loop-first.rest.now in
+    let left = c.in_ok-kind.field-0.rest.now in
+    let left_ok : IsUtf8 left = search rules in
+    let P : Option Kind → Type 0 = λ k. Reads (chars rest) k (chars left) in
+    let read : Reads (chars rest) (Some c.in-Some-kind.kind) (chars left) = subst P c.in-Some-kind.is c.in_ok-kind.ensures in
+    let tokens = c.loop-first.tokens.items in
+    let t = token c.args.src.now rest left c.front-text.result.now (terminals_of tokens) c.in-Some-kind.kind c.loop-first.invariant.0 left_ok c.front-text.utf8 c.loop-first.invariant.1 read c.front-text.ensures _ refl in
+    subst (GrowsBy c.args.src.now rest left) (sym (ap terminals_of c.in_ok-push.ensures.items ∙ map-append terminal_of tokens _)) t
+
+pub loop-first-smaller-in_ok-push : goal.loop-first-smaller-in_ok-push
+loop-first-smaller-in_ok-push c = (pushed c).shorter
+
+pub loop-first-preserved-in_ok-push : goal.loop-first-preserved-in_ok-push
+loop-first-preserved-in_ok-push c = (search rules, (pushed c).grown)
+
+-- the cut with the gap that was passed
+passed : (c : goal.In_default-kind) → GrowsBy c.args.src.now c.loop-first.rest.now c.in_ok-kind.field-0.rest.now (terminals_of c.loop-first.tokens.items)
+passed c =
+    let rest = c.loop-first.rest.now in
+    let left = c.in_ok-kind.field-0.rest.now in
+    let left_ok : IsUtf8 left = search rules in
+    let P : Option Kind → Type 0 = λ k. Reads (chars rest) k (chars left) in
+    let none : c.in_ok-kind.field-0.kind ≡ None = c.in_default-kind.is in
+    gap c.args.src.now rest left (terminals_of c.loop-first.tokens.items) c.loop-first.invariant.0 left_ok c.loop-first.invariant.1 (subst P none c.in_ok-kind.ensures)
+
+pub loop-first-smaller : goal.loop-first-smaller
+loop-first-smaller c = (passed c).shorter
+
+pub loop-first-preserved : goal.loop-first-preserved
+loop-first-preserved c = (search rules, (passed c).grown)
+
+-- a result that is the one refusal of the text
+at_err : {X : Type 0} (r : Result X LexFault) (fault other : LexFault) → r ≡ Err fault → fault ≡ other
+    → MatchResult r (λ _. ⊥) (λ told. (told ≡ other) ⊎ (told ≡ NoMemory))
+at_err (Ok x) fault other e h = absurd cc
+at_err (Err told) fault other e h = let same : told ≡ fault = cc in inl (same ∙ h)
+
+placed : {X : Type 0} (r : Result X LexFault) (fault : LexFault) (P : LexFault → Type 0) → r ≡ Err fault → P fault → IfErr r P
+placed {X} r fault P e h = let Q : Result X LexFault → Type 0 = λ x. IfErr x P in subst Q (sym e) h
+
+-- the refusal that is told
+told : (c : goal.After-drop-tokens) → IsRefused c.args.src.now c.in_err-kind.field-0.0
+told c =
+    refused c.args.src.now c.loop-first.rest.now (terminals_of c.loop-first.tokens.items) c.in_err-kind.field-0.0 c.loop-first.invariant.1 c.in_err-kind.ensures
+
+pub returns-in_err-kind-clause-only : goal.returns-in_err-kind-clause-only
+returns-in_err-kind-clause-only c = λ tokens cut. absurd (not_cut_and_refused c.args.src.now tokens c.in_err-kind.field-0.0 cut (told c))
+
+pub returns-in_err-kind-clause-first : goal.returns-in_err-kind-clause-first
+returns-in_err-kind-clause-first c = λ fault refusal.
+    let e : c.from_residual.result ≡ Err c.in_err-kind.field-0.0 = search rules in
+    at_err c.from_residual.result c.in_err-kind.field-0.0 fault e (has_one_refusal c.args.src.now c.in_err-kind.field-0.0 fault (told c) refusal)
+
+pub returns-in_err-kind-clause-fault_at_character : goal.returns-in_err-kind-clause-fault_at_character
+returns-in_err-kind-clause-fault_at_character c =
+    let e : c.from_residual.result ≡ Err c.in_err-kind.field-0.0 = search rules in
+    placed c.from_residual.result c.in_err-kind.field-0.0 (IsFaultAtCharacter c.args.src.now) e
+    (refused_at c.args.src.now c.in_err-kind.field-0.0 c.utf8.src (told c))
+
+-- the whole cut
+ended : (c : goal.In_ok-push-2) → IsCut c.args.src.now (terminals_of c.push-2.new.self.items)
+ended c =
+    let tokens = c.loop-first.tokens.items in
+    subst (IsCut c.args.src.now) (sym (ap terminals_of c.in_ok-push-2.ensures.items ∙ map-append terminal_of tokens _))
+    (whole c.args.src.now c.loop-first.rest.now (terminals_of tokens) _ c.loop-first.invariant.1 c.in_default.ensures refl)
+
+all : (c : goal.In_ok-push-2) → Listed c.args.src.now (terminals_of c.push-2.new.self.items)
+all c = listed c.args.src.now (terminals_of c.push-2.new.self.items) c.utf8.src (ended c)
+
+pub returns-clause-cut : goal.returns-clause-cut
+returns-clause-cut c = ended c
+
+pub returns-clause-only : goal.returns-clause-only
+returns-clause-only c = λ tokens cut. has_one_cut c.args.src.now (terminals_of c.push-2.new.self.items) tokens (ended c) cut
+
+pub returns-clause-first : goal.returns-clause-first
+returns-clause-first c = λ fault refusal. not_cut_and_refused c.args.src.now (terminals_of c.push-2.new.self.items) fault (ended c) refusal
+
+pub returns-clause-terminated : goal.returns-clause-terminated
+returns-clause-terminated c = (all c).terminated
+
+pub returns-clause-in_order : goal.returns-clause-in_order
+returns-clause-in_order c = (all c).in_order
+
+pub returns-clause-slices : goal.returns-clause-slices
+returns-clause-slices c = (all c).slices
+
+pub returns-clause-spelled : goal.returns-clause-spelled
+returns-clause-spelled c = (all c).spelled
+
+pub returns-clause-count : goal.returns-clause-count
+returns-clause-count c = (all c).count
+
+pub returns-clause-at_characters : goal.returns-clause-at_characters
+returns-clause-at_characters c = (all c).at_characters

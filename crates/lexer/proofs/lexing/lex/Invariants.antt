@@ -1,0 +1,12 @@
+use denote.Shadow.{shadow}
+use denote.Text.{Utf8}
+use Rattle.std.proofs.Common.{length}
+use Rattle.lexer.specs.Terminal.{terminals_of}
+use Rattle.lexer.proofs.Growing.{IsCutSoFar}
+use Rattle.lexer.proofs.lexing.lex.Given as goal
+
+abbrev pub invariant-loop-first : goal.invariant-loop-first
+invariant-loop-first l = shadow (Utf8 l.rest) × IsCutSoFar l.src l.rest (terminals_of l.tokens.items)
+
+abbrev pub decreases-loop-first : goal.decreases-loop-first
+decreases-loop-first l = length l.rest

@@ -1,0 +1,43 @@
+-- What holds of the tokens of a text, one by one and in a row.
+-- Source: our own.
+use Rattle.std.specs.Prelude.{◌≡◌, ◌⊎◌, ℕ, ◌≤◌, List, [], ◌∷◌, Some, slice_range, IsTrue}
+use Rattle.std.specs.Str.{IsCharBoundary}
+use Rattle.std.specs.Str.Parse.{digits_value}
+use Rattle.lexer.specs.Lexeme.{IsNumeral, greatest_literal, sign_of}
+use Rattle.lexer.specs.Terminal.{Terminal}
+use Rattle.lexer.specs.Words.{is_name_text, keyword_of}
+use Rattle.lexer.specs.declared.fault.LexFault.{LexFault}
+use Rattle.lexer.specs.declared.fault.LexFault.TheVariants.{NoMemory, NoToken, LiteralTooLarge, UnclosedComment}
+use Rattle.lexer.specs.declared.token.Kind.{Kind}
+use Rattle.lexer.specs.declared.token.Kind.TheVariants.{Name, Integer, End}
+
+-- the terminals stand one behind another, from the byte `start` to the byte `end`
+abbrev pub IsInOrder : ℕ → List Terminal → ℕ → Type 0
+IsInOrder start [] end = start ≤ end
+IsInOrder start (t ∷ ts) end = (start ≤ t.start) × (t.start ≤ t.end) × IsInOrder t.end ts end
+
+-- the terminal's text is what stands in the source at its place
+abbrev pub IsSliceOf : List ℕ → Terminal → Type 0
+IsSliceOf source t = t.text ≡ slice_range source t.start t.end
+
+-- the bytes spell a terminal of this kind
+abbrev pub Spells : Kind → List ℕ → Type 0
+Spells Name text = IsTrue (is_name_text text)
+Spells (Integer value) text = IsNumeral text × (digits_value 10 text ≡ value) × (value ≤ greatest_literal)
+Spells End text = text ≡ []
+Spells kind text = (keyword_of text ≡ Some kind) ⊎ (sign_of text ≡ Some kind)
+
+-- the terminal's text spells its kind
+abbrev pub IsSpelled : Terminal → Type 0
+IsSpelled t = Spells t.kind t.text
+
+-- the terminal stands where a character of the source begins, or at its end
+abbrev pub IsAtCharacter : List ℕ → Terminal → Type 0
+IsAtCharacter source t = IsCharBoundary source t.start
+
+-- the fault, if it has a place, stands where a character of the source begins
+abbrev pub IsFaultAtCharacter : List ℕ → LexFault → Type 0
+IsFaultAtCharacter source NoMemory = Unit {0}
+IsFaultAtCharacter source (NoToken at) = IsCharBoundary source at
+IsFaultAtCharacter source (LiteralTooLarge at) = IsCharBoundary source at
+IsFaultAtCharacter source (UnclosedComment at) = IsCharBoundary source at

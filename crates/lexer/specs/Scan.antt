@@ -1,0 +1,52 @@
+-- What the private functions of the scanner read, as functions on characters. No public contract cites this file.
+-- Source: our own.
+use Rattle.std.specs.Prelude.{◌≡◌, ℕ, ◌==◌, ◌&&◌, ◌||◌, Bool, not, cond, List, [], ◌∷◌, ◌++◌, Option, None, Some}
+use Rattle.std.specs.Char.{is_ascii_digit}
+use Rattle.lexer.specs.Words.{is_white_space, may_begin, may_continue}
+use Rattle.lexer.specs.Lexeme.{Lexeme, Word, Gap, sign_of}
+use Rattle.lexer.specs.Cut.{IsNext}
+use Rattle.lexer.specs.declared.token.Kind.{Kind}
+use Rattle.lexer.specs.declared.pieces.Class.{Class}
+use Rattle.lexer.specs.declared.pieces.Class.TheVariants.{Digit, NamePart, InLine}
+
+-- whether the character is of the class
+abbrev pub holds : Class → ℕ → Bool
+holds Digit c = is_ascii_digit c
+holds NamePart c = may_continue c
+holds InLine c = not (c == 10)
+
+-- the character begins no lexeme but a sign
+abbrev pub begins_sign : ℕ → Bool
+begins_sign c = not (is_white_space c || is_ascii_digit c || may_begin c || c == 47)
+
+-- what follows the longest front that passes
+abbrev pub after_run : (ℕ → Bool) → List ℕ → List ℕ
+after_run p [] = []
+after_run p (c ∷ cs) = cond (p c) (after_run p cs) (c ∷ cs)
+
+-- what follows the first `*/`, where the character before was a `*` or was not
+abbrev pub after_close : Bool → List ℕ → Option (List ℕ)
+after_close starred [] = None
+after_close starred (c ∷ cs) = cond (starred && c == 47) (Some cs) (after_close (c == 42) cs)
+
+-- the second list ends the first
+abbrev pub IsTail : List ℕ → List ℕ → Type 0
+IsTail cs rest = (front : List ℕ) × (cs ≡ front ++ rest)
+
+-- a token's kind, or none for a gap
+abbrev pub lexeme_of : Option Kind → Lexeme
+lexeme_of None = Gap
+lexeme_of (Some kind) = Word kind
+
+-- the text begins with the lexeme of this kind, and `rest` follows
+abbrev pub Reads : List ℕ → Option Kind → List ℕ → Type 0
+Reads text kind rest = (front : List ℕ) × IsNext text (lexeme_of kind) front rest
+
+-- the character and the first one of the list are no sign
+abbrev pub IsNoDouble : ℕ → List ℕ → Type 0
+IsNoDouble c [] = Unit {0}
+IsNoDouble c (d ∷ cs) = sign_of (c ∷ d ∷ []) ≡ None
+
+-- the character and the first one of the list are a sign of this kind, and `rest` follows
+abbrev pub IsDouble : ℕ → List ℕ → Kind → List ℕ → Type 0
+IsDouble c cs kind rest = (d : ℕ) × (cs ≡ d ∷ rest) × (sign_of (c ∷ d ∷ []) ≡ Some kind)

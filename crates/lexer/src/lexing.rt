@@ -1,0 +1,61 @@
+ghost use Rattle.lexer.specs.Cut.{IsCut, IsRefused};
+ghost use Rattle.lexer.specs.Laws.{IsCutOrRefused, HasOneCut, IsNotCutAndRefused, HasOneRefusal};
+ghost use Rattle.lexer.specs.Listing.{IsAtCharacter, IsFaultAtCharacter, IsInOrder, IsSliceOf, IsSpelled};
+ghost use Rattle.lexer.specs.Terminal.{Terminal, terminals_of, IsTerminated};
+ghost use Rattle.std.specs.Prelude.{◌≡◌, ◌≤◌, ◌+◌, ◌⊎◌, List, IfOk, IfErr, MatchResult, length};
+ghost use Rattle.std.specs.List.{All};
+
+use crate::fault::LexFault;
+use crate::pieces::{Piece, first_character, front, next_piece};
+use crate::token::{Kind, Span, Token};
+use std::alloc::Global;
+
+/// The tokens of `src` by longest match, with an `End` behind them.
+///
+/// White space and comments give no token. The first refusal in the text is told, unless memory was
+/// refused before.
+pub fn lex(alloc: Global, src: &str) -> Result<Vec<Token<'_>>, LexFault>
+    ensures cut { IfOk result (λ tokens. IsCut src.now (terminals_of tokens.items)) }
+    ensures only { (tokens : List Terminal) → IsCut src.now tokens → MatchResult result (λ found. terminals_of found.items ≡ tokens) (λ fault. fault ≡ LexFault.NoMemory) }
+    ensures refused { IfErr result (λ fault. (fault ≡ LexFault.NoMemory) ⊎ IsRefused src.now fault) }
+    ensures first { (fault : LexFault) → IsRefused src.now fault → MatchResult result (λ _. ⊥) (λ told. (told ≡ fault) ⊎ (told ≡ LexFault.NoMemory)) }
+    ensures terminated { IfOk result (λ tokens. IsTerminated (terminals_of tokens.items)) }
+    ensures in_order { IfOk result (λ tokens. IsInOrder 0 (terminals_of tokens.items) (length src.now)) }
+    ensures slices { IfOk result (λ tokens. All (IsSliceOf src.now) (terminals_of tokens.items)) }
+    ensures spelled { IfOk result (λ tokens. All IsSpelled (terminals_of tokens.items)) }
+    ensures at_characters { IfOk result (λ tokens. All (IsAtCharacter src.now) (terminals_of tokens.items)) }
+    ensures fault_at_character { IfErr result (IsFaultAtCharacter src.now) }
+    ensures count { IfOk result (λ tokens. length (terminals_of tokens.items) ≤ length src.now + 1) }
+{
+    let mut tokens = Vec::new(alloc);
+    let mut rest = src;
+    while let Some((first, after)) = first_character(rest) {
+        let start = src.len() - rest.len();
+        let Piece { kind, rest: left } = next_piece(rest, first, after, start)?;
+        if let Some(kind) = kind {
+            let text = front(rest, left);
+            let end = src.len() - left.len();
+            tokens.push(Token {
+                kind,
+                text,
+                span: Span { start, end },
+            })?;
+        }
+        rest = left;
+    }
+    let end = src.len();
+    tokens.push(Token {
+        kind: Kind::End,
+        text: rest,
+        span: Span { start: end, end },
+    })?;
+    Ok(tokens)
+}
+
+/// The law that each text has either one cut or one refusal.
+pub fn one_reading()
+    ensures cut_or_refused { IsCutOrRefused }
+    ensures one_cut { HasOneCut }
+    ensures not_both { IsNotCutAndRefused }
+    ensures one_refusal { HasOneRefusal }
+{}

@@ -1,0 +1,244 @@
+//! The next lexeme of a text. A private part of the lexer.
+ghost use Rattle.lexer.specs.Cut.{IsStuck, HasNoLexeme};
+ghost use Rattle.lexer.specs.Lexeme.{sign_of};
+ghost use Rattle.lexer.specs.Scan.{holds, after_run, after_close, begins_sign, IsDouble, IsNoDouble, IsTail, Reads};
+ghost use Rattle.lexer.specs.Words.{is_white_space, may_begin};
+ghost use Rattle.std.specs.Prelude.{◌≡◌, ◌++◌, ◌∷◌, [], MatchResult, MatchOption, IsTrue, Some, None, false};
+ghost use Rattle.std.specs.Char.{is_ascii_digit};
+ghost use Rattle.std.specs.Str.{chars};
+
+use crate::fault::LexFault;
+use crate::names::{begins_name, continues_name, keyword};
+use crate::token::Kind;
+
+/// The greatest integer that a program may write.
+const GREATEST_LITERAL: u32 = 2_147_483_647;
+
+/// The lexeme at the front of a text: the kind of its token, or none if it is white space or a
+/// comment; and what follows it.
+pub(crate) struct Piece<'a> {
+    pub(crate) kind: Option<Kind>,
+    pub(crate) rest: &'a str,
+}
+
+/// The characters of a run.
+#[derive(Clone, Copy)]
+enum Class {
+    Digit,
+    NamePart,
+    InLine,
+}
+
+impl Class {
+    fn holds(self, character: char) -> bool
+        ensures { result ≡ holds self character }
+    {
+        match self {
+            Class::Digit => character.is_ascii_digit(),
+            Class::NamePart => continues_name(character),
+            Class::InLine => character != '\n',
+        }
+    }
+}
+
+/// The next lexeme of `text`, which begins with `first` and goes on with `after`, at the byte `at`.
+pub(crate) fn next_piece<'a>(
+    text: &'a str,
+    first: char,
+    after: &'a str,
+    at: usize,
+) -> Result<Piece<'a>, LexFault>
+    requires { chars text.now ≡ first ∷ chars after.now }
+    ensures { MatchResult result (λ piece. Reads (chars text.now) piece.kind (chars piece.rest.now)) (λ fault. IsStuck at (chars text.now) fault) }
+{
+    if is_white_space(first) {
+        Ok(Piece {
+            kind: None,
+            rest: after,
+        })
+    } else if first.is_ascii_digit() {
+        literal(text, first, after, at)
+    } else if begins_name(first) {
+        Ok(word(text, first, after))
+    } else if first == '/' {
+        solidus(text, after, at)
+    } else {
+        sign(text, first, after).ok_or(LexFault::NoToken(at))
+    }
+}
+
+fn is_white_space(character: char) -> bool
+    ensures { result ≡ is_white_space character }
+{
+    matches!(character, ' ' | '\t' | '\r' | '\n')
+}
+
+/// A run of digits.
+fn literal<'a>(text: &'a str, first: char, after: &'a str, at: usize) -> Result<Piece<'a>, LexFault>
+    requires parts { chars text.now ≡ first ∷ chars after.now }
+    requires digit { IsTrue (is_ascii_digit first) }
+    ensures { MatchResult result (λ piece. Reads (chars text.now) piece.kind (chars piece.rest.now)) (λ fault. IsStuck at (chars text.now) fault) }
+{
+    let rest = after_run(after, Class::Digit);
+    match front(text, rest).parse::<u32>() {
+        Ok(value) if value <= GREATEST_LITERAL => Ok(Piece {
+            kind: Some(Kind::Integer(value)),
+            rest,
+        }),
+        _ => Err(LexFault::LiteralTooLarge(at)),
+    }
+}
+
+/// A keyword or a name.
+fn word<'a>(text: &'a str, first: char, after: &'a str) -> Piece<'a>
+    requires parts { chars text.now ≡ first ∷ chars after.now }
+    requires begins { IsTrue (may_begin first) }
+    ensures { Reads (chars text.now) result.kind (chars result.rest.now) }
+{
+    let rest = after_run(after, Class::NamePart);
+    let kind = keyword(front(text, rest)).unwrap_or(Kind::Name);
+    Piece {
+        kind: Some(kind),
+        rest,
+    }
+}
+
+/// A comment, or the sign `/`.
+fn solidus<'a>(text: &'a str, after: &'a str, at: usize) -> Result<Piece<'a>, LexFault>
+    requires { chars text.now ≡ 47 ∷ chars after.now }
+    ensures { MatchResult result (λ piece. Reads (chars text.now) piece.kind (chars piece.rest.now)) (λ fault. IsStuck at (chars text.now) fault) }
+{
+    let mut characters = after.chars();
+    match characters.next() {
+        Some('/') => Ok(Piece {
+            kind: None,
+            rest: after_run(characters.as_str(), Class::InLine),
+        }),
+        Some('*') => match after_close(characters.as_str()) {
+            Some(rest) => Ok(Piece { kind: None, rest }),
+            None => Err(LexFault::UnclosedComment(at)),
+        },
+        _ => Ok(Piece {
+            kind: Some(Kind::Slash),
+            rest: after,
+        }),
+    }
+}
+
+/// A sign other than `/`, if one begins here.
+fn sign<'a>(text: &'a str, first: char, after: &'a str) -> Option<Piece<'a>>
+    requires parts { chars text.now ≡ first ∷ chars after.now }
+    requires begins { IsTrue (begins_sign first) }
+    ensures { MatchOption result (HasNoLexeme (chars text.now)) (λ piece. Reads (chars text.now) piece.kind (chars piece.rest.now)) }
+{
+    if let Some((kind, rest)) = double_sign(first, after) {
+        return Some(Piece {
+            kind: Some(kind),
+            rest,
+        });
+    }
+    let kind = single_sign(first)?;
+    Some(Piece {
+        kind: Some(kind),
+        rest: after,
+    })
+}
+
+/// The sign of two characters that begins with `first` and goes on in `after`, if there is one, and
+/// what follows it.
+fn double_sign(first: char, after: &str) -> Option<(Kind, &str)>
+    ensures { MatchOption result (IsNoDouble first (chars after.now)) (λ sign. IsDouble first (chars after.now) sign.0 (chars sign.1.now)) }
+{
+    let (second, rest) = first_character(after)?;
+    let kind = pair(first, second)?;
+    Some((kind, rest))
+}
+
+fn pair(first: char, second: char) -> Option<Kind>
+    ensures { result ≡ sign_of (first ∷ second ∷ []) }
+{
+    match (first, second) {
+        ('=', '=') => Some(Kind::EqualTo),
+        ('!', '=') => Some(Kind::NotEqualTo),
+        ('<', '=') => Some(Kind::AtMost),
+        ('>', '=') => Some(Kind::AtLeast),
+        ('&', '&') => Some(Kind::And),
+        ('|', '|') => Some(Kind::Or),
+        _ => None,
+    }
+}
+
+fn single_sign(character: char) -> Option<Kind>
+    ensures { result ≡ sign_of (character ∷ []) }
+{
+    match character {
+        '{' => Some(Kind::OpenBrace),
+        '}' => Some(Kind::CloseBrace),
+        '(' => Some(Kind::OpenParenthesis),
+        ')' => Some(Kind::CloseParenthesis),
+        '[' => Some(Kind::OpenBracket),
+        ']' => Some(Kind::CloseBracket),
+        ';' => Some(Kind::Semicolon),
+        ',' => Some(Kind::Comma),
+        ':' => Some(Kind::Colon),
+        '=' => Some(Kind::Assign),
+        '<' => Some(Kind::LessThan),
+        '>' => Some(Kind::GreaterThan),
+        '+' => Some(Kind::Plus),
+        '-' => Some(Kind::Minus),
+        '*' => Some(Kind::Star),
+        '/' => Some(Kind::Slash),
+        '%' => Some(Kind::Percent),
+        '!' => Some(Kind::Not),
+        _ => None,
+    }
+}
+
+/// The first character of `text`, and what follows it.
+pub(crate) fn first_character(text: &str) -> Option<(char, &str)>
+    ensures { MatchOption result (text.now ≡ []) (λ parts. chars text.now ≡ parts.0 ∷ chars parts.1.now) }
+{
+    let mut characters = text.chars();
+    let first = characters.next()?;
+    Some((first, characters.as_str()))
+}
+
+/// What stands in `text` before `rest`, which ends it.
+pub(crate) fn front<'a>(text: &'a str, rest: &str) -> &'a str
+    requires { IsTail (chars text.now) (chars rest.now) }
+    ensures { chars text.now ≡ chars result.now ++ chars rest.now }
+{
+    let (front, _) = text.split_at(text.len() - rest.len());
+    front
+}
+
+/// What follows the longest front of `text` whose characters are all of the class.
+fn after_run(text: &str, class: Class) -> &str
+    ensures { chars result.now ≡ after_run (holds class) (chars text.now) }
+{
+    let mut characters = text.chars();
+    loop {
+        let rest = characters.as_str();
+        let Some(character) = characters.next() else {
+            return rest;
+        };
+        if !class.holds(character) {
+            return rest;
+        }
+    }
+}
+
+/// What follows the first `*/` of `text`.
+fn after_close(text: &str) -> Option<&str>
+    ensures { MatchOption result (after_close false (chars text.now) ≡ None) (λ rest. after_close false (chars text.now) ≡ Some (chars rest.now)) }
+{
+    let mut characters = text.chars();
+    let mut starred = false;
+    while let Some(character) = characters.next() {
+        if starred && character == '/' {
+            return Some(characters.as_str());
+        }
+        starred = character == '*';
+    }
+    None
+}

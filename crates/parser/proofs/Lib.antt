@@ -1,0 +1,10 @@
+pub mod Costs
+pub mod Loops
+pub mod Outcomes
+pub mod Parsing
+pub mod Pieces
+pub mod Prices
+pub mod Productions
+pub mod Programs
+pub mod SameKind
+pub mod Sums

@@ -1,0 +1,15 @@
+//! From the tokens of a text to its syntax tree.
+#![tactic(auto)]
+
+mod cursor;
+mod expression;
+pub mod fault;
+mod label;
+pub mod program;
+mod statement;
+
+pub use fault::ParseFault;
+pub use program::{MAX_LEVELS, parse, spelling_laws};
+
+#[cfg(test)]
+mod tests;

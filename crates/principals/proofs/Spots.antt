@@ -1,0 +1,79 @@
+-- The places of tokens and of refusals are character boundaries of the text.
+use Rattle.std.proofs.Common.{ℕ, List, [], ◌∷◌, ◌++◌, sym, subst, ⊎_elim}
+use Rattle.std.specs.List.{AllByRecursion}
+use Rattle.std.specs.Str.{IsUtf8, IsCharBoundary}
+use Rattle.std.proofs.lemmas.List.Elements.{recursion_from_All}
+use Rattle.lexer.specs.Cut.{IsCut}
+use Rattle.lexer.specs.Listing.{IsFaultAtCharacter}
+use Rattle.lexer.specs.Terminal.{Terminal}
+use Rattle.lexer.specs.declared.fault.LexFault.{LexFault}
+use Rattle.lexer.specs.declared.fault.LexFault.TheVariants as lex
+use Rattle.lexer.proofs.Listed.{listed, refused_at}
+use Rattle.principals.specs.HierarchyText.{Entry, Declares, Relates, Nonterminal, Derives, Finish, Declaration, Relation, OneMore, Last, IsRefusal, Twice, Crowded, UnknownLeft, UnknownRight, IsFirstRefusal, Says, IsLexFaultAt, IsSyntaxFault, HasBoundary}
+use Rattle.principals.specs.Reading.{IsReadFault}
+use Rattle.principals.specs.declared.fault.HierFault.{HierFault}
+use Rattle.principals.specs.declared.fault.HierFault.TheVariants as fault
+
+-- ---- tokens
+
+abbrev StartsIn : List ℕ → Terminal → Type 0
+StartsIn source t = IsCharBoundary source t.start
+
+token_spots : (text : List ℕ) (tokens : List Terminal) → IsUtf8 text → IsCut text tokens → AllByRecursion (StartsIn text) tokens
+token_spots text tokens ok cut = recursion_from_All (StartsIn text) tokens (listed text tokens ok cut).at_characters
+
+fault_spot : (text : List ℕ) (f : LexFault) (at : ℕ) → IsFaultAtCharacter text f → IsLexFaultAt f at → IsCharBoundary text at
+fault_spot text lex.NoMemory at spot h = absurd h
+fault_spot text (lex.NoToken place) at spot h = subst (λ k. IsCharBoundary text k) (sym h) spot
+fault_spot text (lex.LiteralTooLarge place) at spot h = subst (λ k. IsCharBoundary text k) (sym h) spot
+fault_spot text (lex.UnclosedComment place) at spot h = subst (λ k. IsCharBoundary text k) (sym h) spot
+
+-- ---- entries
+
+abbrev EntryStartsIn : List ℕ → Entry → Type 0
+EntryStartsIn source (Declares name) = StartsIn source name
+EntryStartsIn source (Relates left right) = StartsIn source left × StartsIn source right
+
+entry_spots : (source : List ℕ) {n : Nonterminal} {tokens : List Terminal} {entries : List Entry} → Derives n tokens entries →
+    AllByRecursion (StartsIn source) tokens → AllByRecursion (EntryStartsIn source) entries
+entry_spots source (Finish end h) spots = tt
+entry_spots source (Declaration word rest entries h d) spots = entry_spots source d spots.1
+entry_spots source (Relation left word right semicolon rest entries l w r s d) spots =
+    ((spots.0, spots.1.1.0), entry_spots source d spots.1.1.1.1)
+entry_spots source (OneMore name comma rest entries n c d) spots = (spots.0, entry_spots source d spots.1.1)
+entry_spots source (Last name semicolon rest entries n s d) spots = (spots.0, entry_spots source d spots.1.1)
+
+-- what holds of all holds of the one in the middle
+middle : {X : Type 0} (P : X → Type 0) (before after : List X) (x : X) → AllByRecursion P (before ++ x ∷ after) → P x
+middle P [] after x h = h.0
+middle P (b ∷ before) after x h = middle P before after x h.1
+
+refusal_spot : (text : List ℕ) (names : List (List ℕ)) (entry : Entry) (f : HierFault) → EntryStartsIn text entry → IsRefusal names entry f → HasBoundary text f
+refusal_spot text names entry f spot (Twice name h) = spot
+refusal_spot text names entry f spot (Crowded name h k) = spot
+refusal_spot text names entry f spot (UnknownLeft left right h) = spot.0
+refusal_spot text names entry f spot (UnknownRight left right h k) = spot.1
+
+wrong_spot : (text : List ℕ) (f : HierFault) (es : List Entry) → IsUtf8 text → Says text es → IsFirstRefusal es f → HasBoundary text f
+wrong_spot text f es ok says first =
+    refusal_spot text _ first.entry f
+    (middle (EntryStartsIn text) first.before first.after first.entry
+    (subst (AllByRecursion (EntryStartsIn text)) first.parts (entry_spots text says.form (token_spots text says.tokens ok says.cut))))
+    first.refused
+
+syntax_spot : (text : List ℕ) (at : ℕ) → IsUtf8 text → IsSyntaxFault text at → IsCharBoundary text at
+syntax_spot text at ok s =
+    ⊎_elim
+    (λ l. fault_spot text l.0 at (refused_at text l.0 ok l.1) l.2)
+    (λ t. subst (λ k. IsCharBoundary text k) (sym t.2.place)
+    (middle (StartsIn text) t.2.before t.2.after t.2.token (subst (AllByRecursion (StartsIn text)) t.2.parts (token_spots text t.0 ok t.1))))
+    s
+
+-- a refusal of a text stands at a boundary
+pub refused_spot : (text : List ℕ) → IsUtf8 text → (f : HierFault) → IsReadFault text f → HasBoundary text f
+refused_spot text ok fault.NoMemory h = tt
+refused_spot text ok fault.TooLong h = tt
+refused_spot text ok (fault.Syntax at) h = syntax_spot text at ok h.1
+refused_spot text ok (fault.DeclaredTwice at) h = wrong_spot text (fault.DeclaredTwice at) h.0 ok h.1 h.2
+refused_spot text ok (fault.UnknownPrincipal at) h = wrong_spot text (fault.UnknownPrincipal at) h.0 ok h.1 h.2
+refused_spot text ok (fault.TooManyPrincipals at) h = wrong_spot text (fault.TooManyPrincipals at) h.0 ok h.1 h.2

@@ -1,0 +1,237 @@
+-- A text has one hierarchy or one first refusal at most, and not both.
+use Rattle.std.proofs.Common.{◌≡◌, ◌⊎◌, ℕ, ◌<◌, ◌≤◌, List, [], ◌∷◌, ◌++◌, length, Some, refl, sym, ap, ◌∙◌, subst, inl, inr, ⊎_elim, append_assoc, arith}
+use Rattle.std.specs.Prelude.{slice_get, Result, Ok, Err, IfOk, IfErr, MatchResult}
+use Rattle.std.specs.List.{AllZip}
+use Rattle.std.proofs.lemmas.Option.{some_pair_parts}
+use Rattle.lexer.specs.Terminal.{Terminal}
+use Rattle.lexer.specs.declared.fault.LexFault.{LexFault}
+use Rattle.lexer.specs.declared.fault.LexFault.TheVariants as lex
+use Rattle.lexer.proofs.Cutting.{has_one_cut, not_cut_and_refused, has_one_refusal}
+use Rattle.principals.specs.ActsFor.{PrincipalHierarchy, HasName, IsHierarchy}
+use Rattle.principals.specs.HierarchyText.{Entry, IsHierarchyForm, BeginsForm, IsUnexpectedAt, IsRefusal, Twice, Crowded, UnknownLeft, UnknownRight, IsFirstRefusal, IsSaid, declared, written, greatest_text, Says, IsHierarchyOf, IsLexFaultAt, IsSyntaxFault, IsRefusedText}
+use Rattle.principals.specs.Reading.{Ended, IsStatementsFault, IsReadFault}
+use Rattle.principals.specs.declared.fault.HierFault.{HierFault}
+use Rattle.principals.specs.declared.fault.HierFault.TheVariants as fault
+use Rattle.principals.proofs.Automaton.{derived_is_read}
+use Rattle.principals.proofs.Names.{one_number}
+
+-- ---- two places in one list
+
+abbrev IsLater : {X : Type 0} → List X → X → List X → Type 0
+IsLater {X} before x later = (between : List X) × (later ≡ before ++ x ∷ between)
+
+two_places : {X : Type 0} (xs ys us vs : List X) (x y : X) → xs ++ x ∷ us ≡ ys ++ y ∷ vs →
+    ((xs ≡ ys) × (x ≡ y)) ⊎ (IsLater xs x ys ⊎ IsLater ys y xs)
+two_places [] [] us vs x y h = inl (refl, cc)
+two_places [] (b ∷ ys) us vs x y h = let head : b ≡ x = cc in inr (inl (ys, ap (λ w. w ∷ ys) head))
+two_places (a ∷ xs) [] us vs x y h = let head : a ≡ y = cc in inr (inr (xs, ap (λ w. w ∷ xs) head))
+two_places (a ∷ xs) (b ∷ ys) us vs x y h =
+    let head : a ≡ b = cc in
+    let tail : xs ++ x ∷ us ≡ ys ++ y ∷ vs = cc in
+    ⊎_elim
+    (λ e. inl (ap (λ w. w ∷ xs) head ∙ ap (λ w. b ∷ w) e.0, e.1))
+    (⊎_elim
+    (λ l. inr (inl (l.0, ap (λ w. b ∷ w) l.1 ∙ ap (λ w. w ∷ xs ++ x ∷ l.0) (sym head))))
+    (λ l. inr (inr (l.0, ap (λ w. w ∷ xs) head ∙ ap (λ w. b ∷ w) l.1))))
+    (two_places xs ys us vs x y tail)
+
+-- ---- entries
+
+refused_once : (names : List (List ℕ)) (entry : Entry) (f g : HierFault) → IsRefusal names entry f → IsRefusal names entry g → f ≡ g
+refused_once names entry f g (Twice name h) (Twice _ k) = refl
+refused_once names entry f g (Twice name h) (Crowded _ k l) = absurd (k h)
+refused_once names entry f g (Crowded name h l) (Twice _ k) = absurd (h k)
+refused_once names entry f g (Crowded name h l) (Crowded _ k m) = refl
+refused_once names entry f g (UnknownLeft left right h) (UnknownLeft _ _ k) = refl
+refused_once names entry f g (UnknownLeft left right h) (UnknownRight _ _ k l) = absurd (h k)
+refused_once names entry f g (UnknownRight left right h l) (UnknownLeft _ _ k) = absurd (k h)
+refused_once names entry f g (UnknownRight left right h l) (UnknownRight _ _ k m) = refl
+
+first_once : (es : List Entry) (f g : HierFault) → IsFirstRefusal es f → IsFirstRefusal es g → f ≡ g
+first_once es f g a b =
+    ⊎_elim
+    (λ same. refused_once (declared a.before) a.entry f g a.refused
+    (subst (λ x. IsRefusal (declared x) a.entry g) (sym same.0) (subst (λ x. IsRefusal (declared b.before) x g) (sym same.1) b.refused)))
+    (⊎_elim
+    (λ later. absurd (b.accepted a.before later.0 a.entry f later.1 a.refused))
+    (λ later. absurd (a.accepted b.before later.0 b.entry g later.1 b.refused)))
+    (two_places a.before b.before a.after b.after a.entry b.entry (sym a.parts ∙ b.parts))
+
+said_not_refused : (es : List Entry) (h : PrincipalHierarchy) (f : HierFault) → IsSaid es h → IsFirstRefusal es f → ⊥
+said_not_refused es h f said first = said.accepted first.before first.after first.entry f first.parts first.refused
+
+same_pairs : (h : PrincipalHierarchy) → IsHierarchy h → (texts : List (List ℕ × List ℕ)) (pairs others : List (ℕ × ℕ)) →
+    AllZip (λ text pair. HasName h pair.0 text.0 × HasName h pair.1 text.1) texts pairs →
+    AllZip (λ text pair. HasName h pair.0 text.0 × HasName h pair.1 text.1) texts others → others ≡ pairs
+same_pairs h kept [] [] [] a b = refl
+same_pairs h kept [] [] (o ∷ others) a b = absurd b
+same_pairs h kept [] (p ∷ pairs) others a b = absurd a
+same_pairs h kept (t ∷ texts) [] others a b = absurd a
+same_pairs h kept (t ∷ texts) (p ∷ pairs) [] a b = absurd b
+same_pairs h kept (t ∷ texts) (p ∷ pairs) (o ∷ others) a b =
+    let left : o.0 ≡ p.0 = one_number h.names kept.different o.0 p.0 t.0 b.0.0 a.0.0 in
+    let right : o.1 ≡ p.1 = one_number h.names kept.different o.1 p.1 t.1 b.0.1 a.0.1 in
+    λ i. (left i, right i) ∷ same_pairs h kept texts pairs others a.1 b.1 i
+
+said_once : (es : List Entry) (h k : PrincipalHierarchy) → IsHierarchy h → IsSaid es h → IsSaid es k → h ≡ k
+said_once es h k kept a b =
+    let names : k.names ≡ h.names = b.names ∙ sym a.names in
+    let there : AllZip (λ text pair. HasName h pair.0 text.0 × HasName h pair.1 text.1) (written es) k.pairs =
+    subst (λ x. AllZip (λ text pair. (slice_get x pair.0 ≡ Some text.0) × (slice_get x pair.1 ≡ Some text.1)) (written es) k.pairs) names b.pairs in
+    let pairs : k.pairs ≡ h.pairs = same_pairs h kept (written es) h.pairs k.pairs a.pairs there in
+    λ i. record { names = sym names i; pairs = sym pairs i }
+
+-- ---- the form
+
+form_once : (tokens : List Terminal) (es fs : List Entry) → IsHierarchyForm tokens es → IsHierarchyForm tokens fs → es ≡ fs
+form_once tokens es fs a b = (some_pair_parts Ended Ended es fs (sym (derived_is_read a) ∙ derived_is_read b)).1
+
+form_is_expected : (tokens : List Terminal) (es : List Entry) (at : ℕ) → IsHierarchyForm tokens es → IsUnexpectedAt tokens at → ⊥
+form_is_expected tokens es at form u =
+    u.stops (record {
+      more = u.after;
+      entries = es;
+      form = subst (λ x. IsHierarchyForm x es) (u.parts ∙ sym (append_assoc u.before (u.token ∷ []) u.after)) form;
+    })
+
+-- a front of what begins a text of the form begins one
+shorter_begins : (front : List Terminal) (t : Terminal) (between whole : List Terminal) → whole ≡ front ++ t ∷ between → BeginsForm whole → BeginsForm (front ++ t ∷ [])
+shorter_begins front t between whole e b = record {
+  more = between ++ b.more;
+  entries = b.entries;
+  form = subst (λ x. IsHierarchyForm x b.entries)
+      (ap (λ x. x ++ b.more) e ∙ append_assoc front (t ∷ between) b.more ∙ sym (append_assoc front (t ∷ []) (between ++ b.more))) b.form;
+}
+
+unexpected_once : (tokens : List Terminal) (at other : ℕ) → IsUnexpectedAt tokens at → IsUnexpectedAt tokens other → at ≡ other
+unexpected_once tokens at other a b =
+    ⊎_elim
+    (λ same. a.place ∙ ap (λ t. t.start) same.1 ∙ sym b.place)
+    (⊎_elim
+    (λ later. absurd (a.stops (shorter_begins a.before a.token later.0 b.before later.1 b.goes_on)))
+    (λ later. absurd (b.stops (shorter_begins b.before b.token later.0 a.before later.1 a.goes_on))))
+    (two_places a.before b.before a.after b.after a.token b.token (sym a.parts ∙ b.parts))
+
+-- ---- the text
+
+says_once : (text : List ℕ) (es fs : List Entry) → Says text es → Says text fs → es ≡ fs
+says_once text es fs a b =
+    form_once a.tokens es fs a.form (subst (λ x. IsHierarchyForm x fs) (has_one_cut text b.tokens a.tokens b.cut a.cut) b.form)
+
+lex_fault_once : (f : LexFault) (at other : ℕ) → IsLexFaultAt f at → IsLexFaultAt f other → at ≡ other
+lex_fault_once lex.NoMemory at other a b = absurd a
+lex_fault_once (lex.NoToken place) at other a b = a ∙ sym b
+lex_fault_once (lex.LiteralTooLarge place) at other a b = a ∙ sym b
+lex_fault_once (lex.UnclosedComment place) at other a b = a ∙ sym b
+
+syntax_once : (text : List ℕ) (at other : ℕ) → IsSyntaxFault text at → IsSyntaxFault text other → at ≡ other
+syntax_once text at other a b =
+    ⊎_elim
+    (λ la. ⊎_elim
+    (λ lb. lex_fault_once la.0 at other la.2 (subst (λ x. IsLexFaultAt x other) (has_one_refusal text lb.0 la.0 lb.1 la.1) lb.2))
+    (λ tb. absurd (not_cut_and_refused text tb.0 la.0 tb.1 la.1))
+    b)
+    (λ ta. ⊎_elim
+    (λ lb. absurd (not_cut_and_refused text ta.0 lb.0 ta.1 lb.1))
+    (λ tb. unexpected_once ta.0 at other ta.2 (subst (λ x. IsUnexpectedAt x other) (has_one_cut text tb.0 ta.0 tb.1 ta.1) tb.2))
+    b)
+    a
+
+says_not_syntax : (text : List ℕ) (es : List Entry) (at : ℕ) → Says text es → IsSyntaxFault text at → ⊥
+says_not_syntax text es at says s =
+    ⊎_elim
+    (λ l. not_cut_and_refused text says.tokens l.0 says.cut l.1)
+    (λ t. form_is_expected says.tokens es at says.form (subst (λ x. IsUnexpectedAt x at) (has_one_cut text t.0 says.tokens t.1 says.cut) t.2))
+    s
+
+-- the three ways in which a text is refused
+abbrev Long : List ℕ → HierFault → Type 0
+Long text f = (f ≡ fault.TooLong) × (greatest_text < length text)
+
+abbrev Formless : List ℕ → HierFault → Type 0
+Formless text f = (at : ℕ) × (f ≡ fault.Syntax at) × (length text ≤ greatest_text) × IsSyntaxFault text at
+
+abbrev Wrong : List ℕ → HierFault → Type 0
+Wrong text f = (es : List Entry) × Says text es × IsFirstRefusal es f
+
+ways : (text : List ℕ) (f : HierFault) → IsRefusedText text f → Long text f ⊎ (Formless text f ⊎ Wrong text f)
+ways text fault.NoMemory h = absurd h
+ways text fault.TooLong h = inl (refl, h)
+ways text (fault.Syntax at) h = inr (inl (at, refl, h.0, h.1))
+ways text (fault.DeclaredTwice at) h = inr (inr h)
+ways text (fault.UnknownPrincipal at) h = inr (inr h)
+ways text (fault.TooManyPrincipals at) h = inr (inr h)
+
+too_long : {P : Type 0} (text : List ℕ) → greatest_text < length text → length text ≤ greatest_text → P
+too_long text h k = absurd (omega arith)
+
+refused_text_once : (text : List ℕ) (f g : HierFault) → IsRefusedText text f → IsRefusedText text g → f ≡ g
+refused_text_once text f g a b =
+    ⊎_elim
+    (λ la. ⊎_elim
+    (λ lb. la.0 ∙ sym lb.0)
+    (⊎_elim (λ fb. too_long text la.1 fb.2) (λ wb. too_long text la.1 wb.1.fits))
+    (ways text g b))
+    (⊎_elim
+    (λ fa. ⊎_elim
+    (λ lb. too_long text lb.1 fa.2)
+    (⊎_elim
+    (λ fb. fa.1 ∙ ap (λ x. fault.Syntax x) (syntax_once text fa.0 fb.0 fa.3 fb.3) ∙ sym fb.1)
+    (λ wb. absurd (says_not_syntax text wb.0 fa.0 wb.1 fa.3)))
+    (ways text g b))
+    (λ wa. ⊎_elim
+    (λ lb. too_long text lb.1 wa.1.fits)
+    (⊎_elim
+    (λ fb. absurd (says_not_syntax text wa.0 fb.0 wa.1 fb.3))
+    (λ wb. first_once wa.0 f g wa.2 (subst (λ x. IsFirstRefusal x g) (says_once text wb.0 wa.0 wb.1 wa.1) wb.2)))
+    (ways text g b)))
+    (ways text f a)
+
+hierarchy_not_refused : (text : List ℕ) (h : PrincipalHierarchy) (f : HierFault) → IsHierarchyOf text h → IsRefusedText text f → ⊥
+hierarchy_not_refused text h f of refused =
+    ⊎_elim
+    (λ l. too_long text l.1 of.says.fits)
+    (⊎_elim
+    (λ s. says_not_syntax text of.entries s.0 of.says s.3)
+    (λ w. said_not_refused of.entries h f of.said (subst (λ x. IsFirstRefusal x f) (says_once text w.0 of.entries w.1 of.says) w.2)))
+    (ways text f refused)
+
+hierarchy_once : (text : List ℕ) (h k : PrincipalHierarchy) → IsHierarchy h → IsHierarchyOf text h → IsHierarchyOf text k → h ≡ k
+hierarchy_once text h k kept a b =
+    said_once a.entries h k kept a.said (subst (λ x. IsSaid x k) (says_once text b.entries a.entries b.says a.says) b.said)
+
+-- ---- what the entries' fault is of the text
+
+no_other_refusal : (names : List (List ℕ)) (entry : Entry) (f : HierFault) → IsRefusal names entry f → (f ≡ fault.TooLong → ⊥) × ((at : ℕ) → f ≡ fault.Syntax at → ⊥)
+no_other_refusal names entry f (Twice name h) = (λ e. cc, λ at e. cc)
+no_other_refusal names entry f (Crowded name h k) = (λ e. cc, λ at e. cc)
+no_other_refusal names entry f (UnknownLeft left right h) = (λ e. cc, λ at e. cc)
+no_other_refusal names entry f (UnknownRight left right h k) = (λ e. cc, λ at e. cc)
+
+pub entries_fault : (text : List ℕ) (es : List Entry) (f : HierFault) → Says text es → IsStatementsFault es f → IsReadFault text f
+entries_fault text es fault.NoMemory says h = tt
+entries_fault text es fault.TooLong says h = absurd ((no_other_refusal (declared h.before) h.entry fault.TooLong h.refused).0 refl)
+entries_fault text es (fault.Syntax at) says h = absurd ((no_other_refusal (declared h.before) h.entry (fault.Syntax at) h.refused).1 at refl)
+entries_fault text es (fault.DeclaredTwice at) says h = (es, says, h)
+entries_fault text es (fault.UnknownPrincipal at) says h = (es, says, h)
+entries_fault text es (fault.TooManyPrincipals at) says h = (es, says, h)
+
+-- ---- what a reader owes
+
+pub fault_cases : (text : List ℕ) (f : HierFault) → IsReadFault text f → (f ≡ fault.NoMemory) ⊎ IsRefusedText text f
+fault_cases text fault.NoMemory h = inl refl
+fault_cases text fault.TooLong h = inr h
+fault_cases text (fault.Syntax at) h = inr h
+fault_cases text (fault.DeclaredTwice at) h = inr h
+fault_cases text (fault.UnknownPrincipal at) h = inr h
+fault_cases text (fault.TooManyPrincipals at) h = inr h
+
+pub read_only : (text : List ℕ) (h : PrincipalHierarchy) → IsHierarchyOf text h → (r : Result PrincipalHierarchy HierFault) →
+    IfOk r (IsHierarchyOf text) → IfOk r IsHierarchy → IfErr r (IsReadFault text) → MatchResult r (λ found. found ≡ h) (λ f. f ≡ fault.NoMemory)
+read_only text h of (Ok found) a b e = hierarchy_once text found h b a of
+read_only text h of (Err f) a b e = ⊎_elim (λ n. n) (λ k. absurd (hierarchy_not_refused text h f of k)) (fault_cases text f e)
+
+pub read_first : (text : List ℕ) (f : HierFault) → IsRefusedText text f → (r : Result PrincipalHierarchy HierFault) →
+    IfOk r (IsHierarchyOf text) → IfErr r (IsReadFault text) → MatchResult r (λ _. ⊥) (λ told. (told ≡ f) ⊎ (told ≡ fault.NoMemory))
+read_first text f first (Ok found) a e = hierarchy_not_refused text found f a first
+read_first text f first (Err told) a e = ⊎_elim inr (λ k. inl (refused_text_once text told f k first)) (fault_cases text told e)

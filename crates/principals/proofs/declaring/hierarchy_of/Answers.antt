@@ -1,0 +1,89 @@
+use Rattle.std.proofs.Common.{◌≡◌, ◌≤◌, ◌+◌, ◌++◌, ◌∷◌, [], length, take, drop, sym, ap, subst, ◌∙◌, arith}
+use Rattle.std.proofs.lemmas.List.{take_all}
+use Rattle.std.proofs.lemmas.Result.{err_from_is_err_and}
+use Rattle.lexer.specs.Terminal.{terminal_of}
+use Rattle.principals.specs.ActsFor.{AllBelow, AllDifferent}
+use Rattle.principals.specs.HierarchyText.{Declares, Relates}
+use Rattle.principals.specs.Reading.{IsStatementsFault, entry_of, entries_of}
+use Rattle.principals.specs.Table.{names_of}
+use Rattle.principals.proofs.Building.{built_name, built_pair, built_said, built_same, fault_of_entry, entries_around, entries_more}
+use Rattle.principals.proofs.declaring.hierarchy_of.Goals as goal
+use Rattle.principals.proofs.declaring.hierarchy_of.Goals.{in-Declares+in_ok-declare-in-Declares, in-Relates+in_ok-relate-in-Relates+in_ok-push-in-Relates}
+
+pub returns-in_err-declare-in-Declares-clause-refused : goal.returns-in_err-declare-in-Declares-clause-refused
+returns-in_err-declare-in-Declares-clause-refused c =
+    let p = err_from_is_err_and c.from_residual.result c.from_residual.ensures.1 in
+    let statements = c.args.statements.now in
+    let i = c.loop-statement.statement-index in
+    let fault = c.in_err-declare-in-Declares.field-0.0 in
+    let whole : entries_of statements ≡ entries_of (take i statements) ++ Declares (terminal_of c.in-Declares.name) ∷ entries_of (drop (i + 1) statements) =
+    entries_around statements i _ c.loop-statement-test.true
+    ∙ ap (λ x. entries_of (take i statements) ++ entry_of x ∷ entries_of (drop (i + 1) statements)) c.in-Declares.is in
+    rw (p.1, p.2) (subst (λ x. IsStatementsFault x fault) (sym whole)
+    (fault_of_entry (entries_of (take i statements)) (entries_of (drop (i + 1) statements)) (names_of c.loop-statement.names) c.loop-statement.pairs.items
+    (Declares (terminal_of c.in-Declares.name)) fault c.loop-statement.invariant c.in_err-declare-in-Declares.ensures.refused))
+
+pub returns-in_err-relate-in-Relates-clause-refused : goal.returns-in_err-relate-in-Relates-clause-refused
+returns-in_err-relate-in-Relates-clause-refused c =
+    let p = err_from_is_err_and c.from_residual-in_err-relate-in-Relates.result c.from_residual-in_err-relate-in-Relates.ensures.1 in
+    let statements = c.args.statements.now in
+    let i = c.loop-statement.statement-index in
+    let fault = c.in_err-relate-in-Relates.field-0.0 in
+    let entry = Relates (terminal_of c.in-Relates.left) (terminal_of c.in-Relates.right) in
+    let whole : entries_of statements ≡ entries_of (take i statements) ++ entry ∷ entries_of (drop (i + 1) statements) =
+    entries_around statements i _ c.loop-statement-test.true
+    ∙ ap (λ x. entries_of (take i statements) ++ entry_of x ∷ entries_of (drop (i + 1) statements)) c.in-Relates.is in
+    rw (p.1, p.2) (subst (λ x. IsStatementsFault x fault) (sym whole)
+    (fault_of_entry (entries_of (take i statements)) (entries_of (drop (i + 1) statements)) (names_of c.loop-statement.names) c.loop-statement.pairs.items
+    entry fault c.loop-statement.invariant c.in_err-relate-in-Relates.ensures.refused))
+
+pub loop-statement-preserved : goal.loop-statement-preserved
+loop-statement-preserved c =
+    let statements = c.args.statements.now in
+    let i = c.loop-statement.statement-index in
+    let es = entries_of (take i statements) in
+    let names = names_of c.loop-statement.names in
+    let pairs = c.loop-statement.pairs.items in
+    elim c.match-statement.branch [
+      | in-Declares+in_ok-declare-in-Declares w ↦
+          let more : entries_of (take (i + 1) statements) ≡ es ++ Declares (terminal_of w.in-Declares.name) ∷ [] =
+          entries_more statements i _ c.loop-statement-test.true ∙ ap (λ x. es ++ entry_of x ∷ []) w.in-Declares.is in
+          let same_names : names_of c.match-statement.names ≡ names ++ w.in-Declares.name.text.now ∷ [] =
+          ap (λ x. names_of x) w.names-is ∙ w.in_ok-declare-in-Declares.ensures.added in
+          let same_pairs : c.match-statement.pairs.items ≡ pairs = ap (λ x. x.items) w.pairs-is in
+          built_same more same_names same_pairs
+          (built_name es names pairs (terminal_of w.in-Declares.name) c.loop-statement.invariant
+          w.in_ok-declare-in-Declares.ensures.fresh w.in_ok-declare-in-Declares.ensures.room)
+      | in-Relates+in_ok-relate-in-Relates+in_ok-push-in-Relates w ↦
+          let left = terminal_of w.in-Relates.left in
+          let right = terminal_of w.in-Relates.right in
+          let pair = w.in_ok-relate-in-Relates.field-0 in
+          let more : entries_of (take (i + 1) statements) ≡ es ++ Relates left right ∷ [] =
+          entries_more statements i _ c.loop-statement-test.true ∙ ap (λ x. es ++ entry_of x ∷ []) w.in-Relates.is in
+          let same_names : names_of c.match-statement.names ≡ names = ap (λ x. names_of x) w.names-is in
+          let same_pairs : c.match-statement.pairs.items ≡ pairs ++ pair ∷ [] =
+          ap (λ x. x.items) w.pairs-is ∙ w.in_ok-push-in-Relates.ensures.items in
+          built_same more same_names same_pairs
+          (built_pair es names pairs left right pair.0 pair.1 c.loop-statement.invariant
+          w.in_ok-relate-in-Relates.ensures.left w.in_ok-relate-in-Relates.ensures.right)
+    ]
+
+pub returns-clause-said : goal.returns-clause-said
+returns-clause-said c =
+    let statements = c.args.statements.now in
+    let past : length statements ≤ c.loop-statement.statement-index = omega arith in
+    let whole : entries_of statements ≡ entries_of (take c.loop-statement.statement-index statements) =
+    ap entries_of (sym (take_all c.loop-statement.statement-index statements past)) in
+    built_said (entries_of statements) c.in_ok-closed.field-0
+    (built_same whole c.in_ok-closed.ensures.names c.in_ok-closed.ensures.pairs c.loop-statement.invariant)
+
+pub returns-clause-kept : goal.returns-clause-kept
+returns-clause-kept c =
+    let built = c.loop-statement.invariant in
+    let hierarchy = c.in_ok-closed.field-0 in
+    record {
+      few = subst (λ x. length x ≤ 256) (sym c.in_ok-closed.ensures.names) built.few;
+      different = subst AllDifferent (sym c.in_ok-closed.ensures.names) built.different;
+      there = subst (λ x. AllBelow (length x) hierarchy.pairs) (sym c.in_ok-closed.ensures.names)
+          (subst (λ x. AllBelow (length (names_of c.loop-statement.names)) x) (sym c.in_ok-closed.ensures.pairs) built.there);
+    }

@@ -1,0 +1,168 @@
+-- The text of a principal hierarchy: its form, what it declares and writes, and the first refusal in it. Our own.
+use Rattle.std.specs.Prelude.{◌≡◌, ◌≢◌, ◌⊎◌, ℕ, ◌<◌, ◌≤◌, List, [], ◌∷◌, ◌++◌, length, codes, Contains, IsCharBoundary}
+use Rattle.std.specs.List.{AllZip}
+use Rattle.lexer.specs.Cut.{IsCut, IsRefused}
+use Rattle.lexer.specs.Terminal.{Terminal}
+use Rattle.lexer.specs.declared.fault.LexFault.{LexFault}
+use Rattle.lexer.specs.declared.fault.LexFault.TheVariants.{NoMemory as LexNoMemory, NoToken, LiteralTooLarge, UnclosedComment}
+use Rattle.lexer.specs.declared.token.Kind.TheVariants.{Name, Comma, Semicolon, End}
+use Rattle.principals.specs.ActsFor.{PrincipalHierarchy, HasName}
+use Rattle.principals.specs.declared.fault.HierFault.{HierFault}
+use Rattle.principals.specs.declared.fault.HierFault.TheVariants.{NoMemory, TooLong, Syntax, DeclaredTwice, TooManyPrincipals, UnknownPrincipal}
+
+-- ---- the form of the text
+
+-- what a text says, in order: that there is a principal of a name, or that one acts for another. Each name is its token
+pub data Entry : Type 0 where
+  Declares : Terminal → Entry
+  Relates : Terminal → Terminal → Entry
+
+-- the token is this word
+abbrev pub IsWord : List ℕ → Terminal → Type 0
+IsWord word token = (token.kind ≡ Name) × (token.text ≡ word)
+
+-- the token may name a principal: it is a name, and neither of the two words of this text
+pub record IsPrincipalName (token : Terminal) : Type 0 where
+  pub name : token.kind ≡ Name
+  pub not_principal : token.text ≢ codes "principal"
+  pub not_acts_for : token.text ≢ codes "actsfor"
+
+-- the grammar has two nonterminals:
+--   Items = End  |  `principal` Names  |  name `actsfor` name `;` Items
+--   Names = name `,` Names  |  name `;` Items
+pub data Nonterminal : Type 0 where
+  Items : Nonterminal
+  Names : Nonterminal
+
+-- the tokens are derived from a nonterminal, and say these entries
+pub data Derives : Nonterminal → List Terminal → List Entry → Type 0 where
+  Finish : (end : Terminal) → end.kind ≡ End → Derives Items (end ∷ []) []
+  Declaration : (word : Terminal) (rest : List Terminal) (entries : List Entry) → IsWord (codes "principal") word
+      → Derives Names rest entries → Derives Items (word ∷ rest) entries
+  Relation : (left word right semicolon : Terminal) (rest : List Terminal) (entries : List Entry)
+      → IsPrincipalName left → IsWord (codes "actsfor") word → IsPrincipalName right → semicolon.kind ≡ Semicolon
+      → Derives Items rest entries → Derives Items (left ∷ word ∷ right ∷ semicolon ∷ rest) (Relates left right ∷ entries)
+  OneMore : (name comma : Terminal) (rest : List Terminal) (entries : List Entry) → IsPrincipalName name
+      → comma.kind ≡ Comma → Derives Names rest entries → Derives Names (name ∷ comma ∷ rest) (Declares name ∷ entries)
+  Last : (name semicolon : Terminal) (rest : List Terminal) (entries : List Entry) → IsPrincipalName name
+      → semicolon.kind ≡ Semicolon → Derives Items rest entries
+      → Derives Names (name ∷ semicolon ∷ rest) (Declares name ∷ entries)
+
+-- the tokens of a whole text of this form, which says these entries
+abbrev pub IsHierarchyForm : List Terminal → List Entry → Type 0
+IsHierarchyForm tokens entries = Derives Items tokens entries
+
+-- some text of this form begins with these tokens
+pub record BeginsForm (front : List Terminal) : Type 0 where
+  pub more : List Terminal
+  pub entries : List Entry
+  pub form : IsHierarchyForm (front ++ more) entries
+
+-- the first token with which no text of this form goes on begins at a byte
+pub record IsUnexpectedAt (tokens : List Terminal) (at : ℕ) : Type 0 where
+  pub before : List Terminal
+  pub token : Terminal
+  pub after : List Terminal
+  pub parts : tokens ≡ before ++ token ∷ after
+  pub goes_on : BeginsForm before
+  pub stops : BeginsForm (before ++ token ∷ []) → ⊥
+  pub place : at ≡ token.start
+
+-- ---- what the entries declare and write
+
+-- the names that are declared, in order
+abbrev pub declared : List Entry → List (List ℕ)
+declared [] = []
+declared (Declares name ∷ entries) = name.text ∷ declared entries
+declared (Relates left right ∷ entries) = declared entries
+
+-- the pairs of names that are written, in order
+abbrev pub written : List Entry → List (List ℕ × List ℕ)
+written [] = []
+written (Declares name ∷ entries) = written entries
+written (Relates left right ∷ entries) = (left.text, right.text) ∷ written entries
+
+-- an entry is refused, where these names are declared before it; of two refusals of one entry the first is told
+pub data IsRefusal (names : List (List ℕ)) : Entry → HierFault → Type 0 where
+  Twice : (name : Terminal) → Contains names name.text → IsRefusal names (Declares name) (DeclaredTwice name.start)
+  Crowded : (name : Terminal) → (Contains names name.text → ⊥) → 256 ≤ length names
+      → IsRefusal names (Declares name) (TooManyPrincipals name.start)
+  UnknownLeft : (left right : Terminal) → (Contains names left.text → ⊥)
+      → IsRefusal names (Relates left right) (UnknownPrincipal left.start)
+  UnknownRight : (left right : Terminal) → Contains names left.text → (Contains names right.text → ⊥)
+      → IsRefusal names (Relates left right) (UnknownPrincipal right.start)
+
+-- no entry is refused
+abbrev pub AllAccepted : List Entry → Type 0
+AllAccepted entries = (before after : List Entry) (entry : Entry) (fault : HierFault)
+    → entries ≡ before ++ entry ∷ after → IsRefusal (declared before) entry fault → ⊥
+
+-- the first entry that is refused, and why
+pub record IsFirstRefusal (entries : List Entry) (fault : HierFault) : Type 0 where
+  pub before : List Entry
+  pub entry : Entry
+  pub after : List Entry
+  pub parts : entries ≡ before ++ entry ∷ after
+  pub accepted : AllAccepted before
+  pub refused : IsRefusal (declared before) entry fault
+
+-- the hierarchy that the entries say: its names are the declared ones, and its pairs are the numbers of the written ones
+pub record IsSaid (entries : List Entry) (hierarchy : PrincipalHierarchy) : Type 0 where
+  pub accepted : AllAccepted entries
+  pub names : hierarchy.names ≡ declared entries
+  pub pairs : AllZip (λ names pair. HasName hierarchy pair.0 names.0 × HasName hierarchy pair.1 names.1) (written entries) hierarchy.pairs
+
+-- ---- the whole text
+
+-- the greatest length of a text in bytes
+abbrev pub greatest_text : ℕ
+greatest_text = 1048576
+
+-- a text of this form, with its entries
+pub record Says (text : List ℕ) (entries : List Entry) : Type 0 where
+  pub fits : length text ≤ greatest_text
+  pub tokens : List Terminal
+  pub cut : IsCut text tokens
+  pub form : IsHierarchyForm tokens entries
+
+-- the hierarchy of a text
+pub record IsHierarchyOf (text : List ℕ) (hierarchy : PrincipalHierarchy) : Type 0 where
+  pub entries : List Entry
+  pub says : Says text entries
+  pub said : IsSaid entries hierarchy
+
+-- the fault that a refusal of the tokens is
+abbrev pub fault_of_lex : LexFault → HierFault
+fault_of_lex LexNoMemory = NoMemory
+fault_of_lex (NoToken at) = Syntax at
+fault_of_lex (LiteralTooLarge at) = Syntax at
+fault_of_lex (UnclosedComment at) = Syntax at
+
+-- the byte at which a text is refused that has no tokens
+abbrev pub IsLexFaultAt : LexFault → ℕ → Type 0
+IsLexFaultAt LexNoMemory at = ⊥
+IsLexFaultAt (NoToken place) at = at ≡ place
+IsLexFaultAt (LiteralTooLarge place) at = at ≡ place
+IsLexFaultAt (UnclosedComment place) at = at ≡ place
+
+-- a text without tokens, or the first token with which no text of this form goes on
+abbrev pub IsSyntaxFault : List ℕ → ℕ → Type 0
+IsSyntaxFault text at =
+    ((fault : LexFault) × IsRefused text fault × IsLexFaultAt fault at)
+    ⊎ ((tokens : List Terminal) × IsCut text tokens × IsUnexpectedAt tokens at)
+
+-- the first refusal of a text; want of memory is none of the text's
+abbrev pub IsRefusedText : List ℕ → HierFault → Type 0
+IsRefusedText text NoMemory = ⊥
+IsRefusedText text TooLong = greatest_text < length text
+IsRefusedText text (Syntax at) = (length text ≤ greatest_text) × IsSyntaxFault text at
+IsRefusedText text fault = (entries : List Entry) × Says text entries × IsFirstRefusal entries fault
+
+-- the place of a fault is a character boundary of the text, so that its line and its column can be told
+abbrev pub HasBoundary : List ℕ → HierFault → Type 0
+HasBoundary text NoMemory = Unit {0}
+HasBoundary text TooLong = Unit {0}
+HasBoundary text (Syntax at) = IsCharBoundary text at
+HasBoundary text (DeclaredTwice at) = IsCharBoundary text at
+HasBoundary text (UnknownPrincipal at) = IsCharBoundary text at
+HasBoundary text (TooManyPrincipals at) = IsCharBoundary text at

@@ -1,0 +1,118 @@
+-- A text of a hierarchy, read one token after another. No public contract cites this file. Our own.
+use Rattle.std.specs.Prelude.{◌≡◌, ℕ, ◌≤◌, length, slice_get, List, [], ◌∷◌, ◌++◌, Option, None, Some, if◌then◌else◌, bytes_eq, codes, option_map, map}
+use Rattle.std.specs.List.{AllZip}
+use Rattle.principals.specs.ActsFor.{AllDifferent, AllBelow}
+use Rattle.std.specs.Option.{option_and_then}
+use Rattle.lexer.specs.Terminal.{Terminal, terminal_of}
+use Rattle.lexer.specs.declared.token.Kind.{Kind}
+use Rattle.lexer.specs.declared.token.Kind.TheVariants.{Name as NameKind, Comma as CommaKind, Semicolon as SemicolonKind, End as EndKind}
+use Rattle.principals.specs.HierarchyText.{Entry, Declares, Relates, IsUnexpectedAt, AllAccepted, IsFirstRefusal, IsRefusal, IsRefusedText, declared, written}
+use Rattle.principals.specs.declared.fault.HierFault.{HierFault}
+use Rattle.principals.specs.declared.fault.HierFault.TheVariants as fault
+use Rattle.principals.specs.declared.reading.Role.{Role}
+use Rattle.principals.specs.declared.reading.Role.TheVariants.{Principal, ActsFor, Name, Comma, Semicolon, End, Other}
+use Rattle.principals.specs.declared.reading.Progress.{Progress}
+use Rattle.principals.specs.declared.reading.Progress.TheVariants as progress
+use Rattle.principals.specs.declared.reading.Statement.{Statement}
+use Rattle.principals.specs.declared.reading.Statement.TheVariants as statement
+
+-- what a token is here
+abbrev pub role_by : Kind → List ℕ → Role
+role_by NameKind text = if bytes_eq text (codes "principal") then Principal else (if bytes_eq text (codes "actsfor") then ActsFor else Name)
+role_by CommaKind text = Comma
+role_by SemicolonKind text = Semicolon
+role_by EndKind text = End
+role_by _ text = Other
+
+abbrev pub role_of : Terminal → Role
+role_of token = role_by token.kind token.text
+
+-- what was read of an item: nothing; what comes before a declared name; the name; the left name of a pair; this and the
+-- word; the whole pair. At last the end marker
+pub data State : Type 0 where
+  Fresh : State
+  Declaring : State
+  Listed : State
+  Subject : Terminal → State
+  Verb : Terminal → State
+  Complete : State
+  Ended : State
+
+-- the state after one more token, if some text goes on with it
+abbrev pub next_by : State → Role → Terminal → Option State
+next_by Fresh Principal token = Some Declaring
+next_by Fresh Name token = Some (Subject token)
+next_by Fresh End token = Some Ended
+next_by Declaring Name token = Some Listed
+next_by Listed Comma token = Some Declaring
+next_by Listed Semicolon token = Some Fresh
+next_by (Subject left) ActsFor token = Some (Verb left)
+next_by (Verb left) Name token = Some Complete
+next_by Complete Semicolon token = Some Fresh
+next_by _ _ token = None
+
+abbrev pub next : State → Terminal → Option State
+next state token = next_by state (role_of token) token
+
+-- the entry that one more token makes whole
+abbrev pub said : State → Terminal → List Entry
+said Declaring token = Declares token ∷ []
+said (Verb left) token = Relates left token ∷ []
+said _ token = []
+
+-- the state after tokens, and what they say
+abbrev pub run : State → List Terminal → Option (State × List Entry)
+run state [] = Some (state, [])
+run state (token ∷ rest) =
+    option_and_then (λ after. option_map (λ end. (end.0, said state token ++ end.1)) (run after rest)) (next state token)
+
+-- the code's states and statements, without references
+abbrev pub state_of : Progress → State
+state_of progress.Fresh = Fresh
+state_of progress.Declaring = Declaring
+state_of progress.Listed = Listed
+state_of (progress.Subject left) = Subject (terminal_of left)
+state_of (progress.Verb left) = Verb (terminal_of left)
+state_of progress.Complete = Complete
+state_of progress.Ended = Ended
+
+abbrev pub entry_of : Statement → Entry
+entry_of (statement.Declares name) = Declares (terminal_of name)
+entry_of (statement.Relates left right) = Relates (terminal_of left) (terminal_of right)
+
+abbrev pub entries_of : List Statement → List Entry
+entries_of statements = map entry_of statements
+
+-- a fault of the form alone
+abbrev pub IsFormFault : List Terminal → HierFault → Type 0
+IsFormFault tokens fault.NoMemory = Unit {0}
+IsFormFault tokens (fault.Syntax at) = IsUnexpectedAt tokens at
+IsFormFault tokens _ = ⊥
+
+-- the pairs are the numbers of these pairs of names
+abbrev pub HaveNames : List (List ℕ) → List (List ℕ × List ℕ) → List (ℕ × ℕ) → Type 0
+HaveNames names texts pairs = AllZip (λ text pair. (slice_get names pair.0 ≡ Some text.0) × (slice_get names pair.1 ≡ Some text.1)) texts pairs
+
+-- what entries that are all accepted build
+pub record Built (entries : List Entry) (names : List (List ℕ)) (pairs : List (ℕ × ℕ)) : Type 0 where
+  pub same_names : names ≡ declared entries
+  pub few : length names ≤ 256
+  pub different : AllDifferent names
+  pub there : AllBelow (length names) pairs
+  pub accepted : AllAccepted entries
+  pub same_pairs : HaveNames names (written entries) pairs
+
+-- why an entry is not added: want of memory, or its refusal
+abbrev pub IsBuildFault : List (List ℕ) → Entry → HierFault → Type 0
+IsBuildFault names entry fault.NoMemory = Unit {0}
+IsBuildFault names entry other = IsRefusal names entry other
+
+-- a fault of the entries alone
+abbrev pub IsStatementsFault : List Entry → HierFault → Type 0
+IsStatementsFault entries fault.NoMemory = Unit {0}
+IsStatementsFault entries other = IsFirstRefusal entries other
+
+-- a fault of a text, want of memory among them
+abbrev pub IsReadFault : List ℕ → HierFault → Type 0
+IsReadFault text fault.NoMemory = Unit {0}
+IsReadFault text other = IsRefusedText text other

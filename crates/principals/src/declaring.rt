@@ -1,0 +1,84 @@
+//! The hierarchy that the statements of a text say.
+
+ghost use Rattle.lexer.specs.Terminal.{terminal_of};
+ghost use Rattle.principals.specs.ActsFor.{IsHierarchy};
+ghost use Rattle.principals.specs.HierarchyText.{Declares, IsSaid, Relates};
+ghost use Rattle.principals.specs.Reading.{entries_of, IsBuildFault, IsStatementsFault};
+ghost use Rattle.principals.specs.Table.{names_of};
+ghost use Rattle.principals.specs.declared.fault.HierFault.TheVariants.{UnknownPrincipal};
+ghost use Rattle.std.specs.Prelude.{Contains, IfErr, IfOk, OnOk, Some, [], ◌∷◌, ◌++◌, length, slice_get, ℕ, ◌<◌, ◌≡◌, ◌≤◌};
+
+use crate::Hierarchy;
+use crate::fault::HierFault;
+use crate::reading::Statement;
+use crate::row::Row;
+use indexmap::IndexSet;
+use lexer::Token;
+use std::alloc::Global;
+
+/// Declares one more principal.
+fn declare(alloc: Global, names: &mut IndexSet<String>, name: &Token<'_>) -> Result<(), HierFault>
+    ensures added { OnOk result (names_of names.new ≡ names_of names.old ++ name.now.text.now ∷ []) }
+    ensures fresh { OnOk result (¬ Contains (names_of names.old) name.now.text.now) }
+    ensures room { OnOk result (length (names_of names.old) < 256) }
+    ensures refused { IfErr result (IsBuildFault (names_of names.old) (Declares (terminal_of name.now))) }
+{
+    let full = names.len() >= Row::LIMIT;
+    if names.contains(name.text) {
+        return Err(HierFault::DeclaredTwice(name.span.start));
+    }
+    if full {
+        return Err(HierFault::TooManyPrincipals(name.span.start));
+    }
+    names.insert(String::from_str(alloc, name.text)?)?;
+    Ok(())
+}
+
+/// The number of a principal that was declared before.
+fn number(names: &IndexSet<String>, name: &Token<'_>) -> Result<u32, HierFault>
+    requires { length (names_of names.now) ≤ 256 }
+    ensures found { IfOk result (λ number. slice_get (names_of names.now) number ≡ Some name.now.text.now) }
+    ensures unknown { IfErr result (λ fault. (fault ≡ UnknownPrincipal name.now.span.start)
+        × (¬ Contains (names_of names.now) name.now.text.now)) }
+{
+    match names.get_index_of(name.text) {
+        Some(number) => Ok(number as u32),
+        None => Err(HierFault::UnknownPrincipal(name.span.start)),
+    }
+}
+
+/// The numbers of both names of a pair.
+fn relate(
+    names: &IndexSet<String>,
+    left: &Token<'_>,
+    right: &Token<'_>,
+) -> Result<(u32, u32), HierFault>
+    requires { length (names_of names.now) ≤ 256 }
+    ensures left { IfOk result (λ pair. slice_get (names_of names.now) pair.0 ≡ Some left.now.text.now) }
+    ensures right { IfOk result (λ pair. slice_get (names_of names.now) pair.1 ≡ Some right.now.text.now) }
+    ensures refused { IfErr result (IsBuildFault (names_of names.now) (Relates (terminal_of left.now) (terminal_of right.now))) }
+{
+    let first = number(names, left)?;
+    let second = number(names, right)?;
+    Ok((first, second))
+}
+
+/// The hierarchy that statements say, or the first of them that is refused.
+pub(crate) fn hierarchy_of(
+    alloc: Global,
+    statements: &[Statement<'_>],
+) -> Result<Hierarchy, HierFault>
+    ensures said { IfOk result (IsSaid (entries_of statements.now)) }
+    ensures kept { IfOk result IsHierarchy }
+    ensures refused { IfErr result (IsStatementsFault (entries_of statements.now)) }
+{
+    let mut names = IndexSet::new(alloc);
+    let mut pairs = Vec::new(alloc);
+    for statement in statements {
+        match statement {
+            Statement::Declares(name) => declare(alloc, &mut names, name)?,
+            Statement::Relates(left, right) => pairs.push(relate(&names, left, right)?)?,
+        }
+    }
+    Ok(Hierarchy::closed(alloc, names, pairs)?)
+}

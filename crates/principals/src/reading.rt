@@ -1,0 +1,144 @@
+//! The form of a hierarchy text, read one token after another.
+
+ghost use Rattle.lexer.specs.Terminal.{IsTerminated, terminal_of, terminals_of};
+ghost use Rattle.principals.specs.HierarchyText.{IsHierarchyForm};
+ghost use Rattle.principals.specs.Reading.{entries_of, IsFormFault, role_of};
+ghost use Rattle.std.specs.Prelude.{IfErr, IfOk, ◌≡◌};
+
+use crate::fault::HierFault;
+use lexer::{Kind, Token};
+use std::alloc::Global;
+
+/// What a token is in a hierarchy text.
+#[derive(Clone, Copy)]
+pub(crate) enum Role {
+    /// The word `principal`.
+    Principal,
+    /// The word `actsfor`.
+    ActsFor,
+    /// Another name.
+    Name,
+    Comma,
+    Semicolon,
+    End,
+    /// A token that no text of this form has.
+    Other,
+}
+
+/// What a text says: that there is a principal of a name, or that one acts for another.
+#[derive(Clone, Copy)]
+pub(crate) enum Statement<'a> {
+    Declares(Token<'a>),
+    Relates(Token<'a>, Token<'a>),
+}
+
+/// What was read of an item.
+#[derive(Clone, Copy)]
+pub(crate) enum Progress<'a> {
+    /// Nothing: an item begins, or the text ends.
+    Fresh,
+    /// What comes before a declared name: the word `principal`, or a comma.
+    Declaring,
+    /// A declared name.
+    Listed,
+    /// The left name of a pair.
+    Subject(Token<'a>),
+    /// The left name of a pair and the word `actsfor`.
+    Verb(Token<'a>),
+    /// Both names of a pair.
+    Complete,
+    /// All items and the end marker.
+    Ended,
+}
+
+fn role_of(token: &Token<'_>) -> Role
+    ensures { result ≡ role_of (terminal_of token.now) }
+{
+    match token.kind {
+        Kind::Name => match token.text {
+            "principal" => Role::Principal,
+            "actsfor" => Role::ActsFor,
+            _ => Role::Name,
+        },
+        Kind::Comma => Role::Comma,
+        Kind::Semicolon => Role::Semicolon,
+        Kind::End => Role::End,
+        _ => Role::Other,
+    }
+}
+
+impl<'a> Progress<'a> {
+    ghost use Rattle.lexer.specs.Terminal.{terminal_of};
+    ghost use Rattle.principals.specs.Reading.{entry_of, next, said, state_of};
+    ghost use Rattle.std.specs.Prelude.{map, option_map, option_to_list, ◌≡◌};
+
+    /// What was read after one more token, or `None` where no text of the form goes on with it.
+    fn next(self, token: Token<'a>) -> Option<Progress<'a>>
+        ensures { option_map (λ after. state_of after) result ≡ next (state_of self.entry) (terminal_of token.entry) }
+    {
+        match self {
+            Progress::Fresh => match role_of(&token) {
+                Role::Principal => Some(Progress::Declaring),
+                Role::Name => Some(Progress::Subject(token)),
+                Role::End => Some(Progress::Ended),
+                _ => None,
+            },
+            Progress::Declaring => match role_of(&token) {
+                Role::Name => Some(Progress::Listed),
+                _ => None,
+            },
+            Progress::Listed => match role_of(&token) {
+                Role::Comma => Some(Progress::Declaring),
+                Role::Semicolon => Some(Progress::Fresh),
+                _ => None,
+            },
+            Progress::Subject(left) => match role_of(&token) {
+                Role::ActsFor => Some(Progress::Verb(left)),
+                _ => None,
+            },
+            Progress::Verb(_) => match role_of(&token) {
+                Role::Name => Some(Progress::Complete),
+                _ => None,
+            },
+            Progress::Complete => match role_of(&token) {
+                Role::Semicolon => Some(Progress::Fresh),
+                _ => None,
+            },
+            Progress::Ended => None,
+        }
+    }
+
+    /// The statement that one more token makes whole.
+    fn said(self, token: Token<'a>) -> Option<Statement<'a>>
+        ensures { map (λ statement. entry_of statement) (option_to_list result) ≡ said (state_of self.entry) (terminal_of token.entry) }
+    {
+        match self {
+            Progress::Declaring => Some(Statement::Declares(token)),
+            Progress::Verb(left) => Some(Statement::Relates(left, token)),
+            _ => None,
+        }
+    }
+}
+
+/// What the tokens of a text say, or the first token with which no text of the form goes on.
+pub(crate) fn statements<'a>(
+    alloc: Global,
+    tokens: &[Token<'a>],
+) -> Result<Vec<Statement<'a>>, HierFault>
+    requires { IsTerminated (terminals_of tokens.now) }
+    ensures form { IfOk result (λ statements. IsHierarchyForm (terminals_of tokens.now) (entries_of statements.items)) }
+    ensures refused { IfErr result (IsFormFault (terminals_of tokens.now)) }
+{
+    let mut statements = Vec::new(alloc);
+    let mut progress = Progress::Fresh;
+    for token in tokens {
+        let Some(after) = progress.next(*token) else {
+            return Err(HierFault::Syntax(token.span.start));
+        };
+        if let Some(statement) = progress.said(*token) {
+            statements.push(statement)?;
+        }
+        progress = after;
+    }
+    Ok(statements)
+}

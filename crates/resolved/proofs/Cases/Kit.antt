@@ -1,0 +1,196 @@
+-- What the worked cases are written with. Their programs stand under the principals Alice, Bob and Carol, of whom Carol acts for
+-- Bob, with the channels `input{Alice:} s; input{} q; output{} pub;` and one declared exception, `Oops`.
+use Rattle.std.proofs.Common.{ℕ, List, [], ◌∷◌, ◌++◌, Bool, ◌==◌}
+use Rattle.std.specs.Prelude.{ℤ, Some, None, slice_index_or, if◌then◌else◌}
+use Rattle.std.specs.List.{list_all}
+use Rattle.principals.specs.ActsFor.{PrincipalHierarchy}
+use Rattle.labels.specs.Label.{Label, flows}
+use Rattle.labels.specs.declared.sent.Pair.{Pair}
+use Rattle.resolved.specs.declared.expression.Base.TheVariants.{Int}
+use Rattle.resolved.specs.declared.expression.Variable.TheVariants.{Local}
+use Rattle.resolved.specs.declared.expression.Operator.TheVariants.{GreaterThan}
+use Rattle.resolved.specs.declared.expression.Prefix.TheVariants.{Negate}
+use Rattle.resolved.specs.declared.tables.Direction.TheVariants.{Input, Output}
+use Rattle.resolved.specs.declared.statement.Exit.TheVariants.{Normal, Throw}
+use Rattle.resolved.specs.Tree.{Expression, Integer, Read, Unary, Binary, Statement, Assign, Receive, Send, If, While, Try, Block, Empty, Then, Handlers, NoMore, Catch}
+use Rattle.resolved.specs.Program.{Program, ProcedureEntry, ThrownEntry, GlobalEntry, SlotEntry}
+use Rattle.resolved.specs.State.{World}
+use Rattle.resolved.specs.Meaning.{Outcome, Ended, Stopped, Stop, run_within, state_after}
+use Rattle.resolved.specs.Labelled.{Labelling, Demand, program_demands}
+
+abbrev pub people : PrincipalHierarchy
+people = record { names = (65 ∷ []) ∷ (66 ∷ []) ∷ (67 ∷ []) ∷ []; pairs = (2, 1) ∷ [] }
+
+-- {Alice:}, {Bob:} and {Alice: Bob}
+abbrev pub alice : Label
+alice = record { owner = 0; readers = [] } ∷ []
+
+abbrev pub bob : Label
+bob = record { owner = 1; readers = [] } ∷ []
+
+abbrev pub alice_to_bob : Label
+alice_to_bob = record { owner = 0; readers = 1 ∷ [] } ∷ []
+
+-- exceptions
+abbrev pub arith : ℕ
+arith = 0
+
+abbrev pub bounds : ℕ
+bounds = 1
+
+abbrev pub end : ℕ
+end = 2
+
+abbrev pub oops : ℕ
+oops = 3
+
+-- channels
+abbrev pub s_channel : ℕ
+s_channel = 0
+
+abbrev pub q_channel : ℕ
+q_channel = 1
+
+abbrev pub pub_channel : ℕ
+pub_channel = 2
+
+-- slots of a frame: an `int` with a label, one without, and an array
+abbrev pub int_slot : Label → SlotEntry
+int_slot label = record { base = Int; size = None; written = Some label; at = 0; name = [] }
+
+abbrev pub unlabelled_slot : SlotEntry
+unlabelled_slot = record { base = Int; size = None; written = None; at = 0; name = [] }
+
+abbrev pub array_slot : (length : ℕ) → Label → SlotEntry
+array_slot length label = record { base = Int; size = Some length; written = Some label; at = 0; name = [] }
+
+-- expressions and statements
+abbrev pub int : ℕ → Expression
+int n = Integer n
+
+abbrev pub minus : ℕ → Expression
+minus n = Unary Negate (Integer n)
+
+abbrev pub var : ℕ → Expression
+var n = Read (Local n)
+
+abbrev pub set_to : ℕ → Expression → Statement
+set_to n e = Assign 0 (Local n) e
+
+abbrev pub send_public : Expression → Statement
+send_public e = Send 0 pub_channel e
+
+abbrev pub positive : Expression → Expression
+positive e = Binary GreaterThan e (Integer 0)
+
+abbrev pub block : List Statement → Block
+block [] = Empty
+block (statement ∷ rest) = Then statement (block rest)
+
+-- one handler
+abbrev pub on : (exception : ℕ) → List Statement → Handlers
+on exception statements = Catch 0 exception (block statements) NoMore
+
+abbrev pub try_to : List Statement → Handlers → Statement
+try_to statements handlers = Try 0 (block statements) handlers
+
+abbrev pub if_then : Expression → List Statement → Statement
+if_then e statements = If 0 e (block statements) Empty
+
+abbrev pub while_loop : Expression → List Statement → Statement
+while_loop e statements = While 0 0 e (block statements)
+
+-- `int{Alice:} x = 0; try { x = receive s; } catch (End) { }` in slot 0
+abbrev pub receive_secret : List Statement
+receive_secret = set_to 0 (int 0) ∷ try_to (Receive 0 s_channel (Some (Local 0)) ∷ []) (on end []) ∷ []
+
+-- a procedure without value and parameters, and its variants
+abbrev pub procedure : List SlotEntry → List Statement → ProcedureEntry
+procedure slots statements = record {
+  at = 0;
+  name = [];
+  result = None;
+  begin_label = [];
+  end_label = [];
+  throws = [];
+  parameters = 0;
+  slots = slots;
+  loops = 1;
+  body = block statements;
+}
+
+abbrev pub thrown : (exception : ℕ) → Label → List ThrownEntry
+thrown exception label = record { exception = exception; label = label } ∷ []
+
+-- a program by its procedures, `main` being the first
+abbrev pub program_with : List GlobalEntry → List ProcedureEntry → Program
+program_with globals procedures = record {
+  hierarchy = people;
+  channels = record { direction = Input; name = []; label = alice }
+      ∷ record { direction = Input; name = []; label = [] }
+      ∷ record { direction = Output; name = []; label = [] } ∷ [];
+  exceptions = (79 ∷ []) ∷ [];
+  globals = globals;
+  procedures = procedures;
+  main = 0;
+}
+
+abbrev pub program : List ProcedureEntry → Program
+program procedures = program_with [] procedures
+
+-- a program that is `main` alone
+abbrev pub main_program : List SlotEntry → List Statement → Program
+main_program slots statements = program (procedure slots statements ∷ [])
+
+-- the same after `int{Alice:} x = 0; try { x = receive s; } catch (End) { }`, with further slots after that of x
+abbrev pub secret_program : List SlotEntry → List Statement → Program
+secret_program slots statements = main_program (int_slot alice ∷ slots) (receive_secret ++ statements)
+
+-- worlds: no input, and these numbers in s
+abbrev pub silence : World
+silence channel = []
+
+abbrev pub secret : List ℤ → World
+secret numbers channel = if channel == s_channel then numbers else []
+
+-- the numbers that were sent, and how a run ended
+abbrev pub numbers_of : List Pair → List ℤ
+numbers_of [] = []
+numbers_of (pair ∷ rest) = pair.number ∷ numbers_of rest
+
+pub data End : Type 0 where
+  finished : End
+  threw : ℕ → End
+  stopped : Stop → End
+  other : End
+
+abbrev pub end_of : Outcome → End
+end_of (Ended Normal returned s) = finished
+end_of (Ended (Throw exception) returned s) = threw exception
+end_of (Ended _ returned s) = other
+end_of (Stopped stop s) = stopped stop
+
+-- what a run sends and how it ends, with so many frames and turns
+abbrev pub run : (frames k : ℕ) → Program → World → List ℤ × End
+run frames k p world =
+    (numbers_of (state_after (run_within frames p world k)).sent, end_of (run_within frames p world k))
+
+-- a labelling in which the locals and the loops of each procedure have these labels
+abbrev pub labels_are : List Label → List Label → ℕ → Labelling
+labels_are locals loops f = record { local_label = λ n. slice_index_or locals n []; loop_label = λ n. slice_index_or loops n [] }
+
+-- nothing is left to choose
+abbrev pub all_written : ℕ → Labelling
+all_written f = record { local_label = λ n. []; loop_label = λ n. [] }
+
+-- a loop's label to choose
+abbrev pub loop_is : Label → ℕ → Labelling
+loop_is label f = record { local_label = λ n. []; loop_label = λ n. label }
+
+-- a local's label to choose
+abbrev pub locals_are : Label → ℕ → Labelling
+locals_are label f = record { local_label = λ n. label; loop_label = λ n. [] }
+
+-- whether a program fits a labelling
+abbrev pub fits : Program → (ℕ → Labelling) → Bool
+fits p labelling = list_all (λ (d : Demand). flows p.hierarchy d.left d.right) (program_demands p labelling)

@@ -1,0 +1,5 @@
+pub mod Cases
+pub mod Views
+pub mod Sound
+pub mod Parts
+pub mod Growing

@@ -1,0 +1,70 @@
+-- What the tree of each statement of the code is, by the lists of the code.
+use Rattle.std.proofs.Common.{◌≡◌, ℕ, refl, ap, sym, ◌∙◌}
+use Rattle.std.specs.Prelude.{Vec}
+use Rattle.std.specs.declared.alloc.Global.{Global}
+use mathlib.Core.Former
+use Rattle.resolved.specs.declared.expression.Expression.{Expression}
+use Rattle.resolved.specs.declared.statement.Statement as S
+use Rattle.resolved.specs.declared.statement.Statement.TheBlock.{hidden-the_row-Statement-0, hidden-the_row-Handler-1}
+use Rattle.resolved.specs.declared.statement.Handler.{Handler}
+use Rattle.resolved.specs.Tree.{Statement, If, While, Try, Nested, Then, Catch}
+use Rattle.resolved.specs.TreeOf.{expression_of, statement_of, block_row, handlers_row, block_of, handlers_of}
+
+block_row_is : {n : Former.Count} (row : S.Row_of-Statement n) → block_row row ≡ block_of (S.items-the_row-Statement n row)
+block_row_is S.end_of-Statement = refl
+block_row_is (S.more_of-Statement statement rest) = ap (Then (statement_of statement)) (block_row_is rest)
+
+block_hidden : (statements : Vec S.Statement Global) → block_row (hidden-the_row-Statement-0 statements) ≡ block_of statements.items
+block_hidden statements =
+    block_row_is (hidden-the_row-Statement-0 statements) ∙ ap block_of (S.items_hidden-the_row-Statement-0 statements)
+
+handlers_row_is : {n : Former.Count} (row : S.Row_of-Handler n) → handlers_row row ≡ handlers_of (S.items-the_row-Handler n row)
+handlers_row_is S.end_of-Handler = refl
+handlers_row_is (S.more_of-Handler at exception shape body rest) =
+    ap (λ rows. Catch at exception (block_row body) rows) (handlers_row_is rest)
+    ∙ ap (λ block. Catch at exception block (handlers_of (S.items-the_row-Handler _ rest)))
+    (block_row_is body ∙ sym (ap block_of (S.items_shown-the_row-Statement-0 shape body)))
+
+handlers_hidden : (handlers : Vec Handler Global) → handlers_row (hidden-the_row-Handler-1 handlers) ≡ handlers_of handlers.items
+handlers_hidden handlers =
+    handlers_row_is (hidden-the_row-Handler-1 handlers) ∙ ap handlers_of (S.items_hidden-the_row-Handler-1 handlers)
+
+pub statement_of_if : (at : ℕ) (e : Expression) (yes_block no_block : Vec S.Statement Global)
+    → statement_of (S.If at e yes_block no_block) ≡ If at (expression_of e) (block_of yes_block.items) (block_of no_block.items)
+statement_of_if at e yes_block no_block =
+    ap (λ block. If at (expression_of e) block (block_row (hidden-the_row-Statement-0 no_block))) (block_hidden yes_block)
+    ∙ ap (If at (expression_of e) (block_of yes_block.items)) (block_hidden no_block)
+
+pub statement_of_while : (at loop : ℕ) (e : Expression) (body : Vec S.Statement Global)
+    → statement_of (S.While at loop e body) ≡ While at loop (expression_of e) (block_of body.items)
+statement_of_while at loop e body = ap (While at loop (expression_of e)) (block_hidden body)
+
+pub statement_of_try : (at : ℕ) (block : Vec S.Statement Global) (handlers : Vec Handler Global)
+    → statement_of (S.Try at block handlers) ≡ Try at (block_of block.items) (handlers_of handlers.items)
+statement_of_try at block handlers =
+    ap (λ tree. Try at tree (handlers_row (hidden-the_row-Handler-1 handlers))) (block_hidden block)
+    ∙ ap (Try at (block_of block.items)) (handlers_hidden handlers)
+
+pub statement_of_nested : (at : ℕ) (block : Vec S.Statement Global)
+    → statement_of (S.Nested at block) ≡ Nested at (block_of block.items)
+statement_of_nested at block = ap (Nested at) (block_hidden block)
+
+pub ruleset statement_views = (statement_of_if, statement_of_while, statement_of_try, statement_of_nested)
+
+-- what a function of the tree is at a statement that was found to be of a form
+pub at_if : {A : Type 0} (f : Statement → A) {s : S.Statement} {at : ℕ} {e : Expression} (yes_block no_block : Vec S.Statement Global)
+    → s ≡ S.If at e yes_block no_block
+    → f (statement_of s) ≡ f (If at (expression_of e) (block_of yes_block.items) (block_of no_block.items))
+at_if f yes_block no_block is = ap (λ t. f (statement_of t)) is ∙ ap f (statement_of_if _ _ yes_block no_block)
+
+pub at_while : {A : Type 0} (f : Statement → A) {s : S.Statement} {at loop : ℕ} {e : Expression} (body : Vec S.Statement Global)
+    → s ≡ S.While at loop e body → f (statement_of s) ≡ f (While at loop (expression_of e) (block_of body.items))
+at_while f body is = ap (λ t. f (statement_of t)) is ∙ ap f (statement_of_while _ _ _ body)
+
+pub at_try : {A : Type 0} (f : Statement → A) {s : S.Statement} {at : ℕ} (block : Vec S.Statement Global) (handlers : Vec Handler Global)
+    → s ≡ S.Try at block handlers → f (statement_of s) ≡ f (Try at (block_of block.items) (handlers_of handlers.items))
+at_try f block handlers is = ap (λ t. f (statement_of t)) is ∙ ap f (statement_of_try _ block handlers)
+
+pub at_nested : {A : Type 0} (f : Statement → A) {s : S.Statement} {at : ℕ} (block : Vec S.Statement Global)
+    → s ≡ S.Nested at block → f (statement_of s) ≡ f (Nested at (block_of block.items))
+at_nested f block is = ap (λ t. f (statement_of t)) is ∙ ap f (statement_of_nested _ block)

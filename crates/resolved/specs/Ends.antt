@@ -1,0 +1,126 @@
+-- The ends that a statement may have, found without running it.
+-- Source: our own rules; several ways out of a statement as in JFlow (Myers 1999).
+use Rattle.std.specs.Prelude.{ℕ, List, [], ◌∷◌, ◌++◌, Bool, true, false, not, map, filter, ◌==◌, ◌||◌, if◌then◌else◌, Some, None}
+use Rattle.std.specs.List.{list_any, list_all}
+use Rattle.resolved.specs.declared.expression.Prefix.TheVariants.{Negate}
+use Rattle.resolved.specs.declared.expression.Operator.{Operator}
+use Rattle.resolved.specs.declared.expression.Operator.TheVariants.{Divide, Remainder}
+use Rattle.resolved.specs.declared.statement.Exit.{Exit}
+use Rattle.resolved.specs.declared.statement.Exit.TheVariants.{Normal, Return, Break, Continue, Throw}
+use Rattle.resolved.specs.Tree.{Expression, Integer, Logical, Read, Element, Unary, Binary, Short, Statement, Assign, Clear, Store, Receive, Send, Call, If, While, Leave, ReturnWith, Try, Nested, Block, Empty, Then, Handlers, NoMore, Catch}
+use Rattle.resolved.specs.Program.{Program, ThrownEntry, procedure_at}
+use Rattle.resolved.specs.Value.{literal_number, is_zero, in_range, arith_exception, bounds_exception, end_exception}
+
+-- whether two ways out are the same
+abbrev pub same_exit : Exit → Exit → Bool
+same_exit Normal Normal = true
+same_exit Return Return = true
+same_exit Break Break = true
+same_exit Continue Continue = true
+same_exit (Throw a) (Throw b) = a == b
+same_exit _ _ = false
+
+-- whether a way out is among these
+abbrev pub has_end : List Exit → Exit → Bool
+has_end ends exit = list_any (same_exit exit) ends
+
+-- whether these, which may name one several times, are one way out only
+abbrev pub one_end : List Exit → Bool
+one_end [] = false
+one_end (exit ∷ rest) = list_all (same_exit exit) rest
+
+-- whether an index may be out of range: not if it is a literal in range
+abbrev pub index_can_raise : Expression → (length : ℕ) → Bool
+index_can_raise (Integer n) length = not (in_range (literal_number n) length)
+index_can_raise _ length = true
+
+-- whether a divisor may be 0: not if it is a nonzero literal, or a minus sign before one
+abbrev pub divisor_can_raise : Expression → Bool
+divisor_can_raise (Integer n) = is_zero (literal_number n)
+divisor_can_raise (Unary Negate (Integer n)) = is_zero (literal_number n)
+divisor_can_raise _ = true
+
+-- whether an operator divides
+abbrev pub is_division : Operator → Bool
+is_division Divide = true
+is_division Remainder = true
+is_division _ = false
+
+-- the exceptions of an access with this index, and of an operator with this right operand
+abbrev pub index_raises : Expression → (length : ℕ) → List ℕ
+index_raises index length = if index_can_raise index length then bounds_exception ∷ [] else []
+
+abbrev pub operator_raises : Operator → Expression → List ℕ
+operator_raises operator e = if is_division operator then (if divisor_can_raise e then arith_exception ∷ [] else []) else []
+
+-- the exceptions that an expression can raise: those of all its parts
+abbrev pub raises : Expression → List ℕ
+raises (Integer n) = []
+raises (Logical b) = []
+raises (Read x) = []
+raises (Element array length index) = raises index ++ index_raises index length
+raises (Unary prefix e) = raises e
+raises (Binary operator d e) = raises d ++ raises e ++ operator_raises operator e
+raises (Short connective d e) = raises d ++ raises e
+
+abbrev pub raises_all : List Expression → List ℕ
+raises_all [] = []
+raises_all (e ∷ rest) = raises e ++ raises_all rest
+
+abbrev pub thrown_ends : List ℕ → List Exit
+thrown_ends exceptions = map (λ exception. Throw exception) exceptions
+
+-- the exceptions that a procedure declares
+abbrev pub declared_by : List ThrownEntry → List ℕ
+declared_by entries = map (λ (entry : ThrownEntry). entry.exception) entries
+
+-- whether a way out goes on outside a loop when the body takes it
+abbrev pub leaves_loop : Exit → Bool
+leaves_loop Return = true
+leaves_loop (Throw exception) = true
+leaves_loop _ = false
+
+-- whether one of the handlers takes an exception
+abbrev pub handles : Handlers → (exception : ℕ) → Bool
+handles NoMore exception = false
+handles (Catch at handled body rest) exception = exception == handled || handles rest exception
+
+-- whether a way out leaves the block of a `try` past its handlers
+abbrev pub passes : Handlers → Exit → Bool
+passes handlers (Throw exception) = not (handles handlers exception)
+passes handlers _ = true
+
+-- the ends of a first part, its normal end replaced by the ends of what follows
+abbrev pub then_ends : List Exit → List Exit → List Exit
+then_ends first rest =
+    if has_end first Normal then filter (λ exit. not (same_exit Normal exit)) first ++ rest else first
+
+-- the possible ends of statements, blocks and handlers; one may be named several times
+abbrev mutual
+  pub statement_ends : Program → Statement → List Exit
+  statement_ends program (Assign at x e) = Normal ∷ thrown_ends (raises e)
+  statement_ends program (Clear at slot) = Normal ∷ []
+  statement_ends program (Store at array length index e) =
+      Normal ∷ thrown_ends (raises index ++ raises e ++ index_raises index length)
+  statement_ends program (Receive at channel target) = Normal ∷ Throw end_exception ∷ []
+  statement_ends program (Send at channel e) = Normal ∷ thrown_ends (raises e)
+  statement_ends program (Call at procedure arguments target) =
+      Normal ∷ thrown_ends (raises_all arguments ++ declared_by (procedure_at program procedure).throws)
+  statement_ends program (If at e yes_block no_block) =
+      thrown_ends (raises e) ++ block_ends program yes_block ++ block_ends program no_block
+  statement_ends program (While at loop e body) =
+      Normal ∷ (thrown_ends (raises e) ++ filter leaves_loop (block_ends program body))
+  statement_ends program (Leave at exit) = exit ∷ []
+  statement_ends program (ReturnWith at None) = Return ∷ []
+  statement_ends program (ReturnWith at (Some e)) = Return ∷ thrown_ends (raises e)
+  statement_ends program (Try at block handlers) =
+      filter (passes handlers) (block_ends program block) ++ handlers_ends program handlers
+  statement_ends program (Nested at block) = block_ends program block
+
+  pub block_ends : Program → Block → List Exit
+  block_ends program Empty = Normal ∷ []
+  block_ends program (Then statement rest) = then_ends (statement_ends program statement) (block_ends program rest)
+
+  pub handlers_ends : Program → Handlers → List Exit
+  handlers_ends program NoMore = []
+  handlers_ends program (Catch at handled body rest) = block_ends program body ++ handlers_ends program rest

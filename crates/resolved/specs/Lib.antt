@@ -1,0 +1,14 @@
+pub mod Tree
+pub mod Program
+pub mod Value
+pub mod State
+pub mod Meaning
+pub mod Ends
+pub mod EndFaults
+pub mod Labelled
+pub mod Isolated
+pub mod TreeOf
+pub mod ProgramOf
+pub mod CoreOf
+pub mod WellFormed
+pub mod Kinds

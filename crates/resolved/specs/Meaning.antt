@@ -1,0 +1,205 @@
+-- What a program does: the meaning of statements with a bound on the turns of each loop and on the frames, and what a program
+-- has sent.
+-- Source: our own; a big-step meaning with counted turns, as textbooks give it for programs that may not end.
+use Rattle.std.specs.Prelude.{ℕ, zero, suc, List, [], ◌∷◌, ◌++◌, ℤ, ◌==◌, if◌then◌else◌, Option, Some, None, replicate, slice_get}
+use Rattle.labels.specs.declared.sent.Pair.{Pair}
+use Rattle.resolved.specs.declared.expression.Variable.{Variable}
+use Rattle.resolved.specs.declared.expression.Value.{Value}
+use Rattle.resolved.specs.declared.expression.Value.TheVariants.{Number}
+use Rattle.resolved.specs.declared.statement.Exit.{Exit}
+use Rattle.resolved.specs.declared.statement.Exit.TheVariants.{Normal, Return, Break, Continue, Throw}
+use Rattle.resolved.specs.declared.tables.Direction.{Direction}
+use Rattle.resolved.specs.declared.tables.Direction.TheVariants.{Input, Output}
+use Rattle.resolved.specs.Tree.{Statement, Assign, Clear, Store, Receive, Send, Call, If, While, Leave, ReturnWith, Try, Nested, Block, Empty, Then, Handlers, NoMore, Catch}
+use Rattle.resolved.specs.Program.{Program, ChannelEntry, GlobalEntry, SlotEntry, ProcedureEntry, procedure_at}
+use Rattle.resolved.specs.Value.{Evaluated, Gives, Raises, number_in, truth_in, zero_value, checked_index, end_exception}
+use Rattle.resolved.specs.State.{World, State, updated, assigned, stored, cleared, value_of, values_of}
+
+-- why a run stops before its end: a call beyond the frames that there may be, or a loop that would make one turn more than the
+-- bound
+pub data Stop : Type 0 where
+  Deep : Stop
+  OutOfTurns : Stop
+
+-- what a statement comes to: the way out that it takes, with the value that it returns if it does, and the state then; or a
+-- stop, which nothing catches
+pub data Outcome : Type 0 where
+  Ended : (exit : Exit) (returned : Option Value) → State → Outcome
+  Stopped : Stop → State → Outcome
+
+abbrev pub normally : State → Outcome
+normally s = Ended Normal None s
+
+abbrev pub thrown : (exception : ℕ) → State → Outcome
+thrown exception s = Ended (Throw exception) None s
+
+-- goes on after a normal end; every other end stays
+abbrev pub after : Outcome → (State → Outcome) → Outcome
+after (Ended Normal returned s) next = next s
+after outcome next = outcome
+
+-- goes on with what was evaluated; an exception is the end
+abbrev pub evaluated : {A : Type 0} → Evaluated A → State → (A → Outcome) → Outcome
+evaluated (Gives v) s next = next v
+evaluated (Raises exception) s next = thrown exception s
+
+-- goes on after the body of a loop where that ended normally or by `continue`; `break` is the normal end of the loop
+abbrev pub looped : Outcome → (State → Outcome) → Outcome
+looped (Ended Normal returned s) again = again s
+looped (Ended Continue returned s) again = again s
+looped (Ended Break returned s) again = normally s
+looped outcome again = outcome
+
+-- a loop of at most k turns, by the value of its condition and by what its body does; where the condition is true once more,
+-- the run is out of turns
+abbrev pub turns : (k : ℕ) → (State → Evaluated Value) → (State → Outcome) → State → Outcome
+turns zero condition body s =
+    evaluated (condition s) s (λ v. if truth_in v then Stopped OutOfTurns s else normally s)
+turns (suc k) condition body s =
+    evaluated (condition s) s (λ v. if truth_in v then looped (body s) (turns k condition body) else normally s)
+
+-- hands an exception to the handlers; every other end stays
+abbrev pub caught : Outcome → (ℕ → State → Outcome) → Outcome
+caught (Ended (Throw exception) returned s) handle = handle exception s
+caught outcome handle = outcome
+
+-- the state in which a target, if there is one, has a value
+abbrev pub kept_in : Option Variable → Value → State → State
+kept_in None v s = s
+kept_in (Some x) v s = assigned s x v
+
+-- takes the next number of an input, or raises `End`
+abbrev pub received : List ℤ → (channel : ℕ) → Option Variable → State → Outcome
+received [] channel target s = thrown end_exception s
+received (z ∷ rest) channel target s =
+    normally (kept_in target (Number z) (record s { inputs = updated s.inputs channel rest }))
+
+-- adds a pair to what was sent
+abbrev pub sending : (channel : ℕ) → Value → State → State
+sending channel v s = record s { sent = s.sent ++ (record { channel = channel; number = number_in v } ∷ []) }
+
+-- what stands after a procedure's body: a return is the normal end of the call, and the caller has its frame again
+abbrev pub leaving : (State → State) → Outcome → Outcome
+leaving back (Ended Return returned s) = Ended Normal returned (back s)
+leaving back (Ended exit returned s) = Ended exit returned (back s)
+leaving back (Stopped stop s) = Stopped stop (back s)
+
+-- the state in which a target, if there is one, has the value that was returned, if there is one
+abbrev pub given_to : Option Variable → Option Value → State → State
+given_to (Some x) (Some v) s = assigned s x v
+given_to _ _ s = s
+
+-- the value of a call goes to its target
+abbrev pub returned_to : Option Variable → Outcome → Outcome
+returned_to target (Ended Normal returned s) = normally (given_to target returned s)
+returned_to target outcome = outcome
+
+-- what the call of a procedure with these arguments does
+abbrev pub Calls : Type 0
+Calls = (procedure : ℕ) → List Value → State → Outcome
+
+-- the meaning of statements, blocks and handlers, by what calls do and with at most k turns of each loop, counted anew each
+-- time the loop is reached
+abbrev mutual
+  pub statement_meaning : Calls → (k : ℕ) → Statement → State → Outcome
+  statement_meaning calls k (Assign at x e) s =
+      evaluated (value_of s e) s (λ v. normally (assigned s x v))
+  statement_meaning calls k (Clear at slot) s = normally (cleared s slot)
+  statement_meaning calls k (Store at array length index e) s =
+      evaluated (value_of s index) s (λ v.
+      evaluated (value_of s e) s (λ w.
+      evaluated (checked_index v length) s (λ i.
+      normally (stored s array i w))))
+  statement_meaning calls k (Receive at channel target) s = received (s.inputs channel) channel target s
+  statement_meaning calls k (Send at channel e) s =
+      evaluated (value_of s e) s (λ v. normally (sending channel v s))
+  statement_meaning calls k (Call at procedure arguments target) s =
+      evaluated (values_of s arguments) s (λ vs. returned_to target (calls procedure vs s))
+  statement_meaning calls k (If at e yes_block no_block) s =
+      evaluated (value_of s e) s (λ v.
+      if truth_in v then block_meaning calls k yes_block s else block_meaning calls k no_block s)
+  statement_meaning calls k (While at loop e body) s = turns k (λ t. value_of t e) (block_meaning calls k body) s
+  statement_meaning calls k (Leave at exit) s = Ended exit None s
+  statement_meaning calls k (ReturnWith at None) s = Ended Return None s
+  statement_meaning calls k (ReturnWith at (Some e)) s =
+      evaluated (value_of s e) s (λ v. Ended Return (Some v) s)
+  statement_meaning calls k (Try at block handlers) s =
+      caught (block_meaning calls k block s) (handlers_meaning calls k handlers)
+  statement_meaning calls k (Nested at block) s = block_meaning calls k block s
+
+  pub block_meaning : Calls → (k : ℕ) → Block → State → Outcome
+  block_meaning calls k Empty s = normally s
+  block_meaning calls k (Then statement rest) s =
+      after (statement_meaning calls k statement s) (block_meaning calls k rest)
+
+  -- the first handler of the exception; without one it goes on
+  pub handlers_meaning : Calls → (k : ℕ) → Handlers → (exception : ℕ) → State → Outcome
+  handlers_meaning calls k NoMore exception s = thrown exception s
+  handlers_meaning calls k (Catch at handled body rest) exception s =
+      if exception == handled then block_meaning calls k body s else handlers_meaning calls k rest exception s
+
+-- the cells of a variable at first: one for a scalar, and one for each element of an array
+abbrev pub cells_of : Option ℕ → Value → List Value
+cells_of None v = v ∷ []
+cells_of (Some length) v = replicate length v
+
+-- the cells of a slot of a new frame: the argument of a parameter, and 0 or `false` of a local
+abbrev pub slot_cells : Option SlotEntry → Option Value → List Value
+slot_cells None argument = []
+slot_cells (Some slot) (Some v) = v ∷ []
+slot_cells (Some slot) None = cells_of slot.size (zero_value slot.base)
+
+abbrev pub frame_of : List SlotEntry → List Value → ℕ → List Value
+frame_of slots arguments n = slot_cells (slice_get slots n) (slice_get arguments n)
+
+-- the state at the begin of a call: the frame is new
+abbrev pub entering : ProcedureEntry → List Value → State → State
+entering callee arguments s = record s { locals = frame_of callee.slots arguments }
+
+-- the calls of a program where so many more frames may be made; a call beyond them is deep
+abbrev pub calls_with : Program → (k frames : ℕ) → Calls
+calls_with program k zero procedure arguments s = Stopped Deep s
+calls_with program k (suc frames) procedure arguments s =
+    leaving (λ t. record t { locals = s.locals })
+    (block_meaning (calls_with program k frames) k (procedure_at program procedure).body
+    (entering (procedure_at program procedure) arguments s))
+
+-- the cells of a global at first: its first value, or 0 or `false` in each element
+abbrev pub global_cells : Option GlobalEntry → List Value
+global_cells None = []
+global_cells (Some entry) = cells_of entry.size entry.first
+
+abbrev pub numbers_by : Direction → List ℤ → List ℤ
+numbers_by Input numbers = numbers
+numbers_by Output numbers = []
+
+-- the numbers of a channel at first: those of the world if it is an input
+abbrev pub channel_numbers : Option ChannelEntry → List ℤ → List ℤ
+channel_numbers None numbers = []
+channel_numbers (Some entry) numbers = numbers_by entry.direction numbers
+
+-- the state in which a run begins
+abbrev pub first_state : Program → World → State
+first_state program world = record {
+  globals = λ n. global_cells (slice_get program.globals n);
+  locals = λ n. [];
+  inputs = λ channel. channel_numbers (slice_get program.channels channel) (world channel);
+  sent = [];
+}
+
+-- the run of a program on a world, where so many frames may be in use at once, `main` included, and each loop makes at most k
+-- turns each time that it is reached
+abbrev pub run_within : (frames : ℕ) → Program → World → (k : ℕ) → Outcome
+run_within frames program world k = calls_with program k frames program.main [] (first_state program world)
+
+-- how many frames a run may have in use
+unfoldable pub frame_limit : ℕ
+frame_limit = 512
+
+abbrev pub state_after : Outcome → State
+state_after (Ended exit returned s) = s
+state_after (Stopped stop s) = s
+
+-- what a program has sent
+abbrev pub sent_by : Program → World → (k : ℕ) → List Pair
+sent_by program world k = (state_after (run_within frame_limit program world k)).sent

@@ -1,0 +1,75 @@
+-- The world in which a program runs, its state, and the value of an expression in a state.
+-- Source: our own; the big-step meaning of expressions of textbooks, with exceptions.
+use Rattle.std.specs.Prelude.{ℕ, List, [], ◌∷◌, ℤ, pos, map, slice_index_or, slice_set, ◌==◌, if◌then◌else◌}
+use Rattle.labels.specs.declared.sent.Pair.{Pair}
+use Rattle.resolved.specs.declared.expression.Variable.{Variable}
+use Rattle.resolved.specs.declared.expression.Variable.TheVariants.{Global, Local}
+use Rattle.resolved.specs.declared.expression.Value.{Value}
+use Rattle.resolved.specs.declared.expression.Value.TheVariants.{Number, Truth}
+use Rattle.resolved.specs.Tree.{Expression, Integer, Logical, Read, Element, Unary, Binary, Short}
+use Rattle.resolved.specs.Value.{Evaluated, Gives, then_with, literal_number, zero_value, base_of, prefix_value, operator_value, decides, checked_index}
+
+-- a world: the numbers of each input channel
+abbrev pub World : Type 0
+World = ℕ → List ℤ
+
+-- a state: the cells of each global and of each slot of the current frame, a scalar being a list of one; the numbers that are
+-- left of each input; and the pairs sent so far
+pub record State : Type 0 where
+  pub globals : ℕ → List Value
+  pub locals : ℕ → List Value
+  pub inputs : World
+  pub sent : List Pair
+
+-- a table with another entry in one place
+abbrev pub updated : {A : Type 0} → (ℕ → A) → ℕ → A → ℕ → A
+updated table n entry m = if m == n then entry else table m
+
+-- the cells of a variable
+abbrev pub cells : State → Variable → List Value
+cells s (Global n) = s.globals n
+cells s (Local n) = s.locals n
+
+abbrev pub with_cells : State → Variable → List Value → State
+with_cells s (Global n) values = record s { globals = updated s.globals n values }
+with_cells s (Local n) values = record s { locals = updated s.locals n values }
+
+-- a cell of a list, which in a well-formed program is there
+abbrev pub cell_at : List Value → ℕ → Value
+cell_at values i = slice_index_or values i (Number (pos 0))
+
+-- a state in which a scalar has another value, and one in which an element has
+abbrev pub assigned : State → Variable → Value → State
+assigned s x v = with_cells s x (v ∷ [])
+
+abbrev pub stored : State → Variable → ℕ → Value → State
+stored s array i v = with_cells s array (slice_set (cells s array) i v)
+
+-- a state in which all elements of a local array are 0 or `false`
+abbrev pub cleared : State → ℕ → State
+cleared s slot = with_cells s (Local slot) (map (λ v. zero_value (base_of v)) (s.locals slot))
+
+-- the value of an expression, or the exception of the first part that raises one, left operands first
+abbrev pub value_of : State → Expression → Evaluated Value
+value_of s (Integer n) = Gives (Number (literal_number n))
+value_of s (Logical b) = Gives (Truth b)
+value_of s (Read x) = Gives (cell_at (cells s x) 0)
+value_of s (Element array length index) =
+    then_with (value_of s index) (λ v.
+    then_with (checked_index v length) (λ i.
+    Gives (cell_at (cells s array) i)))
+value_of s (Unary prefix e) = then_with (value_of s e) (λ v. Gives (prefix_value prefix v))
+value_of s (Binary operator d e) =
+    then_with (value_of s d) (λ v.
+    then_with (value_of s e) (λ w.
+    operator_value operator v w))
+value_of s (Short connective d e) =
+    then_with (value_of s d) (λ v. if decides connective v then Gives v else value_of s e)
+
+-- the values of arguments, from the left
+abbrev pub values_of : State → List Expression → Evaluated (List Value)
+values_of s [] = Gives []
+values_of s (e ∷ rest) =
+    then_with (value_of s e) (λ v.
+    then_with (values_of s rest) (λ vs.
+    Gives (v ∷ vs)))

@@ -1,0 +1,67 @@
+-- The resolved tree: a program of the whole language in which names are numbers.
+-- Source: our own language; statements with several ways out as in JFlow (Myers 1999).
+use Rattle.std.specs.Prelude.{ℕ, Bool, List, Option}
+use Rattle.resolved.specs.declared.expression.Variable.{Variable}
+use Rattle.resolved.specs.declared.expression.Prefix.{Prefix}
+use Rattle.resolved.specs.declared.expression.Operator.{Operator}
+use Rattle.resolved.specs.declared.expression.Connective.{Connective}
+use Rattle.resolved.specs.declared.statement.Exit.{Exit}
+
+-- an expression; an element has its array, the array's declared length, and the index
+pub data Expression : Type 0 where
+  Integer : (literal : ℕ) → Expression
+  Logical : Bool → Expression
+  Read : Variable → Expression
+  Element : (array : Variable) (length : ℕ) → Expression → Expression
+  Unary : Prefix → Expression → Expression
+  Binary : Operator → Expression → Expression → Expression
+  Short : Connective → Expression → Expression → Expression
+
+-- statements, blocks and handlers. A statement begins with the byte at which its first token begins in the source, a handler
+-- with that of its exception's name. A channel, a procedure, an exception and the slot of a local array are numbers. A loop has
+-- its number among the loops of its procedure, in the order of the text. Exceptions 0, 1 and 2 are `Arith`, `Bounds` and `End`.
+mutual
+  pub data Statement : Type 0 where
+    -- `x = e;`, also as a declaration
+    Assign : (at : ℕ) → Variable → Expression → Statement
+    -- the declaration of a local array
+    Clear : (at slot : ℕ) → Statement
+    -- `a[i] = e;`
+    Store : (at : ℕ) (array : Variable) (length : ℕ) (index value : Expression) → Statement
+    -- `x = receive c;` or, without a target, `receive c;`
+    Receive : (at channel : ℕ) (target : Option Variable) → Statement
+    -- `send c, e;`
+    Send : (at channel : ℕ) → Expression → Statement
+    -- `x = f(..);` or, without a target, `f(..);`
+    Call : (at procedure : ℕ) (arguments : List Expression) (target : Option Variable) → Statement
+    If : (at : ℕ) → Expression → Block → Block → Statement
+    While : (at loop : ℕ) → Expression → Block → Statement
+    -- `break;`, `continue;` or `throw E;`
+    Leave : (at : ℕ) → Exit → Statement
+    -- `return e;` or `return;`
+    ReturnWith : (at : ℕ) → Option Expression → Statement
+    Try : (at : ℕ) → Block → Handlers → Statement
+    Nested : (at : ℕ) → Block → Statement
+
+  pub data Block : Type 0 where
+    Empty : Block
+    Then : Statement → Block → Block
+
+  pub data Handlers : Type 0 where
+    NoMore : Handlers
+    Catch : (at exception : ℕ) (body : Block) → Handlers → Handlers
+
+-- where a statement begins
+abbrev pub place_of : Statement → ℕ
+place_of (Assign at x e) = at
+place_of (Clear at slot) = at
+place_of (Store at array length index value) = at
+place_of (Receive at channel target) = at
+place_of (Send at channel e) = at
+place_of (Call at procedure arguments target) = at
+place_of (If at e yes_block no_block) = at
+place_of (While at loop e body) = at
+place_of (Leave at exit) = at
+place_of (ReturnWith at e) = at
+place_of (Try at block handlers) = at
+place_of (Nested at block) = at

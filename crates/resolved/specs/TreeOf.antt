@@ -1,0 +1,53 @@
+-- The tree and the program of the definitions that a tree and a program of the code stand for.
+-- Source: our own.
+use Rattle.std.specs.Prelude.{List, [], ◌∷◌, map, Option, Some, None}
+use mathlib.Core.Former
+use Rattle.resolved.specs.declared.expression.Expression as E
+use Rattle.resolved.specs.declared.statement.Statement as S
+use Rattle.resolved.specs.declared.statement.Handler.{Handler}
+use Rattle.resolved.specs.Tree.{Expression, Integer, Logical, Read, Element, Unary, Binary, Short, Statement, Assign, Clear, Store, Receive, Send, Call, If, While, Leave, ReturnWith, Try, Nested, Block, Empty, Then, Handlers, NoMore, Catch}
+
+abbrev pub expression_of : E.Expression → Expression
+expression_of (E.Integer n) = Integer n
+expression_of (E.Logical b) = Logical b
+expression_of (E.Read x) = Read x
+expression_of (E.Element' array length p index) = Element array length (expression_of index)
+expression_of (E.Unary' prefix p e) = Unary prefix (expression_of e)
+expression_of (E.Binary' operator p d q e) = Binary operator (expression_of d) (expression_of e)
+expression_of (E.Short' connective p d q e) = Short connective (expression_of d) (expression_of e)
+
+abbrev pub some_expression_of : Option E.Expression → Option Expression
+some_expression_of None = None
+some_expression_of (Some e) = Some (expression_of e)
+
+abbrev mutual
+  pub statement_of : S.Statement → Statement
+  statement_of (S.Assign at x e) = Assign at x (expression_of e)
+  statement_of (S.Clear at slot) = Clear at slot
+  statement_of (S.Store at array length index e) = Store at array length (expression_of index) (expression_of e)
+  statement_of (S.Receive at channel target) = Receive at channel target
+  statement_of (S.Send at channel e) = Send at channel (expression_of e)
+  statement_of (S.Call at procedure arguments target) = Call at procedure (map expression_of arguments.items) target
+  statement_of (S.If' at e shape yes_block shape' no_block) = If at (expression_of e) (block_row yes_block) (block_row no_block)
+  statement_of (S.While' at loop e shape body) = While at loop (expression_of e) (block_row body)
+  statement_of (S.Leave at exit) = Leave at exit
+  statement_of (S.Return at e) = ReturnWith at (some_expression_of e)
+  statement_of (S.Try' at shape block shape' handlers) = Try at (block_row block) (handlers_row handlers)
+  statement_of (S.Nested' at shape block) = Nested at (block_row block)
+
+  pub block_row : {n : Former.Count} → S.Row_of-Statement n → Block
+  block_row S.end_of-Statement = Empty
+  block_row (S.more_of-Statement statement rest) = Then (statement_of statement) (block_row rest)
+
+  pub handlers_row : {n : Former.Count} → S.Row_of-Handler n → Handlers
+  handlers_row S.end_of-Handler = NoMore
+  handlers_row (S.more_of-Handler at exception shape body rest) = Catch at exception (block_row body) (handlers_row rest)
+
+-- a block and handlers by the lists of the code
+abbrev pub block_of : List S.Statement → Block
+block_of [] = Empty
+block_of (statement ∷ rest) = Then (statement_of statement) (block_of rest)
+
+abbrev pub handlers_of : List Handler → Handlers
+handlers_of [] = NoMore
+handlers_of (handler ∷ rest) = Catch handler.at handler.exception (block_of handler.body.items) (handlers_of rest)

@@ -1,0 +1,115 @@
+-- Values, and what the operators make of them.
+-- Source: our own language; whole numbers reduced to 32 bits, with division toward zero.
+use Rattle.std.specs.Prelude.{ℕ, Bool, true, false, not, ◌==◌, ℤ, pos, negsuc, ◌+ℤ◌, ◌-ℤ◌, ◌*ℤ◌, neg_ℤ, int_lt, int_le, int_div, int_rem, nat_lt, if◌then◌else◌}
+use Rattle.std.specs.Int.{int_wrap}
+use Rattle.std.specs.Ordering.{int_eq}
+use mir.Syntax.{w32}
+use Rattle.resolved.specs.declared.expression.Base.{Base}
+use Rattle.resolved.specs.declared.expression.Base.TheVariants.{Int, Boolean}
+use Rattle.resolved.specs.declared.expression.Value.{Value}
+use Rattle.resolved.specs.declared.expression.Value.TheVariants.{Number, Truth}
+use Rattle.resolved.specs.declared.expression.Prefix.{Prefix}
+use Rattle.resolved.specs.declared.expression.Prefix.TheVariants.{Negate, Not}
+use Rattle.resolved.specs.declared.expression.Operator.{Operator}
+use Rattle.resolved.specs.declared.expression.Operator.TheVariants.{Add, Subtract, Multiply, Divide, Remainder, LessThan, AtMost, GreaterThan, AtLeast, Equal, Unequal, Same, Different}
+use Rattle.resolved.specs.declared.expression.Connective.{Connective}
+use Rattle.resolved.specs.declared.expression.Connective.TheVariants.{And, Or}
+
+-- the built-in exceptions
+abbrev pub arith_exception : ℕ
+arith_exception = 0
+
+abbrev pub bounds_exception : ℕ
+bounds_exception = 1
+
+abbrev pub end_exception : ℕ
+end_exception = 2
+
+-- what evaluation comes to: a result, or the exception that was raised
+pub data Evaluated (A : Type 0) : Type 0 where
+  Gives : A → Evaluated A
+  Raises : (exception : ℕ) → Evaluated A
+
+-- goes on with a result; an exception stays
+abbrev pub then_with : {A B : Type 0} → Evaluated A → (A → Evaluated B) → Evaluated B
+then_with (Gives v) next = next v
+then_with (Raises exception) next = Raises exception
+
+-- a whole number reduced to 32 bits, from -2147483648 to 2147483647
+abbrev pub wrapped : ℤ → ℤ
+wrapped z = int_wrap w32 z
+
+-- the number that a literal means
+abbrev pub literal_number : ℕ → ℤ
+literal_number n = wrapped (pos n)
+
+-- the number or the truth in a value; of the other kind, which no well-formed program meets, 0 and `false`
+abbrev pub number_in : Value → ℤ
+number_in (Number z) = z
+number_in (Truth b) = pos 0
+
+abbrev pub truth_in : Value → Bool
+truth_in (Number z) = false
+truth_in (Truth b) = b
+
+-- what cells hold at first
+abbrev pub zero_value : Base → Value
+zero_value Int = Number (pos 0)
+zero_value Boolean = Truth false
+
+-- the base type of a value
+abbrev pub base_of : Value → Base
+base_of (Number z) = Int
+base_of (Truth b) = Boolean
+
+abbrev pub prefix_value : Prefix → Value → Value
+prefix_value Negate v = Number (wrapped (neg_ℤ (number_in v)))
+prefix_value Not v = Truth (not (truth_in v))
+
+abbrev pub is_zero : ℤ → Bool
+is_zero (pos n) = n == 0
+is_zero (negsuc n) = false
+
+-- what a division gives, which raises `Arith` where the divisor is 0
+abbrev pub unless_zero : ℤ → ℤ → Evaluated Value
+unless_zero divisor result = if is_zero divisor then Raises arith_exception else Gives (Number (wrapped result))
+
+abbrev pub bool_eq : Bool → Bool → Bool
+bool_eq true b = b
+bool_eq false b = not b
+
+-- an operator on both its operands. Division truncates toward zero, a remainder has the dividend's sign
+abbrev pub operator_value : Operator → Value → Value → Evaluated Value
+operator_value Add v w = Gives (Number (wrapped (number_in v +ℤ number_in w)))
+operator_value Subtract v w = Gives (Number (wrapped (number_in v -ℤ number_in w)))
+operator_value Multiply v w = Gives (Number (wrapped (number_in v *ℤ number_in w)))
+operator_value Divide v w = unless_zero (number_in w) (int_div (number_in v) (number_in w))
+operator_value Remainder v w = unless_zero (number_in w) (int_rem (number_in v) (number_in w))
+operator_value LessThan v w = Gives (Truth (int_lt (number_in v) (number_in w)))
+operator_value AtMost v w = Gives (Truth (int_le (number_in v) (number_in w)))
+operator_value GreaterThan v w = Gives (Truth (int_lt (number_in w) (number_in v)))
+operator_value AtLeast v w = Gives (Truth (int_le (number_in w) (number_in v)))
+operator_value Equal v w = Gives (Truth (int_eq (number_in v) (number_in w)))
+operator_value Unequal v w = Gives (Truth (not (int_eq (number_in v) (number_in w))))
+operator_value Same v w = Gives (Truth (bool_eq (truth_in v) (truth_in w)))
+operator_value Different v w = Gives (Truth (not (bool_eq (truth_in v) (truth_in w))))
+
+-- whether the left operand alone decides: `false` does for `&&` and `true` for `||`, and then it is the result
+abbrev pub decides : Connective → Value → Bool
+decides And v = not (truth_in v)
+decides Or v = truth_in v
+
+-- whether a number is an index of an array of this length
+abbrev pub in_range : ℤ → ℕ → Bool
+in_range (pos i) length = nat_lt i length
+in_range (negsuc i) length = false
+
+-- an index as a position
+abbrev pub position_of : ℤ → ℕ
+position_of (pos i) = i
+position_of (negsuc i) = 0
+
+-- an index that is in range, or `Bounds`
+abbrev pub checked_index : Value → ℕ → Evaluated ℕ
+checked_index v length =
+    if in_range (number_in v) length then Gives (position_of (number_in v)) else Raises bounds_exception

@@ -1,0 +1,346 @@
+-- Well-formed programs: each number of the tree is in its table and means what its place wants, each expression has the base
+-- type that is wanted, and the limits of the language are kept.
+-- Source: our own.
+use Rattle.std.specs.Prelude.{ℕ, suc, ◌+◌, List, [], ◌∷◌, ◌++◌, Bool, true, false, not, ◌==◌, ◌&&◌, ◌||◌, Option, Some, None, is_none, length, take, sum_by, slice_get, nat_lt, nat_le}
+use Rattle.std.specs.List.{list_all, list_any}
+use Rattle.principals.specs.ActsFor.{PrincipalHierarchy}
+use Rattle.labels.specs.Label.{Label, ReaderPolicy}
+use Rattle.resolved.specs.declared.expression.Base.{Base}
+use Rattle.resolved.specs.declared.expression.Base.TheVariants.{Int, Boolean}
+use Rattle.resolved.specs.declared.expression.Value.{Value}
+use Rattle.resolved.specs.declared.expression.Value.TheVariants.{Number, Truth}
+use Rattle.resolved.specs.declared.expression.Variable.{Variable}
+use Rattle.resolved.specs.declared.expression.Variable.TheVariants.{Global, Local}
+use Rattle.resolved.specs.declared.expression.Prefix.{Prefix}
+use Rattle.resolved.specs.declared.expression.Prefix.TheVariants.{Negate, Not}
+use Rattle.resolved.specs.declared.expression.Operator.{Operator}
+use Rattle.resolved.specs.declared.expression.Operator.TheVariants.{Add, Subtract, Multiply, Divide, Remainder, Same, Different}
+use Rattle.resolved.specs.declared.tables.Direction.{Direction}
+use Rattle.resolved.specs.declared.tables.Direction.TheVariants.{Input, Output}
+use Rattle.resolved.specs.declared.statement.Exit.{Exit}
+use Rattle.resolved.specs.declared.statement.Exit.TheVariants.{Break, Continue, Throw}
+use Rattle.resolved.specs.Tree.{Expression, Integer, Logical, Read, Element, Unary, Binary, Short, Statement, Assign, Clear, Store, Receive, Send, Call, If, While, Leave, ReturnWith, Try, Nested, Block, Empty, Then, Handlers, NoMore, Catch}
+use Rattle.resolved.specs.Program.{Program, ProcedureEntry, SlotEntry, ResultEntry, ThrownEntry, ChannelEntry, GlobalEntry}
+use Rattle.resolved.specs.Value.{base_of, is_zero}
+
+-- the limits of the language
+abbrev pub literal_limit : ℕ
+literal_limit = 2147483647
+
+abbrev pub array_limit : ℕ
+array_limit = 65536
+
+abbrev pub cell_limit : ℕ
+cell_limit = 1048576
+
+abbrev pub principal_limit : ℕ
+principal_limit = 256
+
+abbrev pub node_limit : ℕ
+node_limit = 1048576
+
+abbrev pub same_base : Base → Base → Bool
+same_base Int Int = true
+same_base Boolean Boolean = true
+same_base _ _ = false
+
+-- the base types of operands and results
+abbrev pub prefix_base : Prefix → Base
+prefix_base Negate = Int
+prefix_base Not = Boolean
+
+abbrev pub operand_base : Operator → Base
+operand_base Same = Boolean
+operand_base Different = Boolean
+operand_base _ = Int
+
+abbrev pub result_base : Operator → Base
+result_base Add = Int
+result_base Subtract = Int
+result_base Multiply = Int
+result_base Divide = Int
+result_base Remainder = Int
+result_base _ = Boolean
+
+-- what a variable is: a base type, and a length if it is an array
+pub record VariableType : Type 0 where
+  pub base : Base
+  pub size : Option ℕ
+
+abbrev pub slot_type : Option SlotEntry → Option VariableType
+slot_type None = None
+slot_type (Some slot) = Some (record { base = slot.base; size = slot.size })
+
+abbrev pub global_type : Option GlobalEntry → Option VariableType
+global_type None = None
+global_type (Some entry) = Some (record { base = entry.base; size = entry.size })
+
+abbrev pub variable_type : Program → ProcedureEntry → Variable → Option VariableType
+variable_type program procedure (Global n) = global_type (slice_get program.globals n)
+variable_type program procedure (Local n) = slot_type (slice_get procedure.slots n)
+
+-- a scalar whose base type passes a test, and an array of this length whose base type does
+abbrev pub scalar_by : Option VariableType → (Base → Bool) → Bool
+scalar_by None test = false
+scalar_by (Some type) test = is_none type.size && test type.base
+
+abbrev pub has_length : Option ℕ → ℕ → Bool
+has_length None length = false
+has_length (Some size) length = size == length
+
+abbrev pub array_by : Option VariableType → (length : ℕ) → (Base → Bool) → Bool
+array_by None length test = false
+array_by (Some type) length test = has_length type.size length && test type.base
+
+-- an expression of a base type
+abbrev pub has_base : Program → ProcedureEntry → Base → Expression → Bool
+has_base program procedure base (Integer n) = same_base Int base && nat_le n literal_limit
+has_base program procedure base (Logical b) = same_base Boolean base
+has_base program procedure base (Read x) = scalar_by (variable_type program procedure x) (same_base base)
+has_base program procedure base (Element array length index) =
+    array_by (variable_type program procedure array) length (same_base base) && has_base program procedure Int index
+has_base program procedure base (Unary prefix e) =
+    same_base (prefix_base prefix) base && has_base program procedure (prefix_base prefix) e
+has_base program procedure base (Binary operator d e) =
+    same_base (result_base operator) base
+    && has_base program procedure (operand_base operator) d && has_base program procedure (operand_base operator) e
+has_base program procedure base (Short connective d e) =
+    same_base Boolean base && has_base program procedure Boolean d && has_base program procedure Boolean e
+
+-- an expression of the base type of a procedure's value
+abbrev pub has_result : Option ResultEntry → (Base → Bool) → Bool
+has_result None test = false
+has_result (Some entry) test = test entry.base
+
+-- a target that takes a value whose base type passes a test, if there is a target
+abbrev pub target_by : Program → ProcedureEntry → Option Variable → (Base → Bool) → Bool
+target_by program procedure None test = true
+target_by program procedure (Some x) test = scalar_by (variable_type program procedure x) test
+
+-- a channel of this direction
+abbrev pub same_direction : Direction → Direction → Bool
+same_direction Input Input = true
+same_direction Output Output = true
+same_direction _ _ = false
+
+abbrev pub channel_is : Option ChannelEntry → Direction → Bool
+channel_is None direction = false
+channel_is (Some entry) direction = same_direction entry.direction direction
+
+-- arguments for the parameters of a procedure: as many, and each of its base type
+abbrev pub arguments_match : Program → ProcedureEntry → List SlotEntry → List Expression → Bool
+arguments_match program procedure [] [] = true
+arguments_match program procedure (parameter ∷ parameters) (e ∷ rest) =
+    has_base program procedure parameter.base e && arguments_match program procedure parameters rest
+arguments_match program procedure _ _ = false
+
+abbrev pub parameters_of : ProcedureEntry → List SlotEntry
+parameters_of procedure = take procedure.parameters procedure.slots
+
+-- a call of a procedure that is there, with its arguments and a target for its value, if there is a target
+abbrev pub call_matches : Program → ProcedureEntry → Option ProcedureEntry → List Expression → Option Variable → Bool
+call_matches program procedure None arguments target = false
+call_matches program procedure (Some callee) arguments target =
+    arguments_match program procedure (parameters_of callee) arguments
+    && target_by program procedure target (λ base. has_result callee.result (same_base base))
+
+abbrev pub is_exception : Program → ℕ → Bool
+is_exception program exception = nat_lt exception (3 + length program.exceptions)
+
+-- what `break`, `continue` and `throw` may take
+abbrev pub may_leave_by : Program → Exit → Bool
+may_leave_by program Break = true
+may_leave_by program Continue = true
+may_leave_by program (Throw exception) = is_exception program exception
+may_leave_by program _ = false
+
+abbrev pub is_array : Option VariableType → Bool
+is_array None = false
+is_array (Some type) = not (is_none type.size)
+
+-- statements, blocks and handlers that fit where they stand
+abbrev mutual
+  pub statement_fits : Program → ProcedureEntry → Statement → Bool
+  statement_fits program procedure (Assign at x e) =
+      scalar_by (variable_type program procedure x) (λ base. has_base program procedure base e)
+  statement_fits program procedure (Clear at slot) = is_array (variable_type program procedure (Local slot))
+  statement_fits program procedure (Store at array length index e) =
+      array_by (variable_type program procedure array) length (λ base. has_base program procedure base e)
+      && has_base program procedure Int index
+  statement_fits program procedure (Receive at channel target) =
+      channel_is (slice_get program.channels channel) Input && target_by program procedure target (same_base Int)
+  statement_fits program procedure (Send at channel e) =
+      channel_is (slice_get program.channels channel) Output && has_base program procedure Int e
+  statement_fits program procedure (Call at callee arguments target) =
+      call_matches program procedure (slice_get program.procedures callee) arguments target
+  statement_fits program procedure (If at e yes_block no_block) =
+      has_base program procedure Boolean e && block_fits program procedure yes_block && block_fits program procedure no_block
+  statement_fits program procedure (While at loop e body) =
+      has_base program procedure Boolean e && block_fits program procedure body
+  statement_fits program procedure (Leave at exit) = may_leave_by program exit
+  statement_fits program procedure (ReturnWith at None) = is_none procedure.result
+  statement_fits program procedure (ReturnWith at (Some e)) =
+      has_result procedure.result (λ base. has_base program procedure base e)
+  statement_fits program procedure (Try at block handlers) =
+      block_fits program procedure block && handlers_fit program procedure handlers
+  statement_fits program procedure (Nested at block) = block_fits program procedure block
+
+  pub block_fits : Program → ProcedureEntry → Block → Bool
+  block_fits program procedure Empty = true
+  block_fits program procedure (Then statement rest) =
+      statement_fits program procedure statement && block_fits program procedure rest
+
+  pub handlers_fit : Program → ProcedureEntry → Handlers → Bool
+  handlers_fit program procedure NoMore = true
+  handlers_fit program procedure (Catch at handled body rest) =
+      is_exception program handled && block_fits program procedure body && handlers_fit program procedure rest
+
+-- the numbers of the loops, in the order of the text
+abbrev mutual
+  pub statement_loops : Statement → List ℕ
+  statement_loops (If at e yes_block no_block) = block_loops yes_block ++ block_loops no_block
+  statement_loops (While at loop e body) = loop ∷ block_loops body
+  statement_loops (Try at block handlers) = block_loops block ++ handlers_loops handlers
+  statement_loops (Nested at block) = block_loops block
+  statement_loops _ = []
+
+  pub block_loops : Block → List ℕ
+  block_loops Empty = []
+  block_loops (Then statement rest) = statement_loops statement ++ block_loops rest
+
+  pub handlers_loops : Handlers → List ℕ
+  handlers_loops NoMore = []
+  handlers_loops (Catch at handled body rest) = block_loops body ++ handlers_loops rest
+
+-- whether numbers count up from n
+abbrev pub counts_from : (n : ℕ) → List ℕ → Bool
+counts_from n [] = true
+counts_from n (m ∷ rest) = m == n && counts_from (suc n) rest
+
+-- the cells of a variable, and a length that an array may have
+abbrev pub cell_count : Option ℕ → ℕ
+cell_count None = 1
+cell_count (Some length) = length
+
+abbrev pub size_fits : Option ℕ → Bool
+size_fits None = true
+size_fits (Some length) = nat_lt 0 length && nat_le length array_limit
+
+-- a label of the principals that there are
+abbrev pub policy_fits : PrincipalHierarchy → ReaderPolicy → Bool
+policy_fits h policy =
+    nat_lt policy.owner (length h.names) && list_all (λ reader. nat_lt reader (length h.names)) policy.readers
+
+abbrev pub label_fits : PrincipalHierarchy → Label → Bool
+label_fits h label = list_all (policy_fits h) label
+
+abbrev pub written_fits : PrincipalHierarchy → Option Label → Bool
+written_fits h None = true
+written_fits h (Some label) = label_fits h label
+
+abbrev pub result_fits : PrincipalHierarchy → Option ResultEntry → Bool
+result_fits h None = true
+result_fits h (Some entry) = label_fits h entry.label
+
+-- a parameter is a scalar with a written label
+abbrev pub parameter_fits : SlotEntry → Bool
+parameter_fits slot = is_none slot.size && not (is_none slot.written)
+
+-- exceptions that are there, each named once
+abbrev pub throws_fit : Program → List ThrownEntry → Bool
+throws_fit program [] = true
+throws_fit program (entry ∷ rest) =
+    is_exception program entry.exception
+    && label_fits program.hierarchy entry.label
+    && not (list_any (λ (other : ThrownEntry). other.exception == entry.exception) rest)
+    && throws_fit program rest
+
+abbrev pub procedure_fits : Program → ProcedureEntry → Bool
+procedure_fits program procedure =
+    nat_le procedure.parameters (length procedure.slots)
+    && list_all parameter_fits (parameters_of procedure)
+    && list_all (λ (slot : SlotEntry). size_fits slot.size && written_fits program.hierarchy slot.written) procedure.slots
+    && nat_le (sum_by (λ (slot : SlotEntry). cell_count slot.size) procedure.slots) cell_limit
+    && result_fits program.hierarchy procedure.result
+    && label_fits program.hierarchy procedure.begin_label
+    && label_fits program.hierarchy procedure.end_label
+    && throws_fit program procedure.throws
+    && block_fits program procedure procedure.body
+    && counts_from 0 (block_loops procedure.body)
+    && length (block_loops procedure.body) == procedure.loops
+
+-- a global: its cells hold values of its base type at first, and those of an array 0 or `false`
+abbrev pub is_zero_value : Value → Bool
+is_zero_value (Number z) = is_zero z
+is_zero_value (Truth b) = not b
+
+abbrev pub first_fits : GlobalEntry → Bool
+first_fits entry = same_base (base_of entry.first) entry.base && (is_none entry.size || is_zero_value entry.first)
+
+abbrev pub globals_fit : Program → Bool
+globals_fit program =
+    list_all (λ (entry : GlobalEntry). size_fits entry.size && label_fits program.hierarchy entry.label && first_fits entry)
+    program.globals
+    && nat_le (sum_by (λ (entry : GlobalEntry). cell_count entry.size) program.globals) cell_limit
+
+-- a procedure at which a run can begin
+abbrev pub main_fits : Option ProcedureEntry → Bool
+main_fits None = false
+main_fits (Some procedure) = procedure.parameters == 0 && is_none procedure.result
+
+-- how many nodes a program has: its expressions, statements and handlers, and the entries of its tables with the policies and
+-- readers of channels
+abbrev pub expression_nodes : Expression → ℕ
+expression_nodes (Element array length index) = 1 + expression_nodes index
+expression_nodes (Unary prefix e) = 1 + expression_nodes e
+expression_nodes (Binary operator d e) = 1 + expression_nodes d + expression_nodes e
+expression_nodes (Short connective d e) = 1 + expression_nodes d + expression_nodes e
+expression_nodes _ = 1
+
+abbrev pub some_nodes : Option Expression → ℕ
+some_nodes None = 0
+some_nodes (Some e) = expression_nodes e
+
+abbrev mutual
+  pub statement_nodes : Statement → ℕ
+  statement_nodes (Assign at x e) = 1 + expression_nodes e
+  statement_nodes (Clear at slot) = 1
+  statement_nodes (Store at array length index e) = 1 + expression_nodes index + expression_nodes e
+  statement_nodes (Receive at channel target) = 1
+  statement_nodes (Send at channel e) = 1 + expression_nodes e
+  statement_nodes (Call at callee arguments target) = 1 + sum_by expression_nodes arguments
+  statement_nodes (If at e yes_block no_block) = 1 + expression_nodes e + block_nodes yes_block + block_nodes no_block
+  statement_nodes (While at loop e body) = 1 + expression_nodes e + block_nodes body
+  statement_nodes (Leave at exit) = 1
+  statement_nodes (ReturnWith at e) = 1 + some_nodes e
+  statement_nodes (Try at block handlers) = 1 + block_nodes block + handlers_nodes handlers
+  statement_nodes (Nested at block) = 1 + block_nodes block
+
+  pub block_nodes : Block → ℕ
+  block_nodes Empty = 0
+  block_nodes (Then statement rest) = statement_nodes statement + block_nodes rest
+
+  pub handlers_nodes : Handlers → ℕ
+  handlers_nodes NoMore = 0
+  handlers_nodes (Catch at handled body rest) = 1 + block_nodes body + handlers_nodes rest
+
+abbrev pub label_nodes : Label → ℕ
+label_nodes label = sum_by (λ (policy : ReaderPolicy). 1 + length policy.readers) label
+
+abbrev pub procedure_nodes : ProcedureEntry → ℕ
+procedure_nodes procedure = 1 + length procedure.slots + length procedure.throws + block_nodes procedure.body
+
+abbrev pub program_nodes : Program → ℕ
+program_nodes program =
+    sum_by (λ (entry : ChannelEntry). 1 + label_nodes entry.label) program.channels
+    + length program.exceptions + length program.globals + sum_by procedure_nodes program.procedures
+
+-- a well-formed program
+abbrev pub well_formed : Program → Bool
+well_formed program =
+    nat_le (length program.hierarchy.names) principal_limit
+    && list_all (λ (entry : ChannelEntry). label_fits program.hierarchy entry.label) program.channels
+    && globals_fit program
+    && list_all (procedure_fits program) program.procedures
+    && main_fits (slice_get program.procedures program.main)
+    && nat_le (program_nodes program) node_limit

@@ -1,0 +1,20 @@
+//! Whole programs.
+ghost use Rattle.resolved.specs.ProgramOf.{program_from};
+ghost use Rattle.resolved.specs.WellFormed.{well_formed};
+ghost use Rattle.std.specs.Prelude.{IsTrue};
+
+use crate::tables::{Channel, GlobalVariable, Procedure};
+use principals::Hierarchy;
+
+/// A resolved program: a well-formed tree with all names replaced by numbers.
+#[derive(Drop)]
+pub struct Core {
+    pub hierarchy: Hierarchy,
+    pub channels: Vec<Channel>,
+    /// The names of the declared exceptions, from number 3 on.
+    pub exceptions: Vec<String>,
+    pub globals: Vec<GlobalVariable>,
+    pub procedures: Vec<Procedure>,
+    pub main: u32,
+    pub ghost well_formed: { IsTrue (well_formed (program_from hierarchy channels.items exceptions.items globals.items procedures.items main)) },
+}

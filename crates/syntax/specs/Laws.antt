@@ -1,0 +1,21 @@
+-- Laws of the spelling of programs.
+-- Source: our own.
+use Rattle.std.specs.Prelude.{◌≡◌, ◌≤◌, List, length}
+use Rattle.lexer.specs.Terminal.{Terminal, IsTerminated}
+use Rattle.syntax.specs.Grammar.{Spells}
+use Rattle.syntax.specs.Nodes.{program_nodes}
+use Rattle.syntax.specs.Tree.{ProgramTree}
+
+-- tokens spell at most one tree
+abbrev pub SpellsOneTree : Type 0
+SpellsOneTree =
+    (tokens : List Terminal) (one other : ProgramTree) → Spells tokens one → Spells tokens other → one ≡ other
+
+-- tokens that spell a tree end in an end marker, and have no other
+abbrev pub SpelledIsTerminated : Type 0
+SpelledIsTerminated = (tokens : List Terminal) (tree : ProgramTree) → Spells tokens tree → IsTerminated tokens
+
+-- a tree has at most as many nodes as the tokens that spell it
+abbrev pub SpelledHasFewNodes : Type 0
+SpelledHasFewNodes =
+    (tokens : List Terminal) (tree : ProgramTree) → Spells tokens tree → program_nodes tree ≤ length tokens
