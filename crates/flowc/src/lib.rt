@@ -1,10 +1,12 @@
 //! `flowc` as a library: the commands of the program, and what they do.
 #![tactic(auto)]
 
-pub mod done;
-pub mod request;
-pub mod told;
-pub mod words;
+mod done;
+mod request;
+#[cfg(test)]
+mod tests;
+mod told;
+mod words;
 
 pub use done::{Done, perform};
 pub use request::{MOST_STEPS, Task, TaskFault, USUAL_STEPS};
