@@ -1,0 +1,147 @@
+ghost use Rattle.std.specs.Prelude.{true};
+
+use super::*;
+use channels::{Device, Sink, SinkFault};
+use std::alloc::{AllocError, Global};
+use std::test::Fail;
+
+// The module that sends 7 on its only channel, the output `pub`, and ends.
+const SEVEN: [u8; 76] = [
+    70, 76, 79, 66, 0, 0, 0, 1, 0, 0, 0, 0, 0, 0, 0, 0, 0, 0, 0, 0, 0, 0, 0, 1, 1, 0, 0, 0, 3, 112,
+    117, 98, 0, 0, 0, 0, 0, 0, 0, 0, 0, 0, 0, 1, 0, 0, 0, 0, 0, 0, 0, 0, 0, 0, 0, 0, 11, 1, 0, 0,
+    0, 7, 38, 0, 0, 0, 0, 35, 0, 0, 0, 0, 0, 0, 0, 0,
+];
+
+// The module that sends what it receives from the input `q` on the output `pub`.
+const ECHO: [u8; 86] = [
+    70, 76, 79, 66, 0, 0, 0, 1, 0, 0, 0, 0, 0, 0, 0, 0, 0, 0, 0, 0, 0, 0, 0, 2, 0, 0, 0, 0, 1, 113,
+    0, 0, 0, 0, 1, 0, 0, 0, 3, 112, 117, 98, 0, 0, 0, 0, 0, 0, 0, 0, 0, 0, 0, 1, 0, 0, 0, 0, 0, 0,
+    0, 0, 0, 0, 0, 0, 11, 37, 0, 0, 0, 0, 38, 0, 0, 0, 1, 35, 0, 0, 0, 0, 0, 0, 0, 0,
+];
+
+// A sink that takes nothing.
+#[derive(Drop)]
+struct Closed;
+
+impl Sink for Closed {
+    ghost has_failed = { λ _. true };
+
+    fn write(&mut self, _bytes: &[u8]) -> Result<usize, SinkFault> {
+        Err(SinkFault)
+    }
+
+    fn failed(&self) -> bool {
+        true
+    }
+}
+
+// What a run wrote and its status.
+#[derive(Drop)]
+struct Outcome {
+    out: Vec<u8>,
+    err: Vec<u8>,
+    status: u8,
+}
+
+fn run_of(alloc: Global, module: &[u8], world: &[u8], steps: u64) -> Result<Outcome, AllocError> {
+    let asked = Task::Run {
+        file: String::from_str(alloc, "m.flob")?,
+        world: String::from_str(alloc, "w.txt")?,
+        steps,
+    };
+    let files = [
+        Vec::from_slice(alloc, module)?,
+        Vec::from_slice(alloc, world)?,
+    ];
+    let mut out = Device::new(Vec::new(alloc));
+    let mut err = Device::new(Vec::new(alloc));
+    let done = perform(alloc, &asked, &files, &mut out, &mut err);
+    Ok(Outcome {
+        out: out.into_inner(),
+        err: err.into_inner(),
+        status: done.status,
+    })
+}
+
+#[test]
+fn runs_modules(rt: HostRuntime) -> Result<(), Fail> {
+    let cases: [(&[u8], &str, u64, &str, &str, u8); 6] = [
+        (&SEVEN, "", 1_000_000, "pub 7\n", "finished\n", 0),
+        (&SEVEN, "", 3, "pub 7\n", "finished\n", 0),
+        (&SEVEN, "", 2, "pub 7\n", "running\n", 6),
+        (&SEVEN, "", 0, "", "running\n", 6),
+        (&ECHO, "q = -41 5\n", 10, "pub -41\n", "finished\n", 0),
+        (&ECHO, "q =", 10, "", "threw End\n", 4),
+    ];
+    for (module, world, steps, out, err, status) in cases {
+        let outcome = run_of(rt.alloc(), module, world.as_bytes(), steps)?;
+        assert_eq!(rt; outcome.out.as_slice(), out.as_bytes());
+        assert_eq!(rt; outcome.err.as_slice(), err.as_bytes());
+        assert_eq!(rt; outcome.status, status);
+    }
+    Ok(())
+}
+
+#[test]
+fn tells_faults_of_modules(rt: HostRuntime) -> Result<(), Fail> {
+    let cases: [(usize, u8, &str); 4] = [
+        (0, 71, "m.flob:0: 801 magic\n"),
+        (7, 2, "m.flob:4: 802 version\n"),
+        (24, 2, "m.flob:24: 804 bad value\n"),
+        (66, 1, "m.flob:0:5: 814 slot or index\n"),
+    ];
+    for (place, byte, line) in cases {
+        let mut module = SEVEN;
+        module[place] = byte;
+        let outcome = run_of(rt.alloc(), &module, b"", 9)?;
+        assert_eq!(rt; outcome.err.as_slice(), line.as_bytes(), "{line}");
+        assert_eq!(rt; outcome.out.len(), 0);
+        assert_eq!(rt; outcome.status, 1);
+    }
+    let short = run_of(rt.alloc(), &SEVEN[..75], b"", 9)?;
+    assert_eq!(rt; short.err.as_slice(), b"m.flob:75: 803 short\n".as_slice());
+    let mut longer = Vec::from_slice(rt.alloc(), &SEVEN)?;
+    longer.push(0)?;
+    let trailing = run_of(rt.alloc(), &longer, b"", 9)?;
+    assert_eq!(rt;
+        trailing.err.as_slice(),
+        b"m.flob:76: 806 trailing bytes\n".as_slice()
+    );
+    Ok(())
+}
+
+#[test]
+fn tells_faults_of_worlds(rt: HostRuntime) -> Result<(), Fail> {
+    let cases: [(&[u8], &str); 5] = [
+        (b"q", "w.txt:1: 851 syntax\n"),
+        (b"\npub = 1", "w.txt:2: 852 unknown channel\n"),
+        (b"q = 1\nq = 2", "w.txt:2: 853 repeated channel\n"),
+        (b"q = 2147483648", "w.txt:1: 854 number out of range\n"),
+        (b"q = 1\n\xff", "w.txt:1: 100 not UTF-8\n"),
+    ];
+    for (world, line) in cases {
+        let outcome = run_of(rt.alloc(), &ECHO, world, 9)?;
+        assert_eq!(rt; outcome.err.as_slice(), line.as_bytes(), "{line}");
+        assert_eq!(rt; outcome.out.len(), 0);
+        assert_eq!(rt; outcome.status, 1);
+    }
+    Ok(())
+}
+
+#[test]
+fn tells_an_output_that_fails(rt: HostRuntime) -> Result<(), Fail> {
+    let alloc = rt.alloc();
+    let asked = Task::Run {
+        file: String::from_str(alloc, "m.flob")?,
+        world: String::from_str(alloc, "w.txt")?,
+        steps: 9,
+    };
+    let files = [Vec::from_slice(alloc, &SEVEN)?, Vec::new(alloc)];
+    let mut err = Device::new(Vec::new(alloc));
+    let done = perform(alloc, &asked, &files, &mut Closed, &mut err);
+    assert_eq!(rt; done.status, 3);
+    assert!(rt; done.code.is_none());
+    let line = b"flowc: cannot write\n".as_slice();
+    assert_eq!(rt; err.into_inner().as_slice(), line);
+    Ok(())
+}

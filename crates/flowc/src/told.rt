@@ -1,0 +1,70 @@
+//! The words of faults, as the program prints them.
+
+use bytecode::Refusal;
+use channels::WorldDefect;
+use std::alloc::{AllocError, Global};
+use verifier::{Defect, Fault};
+
+/// The words of a refusal of a module's bytes.
+pub fn refusal_words(refusal: Refusal) -> &'static str {
+    match refusal {
+        Refusal::Magic => "magic",
+        Refusal::Version => "version",
+        Refusal::Short => "short",
+        Refusal::BadValue => "bad value",
+        Refusal::NotCanonical => "not canonical",
+        Refusal::Trailing => "trailing bytes",
+    }
+}
+
+/// The number and the words of a fault of a module's code.
+pub fn defect_words(defect: Defect) -> (u32, &'static str) {
+    match defect {
+        Defect::Jump => (811, "jump"),
+        Defect::OperandKind => (812, "operand kind"),
+        Defect::OperandDepth => (813, "operand depth"),
+        Defect::SlotOrIndex => (814, "slot or index"),
+        Defect::FallsOffEnd => (815, "falls off the end"),
+    }
+}
+
+/// The number and the words of what is wrong with a line of a world's text.
+pub fn world_words(defect: WorldDefect) -> (u32, &'static str) {
+    match defect {
+        WorldDefect::Syntax => (851, "syntax"),
+        WorldDefect::UnknownChannel => (852, "unknown channel"),
+        WorldDefect::RepeatedChannel => (853, "repeated channel"),
+        WorldDefect::NumberOutOfRange => (854, "number out of range"),
+    }
+}
+
+/// The line that tells a refusal of a module's bytes, at a byte offset.
+pub fn refusal_line(
+    alloc: Global,
+    path: &str,
+    refusal: Refusal,
+    offset: usize,
+) -> Result<String, AllocError> {
+    let number = refusal.number();
+    let words = refusal_words(refusal);
+    format!(in alloc; "{path}:{offset}: {number} {words}\n")
+}
+
+/// The line that tells a fault of a module's code, at a procedure and a byte offset.
+pub fn fault_line(alloc: Global, path: &str, fault: Fault) -> Result<String, AllocError> {
+    let (number, words) = defect_words(fault.defect);
+    let procedure = fault.procedure;
+    let offset = fault.offset;
+    format!(in alloc; "{path}:{procedure}:{offset}: {number} {words}\n")
+}
+
+/// The line that tells what is wrong with a world's text, at a line.
+pub fn world_line(
+    alloc: Global,
+    path: &str,
+    line: usize,
+    defect: WorldDefect,
+) -> Result<String, AllocError> {
+    let (number, words) = world_words(defect);
+    format!(in alloc; "{path}:{line}: {number} {words}\n")
+}

@@ -1,0 +1,95 @@
+//! The program `flowc`: takes the words, reads the files, does the task, and ends with its status.
+#![tactic(auto)]
+
+use channels::{Device, write_whole};
+use flowc::{Task, TaskFault, perform, task};
+use std::alloc::{AllocError, AllocFailed};
+use std::process::ExitCode;
+use std::rt::Files;
+use std::{env, fs};
+
+// Why the program stops before its task is begun.
+#[derive(Debug, Drop)]
+enum Failure {
+    // Wrong words, or a wish for help: the text that says so.
+    Words(String),
+    CannotRead(String),
+    // The words of the command line cannot be had.
+    NoWords,
+    OutOfMemory,
+}
+
+impl From<AllocError> for Failure {
+    fn from(_error: AllocError) -> Failure {
+        Failure::OutOfMemory
+    }
+}
+
+impl<T: Drop> From<AllocFailed<T>> for Failure {
+    fn from(_error: AllocFailed<T>) -> Failure {
+        Failure::OutOfMemory
+    }
+}
+
+impl From<TaskFault> for Failure {
+    fn from(fault: TaskFault) -> Failure {
+        match fault {
+            TaskFault::Words(text) => Failure::Words(text),
+            TaskFault::OutOfMemory => Failure::OutOfMemory,
+        }
+    }
+}
+
+fn main(rt: HostRuntime) -> ExitCode {
+    match done(&rt) {
+        Ok(status) => ExitCode::from(status),
+        Err(failure) => ExitCode::from(told(&rt, &failure)),
+    }
+}
+
+// Does the task that the words ask for, and answers its status.
+fn done(rt: &HostRuntime) -> Result<u8, Failure> {
+    let Ok(words) = env::args(rt) else {
+        return Err(Failure::NoWords);
+    };
+    let mut owned = Vec::new(rt.alloc());
+    for word in words {
+        owned.push(word)?;
+    }
+    // The program calls itself `flowc`, whatever the name of its file.
+    let mut lent: Vec<&str> = Vec::new(rt.alloc());
+    lent.push("flowc")?;
+    for word in owned.iter().skip(1) {
+        lent.push(word.as_str())?;
+    }
+    let asked = task(rt.alloc(), &lent)?;
+    let Task::Run { file, world, .. } = &asked;
+    let files = [read(rt, file)?, read(rt, world)?];
+    let mut out = Device::new(rt.stdout());
+    let mut err = Device::new(rt.stderr());
+    Ok(perform(rt.alloc(), &asked, &files, &mut out, &mut err).status)
+}
+
+// All bytes of a file.
+fn read(rt: &HostRuntime, path: &String) -> Result<Vec<u8>, Failure> {
+    match fs::read(rt, path.as_str()) {
+        Ok(bytes) => Ok(bytes),
+        Err(_) => {
+            let line = format!(in rt.alloc(); "flowc: {path}: cannot read\n")?;
+            Err(Failure::CannotRead(line))
+        }
+    }
+}
+
+// Tells a failure on standard error, and answers the status that stands for it.
+fn told(rt: &HostRuntime, failure: &Failure) -> u8 {
+    let (line, status) = match failure {
+        Failure::Words(text) => (text.as_str(), 2),
+        Failure::CannotRead(line) => (line.as_str(), 3),
+        Failure::NoWords => ("flowc: cannot read the command line\n", 3),
+        Failure::OutOfMemory => ("flowc: no memory\n", 3),
+    };
+    // Where standard error fails too, nothing is left to tell it on.
+    let _ = write_whole(&mut Device::new(rt.stderr()), line.as_bytes());
+    status
+}
