@@ -6,7 +6,7 @@ use Rattle.std.proofs.lemmas.List.Elements.{All-map}
 use Rattle.std.proofs.lemmas.Option.{slice_get-get_or}
 use Rattle.principals.specs.ActsFor.{PrincipalHierarchy, IsHierarchy, ActsFor, itself, written, through, HasName}
 use Rattle.principals.proofs.Names.{position_of_name}
-use Rattle.labels.specs.Label.{ReaderPolicy, Allows, PolicyFlowsTo, may_read}
+use Rattle.labels.specs.Label.{ReaderPolicy, PolicyAllows, PolicyFlowsTo, may_read}
 use Rattle.labels.proofs.Elements.{All-from_each, each_from_All, Any-from_some, Any-elim}
 use Rattle.labels.proofs.Flow.{FlowsTo-elim}
 use Rattle.labels.proofs.Tests.{flows-decides}
@@ -29,11 +29,11 @@ contained-map f xs x h =
     (h.0, rw length-map h.1, get_or-map f xs h.0 x (f x) h.1 ∙ ap f h.2)
 
 carried-allows : (part whole : PrincipalHierarchy) (carry : ℕ → ℕ) → KeepsActsFor part whole carry →
-    (policy : ReaderPolicy) (p : ℕ) → Allows part policy p → Allows whole (carried_policy carry policy) (carry p)
+    (policy : ReaderPolicy) (p : ℕ) → PolicyAllows part p policy → PolicyAllows whole (carry p) (carried_policy carry policy)
 carried-allows part whole carry keeps policy p allowed =
     ⊎_elim
     (λ owner. inl (keeps p policy.owner owner))
-    (λ some. Any-elim (λ reader. ActsFor part.pairs p reader) policy.readers (Allows whole (carried_policy carry policy) (carry p)) some
+    (λ some. Any-elim (λ reader. ActsFor part.pairs p reader) policy.readers (PolicyAllows whole (carry p) (carried_policy carry policy)) some
     (λ reader contained acts. inr (Any-from_some (λ r. ActsFor whole.pairs (carry p) r) (map carry policy.readers) (carry reader)
     (contained-map carry policy.readers reader contained) (keeps p reader acts))))
     allowed
@@ -42,10 +42,10 @@ carried-policy_flow : (part whole : PrincipalHierarchy) (carry : ℕ → ℕ) �
     PolicyFlowsTo part from to → PolicyFlowsTo whole (carried_policy carry from) (carried_policy carry to)
 carried-policy_flow part whole carry keeps from to flow = (
   keeps to.owner from.owner flow.0,
-  All-map (λ reader. Allows whole (carried_policy carry from) reader) carry to.readers
-      (All-from_each (λ reader. Allows whole (carried_policy carry from) (carry reader)) to.readers
+  All-map (λ reader. PolicyAllows whole reader (carried_policy carry from)) carry to.readers
+      (All-from_each (λ reader. PolicyAllows whole (carry reader) (carried_policy carry from)) to.readers
       (λ reader contained. carried-allows part whole carry keeps from reader
-      (each_from_All (λ r. Allows part from r) to.readers flow.1 reader contained))),
+      (each_from_All (λ r. PolicyAllows part r from) to.readers flow.1 reader contained))),
 )
 
 pub carried-flow : (part whole : PrincipalHierarchy) (carry : ℕ → ℕ) → FlowsAreKept part whole carry
