@@ -11,4 +11,5 @@ pub mod TreeOf
 pub mod ProgramOf
 pub mod CoreOf
 pub mod WellFormed
+pub mod StraightLine
 pub mod Kinds
