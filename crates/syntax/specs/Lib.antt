@@ -4,3 +4,4 @@ pub mod Laws
 pub mod Nodes
 pub mod Phrase
 pub mod Tree
+pub mod Written
