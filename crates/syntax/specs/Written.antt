@@ -1,47 +1,50 @@
--- What holds of the tree of a text beside its form: its names are names and not too long, its integers are small enough, and it
--- has at most one procedure.
+-- What holds of the tree of a text beside its form: its names are names and not too long, its integers are small enough, its
+-- nodes stand at places that fit, and it has at most one procedure.
 -- Source: our own.
 use Rattle.std.specs.Prelude.{ℕ, ◌≤◌, List, [], ◌∷◌, ◌++◌, length, flat_map, IsTrue, All}
 use Rattle.lexer.specs.Lexeme.{greatest_literal}
 use Rattle.lexer.specs.Words.{is_name_text}
 use Rattle.syntax.specs.Tree.{NameTree, PolicyTree, LabelTree, ExpressionTree, IntegerTree, VariableTree, BinaryTree, RightTree, ReceivedTree, ValueTree, StatementTree, DeclareTree, AssignTree, ReceiveTree, SendTree, ThrownTree, ProcedureTree, ItemTree, ChannelItem, ProcedureItem, ProgramTree}
 
--- a name of at most so many bytes
-abbrev pub IsWrittenName : (longest : ℕ) → NameTree → Type 0
-IsWrittenName longest name = IsTrue (is_name_text name.text) × (length name.text ≤ longest)
+-- a name of at most so many bytes, at a place that fits
+abbrev pub IsWrittenName : (fits : ℕ → Type 0) (longest : ℕ) → NameTree → Type 0
+IsWrittenName fits longest name = fits name.at × IsTrue (is_name_text name.text) × (length name.text ≤ longest)
 
-abbrev pub IsWrittenPolicy : (longest : ℕ) → PolicyTree → Type 0
-IsWrittenPolicy longest policy = IsWrittenName longest policy.owner × All (IsWrittenName longest) policy.readers
+abbrev pub IsWrittenPolicy : (fits : ℕ → Type 0) (longest : ℕ) → PolicyTree → Type 0
+IsWrittenPolicy fits longest policy = IsWrittenName fits longest policy.owner × All (IsWrittenName fits longest) policy.readers
 
-abbrev pub IsWrittenLabel : (longest : ℕ) → LabelTree → Type 0
-IsWrittenLabel longest label = All (IsWrittenPolicy longest) label.policies
+abbrev pub IsWrittenLabel : (fits : ℕ → Type 0) (longest : ℕ) → LabelTree → Type 0
+IsWrittenLabel fits longest label = fits label.at × All (IsWrittenPolicy fits longest) label.policies
 
-abbrev pub IsWrittenExpression : (longest : ℕ) → ExpressionTree → Type 0
-IsWrittenExpression longest (IntegerTree at value) = value ≤ greatest_literal
-IsWrittenExpression longest (VariableTree name) = IsWrittenName longest name
-IsWrittenExpression longest (BinaryTree at operator left right) =
-    IsWrittenExpression longest left × IsWrittenExpression longest right
+abbrev pub IsWrittenExpression : (fits : ℕ → Type 0) (longest : ℕ) → ExpressionTree → Type 0
+IsWrittenExpression fits longest (IntegerTree at value) = fits at × (value ≤ greatest_literal)
+IsWrittenExpression fits longest (VariableTree name) = IsWrittenName fits longest name
+IsWrittenExpression fits longest (BinaryTree at operator left right) =
+    fits at × IsWrittenExpression fits longest left × IsWrittenExpression fits longest right
 
-abbrev pub IsWrittenRight : (longest : ℕ) → RightTree → Type 0
-IsWrittenRight longest (ReceivedTree at channel) = IsWrittenName longest channel
-IsWrittenRight longest (ValueTree value) = IsWrittenExpression longest value
+abbrev pub IsWrittenRight : (fits : ℕ → Type 0) (longest : ℕ) → RightTree → Type 0
+IsWrittenRight fits longest (ReceivedTree at channel) = fits at × IsWrittenName fits longest channel
+IsWrittenRight fits longest (ValueTree value) = IsWrittenExpression fits longest value
 
-abbrev pub IsWrittenStatement : (longest : ℕ) → StatementTree → Type 0
-IsWrittenStatement longest (DeclareTree at label name value) =
-    IsWrittenLabel longest label × IsWrittenName longest name × IsWrittenRight longest value
-IsWrittenStatement longest (AssignTree target value) = IsWrittenName longest target × IsWrittenRight longest value
-IsWrittenStatement longest (ReceiveTree at channel) = IsWrittenName longest channel
-IsWrittenStatement longest (SendTree at channel value) = IsWrittenName longest channel × IsWrittenExpression longest value
+abbrev pub IsWrittenStatement : (fits : ℕ → Type 0) (longest : ℕ) → StatementTree → Type 0
+IsWrittenStatement fits longest (DeclareTree at label name value) =
+    fits at × IsWrittenLabel fits longest label × IsWrittenName fits longest name × IsWrittenRight fits longest value
+IsWrittenStatement fits longest (AssignTree target value) = IsWrittenName fits longest target × IsWrittenRight fits longest value
+IsWrittenStatement fits longest (ReceiveTree at channel) = fits at × IsWrittenName fits longest channel
+IsWrittenStatement fits longest (SendTree at channel value) =
+    fits at × IsWrittenName fits longest channel × IsWrittenExpression fits longest value
 
-abbrev pub IsWrittenThrown : (longest : ℕ) → ThrownTree → Type 0
-IsWrittenThrown longest thrown = IsWrittenName longest thrown.name × IsWrittenLabel longest thrown.label
+abbrev pub IsWrittenThrown : (fits : ℕ → Type 0) (longest : ℕ) → ThrownTree → Type 0
+IsWrittenThrown fits longest thrown = IsWrittenName fits longest thrown.name × IsWrittenLabel fits longest thrown.label
 
-abbrev pub IsWrittenItem : (longest : ℕ) → ItemTree → Type 0
-IsWrittenItem longest (ChannelItem channel) = IsWrittenLabel longest channel.label × IsWrittenName longest channel.name
-IsWrittenItem longest (ProcedureItem procedure) =
-    IsWrittenName longest procedure.name
-    × All (IsWrittenThrown longest) procedure.throws
-    × All (IsWrittenStatement longest) procedure.body.statements
+abbrev pub IsWrittenItem : (fits : ℕ → Type 0) (longest : ℕ) → ItemTree → Type 0
+IsWrittenItem fits longest (ChannelItem channel) =
+    fits channel.at × IsWrittenLabel fits longest channel.label × IsWrittenName fits longest channel.name
+IsWrittenItem fits longest (ProcedureItem procedure) =
+    fits procedure.at
+    × IsWrittenName fits longest procedure.name
+    × All (IsWrittenThrown fits longest) procedure.throws
+    × All (IsWrittenStatement fits longest) procedure.body.statements
 
 -- the procedures of some items, in order
 abbrev pub procedure_of : ItemTree → List ProcedureTree
@@ -52,6 +55,6 @@ abbrev pub procedures_of : List ItemTree → List ProcedureTree
 procedures_of items = flat_map procedure_of items
 
 -- a program as a text can have it
-pub record IsWritten (longest : ℕ) (program : ProgramTree) : Type 0 where
-  pub items : All (IsWrittenItem longest) program.items
+pub record IsWritten (fits : ℕ → Type 0) (longest : ℕ) (program : ProgramTree) : Type 0 where
+  pub items : All (IsWrittenItem fits longest) program.items
   pub single : length (procedures_of program.items) ≤ 1
