@@ -1,0 +1,76 @@
+-- The label of the way to a statement of a straight-line procedure, and what may stand for it.
+-- Source: our own.
+use Rattle.std.specs.Prelude.{◌≡◌, ℕ, List, [], ◌∷◌, ◌++◌, Bool, true, false, ◌&&◌, ◌||◌, nat_lt, length, Option, Some, None, IsTrue, Contains}
+use Rattle.std.specs.List.{list_all}
+use Rattle.principals.specs.ActsFor.{PrincipalHierarchy}
+use Rattle.labels.specs.Label.{ReaderPolicy, Label, Covers, flows}
+use Rattle.resolved.specs.declared.expression.Operator.TheVariants.{Add}
+use Rattle.resolved.specs.declared.expression.Variable.{Variable}
+use Rattle.resolved.specs.declared.expression.Variable.TheVariants.{Local}
+use Rattle.resolved.specs.Tree.{Expression, Integer, Read, Binary, Statement, Assign, Receive, Send, Block, Empty, Then}
+use Rattle.resolved.specs.Program.{Program, ProcedureEntry}
+use Rattle.resolved.specs.StraightLine.{is_labelled_int}
+use Rattle.resolved.specs.Labelled.{Labelling, Scope, channel_label}
+use Rattle.checker.specs.declared.refusal.LabelRule.{LabelRule}
+use Rattle.checker.specs.declared.refusal.FlowRefusal.{FlowRefusal}
+use Rattle.checker.specs.declared.refusal.FlowRefusal.TheVariants.{NoMemory, Unmet}
+
+-- a procedure of a program, with a labelling
+abbrev pub scope_of : Program → ProcedureEntry → Labelling → Scope
+scope_of program procedure labelling = record { program = program; procedure = procedure; labelling = labelling }
+
+-- one label stands for another: it has policies of the other alone, and the other flows to it
+pub record StandsFor (h : PrincipalHierarchy) (label way : Label) : Type 0 where
+  pub from_way : (policy : ReaderPolicy) → Contains label policy → Contains way policy
+  pub way_flows : IsTrue (flows h way label)
+
+-- whether there is a receive
+abbrev pub is_receive : Statement → Bool
+is_receive (Receive at channel target) = true
+is_receive statement = false
+
+abbrev pub receives : Block → Bool
+receives Empty = false
+receives (Then statement rest) = is_receive statement || receives rest
+
+-- the label of the way behind a statement, and behind a block
+abbrev pub way_past : Program → (way : Label) → Statement → Label
+way_past program way (Receive at channel target) = way ++ channel_label program channel
+way_past program way statement = way
+
+abbrev pub way_through : Program → (way : Label) → Block → Label
+way_through program way Empty = way
+way_through program way (Then statement rest) = way_through program (way_past program way statement) rest
+
+-- sums, targets and statements whose locals and channels are there
+abbrev pub is_sum_of : (locals : ℕ) → Expression → Bool
+is_sum_of locals (Integer n) = true
+is_sum_of locals (Read (Local n)) = nat_lt n locals
+is_sum_of locals (Binary Add d e) = is_sum_of locals d && is_sum_of locals e
+is_sum_of locals _ = false
+
+abbrev pub is_local_of : (locals : ℕ) → Variable → Bool
+is_local_of locals (Local n) = nat_lt n locals
+is_local_of locals _ = false
+
+abbrev pub is_target_of : (locals : ℕ) → Option Variable → Bool
+is_target_of locals None = true
+is_target_of locals (Some x) = is_local_of locals x
+
+abbrev pub is_statement_of : (channels locals : ℕ) → Statement → Bool
+is_statement_of channels locals (Assign at x e) = is_local_of locals x && is_sum_of locals e
+is_statement_of channels locals (Receive at channel target) = nat_lt channel channels && is_target_of locals target
+is_statement_of channels locals (Send at channel e) = nat_lt channel channels && is_sum_of locals e
+is_statement_of channels locals _ = false
+
+abbrev pub is_block_of : (channels locals : ℕ) → Block → Bool
+is_block_of channels locals Empty = true
+is_block_of channels locals (Then statement rest) =
+    is_statement_of channels locals statement && is_block_of channels locals rest
+
+-- what an answer tells of one part of a left side: a policy of it that the right side does not cover
+abbrev pub TellsPart : PrincipalHierarchy → (part : Label) → (at : ℕ) → LabelRule → (right : Label) → FlowRefusal → Type 0
+TellsPart h part at rule right NoMemory = Unit {0}
+TellsPart h part at rule right (Unmet unmet) =
+    (unmet.at ≡ at) × (unmet.rule ≡ rule) × (unmet.right ≡ right) × Contains part unmet.policy
+    × (¬ Covers h right unmet.policy)

@@ -1,0 +1,198 @@
+//! The phase of labels.
+ghost use Rattle.checker.specs.FirstDemand.{RulesOut, TellsFirst, TellsFirstDemand, first_unmet};
+ghost use Rattle.checker.specs.Way.{StandsFor, TellsPart, is_block_of, is_local_of, is_statement_of, is_sum_of, scope_of, way_through};
+ghost use Rattle.labels.specs.Label.{Covers, Label, flows};
+ghost use Rattle.resolved.specs.CoreOf.{program_of};
+ghost use Rattle.resolved.specs.Labelled.{Labelled, Labelling, Marks, block_demands, demand, statement_demands, value_label, variable_label};
+ghost use Rattle.resolved.specs.ProgramOf.{procedure_entry};
+ghost use Rattle.resolved.specs.StraightLine.{is_labelled_int, is_straight_line};
+ghost use Rattle.resolved.specs.TreeOf.{block_of, expression_of, statement_of};
+ghost use Rattle.std.specs.List.{list_all};
+ghost use Rattle.std.specs.Prelude.{Contains, IfErr, IfOk, IsTrue, None, OnOk, length, ◌≡◌};
+
+use crate::ends::END;
+use crate::refusal::{FlowRefusal, LabelRule, UnmetDemand};
+use crate::straight::{has_receive, main_of};
+use labels::{Label, Policy};
+use principals::Hierarchy;
+use resolved::expression::{Expression, Variable};
+use resolved::program::Core;
+use resolved::statement::Statement;
+use resolved::tables::Procedure;
+use std::alloc::{AllocError, Global};
+
+/// Looks for a labelling of a program, and tells the first demand that does not hold, with a policy that its right side does not
+/// cover. It takes memory for that policy and that side alone; the allocator is for what other programs need.
+pub fn check_flows(_alloc: Global, core: &Core) -> Result<(), FlowRefusal>
+    requires straight { IsTrue (is_straight_line (program_of core.now)) }
+    ensures labelled { OnOk result (Labelled (program_of core.now)) }
+    ensures refused { IfErr result (λ refusal. TellsFirstDemand (program_of core.now) refusal) }
+    ensures not_labelled { IfErr result (λ refusal. RulesOut (program_of core.now) refusal) }
+{
+    let main = main_of(core);
+    let way = follow(core, main)?;
+    if has_receive(&main.body) {
+        check_leaving(&core.hierarchy, main, way)?;
+    }
+    Ok(())
+}
+
+// Checks the statements of a procedure in their order. Gives a label that stands for that of the way behind the last one.
+fn follow<'a>(core: &'a Core, procedure: &'a Procedure) -> Result<&'a Label, FlowRefusal>
+{
+    let mut way = &procedure.begin_label;
+    for statement in &procedure.body {
+        check_statement(core, procedure, way, statement)?;
+        // The way flows to the channel's label, so that label stands for the join of the two.
+        if let Statement::Receive(_, channel, _) = statement {
+            way = &core.channel(*channel).label;
+        }
+    }
+    Ok(way)
+}
+
+// Checks the demands of a statement that is reached at a label.
+fn check_statement(
+    core: &Core,
+    procedure: &Procedure,
+    way: &Label,
+    statement: &Statement,
+) -> Result<(), FlowRefusal>
+{
+    match statement {
+        Statement::Assign(at, target, value) => {
+            let demand = Demand {
+                at: *at,
+                rule: LabelRule::Assign,
+                right: label_of(procedure, *target),
+            };
+            check_label(&core.hierarchy, way, &demand)?;
+            check_sum(&core.hierarchy, procedure, value, &demand)
+        }
+        Statement::Receive(at, channel, target) => {
+            let label = &core.channel(*channel).label;
+            let reading = Demand {
+                at: *at,
+                rule: LabelRule::Receive,
+                right: label,
+            };
+            check_label(&core.hierarchy, way, &reading)?;
+            match target {
+                None => Ok(()),
+                Some(target) => {
+                    let storing = Demand {
+                        at: *at,
+                        rule: LabelRule::Receive,
+                        right: label_of(procedure, *target),
+                    };
+                    // Where this label flows to, the way does too.
+                    check_label(&core.hierarchy, label, &storing)
+                }
+            }
+        }
+        Statement::Send(at, channel, value) => {
+            let demand = Demand {
+                at: *at,
+                rule: LabelRule::Send,
+                right: &core.channel(*channel).label,
+            };
+            check_label(&core.hierarchy, way, &demand)?;
+            check_sum(&core.hierarchy, procedure, value, &demand)
+        }
+        _ => unreachable!(),
+    }
+}
+
+// Checks the demands on the ends of a procedure with a receive.
+fn check_leaving(
+    hierarchy: &Hierarchy,
+    procedure: &Procedure,
+    way: &Label,
+) -> Result<(), FlowRefusal>
+{
+    let ending = Demand {
+        at: procedure.at,
+        rule: LabelRule::Procedure,
+        right: &procedure.end_label,
+    };
+    check_label(hierarchy, way, &ending)?;
+    for thrown in &procedure.throws {
+        if thrown.exception == END {
+            let throwing = Demand {
+                at: procedure.at,
+                rule: LabelRule::Procedure,
+                right: &thrown.label,
+            };
+            check_label(hierarchy, way, &throwing)?;
+        }
+    }
+    Ok(())
+}
+
+// A demand but for its left side: the byte of its statement, its rule, and its right side.
+#[derive(Drop)]
+struct Demand<'a> {
+    at: usize,
+    rule: LabelRule,
+    right: &'a Label,
+}
+
+// Checks the label of a sum's value as a part of a left side.
+fn check_sum(
+    hierarchy: &Hierarchy,
+    procedure: &Procedure,
+    sum: &Expression,
+    demand: &Demand,
+) -> Result<(), FlowRefusal>
+{
+    match sum {
+        Expression::Read(variable) => {
+            check_label(hierarchy, label_of(procedure, *variable), demand)
+        }
+        Expression::Binary(_, left, right) => {
+            check_sum(hierarchy, procedure, left, demand)?;
+            check_sum(hierarchy, procedure, right, demand)
+        }
+        _ => Ok(()),
+    }
+}
+
+// Checks a label as a part of a left side.
+fn check_label(hierarchy: &Hierarchy, part: &Label, demand: &Demand) -> Result<(), FlowRefusal>
+    ensures met { OnOk result (IsTrue (flows hierarchy.now part.now demand.now.right.now)) }
+    ensures unmet { IfErr result (λ refusal. TellsPart hierarchy.now part.now demand.now.at demand.now.rule demand.now.right.now refusal) }
+{
+    for policy in part.policies() {
+        if !demand.right.covers(hierarchy, policy) {
+            return match unmet(policy, demand) {
+                Ok(unmet) => Err(FlowRefusal::Unmet(unmet)),
+                Err(_) => Err(FlowRefusal::NoMemory),
+            };
+        }
+    }
+    Ok(())
+}
+
+// What is told of a demand whose right side does not cover a policy of its left side.
+fn unmet(policy: &Policy, demand: &Demand) -> Result<UnmetDemand, AllocError>
+    ensures { IfOk result (λ told. told ≡ record { at = demand.now.at; rule = demand.now.rule; policy = policy.now; right = demand.now.right.now }) }
+{
+    Ok(UnmetDemand {
+        at: demand.at,
+        rule: demand.rule,
+        policy: policy.clone()?,
+        right: demand.right.clone()?,
+    })
+}
+
+// The written label of a local.
+fn label_of(procedure: &Procedure, variable: Variable) -> &Label
+{
+    match variable {
+        Variable::Local(slot) => match &procedure.slot(slot).written {
+            Some(label) => label,
+            None => unreachable!(),
+        },
+        Variable::Global(_) => unreachable!(),
+    }
+}
