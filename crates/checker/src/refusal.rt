@@ -6,17 +6,22 @@ use labels::{Label, Policy};
 use thiserror::Error;
 
 /// What is wrong with the ends of a program's statements.
-#[derive(Clone, Copy, Debug, PartialEq, Eq)]
+#[derive(Clone, Copy, Debug, PartialEq, Eq, Error)]
 pub enum EndDefect {
     /// 501: a statement that is never reached.
+    #[error("unreachable")]
     Unreachable,
     /// 502: a procedure with a value that can end without one.
+    #[error("no value returned")]
     NoValueReturned,
     /// 503: a procedure that lets out an exception which it does not declare.
+    #[error("exception not declared")]
     Undeclared,
     /// 504: a handler of an exception that does not come.
+    #[error("never raised")]
     NeverRaised,
     /// 505: `break` or `continue` outside a loop.
+    #[error("not in a loop")]
     OutsideLoop,
 }
 

@@ -2,7 +2,9 @@
 #![tactic(auto)]
 
 pub mod fault;
-pub mod laws;
-pub mod scope;
 
+pub mod scope;
+pub mod stub;
+
+pub use stub::resolve;
 pub use fault::{Refusal, TypeFault};
