@@ -1,2 +1,4 @@
 pub mod Parts
 pub mod Ending
+pub mod Told
+pub mod Sums
