@@ -2,3 +2,4 @@ pub mod Parts
 pub mod Ending
 pub mod Told
 pub mod Sums
+pub mod Receiving

@@ -1,15 +1,16 @@
 //! The phase of labels.
 ghost use Rattle.checker.specs.FirstDemand.{RulesOut, TellsFirst, TellsFirstDemand};
-ghost use Rattle.checker.specs.Way.{StandsFor, StandsForEnds, TellsPart, leaving_demands, is_block_of, is_local_of, is_statement_of, is_sum_of, scope_of, way_through};
+ghost use Rattle.checker.specs.Way.{StandsFor, StandsForEnds, TellsPart, leaving_demands, is_block_of, is_local_of, is_statement_of, is_sum_of, is_target_of, scope_of, way_through};
 ghost use Rattle.labels.specs.Label.{flows};
 ghost use Rattle.resolved.specs.CoreOf.{program_of};
 ghost use Rattle.resolved.specs.Labelled.{Fits, Labelled, Labelling, Marks, block_demands, statement_demands, value_label, variable_label};
 ghost use Rattle.resolved.specs.Program.{Program};
 ghost use Rattle.resolved.specs.ProgramOf.{procedure_entry};
 ghost use Rattle.resolved.specs.StraightLine.{is_labelled_int, is_straight_line};
+ghost use Rattle.resolved.specs.Tree.{Receive};
 ghost use Rattle.resolved.specs.TreeOf.{block_of, expression_of, statement_of};
 ghost use Rattle.std.specs.List.{list_all};
-ghost use Rattle.std.specs.Prelude.{IfErr, IfOk, IsTrue, OnOk, length, ◌≡◌};
+ghost use Rattle.std.specs.Prelude.{IfErr, IfOk, IsTrue, OnOk, length, ◌++◌, ◌<◌, ◌≡◌};
 
 use crate::ends::END;
 use crate::refusal::{FlowRefusal, LabelRule, UnmetDemand};
@@ -81,29 +82,10 @@ fn check_statement(
                 rule: LabelRule::Assign,
                 right: label_of(procedure, *target),
             };
-            check_label(&core.hierarchy, way, &demand)?;
-            check_sum(&core.hierarchy, procedure, value, &demand)
+            check_value(&core.hierarchy, procedure, way, value, &demand)
         }
         Statement::Receive(at, channel, target) => {
-            let label = &core.channel(*channel).label;
-            let reading = Demand {
-                at: *at,
-                rule: LabelRule::Receive,
-                right: label,
-            };
-            check_label(&core.hierarchy, way, &reading)?;
-            match target {
-                None => Ok(()),
-                Some(target) => {
-                    let storing = Demand {
-                        at: *at,
-                        rule: LabelRule::Receive,
-                        right: label_of(procedure, *target),
-                    };
-                    // Where this label flows to, the way does too.
-                    check_label(&core.hierarchy, label, &storing)
-                }
-            }
+            check_receive(core, procedure, way, *at, *channel, *target)
         }
         Statement::Send(at, channel, value) => {
             let demand = Demand {
@@ -111,10 +93,47 @@ fn check_statement(
                 rule: LabelRule::Send,
                 right: &core.channel(*channel).label,
             };
-            check_label(&core.hierarchy, way, &demand)?;
-            check_sum(&core.hierarchy, procedure, value, &demand)
+            check_value(&core.hierarchy, procedure, way, value, &demand)
         }
         _ => unreachable!(),
+    }
+}
+
+// Checks the demands of a receive that is reached at a label.
+fn check_receive(
+    core: &Core,
+    procedure: &Procedure,
+    way: &Label,
+    at: usize,
+    channel: u32,
+    target: Option<Variable>,
+) -> Result<(), FlowRefusal>
+    requires channel_there { channel < length core.now.channels.items }
+    requires target_there { IsTrue (is_target_of (length procedure.now.slots.items) target) }
+    requires labelled { IsTrue (list_all is_labelled_int (procedure_entry procedure.now).slots) }
+    ensures met { OnOk result ((labelling : Labelling) (pc : Label) → StandsFor core.now.hierarchy way.now pc →
+        Fits core.now.hierarchy (statement_demands (scope_of (program_of core.now) (procedure_entry procedure.now) labelling) pc (Receive at channel target))) }
+    ensures unmet { IfErr result (λ refusal. (labelling : Labelling) (pc : Label) → StandsFor core.now.hierarchy way.now pc →
+        TellsFirst core.now.hierarchy (statement_demands (scope_of (program_of core.now) (procedure_entry procedure.now) labelling) pc (Receive at channel target)) refusal) }
+{
+    let label = &core.channel(channel).label;
+    let reading = Demand {
+        at,
+        rule: LabelRule::Receive,
+        right: label,
+    };
+    check_label(&core.hierarchy, way, &reading)?;
+    match target {
+        None => Ok(()),
+        Some(variable) => {
+            let storing = Demand {
+                at,
+                rule: LabelRule::Receive,
+                right: label_of(procedure, variable),
+            };
+            // The way flows to this label, so where it flows to, the way does too.
+            check_label(&core.hierarchy, label, &storing)
+        }
     }
 }
 
@@ -154,6 +173,25 @@ struct Demand<'a> {
     at: usize,
     rule: LabelRule,
     right: &'a Label,
+}
+
+// Checks a left side that is the label of the way with that of a sum's value.
+fn check_value(
+    hierarchy: &Hierarchy,
+    procedure: &Procedure,
+    way: &Label,
+    value: &Expression,
+    demand: &Demand,
+) -> Result<(), FlowRefusal>
+    requires ready { IsTrue (is_sum_of (length procedure.now.slots.items) (expression_of value.now)) }
+    requires labelled { IsTrue (list_all is_labelled_int (procedure_entry procedure.now).slots) }
+    ensures met { OnOk result ((program : Program) (labelling : Labelling) (pc : Label) → StandsFor hierarchy.now way.now pc →
+        IsTrue (flows hierarchy.now (pc ++ value_label (scope_of program (procedure_entry procedure.now) labelling) (expression_of value.now)) demand.now.right.now)) }
+    ensures unmet { IfErr result (λ refusal. (program : Program) (labelling : Labelling) (pc : Label) → StandsFor hierarchy.now way.now pc →
+        TellsPart hierarchy.now (pc ++ value_label (scope_of program (procedure_entry procedure.now) labelling) (expression_of value.now)) demand.now.at demand.now.rule demand.now.right.now refusal) }
+{
+    check_label(hierarchy, way, demand)?;
+    check_sum(hierarchy, procedure, value, demand)
 }
 
 // Checks the label of a sum's value as a part of a left side.
