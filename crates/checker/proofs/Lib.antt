@@ -3,3 +3,4 @@ pub mod Ending
 pub mod Told
 pub mod Sums
 pub mod Receiving
+pub mod Stating
