@@ -4,3 +4,5 @@ pub mod Told
 pub mod Sums
 pub mod Receiving
 pub mod Stating
+pub mod Leaving
+pub mod Following

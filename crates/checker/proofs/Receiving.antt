@@ -16,10 +16,10 @@ use Rattle.checker.specs.Way.{TellsPart, StandsFor, scope_of}
 use Rattle.checker.proofs.Told.{tells-more, tells-demand, fits-demand, fits-both, tells-before, tells-behind, flows-standing}
 
 -- the channel's label stands for the way behind
-pub stands-behind : (h : PrincipalHierarchy) (way pc label : Label) → StandsFor h way pc → IsTrue (flows h way label) → StandsFor h label (pc ++ label)
-stands-behind h way pc label stands f = record {
+pub stands-behind : (h : PrincipalHierarchy) (pc label : Label) → IsTrue (flows h pc label) → StandsFor h label (pc ++ label)
+stands-behind h pc label f = record {
   from_way = Contains-append_right pc label;
-  way_flows = flows-join_least h pc label label (flows-standing h way pc label stands f) (flows-itself h label);
+  way_flows = flows-join_least h pc label label f (flows-itself h label);
 }
 
 module _ (program : Program) (procedure : ProcedureEntry) (h : PrincipalHierarchy) (way label : Label) (at channel : ℕ) (same : label ≡ channel_label program channel) where

@@ -1,6 +1,6 @@
 -- The label of the way to a statement of a straight-line procedure, and what may stand for it.
 -- Source: our own.
-use Rattle.std.specs.Prelude.{◌≡◌, ℕ, List, [], ◌∷◌, ◌++◌, Bool, true, false, ◌&&◌, ◌||◌, nat_lt, length, ◌==◌, flat_map, Option, Some, None, IsTrue, Contains}
+use Rattle.std.specs.Prelude.{◌≡◌, ℕ, List, [], ◌∷◌, ◌++◌, Bool, true, false, ◌&&◌, ◌||◌, nat_lt, length, flat_map, Option, Some, None, IsTrue, Contains}
 use Rattle.principals.specs.ActsFor.{PrincipalHierarchy}
 use Rattle.labels.specs.Label.{ReaderPolicy, Label, Covers, flows}
 use Rattle.resolved.specs.declared.expression.Operator.TheVariants.{Add}
@@ -85,4 +85,4 @@ leaving_demands procedure x =
 pub record StandsForEnds (h : PrincipalHierarchy) (label : Label) (x : Marks) : Type 0 where
   pub normal : StandsFor h label (x Normal ++ x Return)
   pub ended : StandsFor h label (x (Throw end_exception))
-  pub others : (exception : ℕ) → (exception == end_exception) ≡ false → x (Throw exception) ≡ []
+  pub others : (exception : ℕ) → ¬ (exception ≡ end_exception) → x (Throw exception) ≡ []
