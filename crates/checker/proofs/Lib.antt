@@ -1,3 +1,9 @@
 pub mod Parts
 pub mod Ending
 pub mod Reading
+pub mod Told
+pub mod Sums
+pub mod Receiving
+pub mod Stating
+pub mod Leaving
+pub mod Following

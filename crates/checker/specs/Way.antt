@@ -1,16 +1,16 @@
 -- The label of the way to a statement of a straight-line procedure, and what may stand for it.
 -- Source: our own.
-use Rattle.std.specs.Prelude.{◌≡◌, ℕ, List, [], ◌∷◌, ◌++◌, Bool, true, false, ◌&&◌, ◌||◌, nat_lt, length, Option, Some, None, IsTrue, Contains}
-use Rattle.std.specs.List.{list_all}
+use Rattle.std.specs.Prelude.{◌≡◌, ℕ, List, [], ◌∷◌, ◌++◌, Bool, true, false, ◌&&◌, ◌||◌, nat_lt, length, flat_map, Option, Some, None, IsTrue, Contains}
 use Rattle.principals.specs.ActsFor.{PrincipalHierarchy}
 use Rattle.labels.specs.Label.{ReaderPolicy, Label, Covers, flows}
 use Rattle.resolved.specs.declared.expression.Operator.TheVariants.{Add}
 use Rattle.resolved.specs.declared.expression.Variable.{Variable}
 use Rattle.resolved.specs.declared.expression.Variable.TheVariants.{Local}
 use Rattle.resolved.specs.Tree.{Expression, Integer, Read, Binary, Statement, Assign, Receive, Send, Block, Empty, Then}
-use Rattle.resolved.specs.Program.{Program, ProcedureEntry}
-use Rattle.resolved.specs.StraightLine.{is_labelled_int}
-use Rattle.resolved.specs.Labelled.{Labelling, Scope, channel_label}
+use Rattle.resolved.specs.declared.statement.Exit.TheVariants.{Normal, Return, Throw}
+use Rattle.resolved.specs.Program.{Program, ProcedureEntry, ThrownEntry}
+use Rattle.resolved.specs.Value.{end_exception}
+use Rattle.resolved.specs.Labelled.{Labelling, Scope, Marks, Demand, demand, channel_label}
 use Rattle.checker.specs.declared.refusal.LabelRule.{LabelRule}
 use Rattle.checker.specs.declared.refusal.FlowRefusal.{FlowRefusal}
 use Rattle.checker.specs.declared.refusal.FlowRefusal.TheVariants.{NoMemory, Unmet}
@@ -74,3 +74,15 @@ TellsPart h part at rule right NoMemory = Unit {0}
 TellsPart h part at rule right (Unmet unmet) =
     (unmet.at ≡ at) × (unmet.rule ≡ rule) × (unmet.right ≡ right) × Contains part unmet.policy
     × (¬ Covers h right unmet.policy)
+
+-- the demands on the ends of a body that has more than one
+abbrev pub leaving_demands : ProcedureEntry → Marks → List Demand
+leaving_demands procedure x =
+    demand procedure.at 13 (x Normal ++ x Return) procedure.end_label
+    ++ flat_map (λ (entry : ThrownEntry). demand procedure.at 13 (x (Throw entry.exception)) entry.label) procedure.throws
+
+-- a label stands for the labels of the ends of a straight-line procedure with a receive: normal, and the end of an input
+pub record StandsForEnds (h : PrincipalHierarchy) (label : Label) (x : Marks) : Type 0 where
+  pub normal : StandsFor h label (x Normal ++ x Return)
+  pub ended : StandsFor h label (x (Throw end_exception))
+  pub others : (exception : ℕ) → ¬ (exception ≡ end_exception) → x (Throw exception) ≡ []

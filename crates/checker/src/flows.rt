@@ -1,14 +1,16 @@
 //! The phase of labels.
-ghost use Rattle.checker.specs.FirstDemand.{RulesOut, TellsFirst, TellsFirstDemand, first_unmet};
-ghost use Rattle.checker.specs.Way.{StandsFor, TellsPart, is_block_of, is_local_of, is_statement_of, is_sum_of, scope_of, way_through};
-ghost use Rattle.labels.specs.Label.{Covers, Label, flows};
+ghost use Rattle.checker.specs.FirstDemand.{RulesOut, TellsFirst, TellsFirstDemand};
+ghost use Rattle.checker.specs.Way.{StandsFor, StandsForEnds, TellsPart, leaving_demands, is_block_of, is_local_of, is_statement_of, is_sum_of, is_target_of, scope_of, way_through};
+ghost use Rattle.labels.specs.Label.{flows};
 ghost use Rattle.resolved.specs.CoreOf.{program_of};
-ghost use Rattle.resolved.specs.Labelled.{Labelled, Labelling, Marks, block_demands, demand, statement_demands, value_label, variable_label};
+ghost use Rattle.resolved.specs.Labelled.{Fits, Labelled, Labelling, Marks, block_demands, statement_demands, value_label, variable_label};
+ghost use Rattle.resolved.specs.Program.{Program};
 ghost use Rattle.resolved.specs.ProgramOf.{procedure_entry};
 ghost use Rattle.resolved.specs.StraightLine.{is_labelled_int, is_straight_line};
+ghost use Rattle.resolved.specs.Tree.{Receive};
 ghost use Rattle.resolved.specs.TreeOf.{block_of, expression_of, statement_of};
 ghost use Rattle.std.specs.List.{list_all};
-ghost use Rattle.std.specs.Prelude.{Contains, IfErr, IfOk, IsTrue, None, OnOk, length, ◌≡◌};
+ghost use Rattle.std.specs.Prelude.{IfErr, IfOk, IsTrue, OnOk, length, ◌++◌, ◌<◌, ◌≡◌};
 
 use crate::ends::END;
 use crate::refusal::{FlowRefusal, LabelRule, UnmetDemand};
@@ -39,6 +41,14 @@ pub fn check_flows(_alloc: Global, core: &Core) -> Result<(), FlowRefusal>
 
 // Checks the statements of a procedure in their order. Gives a label that stands for that of the way behind the last one.
 fn follow<'a>(core: &'a Core, procedure: &'a Procedure) -> Result<&'a Label, FlowRefusal>
+    requires ready { IsTrue (is_block_of (length core.now.channels.items) (length procedure.now.slots.items) (block_of procedure.now.body.items)) }
+    requires labelled { IsTrue (list_all is_labelled_int (procedure_entry procedure.now).slots) }
+    ensures met { OnOk result ((labelling : Labelling) →
+        Fits core.now.hierarchy (block_demands (scope_of (program_of core.now) (procedure_entry procedure.now) labelling) procedure.now.begin_label (block_of procedure.now.body.items))) }
+    ensures stands { IfOk result (λ way. StandsFor core.now.hierarchy way.now
+        (way_through (program_of core.now) procedure.now.begin_label (block_of procedure.now.body.items))) }
+    ensures unmet { IfErr result (λ refusal. (labelling : Labelling) →
+        TellsFirst core.now.hierarchy (block_demands (scope_of (program_of core.now) (procedure_entry procedure.now) labelling) procedure.now.begin_label (block_of procedure.now.body.items)) refusal) }
 {
     let mut way = &procedure.begin_label;
     for statement in &procedure.body {
@@ -58,6 +68,12 @@ fn check_statement(
     way: &Label,
     statement: &Statement,
 ) -> Result<(), FlowRefusal>
+    requires ready { IsTrue (is_statement_of (length core.now.channels.items) (length procedure.now.slots.items) (statement_of statement.now)) }
+    requires labelled { IsTrue (list_all is_labelled_int (procedure_entry procedure.now).slots) }
+    ensures met { OnOk result ((labelling : Labelling) (pc : Label) → StandsFor core.now.hierarchy way.now pc →
+        Fits core.now.hierarchy (statement_demands (scope_of (program_of core.now) (procedure_entry procedure.now) labelling) pc (statement_of statement.now))) }
+    ensures unmet { IfErr result (λ refusal. (labelling : Labelling) (pc : Label) → StandsFor core.now.hierarchy way.now pc →
+        TellsFirst core.now.hierarchy (statement_demands (scope_of (program_of core.now) (procedure_entry procedure.now) labelling) pc (statement_of statement.now)) refusal) }
 {
     match statement {
         Statement::Assign(at, target, value) => {
@@ -66,29 +82,10 @@ fn check_statement(
                 rule: LabelRule::Assign,
                 right: label_of(procedure, *target),
             };
-            check_label(&core.hierarchy, way, &demand)?;
-            check_sum(&core.hierarchy, procedure, value, &demand)
+            check_value(&core.hierarchy, procedure, way, value, &demand)
         }
         Statement::Receive(at, channel, target) => {
-            let label = &core.channel(*channel).label;
-            let reading = Demand {
-                at: *at,
-                rule: LabelRule::Receive,
-                right: label,
-            };
-            check_label(&core.hierarchy, way, &reading)?;
-            match target {
-                None => Ok(()),
-                Some(target) => {
-                    let storing = Demand {
-                        at: *at,
-                        rule: LabelRule::Receive,
-                        right: label_of(procedure, *target),
-                    };
-                    // Where this label flows to, the way does too.
-                    check_label(&core.hierarchy, label, &storing)
-                }
-            }
+            check_receive(core, procedure, way, *at, *channel, *target)
         }
         Statement::Send(at, channel, value) => {
             let demand = Demand {
@@ -96,10 +93,47 @@ fn check_statement(
                 rule: LabelRule::Send,
                 right: &core.channel(*channel).label,
             };
-            check_label(&core.hierarchy, way, &demand)?;
-            check_sum(&core.hierarchy, procedure, value, &demand)
+            check_value(&core.hierarchy, procedure, way, value, &demand)
         }
         _ => unreachable!(),
+    }
+}
+
+// Checks the demands of a receive that is reached at a label.
+fn check_receive(
+    core: &Core,
+    procedure: &Procedure,
+    way: &Label,
+    at: usize,
+    channel: u32,
+    target: Option<Variable>,
+) -> Result<(), FlowRefusal>
+    requires channel_there { channel < length core.now.channels.items }
+    requires target_there { IsTrue (is_target_of (length procedure.now.slots.items) target) }
+    requires labelled { IsTrue (list_all is_labelled_int (procedure_entry procedure.now).slots) }
+    ensures met { OnOk result ((labelling : Labelling) (pc : Label) → StandsFor core.now.hierarchy way.now pc →
+        Fits core.now.hierarchy (statement_demands (scope_of (program_of core.now) (procedure_entry procedure.now) labelling) pc (Receive at channel target))) }
+    ensures unmet { IfErr result (λ refusal. (labelling : Labelling) (pc : Label) → StandsFor core.now.hierarchy way.now pc →
+        TellsFirst core.now.hierarchy (statement_demands (scope_of (program_of core.now) (procedure_entry procedure.now) labelling) pc (Receive at channel target)) refusal) }
+{
+    let label = &core.channel(channel).label;
+    let reading = Demand {
+        at,
+        rule: LabelRule::Receive,
+        right: label,
+    };
+    check_label(&core.hierarchy, way, &reading)?;
+    match target {
+        None => Ok(()),
+        Some(variable) => {
+            let storing = Demand {
+                at,
+                rule: LabelRule::Receive,
+                right: label_of(procedure, variable),
+            };
+            // The way flows to this label, so where it flows to, the way does too.
+            check_label(&core.hierarchy, label, &storing)
+        }
     }
 }
 
@@ -109,6 +143,10 @@ fn check_leaving(
     procedure: &Procedure,
     way: &Label,
 ) -> Result<(), FlowRefusal>
+    ensures met { OnOk result ((marks : Marks) → StandsForEnds hierarchy.now way.now marks →
+        Fits hierarchy.now (leaving_demands (procedure_entry procedure.now) marks)) }
+    ensures unmet { IfErr result (λ refusal. (marks : Marks) → StandsForEnds hierarchy.now way.now marks →
+        TellsFirst hierarchy.now (leaving_demands (procedure_entry procedure.now) marks) refusal) }
 {
     let ending = Demand {
         at: procedure.at,
@@ -137,6 +175,25 @@ struct Demand<'a> {
     right: &'a Label,
 }
 
+// Checks a left side that is the label of the way with that of a sum's value.
+fn check_value(
+    hierarchy: &Hierarchy,
+    procedure: &Procedure,
+    way: &Label,
+    value: &Expression,
+    demand: &Demand,
+) -> Result<(), FlowRefusal>
+    requires ready { IsTrue (is_sum_of (length procedure.now.slots.items) (expression_of value.now)) }
+    requires labelled { IsTrue (list_all is_labelled_int (procedure_entry procedure.now).slots) }
+    ensures met { OnOk result ((program : Program) (labelling : Labelling) (pc : Label) → StandsFor hierarchy.now way.now pc →
+        IsTrue (flows hierarchy.now (pc ++ value_label (scope_of program (procedure_entry procedure.now) labelling) (expression_of value.now)) demand.now.right.now)) }
+    ensures unmet { IfErr result (λ refusal. (program : Program) (labelling : Labelling) (pc : Label) → StandsFor hierarchy.now way.now pc →
+        TellsPart hierarchy.now (pc ++ value_label (scope_of program (procedure_entry procedure.now) labelling) (expression_of value.now)) demand.now.at demand.now.rule demand.now.right.now refusal) }
+{
+    check_label(hierarchy, way, demand)?;
+    check_sum(hierarchy, procedure, value, demand)
+}
+
 // Checks the label of a sum's value as a part of a left side.
 fn check_sum(
     hierarchy: &Hierarchy,
@@ -144,6 +201,12 @@ fn check_sum(
     sum: &Expression,
     demand: &Demand,
 ) -> Result<(), FlowRefusal>
+    requires ready { IsTrue (is_sum_of (length procedure.now.slots.items) (expression_of sum.now)) }
+    requires labelled { IsTrue (list_all is_labelled_int (procedure_entry procedure.now).slots) }
+    ensures met { OnOk result ((program : Program) (labelling : Labelling) →
+        IsTrue (flows hierarchy.now (value_label (scope_of program (procedure_entry procedure.now) labelling) (expression_of sum.now)) demand.now.right.now)) }
+    ensures unmet { IfErr result (λ refusal. (program : Program) (labelling : Labelling) →
+        TellsPart hierarchy.now (value_label (scope_of program (procedure_entry procedure.now) labelling) (expression_of sum.now)) demand.now.at demand.now.rule demand.now.right.now refusal) }
 {
     match sum {
         Expression::Read(variable) => {
@@ -187,6 +250,10 @@ fn unmet(policy: &Policy, demand: &Demand) -> Result<UnmetDemand, AllocError>
 
 // The written label of a local.
 fn label_of(procedure: &Procedure, variable: Variable) -> &Label
+    requires there { IsTrue (is_local_of (length procedure.now.slots.items) variable) }
+    requires labelled { IsTrue (list_all is_labelled_int (procedure_entry procedure.now).slots) }
+    ensures { (program : Program) (labelling : Labelling) →
+        result.now ≡ variable_label (scope_of program (procedure_entry procedure.now) labelling) variable }
 {
     match variable {
         Variable::Local(slot) => match &procedure.slot(slot).written {

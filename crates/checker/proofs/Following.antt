@@ -1,0 +1,107 @@
+-- The demands and the way of a straight-line block, statement by statement.
+use Rattle.std.proofs.Common.{◌≡◌, refl, sym, ap, ◌∙◌, subst, ℕ, zero, suc, ◌+◌, ◌<◌, ◌≤◌, List, [], ◌∷◌, ◌++◌, length, get_or, take, add-one, Bool, true, false, ◌&&◌, arith}
+use Rattle.std.specs.Prelude.{IsTrue}
+use Rattle.std.proofs.lemmas.Bool.{and_parts}
+use Rattle.std.proofs.lemmas.List.{take_all}
+use Rattle.principals.specs.ActsFor.{PrincipalHierarchy}
+use Rattle.labels.specs.Label.{Label, flows}
+use Rattle.resolved.specs.declared.statement.Exit.TheVariants.{Normal, Throw}
+use Rattle.resolved.specs.declared.statement.Statement as S
+use Rattle.resolved.specs.Tree.{Expression, Statement, Assign, Clear, Store, Receive, Send, Call, If, While, Leave, ReturnWith, Try, Nested, Block, Empty, Then}
+use Rattle.resolved.specs.TreeOf.{statement_of, block_of}
+use Rattle.resolved.specs.Program.{Program, ProcedureEntry}
+use Rattle.resolved.specs.Ends.{thrown_ends}
+use Rattle.resolved.specs.Labelled.{Labelling, Scope, Fits, at_ends, statement_rule, statement_marks, statement_demands, block_demands}
+use Rattle.checker.specs.declared.refusal.FlowRefusal.{FlowRefusal}
+use Rattle.checker.specs.FirstDemand.{TellsFirst}
+use Rattle.checker.specs.Way.{scope_of, way_past, way_through, is_sum_of, is_statement_of, is_block_of}
+use Rattle.checker.proofs.Told.{fits-both, fits-parts, tells-before, tells-behind}
+use Rattle.checker.proofs.Ending.{sum-raises}
+
+-- the label of a statement's normal end
+pub marks-way : (scope : Scope) (channels locals : ℕ) (pc : Label) (statement : Statement) → is_statement_of channels locals statement ≡ true
+    → statement_marks scope pc statement Normal ≡ way_past scope.program pc statement
+marks-way scope channels locals pc (Assign at x e) s =
+    ap (λ es. at_ends (Normal ∷ thrown_ends es) pc (statement_rule scope pc (Assign at x e)) Normal) (sum-raises locals e (and_parts _ (is_sum_of locals e) s).1)
+marks-way scope channels locals pc (Receive at channel target) s = refl
+marks-way scope channels locals pc (Send at channel e) s =
+    ap (λ es. at_ends (Normal ∷ thrown_ends es) pc (statement_rule scope pc (Send at channel e)) Normal) (sum-raises locals e (and_parts _ (is_sum_of locals e) s).1)
+marks-way scope channels locals pc _ s = absurd (let no : false ≡ true = s in cc)
+
+-- a statement of a block that names what is there
+pub ready-at : (channels locals : ℕ) (body : List S.Statement) (i : ℕ) (statement : S.Statement) → is_block_of channels locals (block_of body) ≡ true
+    → i < length body → statement ≡ get_or body i statement → is_statement_of channels locals (statement_of statement) ≡ true
+ready-at channels locals [] i statement s within is = absurd (omega arith)
+ready-at channels locals (first ∷ rest) zero statement s within is =
+    subst (λ (t : S.Statement). is_statement_of channels locals (statement_of t) ≡ true) (sym is)
+    (and_parts (is_statement_of channels locals (statement_of first)) (is_block_of channels locals (block_of rest)) s).0
+ready-at channels locals (first ∷ rest) (suc i) statement s within is =
+    ready-at channels locals rest i statement (and_parts (is_statement_of channels locals (statement_of first)) (is_block_of channels locals (block_of rest)) s).1
+    (omega arith) is
+
+-- the way behind one statement more
+way-more : (program : Program) (begin : Label) (body : List S.Statement) (i : ℕ) (statement : S.Statement) → i < length body → statement ≡ get_or body i statement
+    → way_through program begin (block_of (take (suc i) body)) ≡ way_past program (way_through program begin (block_of (take i body))) (statement_of statement)
+way-more program begin [] i statement within is = absurd (omega arith)
+way-more program begin (first ∷ rest) zero statement within is = ap (λ (t : S.Statement). way_past program begin (statement_of t)) (sym is)
+way-more program begin (first ∷ rest) (suc i) statement within is = way-more program (way_past program begin (statement_of first)) rest i statement (omega arith) is
+
+pub way-next : (program : Program) (begin : Label) (body : List S.Statement) (i : ℕ) (statement : S.Statement) → i < length body → statement ≡ get_or body i statement
+    → way_past program (way_through program begin (block_of (take i body))) (statement_of statement) ≡ way_through program begin (block_of (take (i + 1) body))
+way-next program begin body i statement within is =
+    sym (way-more program begin body i statement within is) ∙ ap (λ n. way_through program begin (block_of (take n body))) (sym (add-one i))
+
+module _ (h : PrincipalHierarchy) (scope : Scope) (channels locals : ℕ) where
+  -- the demands of one statement more
+  demands-more : (begin : Label) (body : List S.Statement) (i : ℕ) (statement : S.Statement) → is_block_of channels locals (block_of body) ≡ true
+      → i < length body → statement ≡ get_or body i statement
+      → Fits h (block_demands scope begin (block_of (take i body)))
+      → Fits h (statement_demands scope (way_through scope.program begin (block_of (take i body))) (statement_of statement))
+      → Fits h (block_demands scope begin (block_of (take (suc i) body)))
+  demands-more begin [] i statement s within is f g = absurd (omega arith)
+  demands-more begin (first ∷ rest) zero statement s within is f g =
+      fits-both h (statement_demands scope begin (statement_of first)) []
+      (subst (λ (t : S.Statement). Fits h (statement_demands scope begin (statement_of t))) is g) refl
+  demands-more begin (first ∷ rest) (suc i) statement s within is f g =
+      let straight = and_parts (is_statement_of channels locals (statement_of first)) (is_block_of channels locals (block_of rest)) s in
+      let e : statement_marks scope begin (statement_of first) Normal ≡ way_past scope.program begin (statement_of first) =
+      marks-way scope channels locals begin (statement_of first) straight.0 in
+      let parts = fits-parts h (statement_demands scope begin (statement_of first))
+      (block_demands scope (statement_marks scope begin (statement_of first) Normal) (block_of (take i rest))) f in
+      let behind : Fits h (block_demands scope (way_past scope.program begin (statement_of first)) (block_of (take (suc i) rest))) =
+      demands-more (way_past scope.program begin (statement_of first)) rest i statement straight.1 (omega arith) is
+      (subst (λ (way : Label). Fits h (block_demands scope way (block_of (take i rest)))) e parts.1) g in
+      fits-both h (statement_demands scope begin (statement_of first))
+      (block_demands scope (statement_marks scope begin (statement_of first) Normal) (block_of (take (suc i) rest))) parts.0
+      (subst (λ (way : Label). Fits h (block_demands scope way (block_of (take (suc i) rest)))) (sym e) behind)
+
+  pub demands-next : (begin : Label) (body : List S.Statement) (i : ℕ) (statement : S.Statement) → is_block_of channels locals (block_of body) ≡ true
+      → i < length body → statement ≡ get_or body i statement
+      → Fits h (block_demands scope begin (block_of (take i body)))
+      → Fits h (statement_demands scope (way_through scope.program begin (block_of (take i body))) (statement_of statement))
+      → Fits h (block_demands scope begin (block_of (take (i + 1) body)))
+  demands-next begin body i statement s within is f g =
+      subst (λ n. Fits h (block_demands scope begin (block_of (take n body)))) (sym (add-one i)) (demands-more begin body i statement s within is f g)
+
+  -- what is told of a statement is told of its block, where the demands before it hold
+  pub demands-tell : (begin : Label) (body : List S.Statement) (i : ℕ) (statement : S.Statement) (refusal : FlowRefusal) → is_block_of channels locals (block_of body) ≡ true
+      → i < length body → statement ≡ get_or body i statement
+      → Fits h (block_demands scope begin (block_of (take i body)))
+      → TellsFirst h (statement_demands scope (way_through scope.program begin (block_of (take i body))) (statement_of statement)) refusal
+      → TellsFirst h (block_demands scope begin (block_of body)) refusal
+  demands-tell begin [] i statement refusal s within is f told = absurd (omega arith)
+  demands-tell begin (first ∷ rest) zero statement refusal s within is f told =
+      tells-before h (statement_demands scope begin (statement_of first))
+      (block_demands scope (statement_marks scope begin (statement_of first) Normal) (block_of rest)) refusal
+      (subst (λ (t : S.Statement). TellsFirst h (statement_demands scope begin (statement_of t)) refusal) is told)
+  demands-tell begin (first ∷ rest) (suc i) statement refusal s within is f told =
+      let straight = and_parts (is_statement_of channels locals (statement_of first)) (is_block_of channels locals (block_of rest)) s in
+      let e : statement_marks scope begin (statement_of first) Normal ≡ way_past scope.program begin (statement_of first) =
+      marks-way scope channels locals begin (statement_of first) straight.0 in
+      let parts = fits-parts h (statement_demands scope begin (statement_of first))
+      (block_demands scope (statement_marks scope begin (statement_of first) Normal) (block_of (take i rest))) f in
+      tells-behind h (statement_demands scope begin (statement_of first))
+      (block_demands scope (statement_marks scope begin (statement_of first) Normal) (block_of rest)) refusal parts.0
+      (subst (λ (way : Label). TellsFirst h (block_demands scope way (block_of rest)) refusal) (sym e)
+      (demands-tell (way_past scope.program begin (statement_of first)) rest i statement refusal straight.1 (omega arith) is
+      (subst (λ (way : Label). Fits h (block_demands scope way (block_of (take i rest)))) e parts.1) told))
