@@ -1,0 +1,7 @@
+pub use Rattle.syntax.specs.Tree
+pub use Rattle.resolved.specs.CoreOf
+pub mod Scope
+pub mod FirstFault
+pub mod Resolution
+pub mod Reading
+pub mod Laws
