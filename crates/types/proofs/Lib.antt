@@ -1,0 +1,3 @@
+pub mod NoFault
+pub mod Means
+pub mod Meaning
