@@ -1,3 +1,9 @@
 pub mod NoFault
 pub mod Means
 pub mod Meaning
+pub mod Straight
+pub mod LabelsFit
+pub mod BodyFits
+pub mod ThrowsFit
+pub mod FewNodes
+pub mod Sound

@@ -1,0 +1,5 @@
+use Rattle.types.proofs.LabelsFit
+use Rattle.types.proofs.laws.places_stay.Goals as goal
+
+pub returns : goal.returns
+returns c = ?
