@@ -1,7 +1,7 @@
 -- The labels that written ones without a fault stand for: they are of principals that are there, canonical, and no longer than the
 -- written ones.
 use Rattle.std.proofs.Common.{◌≡◌, refl, sym, ◌∙◌, subst, ap, ℕ, suc, ◌+◌, ◌≤◌, List, [], ◌∷◌, ◌++◌, length, Bool, true, false, arith}
-use Rattle.std.specs.Prelude.{Option, Some, None, All, flat_map, map, filter, sum_by, nat_lt, not, bytes_eq, ◌==◌, ◌&&◌}
+use Rattle.std.specs.Prelude.{Option, Some, None, All, cond, flat_map, map, filter, sum_by, nat_lt, not, bytes_eq, ◌==◌, ◌&&◌}
 use Rattle.std.specs.List.{list_all}
 use Rattle.std.specs.declared.cmp.Ordering.{Ordering}
 use Rattle.std.specs.declared.cmp.Ordering.TheVariants.{Less, Equal, Greater}
@@ -98,7 +98,7 @@ filter-length {X = X} keep (x ∷ xs) = go (keep x) (filter-length keep xs)
     go true rest = omega arith
     go false rest = omega arith
 
-map-length : {X Y : Type 0} (f : X → Y) (xs : List X) → length (map f xs) ≡ length xs
+pub map-length : {X Y : Type 0} (f : X → Y) (xs : List X) → length (map f xs) ≡ length xs
 map-length f [] = refl
 map-length f (x ∷ xs) = ap suc (map-length f xs)
 
