@@ -7,3 +7,5 @@ pub mod BodyFits
 pub mod ThrowsFit
 pub mod FewNodes
 pub mod Sound
+pub mod Places
+pub mod Channels
