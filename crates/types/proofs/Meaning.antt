@@ -1,12 +1,12 @@
 -- What a program without a fault resolves to reads as the program, and its names are all different.
-use Rattle.std.proofs.Common.{◌≡◌, refl, sym, ◌∙◌, subst, ap, ℕ, List, [], ◌∷◌, ◌++◌, length, Bool, true, false, arith}
-use Rattle.std.specs.Prelude.{◌≢◌, Option, Some, None, slice_get, bytes_eq, codes, flat_map, map, All, AllPairs}
+use Rattle.std.proofs.Common.{◌≡◌, refl, sym, subst, ap, ℕ, List, [], ◌∷◌, ◌++◌, length, Bool, true, false, arith}
+use Rattle.std.specs.Prelude.{◌≢◌, Some, None, slice_get, bytes_eq, codes, flat_map, map, All}
 use Rattle.std.specs.List.{AllZip}
 use Rattle.std.proofs.lemmas.List.Elements.{All-nil, All-cons, All-weaker}
 use Rattle.std.proofs.lemmas.List.Kept.{AllPairs-cons}
 use Rattle.principals.specs.ActsFor.{PrincipalHierarchy, AllDifferent}
 use Rattle.syntax.specs.declared.tree.BinaryOperator.TheVariants.{Add}
-use Rattle.syntax.specs.Tree.{NameTree, LabelTree, ExpressionTree, IntegerTree, VariableTree, BinaryTree, RightTree, ReceivedTree, ValueTree, StatementTree, DeclareTree, AssignTree, ReceiveTree, SendTree, ThrownTree, ProcedureTree, ItemTree, ChannelItem, ProcedureItem, ProgramTree}
+use Rattle.syntax.specs.Tree.{NameTree, ExpressionTree, IntegerTree, VariableTree, BinaryTree, RightTree, ReceivedTree, ValueTree, StatementTree, DeclareTree, AssignTree, ReceiveTree, SendTree, ThrownTree, ProcedureTree, ItemTree, ChannelItem, ProcedureItem, ProgramTree}
 use Rattle.syntax.specs.Written.{procedures_of}
 use Rattle.resolved.specs.declared.expression.Base.TheVariants.{Int}
 use Rattle.resolved.specs.declared.tables.Direction.TheVariants as ways
@@ -14,8 +14,8 @@ use Rattle.resolved.specs.Program.{ChannelEntry, SlotEntry}
 use Rattle.types.specs.declared.scope.Meaning.TheVariants as meanings
 use Rattle.types.specs.Scope.{Declaration, look_up, TopLevel, built_in, channel_meaning, with_item, top_scope, Place, body_begin, behind}
 use Rattle.types.specs.FirstFault.{first_fault, label_faults, is_local, is_input, is_output, use_faults, fresh_faults, expression_faults, right_faults, statement_faults, body_faults, named_faults, exception_number, throws_faults, item_faults, names_faults}
-use Rattle.types.specs.Resolution.{label_of, slot_number, channel_number, procedure_number, expression_of, assignment_of, statement_of, statements_of, block_from, slots_by, slots_of, thrown_of, channel_of, channels_by, procedure_of, procedures_by, resolved_of}
-use Rattle.types.specs.Reading.{exception_names, HasSlot, HasChannel, ReadsExpression, ReadsAssignment, ReadsStatement, ReadsBlock, ReadsThrown, ReadsProcedure, HasProcedure}
+use Rattle.types.specs.Resolution.{label_of, slot_number, channel_number, procedure_number, expression_of, assignment_of, statements_of, block_from, slots_of, thrown_of, channels_by, procedure_of, procedures_by, resolved_of}
+use Rattle.types.specs.Reading.{exception_names, HasSlot, HasChannel, ReadsExpression, ReadsAssignment, ReadsBlock, ReadsThrown, ReadsProcedure, HasProcedure}
 use Rattle.types.specs.Laws.{NumbersReadAsNames, NamesDiffer}
 use Rattle.types.proofs.NoFault.{both_empty, found_local, found_input, found_output, found_exception, found_main, is_fresh, has_no_fault}
 use Rattle.types.proofs.Means.{AllMean, at_place, moved, one_longer, other_bytes, look_up_means, tables_of, top_means}
@@ -68,16 +68,14 @@ module _ (h : PrincipalHierarchy) (tree : ProgramTree) (slots : List SlotEntry) 
       let parts = both_empty (statement_faults h place.scope statement) (body_faults h (behind place statement) rest) none in
       let inner = both_empty (label_faults h label) (fresh_faults place.scope name ++ right_faults place.scope value) parts.0 in
       let last = both_empty (fresh_faults place.scope name) (right_faults place.scope value) inner.1 in
-      let has : HasSlot slots place.slots name.text = (entry, at_place slots front entry (slots_of h rest) place.slots e f, refl) in
-      (
+      let has : HasSlot slots place.slots name.text = (entry, at_place slots front entry (slots_of h rest) place.slots e f, refl) in (
         assignment_read h tree slots place.scope all at place.slots name.text value has last.1,
         block_read (behind place statement) rest (front ++ entry ∷ []) (moved slots front entry (slots_of h rest) e)
             (one_longer front entry place.slots f) (has, all) parts.1,
       )
   block_read place (AssignTree target value ∷ rest) front e f all none =
       let parts = both_empty (statement_faults h place.scope (AssignTree target value)) (body_faults h place rest) none in
-      let inner = both_empty (use_faults is_local place.scope target) (right_faults place.scope value) parts.0 in
-      (
+      let inner = both_empty (use_faults is_local place.scope target) (right_faults place.scope value) parts.0 in (
         assignment_read h tree slots place.scope all target.at (slot_number (look_up place.scope target.text)) target.text value
             (local_read h tree slots place.scope all target inner.0) inner.1,
         block_read place rest front e f all parts.1,
@@ -87,8 +85,7 @@ module _ (h : PrincipalHierarchy) (tree : ProgramTree) (slots : List SlotEntry) 
       ((refl, input_read h tree slots place.scope all channel parts.0), block_read place rest front e f all parts.1)
   block_read place (SendTree at channel value ∷ rest) front e f all none =
       let parts = both_empty (statement_faults h place.scope (SendTree at channel value)) (body_faults h place rest) none in
-      let inner = both_empty (use_faults is_output place.scope channel) (expression_faults place.scope value) parts.0 in
-      (
+      let inner = both_empty (use_faults is_output place.scope channel) (expression_faults place.scope value) parts.0 in (
         (refl, output_read h tree slots place.scope all channel inner.0, expression_read h tree slots place.scope all value inner.1),
         block_read place rest front e f all parts.1,
       )
@@ -164,8 +161,7 @@ throws_read h tree named (thrown ∷ rest) none =
     let named' = named ++ exception_number found ∷ [] in
     let parts = both_empty (named_faults named found thrown.name.at) (label_faults h thrown.label ++ throws_faults h scope named' rest) none in
     let later = both_empty (label_faults h thrown.label) (throws_faults h scope named' rest) parts.1 in
-    let (exception, is) = found_exception named found thrown.name.at parts.0 in
-    (
+    let (exception, is) = found_exception named found thrown.name.at parts.0 in (
       subst (λ number. slice_get (exception_names (resolved_of h tree)) number ≡ Some thrown.name.text) (sym (ap exception_number is))
           (look_up_means (tables_of h tree []) scope (top_means h tree []) thrown.name.text (meanings.Exception exception) is),
       throws_read h tree named' rest later.1,
