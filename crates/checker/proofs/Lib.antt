@@ -7,3 +7,4 @@ pub mod Receiving
 pub mod Stating
 pub mod Leaving
 pub mod Following
+pub mod PlacesTold

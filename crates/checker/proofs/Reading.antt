@@ -1,10 +1,11 @@
 -- What the lexer and the parser tell of a source, as why it is refused.
-use Rattle.std.proofs.Common.{◌≡◌, ℕ, ◌++◌, ◌∷◌, List, [], ◌⊎◌, ⊎_elim, subst, refl}
+use Rattle.std.proofs.Common.{◌≤◌, ◌+◌, length, ◌≡◌, ℕ, ◌++◌, ◌∷◌, List, [], ◌⊎◌, ⊎_elim, subst, refl}
 use Rattle.std.specs.List.{All}
-use Rattle.std.proofs.lemmas.List.Elements.{All-head, All-tail}
-use Rattle.std.specs.Str.{IsCharBoundary}
+use Rattle.std.proofs.lemmas.List.Elements.{All-head, All-tail, All-weaker}
+use Rattle.std.specs.Str.{IsCharBoundary, IsUtf8}
 use Rattle.lexer.specs.Cut.{IsRefused}
-use Rattle.lexer.specs.Listing.{IsAtCharacter}
+use Rattle.lexer.proofs.Listed.{listed}
+use Rattle.lexer.specs.Listing.{IsAtCharacter, IsSliceOf}
 use Rattle.lexer.specs.Terminal.{Terminal}
 use Rattle.lexer.specs.declared.fault.LexFault.{LexFault}
 use Rattle.lexer.specs.declared.fault.LexFault.TheVariants as lexical
@@ -13,7 +14,11 @@ use Rattle.parser.specs.declared.fault.ParseFault.{ParseFault}
 use Rattle.parser.specs.declared.fault.ParseFault.TheVariants as faults
 use Rattle.std.specs.Prelude.{Result, Err}
 use Rattle.syntax.specs.declared.tree.Program.{Program}
+use Rattle.syntax.specs.Nodes.{program_nodes}
 use Rattle.syntax.specs.Tree.{ProgramTree}
+use Rattle.syntax.specs.Written.{IsWritten}
+use Rattle.parser.proofs.Written.{spelled_written, cut_nodes, slice_short}
+use Rattle.checker.specs.Accepted.{IsTreeOf}
 
 -- a fault that is not want of memory is a refusal
 pub refusal_of : (source : List ℕ) (fault : LexFault) → (fault ≡ lexical.NoMemory → ⊥) → (fault ≡ lexical.NoMemory) ⊎ IsRefused source fault → IsRefused source fault
@@ -42,3 +47,16 @@ pub no_tree : (answer : Result Program ParseFault) (fault : ParseFault) (tree : 
 no_tree answer faults.NoMemory tree e other told = other refl
 no_tree answer (faults.Unexpected at) tree e other told = subst (λ a. IsTreeOrNoMemory a tree) e told
 no_tree answer (faults.TooDeep at) tree e other told = subst (λ a. IsTreeOrNoMemory a tree) e told
+
+-- the tree of a source of at most so many bytes is written so, with places that are characters' places
+pub tree_written : (fits : ℕ → Type 0) (source : List ℕ) (longest : ℕ) (tree : ProgramTree) → IsUtf8 source → length source ≤ longest →
+    ((at : ℕ) → IsCharBoundary source at → fits at) → IsTreeOf source tree → IsWritten fits longest tree
+tree_written fits source longest tree ok short there spelled =
+    let each = listed source spelled.tokens ok spelled.cut in
+    spelled_written fits longest spelled.tokens tree spelled.spelled each.spelled
+    (All-weaker (IsSliceOf source) (λ token. length token.text ≤ longest) (slice_short source longest short) spelled.tokens each.slices)
+    (All-weaker (IsAtCharacter source) (λ token. fits token.start) (λ token. there token.start) spelled.tokens each.at_characters)
+
+-- and has few nodes
+pub tree_nodes : (source : List ℕ) (tree : ProgramTree) → IsUtf8 source → IsTreeOf source tree → program_nodes tree ≤ 1 + length source
+tree_nodes source tree ok spelled = cut_nodes source spelled.tokens tree ok spelled.cut spelled.spelled

@@ -57,7 +57,10 @@ pub fn check(alloc: Global, hierarchy: &Hierarchy, source: &str) -> Result<Check
     ensures program { IfOk result (λ checked. (tree : ProgramTree) → IsTreeOf source.now tree → program_of checked.core ≡ resolved_of hierarchy.now tree) }
     ensures isolated { IfOk result (λ checked. Isolated (program_of checked.core)) }
 {
-    let tree = read(alloc, source)?;
+    let tree = match read(alloc, source) {
+        Ok(tree) => tree,
+        Err(fault) => return Err(fault),
+    };
     let core = match resolve(alloc, tree, hierarchy) {
         Ok(core) => core,
         Err(TypeFault::NoMemory) => return Err(Fault::NoMemory),
@@ -92,8 +95,6 @@ fn read(alloc: Global, source: &str) -> Result<Program, Fault>
     ensures short { OnOk result (length source.now ≤ greatest_source) }
     ensures spelled { IfOk result (λ tree. IsTreeOf source.now (program_tree tree)) }
     ensures only { IfOk result (λ tree. (other : ProgramTree) → IsTreeOf source.now other → program_tree tree ≡ other) }
-    ensures written { IfOk result (λ tree. IsWritten (IsCharBoundary source.now) greatest_source (program_tree tree)) }
-    ensures few { IfOk result (λ tree. program_nodes (program_tree tree) ≤ 1 + greatest_source) }
     ensures refused { IfErr result (λ fault. (hierarchy : PrincipalHierarchy) → TellsFault hierarchy source.now fault) }
     ensures not_accepted { IfErr result (λ fault. (fault ≡ NoMemory) ⊎ ((hierarchy : PrincipalHierarchy) → ¬ IsAccepted hierarchy source.now)) }
 {

@@ -209,7 +209,7 @@ spelled_written_there longest tokens tree d spelled short =
     let starts = map (λ (token : Terminal). token.start) tokens in
     spelled_written (Contains starts) longest tokens tree d spelled short (λ k token lt. subst (Contains starts) (get_or-map (λ (token : Terminal). token.start) tokens k token 0 lt) (Contains-get_or starts k 0 (omega (arith, lt, length-map tokens (λ (token : Terminal). token.start)))))
 
-slice_short : (source : List ℕ) (longest : ℕ) → length source ≤ longest → (token : Terminal) → IsSliceOf source token → length token.text ≤ longest
+pub slice_short : (source : List ℕ) (longest : ℕ) → length source ≤ longest → (token : Terminal) → IsSliceOf source token → length token.text ≤ longest
 slice_short source longest few token slice =
     omega (arith, few, ap length slice, length-take (token.end - token.start) (drop token.start source), length-drop token.start source)
 

@@ -9,7 +9,6 @@ use Rattle.parser.specs.Refusal.{IsTreeOrNoMemory}
 use Rattle.syntax.specs.Grammar.{Spells}
 use Rattle.syntax.specs.Tree.{ProgramTree}
 use Rattle.std.proofs.lemmas.Str.{IsCharBoundary-start}
-use Rattle.parser.proofs.Written.{source_written, source_nodes}
 use Rattle.checker.proofs.Reading.{refusal_of, unexpected_boundary, deep_boundary, no_tree}
 use Rattle.checker.proofs.phases.read.Goals as goal
 
@@ -82,9 +81,3 @@ pub returns-in-Ok-parse-clause-only : goal.returns-in-Ok-parse-clause-only
 returns-in-Ok-parse-clause-only c = λ other tree_of.
     let same : terminals_of c.as_slice.result.now ≡ tree_of.tokens = rw c.as_slice.ensures.value (c.in-Ok.ensures.only tree_of.tokens tree_of.cut) in
     c.in-Ok-parse.ensures.only other (subst (λ ts. Spells ts other) (sym same) tree_of.spelled)
-
-pub returns-in-Ok-parse-clause-written : goal.returns-in-Ok-parse-clause-written
-returns-in-Ok-parse-clause-written c =
-    source_written c.args.source.now 1048576 (terminals_of c.as_slice.result.now) _ (omega (arith, c.if-source-gt-GREATEST_SOURCE.false))
-    (rw c.as_slice.ensures.value c.in-Ok.ensures.slices) (rw c.as_slice.ensures.value c.in-Ok.ensures.spelled) (rw c.as_slice.ensures.value c.in-Ok.ensures.at_characters)
-    c.in-Ok-parse.ensures.spelled
