@@ -6,3 +6,5 @@ pub mod Receiving
 pub mod Stating
 pub mod Leaving
 pub mod Following
+pub mod Marks
+pub mod Whole
