@@ -133,13 +133,14 @@ ended-of scope channels locals pc (Then statement rest) policy s some there =
     let parts = and_parts (is_statement_of channels locals statement) (is_block_of channels locals rest) s in
     let way : Label = way_past scope.program pc statement in
     subst (λ (l : Label). Contains l policy) (sym (rule-ended scope channels locals pc statement rest parts.0))
-    (split (is_receive statement) (receives rest) refl some parts.1)
+    (split (is_receive statement) (receives rest) refl some (λ e. ended-of scope channels locals (way_past scope.program pc statement) rest policy parts.1 e there))
   where
-    split : (here later : Bool) → receives rest ≡ later → (here || later) ≡ true → is_block_of channels locals rest ≡ true
+    split : (here later : Bool) → receives rest ≡ later → (here || later) ≡ true
+        → (receives rest ≡ true → Contains (block_rule scope (way_past scope.program pc statement) rest (Throw end_exception)) policy)
         → Contains ((if here then way_past scope.program pc statement else []) ++ block_rule scope (way_past scope.program pc statement) rest (Throw end_exception)) policy
     split here true e some r =
         Contains-append_right (if here then way_past scope.program pc statement else []) (block_rule scope (way_past scope.program pc statement) rest (Throw end_exception)) policy
-        (ended-of scope channels locals (way_past scope.program pc statement) rest policy r e there)
+        (r e)
     split true false e some r =
         Contains-append_left (way_past scope.program pc statement) (block_rule scope (way_past scope.program pc statement) rest (Throw end_exception)) policy
         (subst (λ (l : Label). Contains l policy) (way-same scope.program (way_past scope.program pc statement) rest e) there)

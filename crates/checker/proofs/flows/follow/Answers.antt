@@ -1,4 +1,4 @@
-use Rattle.std.proofs.Common.{ap, length, sym, subst, take, ◌≡◌}
+use Rattle.std.proofs.Common.{ap, length, sym, subst, take, refl, ◌≡◌, Bor}
 use Rattle.std.proofs.lemmas.Result.{err_from_is_err_and}
 use Rattle.labels.specs.Label.{Label}
 use Rattle.resolved.specs.Program.{ChannelEntry}
@@ -14,7 +14,7 @@ use Rattle.checker.proofs.flows.follow.Goals as goal
 use Rattle.checker.proofs.flows.follow.Goals.{in-Receive, in_default}
 
 pub loop-statement-init : goal.loop-statement-init
-loop-statement-init c = let r = stands-first c.args.core.now.hierarchy c.args.procedure.now.begin_label in ?
+loop-statement-init c = record { fits = λ labelling. refl; stands = stands-first c.args.core.now.hierarchy c.args.procedure.now.begin_label }
 
 pub check_statement-requires-clause-ready : goal.check_statement-requires-clause-ready
 check_statement-requires-clause-ready c =
@@ -61,12 +61,14 @@ stands_here c =
             let stands = stands-past (program_of c.args.core.now) (procedure_entry c.args.procedure.now) c.args.core.now.hierarchy (way_here c) w.channel.result.now.label
             c.statement-item.result w.in-Receive.field-0 w.in-Receive.channel w.in-Receive.field-2 w.in-Receive.is
             (ap (λ (entry : ChannelEntry). entry.label) w.channel.ensures) (met_here c) in
-            let is = w.way'-is in
-            ?
+            let e : c.match-statement.way'.now ≡ w.channel.result.now.label = ap (λ (b : Bor Label). b.now) w.way'-is in
+            subst (λ (l : Label). StandsFor c.args.core.now.hierarchy l (way_past (program_of c.args.core.now) (way_here c) (statement_of c.statement-item.result))) (sym e) stands
         | in_default w ↦
-            let other = w.in_default.not-Receive in
-            let is = w.way'-is in
-            ?
+            let e : c.match-statement.way'.now ≡ c.loop-statement.way.now = ap (λ (b : Bor Label). b.now) w.way'-is in
+            let same : way_past (program_of c.args.core.now) (way_here c) (statement_of c.statement-item.result) ≡ way_here c =
+            past-other (program_of c.args.core.now) (way_here c) c.statement-item.result w.in_default.not-Receive in
+            subst (λ (l : Label). StandsFor c.args.core.now.hierarchy c.match-statement.way'.now l) (sym same)
+            (subst (λ (l : Label). StandsFor c.args.core.now.hierarchy l (way_here c)) (sym e) c.loop-statement.invariant.stands)
     ]
 
 pub loop-statement-preserved : goal.loop-statement-preserved
