@@ -67,9 +67,11 @@ module _ (core : Core) (procedure : Procedure) (only : (program_of core).procedu
 
   pub body-labelled : receives (block_of procedure.body.items) ≡ false → ((labelling : Labelling) → Fits core.hierarchy (body_demands core procedure labelling))
       → Labelled (program_of core)
-  body-labelled none fits =
-      (λ f. unlabelled, subst (Fits core.hierarchy) (sym (demands-are false none (λ f. unlabelled)))
-      (fits-both core.hierarchy (body_demands core procedure unlabelled) [] (fits unlabelled) refl))
+  body-labelled none fits = (
+    λ f. unlabelled,
+    subst (Fits core.hierarchy) (sym (demands-are false none (λ f. unlabelled)))
+        (fits-both core.hierarchy (body_demands core procedure unlabelled) [] (fits unlabelled) refl),
+  )
 
   pub whole-labelled : (way : Label) → receives (block_of procedure.body.items) ≡ true → ((labelling : Labelling) → Fits core.hierarchy (body_demands core procedure labelling))
       → StandsFor core.hierarchy way (way_through (program_of core) procedure.begin_label (block_of procedure.body.items))
@@ -78,10 +80,12 @@ module _ (core : Core) (procedure : Procedure) (only : (program_of core).procedu
   whole-labelled way some fits stands leaving =
       let ends : StandsForEnds core.hierarchy way (body_marks core procedure unlabelled) =
       stands-ends core.hierarchy (scope_of (program_of core) (procedure_entry procedure) unlabelled) (length core.channels.items) (length procedure.slots.items)
-      way procedure.begin_label (block_of procedure.body.items) ready some stands in
-      (λ f. unlabelled, subst (Fits core.hierarchy) (sym (demands-are true some (λ f. unlabelled)))
-      (fits-both core.hierarchy (body_demands core procedure unlabelled) (leaving_demands (procedure_entry procedure) (body_marks core procedure unlabelled))
-      (fits unlabelled) (leaving (body_marks core procedure unlabelled) ends)))
+      way procedure.begin_label (block_of procedure.body.items) ready some stands in (
+        λ f. unlabelled,
+        subst (Fits core.hierarchy) (sym (demands-are true some (λ f. unlabelled)))
+            (fits-both core.hierarchy (body_demands core procedure unlabelled) (leaving_demands (procedure_entry procedure) (body_marks core procedure unlabelled))
+            (fits unlabelled) (leaving (body_marks core procedure unlabelled) ends)),
+      )
 
   pub leaving-tells : {A : Type 0} (r : Result A FlowRefusal) (way : Label) → receives (block_of procedure.body.items) ≡ true
       → ((labelling : Labelling) → Fits core.hierarchy (body_demands core procedure labelling))

@@ -10,5 +10,5 @@ pub use ends::check_ends;
 pub use flows::check_flows;
 pub use refusal::{EndDefect, EndRefusal, FlowRefusal, LabelRule, UnmetDemand};
 
-
-
+#[cfg(test)]
+mod tests;

@@ -81,4 +81,3 @@ pub enum FlowRefusal {
     #[error("labels do not fit")]
     Unmet(UnmetDemand),
 }
-

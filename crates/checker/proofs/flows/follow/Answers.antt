@@ -57,18 +57,18 @@ stands_here : (c : goal.Joined-statement)
     → StandsFor c.args.core.now.hierarchy c.match-statement.way'.now (way_past (program_of c.args.core.now) (way_here c) (statement_of c.statement-item.result))
 stands_here c =
     elim c.match-statement.branch [
-        in-Receive w ↦
-            let stands = stands-past (program_of c.args.core.now) (procedure_entry c.args.procedure.now) c.args.core.now.hierarchy (way_here c) w.channel.result.now.label
-            c.statement-item.result w.in-Receive.field-0 w.in-Receive.channel w.in-Receive.field-2 w.in-Receive.is
-            (ap (λ (entry : ChannelEntry). entry.label) w.channel.ensures) (met_here c) in
-            let e : c.match-statement.way'.now ≡ w.channel.result.now.label = ap (λ (b : Bor Label). b.now) w.way'-is in
-            subst (λ (l : Label). StandsFor c.args.core.now.hierarchy l (way_past (program_of c.args.core.now) (way_here c) (statement_of c.statement-item.result))) (sym e) stands
-        | in_default w ↦
-            let e : c.match-statement.way'.now ≡ c.loop-statement.way.now = ap (λ (b : Bor Label). b.now) w.way'-is in
-            let same : way_past (program_of c.args.core.now) (way_here c) (statement_of c.statement-item.result) ≡ way_here c =
-            past-other (program_of c.args.core.now) (way_here c) c.statement-item.result w.in_default.not-Receive in
-            subst (λ (l : Label). StandsFor c.args.core.now.hierarchy c.match-statement.way'.now l) (sym same)
-            (subst (λ (l : Label). StandsFor c.args.core.now.hierarchy l (way_here c)) (sym e) c.loop-statement.invariant.stands)
+      | in-Receive w ↦
+          let stands = stands-past (program_of c.args.core.now) (procedure_entry c.args.procedure.now) c.args.core.now.hierarchy (way_here c) w.channel.result.now.label
+          c.statement-item.result w.in-Receive.field-0 w.in-Receive.channel w.in-Receive.field-2 w.in-Receive.is
+          (ap (λ (entry : ChannelEntry). entry.label) w.channel.ensures) (met_here c) in
+          let e : c.match-statement.way'.now ≡ w.channel.result.now.label = ap (λ (b : Bor Label). b.now) w.way'-is in
+          subst (λ (l : Label). StandsFor c.args.core.now.hierarchy l (way_past (program_of c.args.core.now) (way_here c) (statement_of c.statement-item.result))) (sym e) stands
+      | in_default w ↦
+          let e : c.match-statement.way'.now ≡ c.loop-statement.way.now = ap (λ (b : Bor Label). b.now) w.way'-is in
+          let same : way_past (program_of c.args.core.now) (way_here c) (statement_of c.statement-item.result) ≡ way_here c =
+          past-other (program_of c.args.core.now) (way_here c) c.statement-item.result w.in_default.not-Receive in
+          subst (λ (l : Label). StandsFor c.args.core.now.hierarchy c.match-statement.way'.now l) (sym same)
+          (subst (λ (l : Label). StandsFor c.args.core.now.hierarchy l (way_here c)) (sym e) c.loop-statement.invariant.stands)
     ]
 
 pub loop-statement-preserved : goal.loop-statement-preserved
