@@ -120,8 +120,12 @@ pub procedure-faults : (program : Program) (channels locals : ℕ) (procedure : 
     → procedure_faults program procedure
     ≡ fault_unless (not (receives procedure.body) || may_end procedure (Throw end_exception)) Undeclared procedure.at
 procedure-faults program channels locals procedure n s =
-    rw (block-faults program channels locals procedure.body s, no-value procedure n, block-ends program channels locals procedure.body s,
-    all-may-end procedure (may_end procedure (Throw end_exception)) procedure.body refl) refl
+    rw (
+      block-faults program channels locals procedure.body s,
+      no-value procedure n,
+      block-ends program channels locals procedure.body s,
+      all-may-end procedure (may_end procedure (Throw end_exception)) procedure.body refl,
+    ) refl
 
 -- whether there is a receive, and whether the end of an input is declared
 abbrev pub received_in : Procedure → Bool

@@ -1,6 +1,10 @@
 -- The demands and the way of a straight-line block, statement by statement.
 use Rattle.std.proofs.Common.{◌≡◌, refl, sym, ap, ◌∙◌, subst, ℕ, zero, suc, ◌+◌, ◌<◌, ◌≤◌, List, [], ◌∷◌, ◌++◌, length, get_or, take, add-one, Bool, true, false, ◌&&◌, arith}
-use Rattle.std.specs.Prelude.{IsTrue}
+use Rattle.std.specs.Prelude.{IsTrue, Option, nat_lt}
+use Rattle.std.proofs.lemmas.Bool.Decides.{nat_tests}
+use Rattle.labels.proofs.FlowTests.{flows-itself}
+use Rattle.resolved.specs.declared.expression.Variable.{Variable}
+use Rattle.checker.proofs.Receiving.{stands-behind}
 use Rattle.std.proofs.lemmas.Bool.{and_parts}
 use Rattle.std.proofs.lemmas.List.{take_all}
 use Rattle.principals.specs.ActsFor.{PrincipalHierarchy}
@@ -11,10 +15,10 @@ use Rattle.resolved.specs.Tree.{Expression, Statement, Assign, Clear, Store, Rec
 use Rattle.resolved.specs.TreeOf.{statement_of, block_of}
 use Rattle.resolved.specs.Program.{Program, ProcedureEntry}
 use Rattle.resolved.specs.Ends.{thrown_ends}
-use Rattle.resolved.specs.Labelled.{Labelling, Scope, Fits, at_ends, statement_rule, statement_marks, statement_demands, block_demands}
+use Rattle.resolved.specs.Labelled.{Labelling, Scope, Fits, demand, target_demand, channel_label, at_ends, statement_rule, statement_marks, statement_demands, block_demands}
 use Rattle.checker.specs.declared.refusal.FlowRefusal.{FlowRefusal}
 use Rattle.checker.specs.FirstDemand.{TellsFirst}
-use Rattle.checker.specs.Way.{scope_of, way_past, way_through, is_sum_of, is_statement_of, is_block_of}
+use Rattle.checker.specs.Way.{StandsFor, scope_of, is_target_of, way_past, way_through, is_sum_of, is_statement_of, is_block_of}
 use Rattle.checker.proofs.Told.{fits-both, fits-parts, tells-before, tells-behind}
 use Rattle.checker.proofs.Ending.{sum-raises}
 
@@ -105,3 +109,45 @@ module _ (h : PrincipalHierarchy) (scope : Scope) (channels locals : ℕ) where
       (subst (λ (way : Label). TellsFirst h (block_demands scope way (block_of rest)) refusal) (sym e)
       (demands-tell (way_past scope.program begin (statement_of first)) rest i statement refusal straight.1 (omega arith) is
       (subst (λ (way : Label). Fits h (block_demands scope way (block_of (take i rest)))) e parts.1) told))
+
+-- the way past a statement that is no receive
+pub past-other : (program : Program) (way : Label) (statement : S.Statement) → ((at channel : ℕ) (target : Option Variable) → statement ≡ S.Receive at channel target → ⊥)
+    → way_past program way (statement_of statement) ≡ way
+past-other program way (S.Receive at channel target) other = absurd (other at channel target refl)
+past-other program way _ other = refl
+
+-- the demands at the start of the walk
+pub stands-first : (h : PrincipalHierarchy) (label : Label) → StandsFor h label label
+stands-first h label = record { from_way = λ policy there. there; way_flows = flows-itself h label }
+
+-- the channel of a receive of a block is there
+pub receive-there : (channels locals : ℕ) (statement : S.Statement) (at channel : ℕ) (target : Option Variable) → statement ≡ S.Receive at channel target
+    → is_statement_of channels locals (statement_of statement) ≡ true → channel < channels
+receive-there channels locals statement at channel target is s =
+    let there : nat_lt channel channels ≡ true =
+    (and_parts (nat_lt channel channels) (is_target_of locals target)
+    (subst (λ (t : S.Statement). is_statement_of channels locals (statement_of t) ≡ true) is s)).0 in
+    grind (arith, nat_tests)
+
+-- past a receive whose demands hold, the channel's label stands for the way
+pub stands-past : (program : Program) (procedure : ProcedureEntry) (h : PrincipalHierarchy) (pc label : Label) (statement : S.Statement) (at channel : ℕ) (target : Option Variable)
+    → statement ≡ S.Receive at channel target → label ≡ channel_label program channel
+    → ((labelling : Labelling) → Fits h (statement_demands (scope_of program procedure labelling) pc (statement_of statement)))
+    → StandsFor h label (way_past program pc (statement_of statement))
+stands-past program procedure h pc label statement at channel target is same fits =
+    let scope : Scope = scope_of program procedure (record { local_label = λ n. []; loop_label = λ n. [] }) in
+    let fits' : Fits h (statement_demands scope pc (Receive at channel target)) =
+    subst (λ (t : S.Statement). Fits h (statement_demands scope pc (statement_of t))) is (fits scope.labelling) in
+    let first = (fits-parts h (demand at 4 pc (channel_label program channel)) (target_demand scope at 4 (pc ++ channel_label program channel) target) fits').0 in
+    let flow : IsTrue (flows h pc (channel_label program channel)) = (and_parts (flows h pc (channel_label program channel)) true first).0 in
+    subst (λ (t : S.Statement). StandsFor h label (way_past program pc (statement_of t))) (sym is)
+    (subst (λ (l : Label). StandsFor h l (pc ++ channel_label program channel)) (sym same) (stands-behind h pc (channel_label program channel) flow))
+
+-- the same of a list that a call lent
+pub ready-list : (channels locals : ℕ) (body list : List S.Statement) → list ≡ body → is_block_of channels locals (block_of body) ≡ true
+    → is_block_of channels locals (block_of list) ≡ true
+ready-list channels locals body list e s = subst (λ (l : List S.Statement). is_block_of channels locals (block_of l) ≡ true) (sym e) s
+
+pub tells-list : (h : PrincipalHierarchy) (scope : Scope) (begin : Label) (body list : List S.Statement) (refusal : FlowRefusal) → list ≡ body
+    → TellsFirst h (block_demands scope begin (block_of list)) refusal → TellsFirst h (block_demands scope begin (block_of body)) refusal
+tells-list h scope begin body list refusal e told = subst (λ (l : List S.Statement). TellsFirst h (block_demands scope begin (block_of l)) refusal) e told

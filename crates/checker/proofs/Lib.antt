@@ -8,3 +8,5 @@ pub mod Stating
 pub mod Leaving
 pub mod Following
 pub mod PlacesTold
+pub mod Marks
+pub mod Whole

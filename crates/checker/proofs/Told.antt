@@ -24,10 +24,13 @@ pub tells_part : (h : PrincipalHierarchy) (part policies : Label) (i : ℕ) (pol
     → unmet ≡ record { at = at; rule = rule; policy = policy; right = right }
     → TellsPart h part at rule right (Unmet unmet)
 tells_part h part policies i policy at rule right unmet same within is {b} tells refused told =
-    let there : Contains policies policy = (i, within, sym is) in
-    (ap (λ (u : UnmetDemand). u.at) told, ap (λ (u : UnmetDemand). u.rule) told, ap (λ (u : UnmetDemand). u.right) told,
-    subst (λ (p : ReaderPolicy). Contains part p) (sym (ap (λ (u : UnmetDemand). u.policy) told)) (subst (λ (ps : Label). Contains ps policy) same there),
-    subst (λ (p : ReaderPolicy). ¬ Covers h right p) (sym (ap (λ (u : UnmetDemand). u.policy) told)) (λ covered. let yes : b ≡ true = tells.1 covered in absurd (cc)))
+    let there : Contains policies policy = (i, within, sym is) in (
+      ap (λ (u : UnmetDemand). u.at) told,
+      ap (λ (u : UnmetDemand). u.rule) told,
+      ap (λ (u : UnmetDemand). u.right) told,
+      subst (λ (p : ReaderPolicy). Contains part p) (sym (ap (λ (u : UnmetDemand). u.policy) told)) (subst (λ (ps : Label). Contains ps policy) same there),
+      subst (λ (p : ReaderPolicy). ¬ Covers h right p) (sym (ap (λ (u : UnmetDemand). u.policy) told)) (λ covered. let yes : b ≡ true = tells.1 covered in absurd (cc)),
+    )
 
 -- a part of a part
 pub tells-more : (h : PrincipalHierarchy) (part whole : Label) (at : ℕ) (rule : LabelRule) (right : Label) (refusal : FlowRefusal)
@@ -51,9 +54,11 @@ tells-demand h at rule left right NoMemory told = tt
 tells-demand h at rule left right (Unmet unmet) told =
     let d : Demand = record { at = at; rule = rule_number rule; left = left; right = right } in
     let no : flows h left right ≡ false = not-flowing h left right unmet.policy told.3 told.4 in
-    let first : first_unmet h (d ∷ []) ≡ Some d = rw no refl in
-    (d, first,
-    record { at_is = told.0; rule_is = ap rule_number told.1; right_is = told.2; policy_on_left = told.3; not_covered = told.4 })
+    let first : first_unmet h (d ∷ []) ≡ Some d = rw no refl in (
+      d,
+      first,
+      record { at_is = told.0; rule_is = ap rule_number told.1; right_is = told.2; policy_on_left = told.3; not_covered = told.4 },
+    )
 
 pub fits-demand : (h : PrincipalHierarchy) (at rule : ℕ) (left right : Label) → IsTrue (flows h left right) → Fits h (demand at rule left right)
 fits-demand h at rule left right f = and_from (flows h left right) true f refl
@@ -79,15 +84,21 @@ no-first h (d ∷ rest) f =
 -- what is told of demands is told of more of them
 pub tells-before : (h : PrincipalHierarchy) (xs ys : List Demand) (refusal : FlowRefusal) → TellsFirst h xs refusal → TellsFirst h (xs ++ ys) refusal
 tells-before h xs ys NoMemory told = tt
-tells-before h xs ys (Unmet unmet) told =
-    (told.0, find-append (λ (d : Demand). not (flows h d.left d.right)) xs ys
-    ∙ ap (λ found. option_or found (first_unmet h ys)) told.1, told.2)
+tells-before h xs ys (Unmet unmet) told = (
+  told.0,
+  find-append (λ (d : Demand). not (flows h d.left d.right)) xs ys
+      ∙ ap (λ found. option_or found (first_unmet h ys)) told.1,
+  told.2,
+)
 
 pub tells-behind : (h : PrincipalHierarchy) (xs ys : List Demand) (refusal : FlowRefusal) → Fits h xs → TellsFirst h ys refusal → TellsFirst h (xs ++ ys) refusal
 tells-behind h xs ys NoMemory f told = tt
-tells-behind h xs ys (Unmet unmet) f told =
-    (told.0, find-append (λ (d : Demand). not (flows h d.left d.right)) xs ys
-    ∙ ap (λ found. option_or found (first_unmet h ys)) (no-first h xs f) ∙ told.1, told.2)
+tells-behind h xs ys (Unmet unmet) f told = (
+  told.0,
+  find-append (λ (d : Demand). not (flows h d.left d.right)) xs ys
+      ∙ ap (λ found. option_or found (first_unmet h ys)) (no-first h xs f) ∙ told.1,
+  told.2,
+)
 
 -- what a label that stands for another one flows to, the other one flows to too
 pub flows-standing : (h : PrincipalHierarchy) (label way right : Label) → StandsFor h label way → IsTrue (flows h label right) → IsTrue (flows h way right)

@@ -14,5 +14,5 @@ pub use flows::check_flows;
 pub use phases::{Checked, GREATEST_SOURCE, check};
 pub use refusal::{EndDefect, EndRefusal, FlowRefusal, LabelRule, UnmetDemand};
 
-
-
+#[cfg(test)]
+mod tests;

@@ -86,4 +86,3 @@ pub enum FlowRefusal {
     #[error("labels do not fit")]
     Unmet(UnmetDemand),
 }
-

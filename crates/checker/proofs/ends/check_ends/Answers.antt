@@ -23,13 +23,13 @@ returns-then-not-declares_end-clause-refused c = ap first_of (one-fault c)
 no-fault : (c : goal.Joined-else-has_receive) → end_faults (program_of c.args.core.now) ≡ []
 no-fault c =
     elim c.else-has_receive.branch [
-        else-has_receive-via-then-has_receive+else-not-declares_end w ↦
-            end-faults c.args.core.now c.main_of-main.result.now c.main_of-main.ensures.only c.main_of-main.ensures.straight c.main_of-main.ensures.ready true true
-            (received-list c.main_of-main.result.now c.deref.result.now c.deref.ensures.value ∙ sym c.has_receive.ensures ∙ w.if-has_receive.true)
-            (declared-list c.main_of-main.result.now w.deref-then-has_receive.result.now w.deref-then-has_receive.ensures.value ∙ sym w.declares_end.ensures ∙ w.if-not-declares_end.false)
-        | else-has_receive-via-else-has_receive w ↦
-            end-faults c.args.core.now c.main_of-main.result.now c.main_of-main.ensures.only c.main_of-main.ensures.straight c.main_of-main.ensures.ready false (declared_in c.main_of-main.result.now)
-            (received-list c.main_of-main.result.now c.deref.result.now c.deref.ensures.value ∙ sym c.has_receive.ensures ∙ w.if-has_receive.false) refl
+      | else-has_receive-via-then-has_receive+else-not-declares_end w ↦
+          end-faults c.args.core.now c.main_of-main.result.now c.main_of-main.ensures.only c.main_of-main.ensures.straight c.main_of-main.ensures.ready true true
+          (received-list c.main_of-main.result.now c.deref.result.now c.deref.ensures.value ∙ sym c.has_receive.ensures ∙ w.if-has_receive.true)
+          (declared-list c.main_of-main.result.now w.deref-then-has_receive.result.now w.deref-then-has_receive.ensures.value ∙ sym w.declares_end.ensures ∙ w.if-not-declares_end.false)
+      | else-has_receive-via-else-has_receive w ↦
+          end-faults c.args.core.now c.main_of-main.result.now c.main_of-main.ensures.only c.main_of-main.ensures.straight c.main_of-main.ensures.ready false (declared_in c.main_of-main.result.now)
+          (received-list c.main_of-main.result.now c.deref.result.now c.deref.ensures.value ∙ sym c.has_receive.ensures ∙ w.if-has_receive.false) refl
     ]
 
 pub returns-clause-clean : goal.returns-clause-clean

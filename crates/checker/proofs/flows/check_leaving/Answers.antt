@@ -27,10 +27,10 @@ loop-thrown-preserved c =
     thrown-next c.args.hierarchy.now c.args.procedure.now.at marks c.deref-thrown-items.result.now c.loop-thrown.thrown-index c.thrown-item.result
     c.loop-thrown-test.true c.thrown-item.is (c.loop-thrown.invariant marks stands)
     (elim c.if-thrown-eq-END.branch [
-        then-thrown-eq-END+in_ok-check_label-2 w ↦
-            ended-fits c.args.hierarchy.now c.args.procedure.now.at marks c.args.way.now c.thrown-item.result stands w.if-thrown-eq-END.true w.in_ok-check_label-2.ensures.met
-        | else-thrown-eq-END w ↦
-            other-fits c.args.hierarchy.now c.args.procedure.now.at marks c.args.way.now c.thrown-item.result stands w.if-thrown-eq-END.false
+      | then-thrown-eq-END+in_ok-check_label-2 w ↦
+          ended-fits c.args.hierarchy.now c.args.procedure.now.at marks c.args.way.now c.thrown-item.result stands w.if-thrown-eq-END.true w.in_ok-check_label-2.ensures.met
+      | else-thrown-eq-END w ↦
+          other-fits c.args.hierarchy.now c.args.procedure.now.at marks c.args.way.now c.thrown-item.result stands w.if-thrown-eq-END.false
     ])
 
 pub returns-clause-met : goal.returns-clause-met
