@@ -10,3 +10,4 @@ pub mod Following
 pub mod PlacesTold
 pub mod Marks
 pub mod Whole
+pub mod Checking

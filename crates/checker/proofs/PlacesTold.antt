@@ -102,11 +102,11 @@ module _ (fits : ℕ → Bool) where
 
   found-fits : (h : PrincipalHierarchy) (demands : List Demand) (d : Demand) → AllFit demands → first_unmet h demands ≡ Some d → IsTrue (fits d.at)
   found-fits h [] d all e = absurd (let no : None ≡ Some d = e in cc)
-  found-fits h (first ∷ demands) d all e = by_flow (flows h first.left first.right) refl
+  found-fits h (first ∷ demands) d all e = by_flow (flows h first.left first.right) refl (found-fits h demands d all.1)
     where
-      by_flow : (b : Bool) → flows h first.left first.right ≡ b → IsTrue (fits d.at)
-      by_flow true f = found-fits h demands d all.1 (sym (ap (λ b. if not b then Some first else first_unmet h demands) f) ∙ e)
-      by_flow false f =
+      by_flow : (b : Bool) → flows h first.left first.right ≡ b → (first_unmet h demands ≡ Some d → IsTrue (fits d.at)) → IsTrue (fits d.at)
+      by_flow true f rest = rest (sym (ap (λ b. if not b then Some first else first_unmet h demands) f) ∙ e)
+      by_flow false f rest =
           let is : Some first ≡ Some d = sym (ap (λ b. if not b then Some first else first_unmet h demands) f) ∙ e in
           let same : first ≡ d = cc in
           subst (λ x. IsTrue (fits x.at)) same all.0

@@ -68,8 +68,9 @@ pub fn check(alloc: Global, hierarchy: &Hierarchy, source: &str) -> Result<Check
             return Err(refused(source, Cause::Names(refusal), at));
         }
     };
-    if let Err(EndRefusal { defect, at }) = check_ends(&core) {
-        return Err(refused(source, Cause::Ends(defect), at));
+    match check_ends(&core) {
+        Ok(()) => {}
+        Err(EndRefusal { defect, at }) => return Err(refused(source, Cause::Ends(defect), at)),
     }
     match check_flows(alloc, &core) {
         Ok(()) => Ok(Checked { core }),
