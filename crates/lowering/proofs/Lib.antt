@@ -4,4 +4,8 @@ pub mod Places
 pub mod Rows
 pub mod Values
 pub mod Statements
-pub mod Whole
+pub mod Runs
+pub mod Literals
+pub mod Lists
+pub mod Hierarchies
+pub mod Bodies
