@@ -1,2 +1,4 @@
+pub mod FittingNames
+pub mod Fronts
 pub mod Sent
 pub mod Steps

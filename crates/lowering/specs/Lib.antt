@@ -1,3 +1,4 @@
 pub mod Interface
 pub mod StraightCode
 pub mod Kept
+pub mod Names
