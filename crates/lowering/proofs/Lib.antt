@@ -1,3 +1,5 @@
+pub mod FittingChannels
+pub mod FittingCode
 pub mod FittingNames
 pub mod Fronts
 pub mod Sent
