@@ -3,4 +3,5 @@ pub mod FittingCode
 pub mod FittingNames
 pub mod Fronts
 pub mod Sent
+pub mod Spelled
 pub mod Steps
