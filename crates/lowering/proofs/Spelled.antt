@@ -91,12 +91,21 @@ only_from program straight =
       straight = one.2;
     }
 
+-- the numbers of nodes
+record Counts (program : Program) (p : ProcedureEntry) : Type 0 where
+  channel_nodes : sum_by (λ (entry : ChannelEntry). 1 + label_nodes entry.label) program.channels ≤ 1048576
+  nodes : 1 + length p.slots + block_nodes p.body ≤ 1048576
+
+counts_from : (program : Program) (p : ProcedureEntry) → program_nodes program ≤ node_limit → program.procedures ≡ p ∷ [] → Counts program p
+counts_from program p few alone =
+    let of_one : sum_by procedure_nodes program.procedures ≡ procedure_nodes p = ap (sum_by procedure_nodes) alone ∙ sum_by-cons procedure_nodes p [] ∙ omega arith in
+    record { channel_nodes = omega (arith, few); nodes = omega (arith, few, of_one) }
+
 -- the tests of a well-formed program that matter here
 record Tests (program : Program) (p : ProcedureEntry) : Type 0 where
   labels : list_all (λ (entry : ChannelEntry). label_fits program.hierarchy entry.label) program.channels ≡ true
   body : block_fits program p p.body ≡ true
-  channel_nodes : sum_by (λ (entry : ChannelEntry). 1 + label_nodes entry.label) program.channels ≤ 1048576
-  nodes : 1 + length p.slots + block_nodes p.body ≤ 1048576
+  counts : Counts program p
 
 tests_from : (program : Program) (p : ProcedureEntry) → well_formed program ≡ true → program.procedures ≡ p ∷ [] → Tests program p
 tests_from program p well alone =
@@ -105,16 +114,13 @@ tests_from program p well alone =
     let with_procedures = and_parts _ _ with_main.0 in
     let with_globals = and_parts _ _ with_procedures.0 in
     let channels = and_parts _ _ with_globals.0 in
-    let nodes : program_nodes program ≤ node_limit = leb-true _ _ most.1 in
     let one : list_all (procedure_fits program) (p ∷ []) ≡ true = subst (λ entries. list_all (procedure_fits program) entries ≡ true) alone with_procedures.1 in
     let fits = and_parts (procedure_fits program p) true one in
     let without_loops = and_parts _ _ (and_parts _ _ fits.0).0 in
-    let of_one : sum_by procedure_nodes program.procedures ≡ procedure_nodes p = ap (sum_by procedure_nodes) alone ∙ (sum_by-cons procedure_nodes p [] ∙ omega arith) in
     record {
       labels = channels.1;
       body = (and_parts _ _ without_loops.0).1;
-      channel_nodes = omega (arith, nodes);
-      nodes = omega (arith, nodes, of_one);
+      counts = counts_from program p (leb-true _ _ most.1) alone;
     }
 
 straight_body : (p : ProcedureEntry) → is_straight_procedure p ≡ true → is_straight_block p.body ≡ true
@@ -126,8 +132,8 @@ straight_body p h =
 only_fits : (program : Program) (p : ProcedureEntry) → is_straight_procedure p ≡ true → Tests program p → Fits procedure (procedure_contents p)
 only_fits program p straight tests =
     let few_channels = length_by_sum (λ (entry : ChannelEntry). 1 + label_nodes entry.label) program.channels (λ entry. omega arith) in
-    let code = body_fit program p (omega (arith, tests.nodes)) (omega (arith, few_channels, tests.channel_nodes)) p.body (straight_body p straight) tests.body in
-    procedure_fits_form p (omega (arith, tests.nodes)) (code_fits (10 * block_nodes p.body + 1) _ (omega (arith, tests.nodes)) code)
+    let code = body_fit program p (omega (arith, tests.counts.nodes)) (omega (arith, few_channels, tests.counts.channel_nodes)) p.body (straight_body p straight) tests.body in
+    procedure_fits_form p (omega (arith, tests.counts.nodes)) (code_fits (10 * block_nodes p.body + 1) _ (omega (arith, tests.counts.nodes)) code)
 
 -- ---- the module
 
@@ -137,6 +143,6 @@ Fits-module program straight well names =
     let only = only_from program straight in
     let tests = tests_from program only.entry well only.alone in
     let people = hierarchy_fits program.hierarchy names.hierarchy names.principals in
-    let channels = channels_fit program.hierarchy program.channels names.hierarchy.few tests.channel_nodes tests.labels names.channels names.different names.labels in
+    let channels = channels_fit program.hierarchy program.channels names.hierarchy.few tests.counts.channel_nodes tests.labels names.channels names.different names.labels in
     let form = subst (λ p. Fits procedure (procedure_contents p)) (sym only.first) (only_fits program only.entry only.straight tests) in
     ((people, (fit_declared (length program.hierarchy.names) _ channels, program_fits_form (procedure_at program program.main) form)), refl)

@@ -2,3 +2,4 @@ pub mod Interface
 pub mod StraightCode
 pub mod Kept
 pub mod Names
+pub mod Observed
