@@ -1,4 +1,10 @@
+pub mod FittingChannels
+pub mod FittingCode
+pub mod FittingNames
+pub mod Fronts
+pub mod Readers
 pub mod Sent
+pub mod Spelled
 pub mod Steps
 pub mod Places
 pub mod Rows
