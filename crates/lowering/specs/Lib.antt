@@ -1,3 +1,5 @@
 pub mod Interface
 pub mod StraightCode
 pub mod Kept
+pub mod Names
+pub mod Observed
