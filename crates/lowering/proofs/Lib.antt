@@ -2,6 +2,7 @@ pub mod FittingChannels
 pub mod FittingCode
 pub mod FittingNames
 pub mod Fronts
+pub mod Isolating
 pub mod Readers
 pub mod Sent
 pub mod Spelled
