@@ -7,3 +7,12 @@ pub mod Readers
 pub mod Sent
 pub mod Spelled
 pub mod Steps
+pub mod Places
+pub mod Rows
+pub mod Values
+pub mod Statements
+pub mod Runs
+pub mod Literals
+pub mod Lists
+pub mod Hierarchies
+pub mod Bodies
