@@ -1,5 +1,5 @@
 -- A module that keeps the meaning of an isolated program is isolated.
-use Rattle.std.proofs.Common.{◌≡◌, ◌⊎◌, ℕ, Bool, List, [], ◌∷◌, ◌++◌, filter, refl, sym, ap, ◌∙◌, subst, inl, inr, ⊎_elim}
+use Rattle.std.proofs.Common.{◌≡◌, ◌⊎◌, Bool, List, [], ◌∷◌, ◌++◌, filter, refl, sym, ap, ◌∙◌, subst, inl, inr, ⊎_elim}
 use Rattle.std.proofs.lemmas.List.Elements.{filter-append}
 use Rattle.labels.specs.declared.sent.Pair.{Pair}
 use Rattle.labels.specs.Label.{may_read}
@@ -8,12 +8,11 @@ use Rattle.resolved.specs.Isolated.{Isolated}
 use Rattle.resolved.specs.Labelled.{channel_label}
 use Rattle.resolved.specs.Meaning.{sent_by}
 use Rattle.resolved.specs.Program.{Program}
-use Rattle.resolved.specs.State.{World}
 use Rattle.bytecode.specs.Contents.{ModuleContents}
 use Rattle.bytecode.specs.Machine.{sent_after}
 use Rattle.lowering.specs.Interface.{SameInterface}
 use Rattle.lowering.specs.Kept.{MeaningKept}
-use Rattle.lowering.specs.Observed.{label_in, AgreeOn, IsolatedModule}
+use Rattle.lowering.specs.Observed.{label_in, IsolatedModule}
 use Rattle.lowering.proofs.Readers.{seen-module, agree-module}
 use Rattle.lowering.proofs.Sent.{Begins-through}
 
