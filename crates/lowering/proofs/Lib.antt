@@ -1,3 +1,4 @@
+pub mod Characters
 pub mod FittingChannels
 pub mod FittingCode
 pub mod FittingNames
