@@ -4,6 +4,7 @@ pub mod FittingCode
 pub mod FittingNames
 pub mod Fronts
 pub mod Isolating
+pub mod Naming
 pub mod Readers
 pub mod Sent
 pub mod Spelled
