@@ -55,7 +55,7 @@ number_fits count n few below = (omega (arith, few, below), lt-ltb _ _ below)
 
 -- ---- pairs
 
-pair_cmp-total : IsTotalOrder pair_cmp
+pub pair_cmp-total : IsTotalOrder pair_cmp
 pair_cmp-total = then_total (on_total (λ pair. pair.0) nat_cmp_total) (on_total (λ pair. pair.1) nat_cmp_total)
 
 both_tie : (a b : _) → ordering_then a b ≡ Equal → (a ≡ Equal) × (b ≡ Equal)

@@ -21,21 +21,7 @@ use Rattle.bytecode.specs.Format.{pair_cmp}
 use Rattle.resolved.specs.Program.{Program}
 use Rattle.lowering.specs.Interface.{SameInterface}
 use Rattle.lowering.specs.StraightCode.{hierarchy_contents, module_of}
-
-pair_cmp-total : IsTotalOrder pair_cmp
-pair_cmp-total = then_total (on_total (λ (pair : ℕ × ℕ). pair.0) nat_cmp_total) (on_total (λ (pair : ℕ × ℕ). pair.1) nat_cmp_total)
-
-both_tie : (a b : Ordering) → ordering_then a b ≡ Equal → (a ≡ Equal) × (b ≡ Equal)
-both_tie Less b e = absurd (cc)
-both_tie Equal b e = (refl, e)
-both_tie Greater b e = absurd (cc)
-
-pair_cmp-exact : CmpEqualImpliesEq pair_cmp
-pair_cmp-exact p q e =
-    let ties = both_tie (nat_cmp p.0 q.0) (nat_cmp p.1 q.1) e in
-    let lefts : p.0 ≡ q.0 = exact_unsigned p.0 q.0 ties.0 in
-    let rights : p.1 ≡ q.1 = exact_unsigned p.1 q.1 ties.1 in
-    λ i. (lefts i, rights i)
+use Rattle.lowering.proofs.FittingNames.{pair_cmp-total, pair_cmp-exact}
 
 -- two pairs are equal number by number
 abbrev pub same_pair : ℕ × ℕ → ℕ × ℕ → Bool

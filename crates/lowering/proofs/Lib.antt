@@ -18,3 +18,4 @@ pub mod Literals
 pub mod Lists
 pub mod Hierarchies
 pub mod Bodies
+mod SmallPrograms

@@ -1,8 +1,7 @@
 //! Whole modules.
-ghost use Rattle.bytecode.specs.Form.{Fits};
-ghost use Rattle.bytecode.specs.Format.{module_file};
 ghost use Rattle.lowering.specs.Interface.{SameInterface};
 ghost use Rattle.lowering.specs.Kept.{MeaningKept};
+ghost use Rattle.lowering.specs.Names.{HasNames};
 ghost use Rattle.lowering.specs.StraightCode.{module_of};
 ghost use Rattle.resolved.specs.CoreOf.{program_of};
 ghost use Rattle.resolved.specs.StraightLine.{is_straight_line};
@@ -16,14 +15,15 @@ use std::alloc::{AllocError, Global};
 
 /// The module of a straight-line program, which does what the program does.
 ///
-/// The caller owes that the program is straight-line.
+/// The caller owes that the program is straight-line, and that its principals and channels have names, as every program that was
+/// read from a text has.
 ///
 /// # Errors
 ///
 /// Memory was refused.
 pub fn emit(alloc: Global, core: &Core) -> Result<Module, AllocError>
     requires straight { IsTrue (is_straight_line (program_of core.now)) }
-    requires fits { Fits module_file (module_of (program_of core.now)) }
+    requires names { HasNames (program_of core.now) }
     ensures module { IfOk result (λ m. m ≡ module_of (program_of core.now)) }
     ensures kept { IfOk result (λ m. MeaningKept (program_of core.now) m) }
     ensures interface { IfOk result (λ m. SameInterface (program_of core.now) m) }
