@@ -1,7 +1,10 @@
+pub mod Characters
 pub mod FittingChannels
 pub mod FittingCode
 pub mod FittingNames
 pub mod Fronts
+pub mod Isolating
+pub mod Naming
 pub mod Readers
 pub mod Sent
 pub mod Spelled

@@ -1,20 +1,19 @@
 -- The names of a hierarchy text are names.
-use Rattle.std.proofs.Common.{◌≡◌, ℕ, ◌+◌, ◌-◌, ◌≤◌, Bool, true, List, [], ◌∷◌, ◌++◌, length, drop, get_or, refl, sym, ap, subst, IsTrue, arith}
+use Rattle.std.proofs.Common.{◌≡◌, ℕ, ◌+◌, ◌-◌, ◌≤◌, true, List, [], ◌∷◌, ◌++◌, length, drop, get_or, refl, sym, ap, subst, arith}
 use Rattle.std.proofs.lemmas.Bool.{and_parts, and_from}
 use Rattle.std.proofs.lemmas.List.{length-take, length-drop}
 use Rattle.std.proofs.lemmas.List.Elements.{All-from_recursion, All-append, All-cons, All-nil, All-head, All-tail}
 use Rattle.std.proofs.lemmas.Str.{scalars-chars, IsUtf8-nil}
 use Rattle.std.specs.List.{AllByRecursion, All}
-use Rattle.std.specs.Str.{chars, IsUtf8, encode_utf8_all, all_scalars}
-use Rattle.lexer.proofs.Listed.{Listed, listed}
+use Rattle.std.specs.Str.{chars, IsUtf8, all_scalars}
+use Rattle.lexer.proofs.Listed.{listed}
 use Rattle.lexer.specs.Cut.{Cuts, Nothing, Token, Between, IsCut, terminal_at, size}
 use Rattle.lexer.specs.Listing as listing
 use Rattle.lexer.specs.Listing.{IsSliceOf, IsSpelled}
 use Rattle.lexer.specs.Terminal.{Terminal}
-use Rattle.lexer.specs.Words.{is_name_text}
 use Rattle.lexer.specs.declared.token.Kind.TheVariants.{Name, End}
 use Rattle.principals.specs.ActsFor.{PrincipalHierarchy}
-use Rattle.principals.specs.HierarchyText.{Entry, Nonterminal, Derives, Finish, Declaration, Relation, OneMore, Last, IsPrincipalName, declared, IsHierarchyOf}
+use Rattle.principals.specs.HierarchyText.{Entry, Nonterminal, Derives, Finish, Declaration, Relation, OneMore, Last, declared, IsHierarchyOf}
 use Rattle.principals.specs.Laws.{IsNameWithin}
 
 scalars_parts : (xs ys : List ℕ) → all_scalars (xs ++ ys) ≡ true → (all_scalars xs ≡ true) × (all_scalars ys ≡ true)
