@@ -1,0 +1,48 @@
+-- The events, answers and results of the code as those of the meaning, and what stands behind a host.
+-- Source: our own.
+use Rattle.std.specs.Prelude.{ℕ, ◌^◌, List, Option, Some, None, Result, Ok, Err, map}
+use Rattle.std.specs.Global.{Vec}
+use Rattle.labels.specs.declared.sent.Pair.{Pair}
+use Rattle.machine.specs.declared.status.Status.{Status}
+use Rattle.host.specs.Meaning as meaning
+use Rattle.host.specs.Meaning.{HostEvent, HostAnswer}
+use Rattle.host.specs.declared.fault.HostFault.{HostFault}
+use Rattle.host.specs.declared.event.Event.{Event}
+use Rattle.host.specs.declared.event.Event.TheVariants.{Open, Turn, View, Close}
+use Rattle.host.specs.declared.event.Answer.{Answer}
+use Rattle.host.specs.declared.event.Answer.TheVariants.{Opened, Turned, Viewed, Closed, Refused}
+
+abbrev pub event_of : Event → HostEvent
+event_of (Open bytes world) = meaning.Open bytes.items world
+event_of (Turn id n) = meaning.Turn id n
+event_of (View id p) = meaning.View id p
+event_of (Close id) = meaning.Close id
+
+abbrev pub answer_of : Answer → HostAnswer
+answer_of (Opened id) = meaning.Opened id
+answer_of (Turned taken status) = meaning.Turned taken status
+answer_of (Viewed pairs) = meaning.Viewed pairs.items
+answer_of Closed = meaning.Closed
+answer_of (Refused fault) = meaning.Refused fault
+
+-- the result of each single call as an answer
+abbrev pub opened_or : Result ℕ HostFault → HostAnswer
+opened_or (Ok id) = meaning.Opened id
+opened_or (Err fault) = meaning.Refused fault
+
+abbrev pub turned_or : Result (ℕ × Status) HostFault → HostAnswer
+turned_or (Ok told) = meaning.Turned told.0 told.1
+turned_or (Err fault) = meaning.Refused fault
+
+abbrev pub viewed_or : Result (Vec Pair) HostFault → HostAnswer
+viewed_or (Ok pairs) = meaning.Viewed pairs.items
+viewed_or (Err fault) = meaning.Refused fault
+
+abbrev pub closed_or : {U : Type 0} → Result U HostFault → HostAnswer
+closed_or (Ok done) = meaning.Closed
+closed_or (Err fault) = meaning.Refused fault
+
+-- the next id of a host that keeps none where all of 64 bits were given
+abbrev pub next_of : Option ℕ → ℕ
+next_of None = 2 ^ 64
+next_of (Some id) = id
