@@ -1,7 +1,7 @@
 -- What the meaning of hosts implies, for every host and every list of events: a session is a run of its module alone on its
 -- world, by as many steps as its own turns told; and sessions of isolated bytes are isolated.
 -- Source: our own; noninterference after Volpano, Smith and Irvine 1996.
-use Rattle.std.specs.Prelude.{◌≡◌, ℕ, ◌+◌, ◌<◌, ◌==◌, if◌then◌else◌, List, [], ◌∷◌, slice_get, slice_range, Option, Some}
+use Rattle.std.specs.Prelude.{◌≡◌, ℕ, ◌+◌, ◌<◌, ◌==◌, if◌then◌else◌, List, [], ◌∷◌, slice_get, take, drop, Option, Some}
 use Rattle.labels.specs.declared.sent.Pair.{Pair}
 use Rattle.bytecode.specs.Contents.{ModuleContents}
 use Rattle.bytecode.specs.Form.{Spells}
@@ -22,7 +22,7 @@ steps_told id [] answers = 0
 steps_told id (event ∷ events) [] = 0
 steps_told id (event ∷ events) (answer ∷ answers) = told_of id event answer + steps_told id events answers
 
--- a host, old or new, was asked these events and gave these answers. In one place a session of these bytes on this world is opened,
+-- some host was asked these events and gave these answers. In one place a session of these bytes on this world is opened,
 -- and in a later one a principal is shown these pairs of it
 pub record Shows (bytes : List ℕ) (world : List InputNumbers) (p : ℕ) (pairs : List Pair) : Type 0 where
   pub places : ℕ
@@ -43,7 +43,7 @@ pub record Shows (bytes : List ℕ) (world : List InputNumbers) (p : ℕ) (pairs
 -- the steps that the session's own turns told before it was viewed
 abbrev pub steps_of : (bytes : List ℕ) (world : List InputNumbers) (p : ℕ) (pairs : List Pair) → Shows bytes world p pairs → ℕ
 steps_of bytes world p pairs shows =
-    steps_told shows.id (slice_range shows.events shows.opened shows.viewed) (slice_range shows.answers shows.opened shows.viewed)
+    steps_told shows.id (drop shows.opened (take shows.viewed shows.events)) (drop shows.opened (take shows.viewed shows.answers))
 
 -- whatever a session is asked, and whatever events of other sessions come between: what is shown of it is what a fresh run of the
 -- module that the bytes spell, alone on the world, has sent after the steps that the session's own turns told

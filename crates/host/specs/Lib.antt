@@ -2,4 +2,4 @@ pub mod Isolated
 pub mod Meaning
 pub mod Values
 pub mod Laws
-pub mod Places
+pub mod Next

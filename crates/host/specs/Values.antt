@@ -1,17 +1,36 @@
--- The events, answers and results of the code as those of the meaning, and what stands behind a host.
+-- The hosts, events, answers and results of the code as those of the meaning.
 -- Source: our own.
 use Rattle.std.specs.Prelude.{ℕ, ◌^◌, List, Option, Some, None, Result, Ok, Err, map}
 use Rattle.std.specs.Global.{Vec}
 use Rattle.labels.specs.declared.sent.Pair.{Pair}
+use Rattle.machine.specs.Run.{RunContents, machine_of}
 use Rattle.machine.specs.declared.status.Status.{Status}
 use Rattle.host.specs.Meaning as meaning
-use Rattle.host.specs.Meaning.{HostEvent, HostAnswer}
+use Rattle.host.specs.Meaning.{SessionContents, HostContents, HostEvent, HostAnswer}
 use Rattle.host.specs.declared.fault.HostFault.{HostFault}
 use Rattle.host.specs.declared.event.Event.{Event}
 use Rattle.host.specs.declared.event.Event.TheVariants.{Open, Turn, View, Close}
 use Rattle.host.specs.declared.event.Answer.{Answer}
 use Rattle.host.specs.declared.event.Answer.TheVariants.{Opened, Turned, Viewed, Closed, Refused}
 
+-- what a host keeps of an open session: its id, and its run
+pub record KeptSession : Type 0 where
+  pub id : ℕ
+  pub run : RunContents
+
+-- what a host keeps
+pub record KeptHost : Type 0 where
+  pub next : ℕ
+  pub sessions : List KeptSession
+
+abbrev pub contents_of : KeptSession → SessionContents
+contents_of session = record { id = session.id; program = session.run.program; machine = machine_of session.run }
+
+-- a kept host as one of the meaning
+abbrev pub host_of : KeptHost → HostContents
+host_of host = record { next = host.next; sessions = map contents_of host.sessions }
+
+-- an event and an answer as those of the meaning
 abbrev pub event_of : Event → HostEvent
 event_of (Open bytes world) = meaning.Open bytes.items world
 event_of (Turn id n) = meaning.Turn id n
@@ -41,8 +60,3 @@ viewed_or (Err fault) = meaning.Refused fault
 abbrev pub closed_or : {U : Type 0} → Result U HostFault → HostAnswer
 closed_or (Ok done) = meaning.Closed
 closed_or (Err fault) = meaning.Refused fault
-
--- the next id of a host that keeps none where all of 64 bits were given
-abbrev pub next_of : Option ℕ → ℕ
-next_of None = 2 ^ 64
-next_of (Some id) = id

@@ -1,10 +1,10 @@
-ghost use Rattle.host.specs.Meaning.{Answered, Answers, Close, HostContents, Open, Turn, View};
-ghost use Rattle.host.specs.Values.{answer_of, closed_or, event_of, opened_or, turned_or, viewed_or};
+ghost use Rattle.host.specs.Meaning.{Answered, Answers, Close, Open, Turn, View};
+ghost use Rattle.host.specs.Values.{answer_of, closed_or, event_of, host_of, opened_or, turned_or, viewed_or};
 ghost use Rattle.std.specs.Prelude.{[], ◌≡◌, IfOk, OnErr, map};
 
 use crate::event::{Answer, Event, Id};
 use crate::fault::HostFault;
-use crate::session::{Session, find, first_run};
+use crate::session::{Session, find, first_run, remove};
 use crate::view::seen;
 use channels::{Pair, World};
 use machine::Status;
@@ -28,10 +28,10 @@ pub struct Host {
 }
 
 impl Model for Host {
-    ghost use Rattle.host.specs.Meaning.{HostContents};
-    ghost use Rattle.host.specs.Values.{next_of};
+    ghost use Rattle.host.specs.Next.{next_of};
+    ghost use Rattle.host.specs.Values.{KeptHost};
 
-    ghost Value = { HostContents };
+    ghost Value = { KeptHost };
 
     ghost view = { λ host. record { next = next_of host.next; sessions = host.sessions.items } };
 }
@@ -39,7 +39,7 @@ impl Model for Host {
 impl Host {
     /// A host without sessions, which has given no id. It takes no memory.
     pub fn new(alloc: Global) -> Host
-        ensures { result ≡ record { next = 0; sessions = [] } }
+        ensures { host_of result ≡ record { next = 0; sessions = [] } }
     {
         Host {
             next: Some(0),
@@ -56,7 +56,7 @@ impl Host {
     /// code; the names of the world's inputs are not those of the module's inputs. Want of memory may be answered
     /// in place of all but the first.
     pub fn open(&mut self, bytes: &[u8], world: World) -> Result<Id, HostFault>
-        ensures { Answers PLACES self.old (Open bytes.now world) (opened_or result) self.new }
+        ensures { Answers PLACES (host_of self.old) (Open bytes.now world) (opened_or result) (host_of self.new) }
     {
         let Some(id) = self.next else {
             return Err(HostFault::Full);
@@ -78,7 +78,7 @@ impl Host {
     ///
     /// No open session has the id. Want of memory is a status, and no error. The refusal takes no memory.
     pub fn turn(&mut self, id: Id, steps: u64) -> Result<(u64, Status), HostFault>
-        ensures { Answers PLACES self.old (Turn id steps) (turned_or result) self.new }
+        ensures { Answers PLACES (host_of self.old) (Turn id steps) (turned_or result) (host_of self.new) }
     {
         let Some(place) = find(&self.sessions, id) else {
             return Err(HostFault::UnknownId);
@@ -95,7 +95,7 @@ impl Host {
     /// No open session has the id, else its module has no principal of this number, else want of memory. The first
     /// two take no memory.
     pub fn view(&self, id: Id, principal: u32) -> Result<Vec<Pair>, HostFault>
-        ensures { Answers PLACES self.now (View id principal) (viewed_or result) self.now }
+        ensures { Answers PLACES (host_of self.now) (View id principal) (viewed_or result) (host_of self.now) }
     {
         let Some(place) = find(&self.sessions, id) else {
             return Err(HostFault::UnknownId);
@@ -117,12 +117,12 @@ impl Host {
     ///
     /// No open session has the id.
     pub fn close(&mut self, id: Id) -> Result<(), HostFault>
-        ensures { Answers PLACES self.old (Close id) (closed_or result) self.new }
+        ensures { Answers PLACES (host_of self.old) (Close id) (closed_or result) (host_of self.new) }
     {
-        if find(&self.sessions, id).is_none() {
+        let Some(_) = find(&self.sessions, id) else {
             return Err(HostFault::UnknownId);
-        }
-        self.sessions.retain(|session| session.id() != id);
+        };
+        remove(&mut self.sessions, id);
         Ok(())
     }
 
@@ -132,7 +132,7 @@ impl Host {
     ///
     /// The list of answers was refused memory. It is asked for first, and nothing has happened then.
     pub fn run(&mut self, events: Vec<Event>) -> Result<Vec<Answer>, AllocError>
-        ensures answered { IfOk result (λ answers. Answered PLACES self.old (map event_of events.items) (map answer_of answers.items) self.new) }
+        ensures answered { IfOk result (λ answers. Answered PLACES (host_of self.old) (map event_of events.items) (map answer_of answers.items) (host_of self.new)) }
         ensures refused { OnErr result (self.new ≡ self.old) }
     {
         let mut answers = Vec::with_capacity(self.alloc, events.len())?;
@@ -147,7 +147,7 @@ impl Host {
 
     // Answers one event.
     fn answer(&mut self, event: Event) -> Answer
-        ensures { Answers PLACES self.old (event_of event) (answer_of result) self.new }
+        ensures { Answers PLACES (host_of self.old) (event_of event) (answer_of result) (host_of self.new) }
     {
         match event {
             Event::Open(bytes, world) => match self.open(&bytes, world) {

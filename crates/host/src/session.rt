@@ -1,9 +1,8 @@
-ghost use Rattle.host.specs.Meaning.{CanOpen, CannotOpen, SessionContents, Takes, first_machine};
-ghost use Rattle.host.specs.Places.{place_of};
-ghost use Rattle.bytecode.specs.Contents.{ModuleContents};
-ghost use Rattle.bytecode.specs.Machine.{Machine as StateOfRun, sent_of};
+ghost use Rattle.bytecode.specs.Machine.{sent_of};
+ghost use Rattle.host.specs.Meaning.{CanOpen, CannotOpen, Takes, first_machine};
+ghost use Rattle.host.specs.Values.{contents_of};
 ghost use Rattle.machine.specs.Run.{machine_of};
-ghost use Rattle.std.specs.Prelude.{◌≡◌, IfErr, IfOk};
+ghost use Rattle.std.specs.Prelude.{◌≡◌, ◌==◌, IfErr, IfOk, filter, not, position};
 
 use crate::event::Id;
 use crate::fault::HostFault;
@@ -22,17 +21,16 @@ pub struct Session {
 }
 
 impl Model for Session {
-    ghost use Rattle.host.specs.Meaning.{SessionContents};
-    ghost use Rattle.machine.specs.Run.{machine_of};
+    ghost use Rattle.host.specs.Values.{KeptSession};
 
-    ghost Value = { SessionContents };
+    ghost Value = { KeptSession };
 
-    ghost view = { λ s. record { id = s.id; program = s.machine.program; machine = machine_of s.machine } };
+    ghost view = { λ session. record { id = session.id; run = session.machine } };
 }
 
 impl Session {
     pub fn new(id: Id, machine: Machine) -> Session
-        ensures { result ≡ record { id = id; program = machine.program; machine = machine_of machine } }
+        ensures { result ≡ record { id = id; run = machine } }
     {
         Session { id, machine }
     }
@@ -44,22 +42,23 @@ impl Session {
     }
 
     pub fn module(&self) -> &Module
-        ensures { result.now ≡ self.now.program }
+        ensures { result.now ≡ self.now.run.program }
     {
         self.machine.module()
     }
 
     /// What the run has sent so far.
     pub fn sent(&self) -> &[Pair]
-        ensures { result.now ≡ sent_of self.now.machine }
+        ensures { result.now ≡ sent_of (machine_of self.now.run) }
     {
         self.machine.sent().pairs()
     }
 
     /// Takes at most so many steps, and tells how many it took and how the run then stands.
     pub fn turn(&mut self, steps: u64) -> (u64, Status)
-        ensures kept { self.new ≡ record self.old { machine = self.new.machine } }
-        ensures takes { Takes self.old steps result.0 result.1 self.new.machine }
+        ensures id { self.new.id ≡ self.old.id }
+        ensures program { self.new.run.program ≡ self.old.run.program }
+        ensures takes { Takes (contents_of self.old) steps result.0 result.1 (machine_of self.new.run) }
     {
         self.machine.run(steps)
     }
@@ -92,12 +91,14 @@ pub fn first_run(alloc: Global, bytes: &[u8], world: World) -> Result<Machine, H
 
 /// The place of the first session with an id.
 pub fn find(sessions: &[Session], id: Id) -> Option<usize>
-    ensures { result ≡ place_of id sessions.now }
+    ensures { result ≡ position (λ session. session.id == id) sessions.now }
 {
-    for (place, session) in sessions.iter().enumerate() {
-        if session.id() == id {
-            return Some(place);
-        }
-    }
-    None
+    sessions.iter().position(|session| session.id() == id)
+}
+
+/// Drops the sessions with an id.
+pub fn remove(sessions: &mut Vec<Session>, id: Id)
+    ensures { sessions.new.items ≡ filter (λ session. not (session.id == id)) sessions.old.items }
+{
+    sessions.retain(|session| session.id() != id);
 }

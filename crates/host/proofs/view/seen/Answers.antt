@@ -1,0 +1,4 @@
+use Rattle.host.proofs.view.seen.Goals as goal
+
+pub returns : goal.returns
+returns c = ?
