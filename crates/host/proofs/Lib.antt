@@ -1,1 +1,4 @@
+mod Answered
+mod Isolation
+mod Lives
 mod Sessions

@@ -1,14 +1,20 @@
 -- Kept sessions and those of the meaning.
-use Rattle.std.proofs.Common.{◌≡◌, ℕ, zero, suc, ◌+◌, ◌<◌, ◌≤◌, ◌==◌, Bool, true, false, not, cond, List, [], ◌∷◌, map, length, get_or, set, Option, None, Some, refl, sym, ap, ◌∙◌, arith}
+use Rattle.std.proofs.Common.{◌≡◌, ℕ, zero, suc, ◌+◌, ◌^◌, ◌<◌, ◌≤◌, ◌==◌, Bool, true, false, not, cond, List, [], ◌∷◌, map, length, get_or, set, take, drop, Option, None, Some, refl, sym, ap, ◌∙◌, subst, arith}
 use Rattle.std.specs.Prelude.{filter, position, option_map, slice_get}
-use Rattle.std.specs.List.{find, position_or_len}
+use Rattle.std.specs.List.{find, insert, position_or_len}
+use Rattle.std.specs.Option.{SomeIff}
+use Rattle.std.proofs.lemmas.List.{length-map}
+use Rattle.channels.specs.World.{InputNumbers}
 use Rattle.std.proofs.lemmas.Grind.{common_steps}
 use Rattle.std.proofs.lemmas.List.Folds.{find_at}
 use Rattle.std.proofs.lemmas.List.Quantifiers.{position-Some}
 use Rattle.std.proofs.lemmas.Option.{none-some, slice_get_past}
 use Rattle.bytecode.specs.Machine.{Machine}
 use Rattle.machine.specs.Run.{machine_of}
-use Rattle.host.specs.Meaning.{SessionContents, HostContents, IsOpen, IsNotOpen, session_of, with_machine, without}
+use Rattle.host.specs.Meaning.{SessionContents, HostContents, IsOpen, IsNotOpen, session_of, with_machine, without, HasRoom, CannotOpen, OpenRefused, first_machine, with_opened}
+use Rattle.host.specs.Next.{next_of}
+use Rattle.host.specs.declared.fault.HostFault.{HostFault}
+use Rattle.host.specs.declared.fault.HostFault.TheVariants.{NoMemory, Full, UnknownId, UnknownPrincipal, UnknownChannel, Bytes, Code}
 use Rattle.host.specs.Values.{KeptSession, KeptHost, contents_of, host_of}
 
 abbrev has_id : ℕ → KeptSession → Bool
@@ -121,3 +127,41 @@ module _ (host : KeptHost) (xs : List KeptSession) (are : xs ≡ host.sessions) 
 pub of_parts : (next next' : ℕ) (sessions sessions' : List SessionContents) → next ≡ next' → sessions ≡ sessions'
     → ◌≡◌ {A = HostContents} (record { next = next; sessions = sessions }) (record { next = next'; sessions = sessions' })
 of_parts next next' sessions sessions' e f = λ i. record { next = e i; sessions = f i }
+
+-- ---- opening
+
+pub has_room : (places : ℕ) (host : KeptHost) (next : Option ℕ) (xs : List KeptSession)
+    → ◌≡◌ {A = KeptHost} (record { next = next_of next; sessions = xs }) host
+    → (id : ℕ) → next ≡ Some id → id < 2 ^ 64 → length xs < places → HasRoom places (host_of host)
+has_room places host next xs is id e below inside =
+    let first : next_of next ≡ id = ap next_of e in
+    let kept : HasRoom places (record { next = next_of next; sessions = map contents_of xs }) =
+    record { place_left = rw length-map inside; id_left = omega (arith, first) } in
+    subst (λ h. HasRoom places (host_of h)) is kept
+
+pub refused_with_room : (places : ℕ) (host : HostContents) (bytes : List ℕ) (world : List InputNumbers) (fault : HostFault)
+    → HasRoom places host → CannotOpen bytes world fault → OpenRefused places host bytes world fault
+refused_with_room places host bytes world (Bytes refusal offset) room cannot = (room, cannot)
+refused_with_room places host bytes world (Code fault) room cannot = (room, cannot)
+refused_with_room places host bytes world UnknownChannel room cannot = (room, cannot)
+refused_with_room places host bytes world NoMemory room cannot = (room, cannot)
+refused_with_room places host bytes world Full room cannot = absurd cannot
+refused_with_room places host bytes world UnknownId room cannot = absurd cannot
+refused_with_room places host bytes world UnknownPrincipal room cannot = absurd cannot
+
+pub next_after : (id : ℕ) → id < 2 ^ 64 → (after : Option ℕ) → SomeIff after (id + 1 < 18446744073709551616) (id + 1) → next_of after ≡ id + 1
+next_after id below None none = omega (arith, none)
+next_after id below (Some next) some = some.1
+
+pub opened_as : (host : KeptHost) (next after : Option ℕ) (xs ys : List KeptSession)
+    → ◌≡◌ {A = KeptHost} (record { next = next_of next; sessions = xs }) host
+    → (id : ℕ) → next ≡ Some id → next_of after ≡ id + 1
+    → (new : KeptSession) → ys ≡ insert xs 0 new → (world : List InputNumbers) → new.id ≡ id
+    → machine_of new.run ≡ first_machine new.run.program world
+    → host_of (record { next = next_of after; sessions = ys }) ≡ with_opened (host_of host) new.run.program world
+opened_as host next after xs ys is id e sum new inserted world same first =
+    let number : id ≡ host.next = sym (ap next_of e) ∙ ap (λ (h : KeptHost). h.next) is in
+    of_parts (next_of after) (host.next + 1) (map contents_of ys) (record { id = host.next; program = new.run.program; machine = first_machine new.run.program world } ∷ map contents_of host.sessions)
+    (sum ∙ ap (λ n. n + 1) number)
+    (ap (map contents_of) (inserted)
+    ∙ (λ i. record { id = (same ∙ number) i; program = new.run.program; machine = first i } ∷ map contents_of (is i).sessions))

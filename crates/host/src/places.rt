@@ -1,6 +1,7 @@
 ghost use Rattle.host.specs.Meaning.{Answered, Answers, Close, Open, Turn, View};
 ghost use Rattle.host.specs.Values.{answer_of, closed_or, event_of, host_of, opened_or, turned_or, viewed_or};
-ghost use Rattle.std.specs.Prelude.{[], ◌≡◌, IfOk, OnErr, map};
+ghost use Rattle.host.specs.Next.{next_of};
+ghost use Rattle.std.specs.Prelude.{[], ◌≡◌, ◌+◌, ◌<◌, ◌^◌, IfOk, OnErr, map};
 
 use crate::event::{Answer, Event, Id};
 use crate::fault::HostFault;
@@ -64,11 +65,12 @@ impl Host {
         if self.sessions.len() >= PLACES {
             return Err(HostFault::Full);
         }
+        let after = following(id);
         let run = first_run(self.alloc, bytes, world)?;
         let Ok(()) = self.sessions.insert(0, Session::new(id, run)) else {
             return Err(HostFault::NoMemory);
         };
-        self.next = id.checked_add(1);
+        self.next = after;
         Ok(id)
     }
 
@@ -168,4 +170,12 @@ impl Host {
             },
         }
     }
+}
+
+// The id after another one, if there is one.
+fn following(id: Id) -> Option<Id>
+    ensures within { id < 2 ^ 64 }
+    ensures next { next_of result ≡ id + 1 }
+{
+    id.checked_add(1)
 }

@@ -18,7 +18,9 @@ const MODULE: [u8; 176] = [
 ];
 
 const ALICE: u32 = 0;
+
 const BOB: u32 = 1;
+
 const CAROL: u32 = 2;
 
 // What everybody sees first, and what Alice alone sees where `s` is 4.
@@ -26,6 +28,7 @@ const FIRST: Pair = Pair {
     channel: 2,
     number: 1,
 };
+
 const SECOND: Pair = Pair {
     channel: 1,
     number: 5,
@@ -149,7 +152,7 @@ fn events_of(alloc: Global) -> Result<Vec<Event>, Fail> {
         Event::View(0, BOB),
         Event::View(0, 9),
         Event::Close(0),
-        Event::Close(0)
+        Event::Close(0),
     ]?)
 }
 
@@ -176,7 +179,7 @@ fn answers_many_events_as_one_by_one(rt: HostRuntime) -> Result<(), Fail> {
         Answer::Viewed(vec![in alloc; FIRST]?),
         Answer::Refused(HostFault::UnknownPrincipal),
         Answer::Closed,
-        Answer::Refused(HostFault::UnknownId)
+        Answer::Refused(HostFault::UnknownId),
     ]?;
     assert!(rt; answers == wanted);
     Ok(())

@@ -12,12 +12,11 @@ returns-in_default c =
 
 pub returns : goal.returns
 returns c =
-    let are = c.deref.ensures.value ∙ ap (λ (h : KeptHost). h.sessions) c.self.view_is in
-    (
+    let are = c.deref.ensures.value ∙ ap (λ (h : KeptHost). h.sessions) c.self.view_is in (
       is_open_somewhere c.args.self.now c.deref.result.now are c.args.id c.find.result c.in-Some.field-0 c.find.ensures c.in-Some.is,
       of_parts (next_of c.self.inside.next) c.args.self.now.next (map contents_of c.remove.new.sessions.items) (without c.args.id (map contents_of c.args.self.now.sessions))
-      (ap (λ (h : KeptHost). h.next) c.self.view_is)
-      (ap (λ (l : List KeptSession). map contents_of l) c.remove.ensures
-       ∙ filtered c.args.id c.self.inside.sessions.items
-       ∙ ap (λ (h : KeptHost). without c.args.id (map contents_of h.sessions)) c.self.view_is),
+          (ap (λ (h : KeptHost). h.next) c.self.view_is)
+          (ap (λ (l : List KeptSession). map contents_of l) c.remove.ensures
+          ∙ filtered c.args.id c.self.inside.sessions.items
+          ∙ ap (λ (h : KeptHost). without c.args.id (map contents_of h.sessions)) c.self.view_is),
     )

@@ -19,16 +19,15 @@ returns c =
     let old = c.index_mut-session.result.now in
     let new = c.turn.new.self in
     let at = c.index_mut-session.ensures.value in
-    let found = c.find.ensures ∙ ap (λ (l : List KeptSession). position (λ session. session.id == c.args.id) l) c.deref.ensures.value in
-    (
+    let found = c.find.ensures ∙ ap (λ (l : List KeptSession). position (λ session. session.id == c.args.id) l) c.deref.ensures.value in (
       contents_of old,
       is_open c.args.self.now kept (ap (λ (h : KeptHost). h.sessions) c.self.view_is) c.args.id c.find.result c.in-Some.place old found c.in-Some.is at,
       (
         machine_of new.run,
         c.turn.ensures.takes,
         of_parts (next_of c.self.inside.next) c.args.self.now.next (map contents_of (set kept c.in-Some.place new)) (with_machine c.args.id (machine_of new.run) (map contents_of c.args.self.now.sessions))
-        (ap (λ (h : KeptHost). h.next) c.self.view_is)
-        (turned c.args.id kept c.in-Some.place old new (sym found ∙ c.in-Some.is) at c.turn.ensures.id c.turn.ensures.program
-         ∙ ap (λ (h : KeptHost). with_machine c.args.id (machine_of new.run) (map contents_of h.sessions)) c.self.view_is),
+            (ap (λ (h : KeptHost). h.next) c.self.view_is)
+            (turned c.args.id kept c.in-Some.place old new (sym found ∙ c.in-Some.is) at c.turn.ensures.id c.turn.ensures.program
+            ∙ ap (λ (h : KeptHost). with_machine c.args.id (machine_of new.run) (map contents_of h.sessions)) c.self.view_is),
       ),
     )
