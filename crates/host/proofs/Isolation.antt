@@ -1,5 +1,5 @@
 -- Sessions of isolated bytes are isolated.
-use Rattle.std.proofs.Common.{◌≡◌, ℕ, List, refl, sym, subst}
+use Rattle.std.proofs.Common.{◌≡◌, ℕ, List, sym, subst}
 use Rattle.bytecode.specs.Contents.{ModuleContents}
 use Rattle.bytecode.specs.Form.{Spells}
 use Rattle.bytecode.specs.Format.{module_file}

@@ -1,5 +1,5 @@
 -- What becomes of a session while a host answers events.
-use Rattle.std.proofs.Common.{◌≡◌, ℕ, zero, suc, ◌+◌, ◌<◌, ◌⊎◌, ◌==◌, Bool, true, false, not, cond, List, [], ◌∷◌, take, drop, filter, Option, None, Some, refl, sym, ap, ◌∙◌, subst, inl, inr, ⊎_elim, arith, eq-eqb, eqb-true, ne_eqb}
+use Rattle.std.proofs.Common.{◌≡◌, ℕ, zero, suc, ◌+◌, ◌<◌, ◌⊎◌, ◌==◌, Bool, true, false, not, cond, List, [], ◌∷◌, take, drop, None, Some, refl, sym, ap, ◌∙◌, subst, inl, inr, ⊎_elim, arith, eq-eqb, eqb-true, ne_eqb}
 use Rattle.std.specs.Prelude.{slice_get}
 use Rattle.std.proofs.lemmas.Option.{none-some}
 use Rattle.labels.specs.declared.sent.Pair.{Pair}
@@ -9,7 +9,7 @@ use Rattle.bytecode.specs.Format.{module_file}
 use Rattle.bytecode.specs.Machine.{Machine, Program, exec, step, program_of, sent_of}
 use Rattle.channels.specs.World.{InputNumbers}
 use Rattle.host.specs.Isolated.{seen_of}
-use Rattle.host.specs.Meaning.{SessionContents, HostContents, HostEvent, Open, Turn, View, Close, HostAnswer, Opened, Turned, Viewed, Closed, Refused, Answers, Answered, session_of, with_machine, without, IsOpen, IsNotOpen, CanOpen, first_machine, with_opened}
+use Rattle.host.specs.Meaning.{SessionContents, HostContents, HostEvent, Open, Turn, View, Close, HostAnswer, Opened, Turned, Viewed, Closed, Refused, Answers, Answered, session_of, with_machine, without, IsOpen, IsNotOpen, first_machine, with_opened}
 use Rattle.host.specs.Laws.{told_of, steps_told}
 
 -- ---- steps

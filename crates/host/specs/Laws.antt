@@ -1,7 +1,7 @@
 -- What the meaning of hosts implies, for every host and every list of events: a session is a run of its module alone on its
 -- world, by as many steps as its own turns told; and sessions of isolated bytes are isolated.
 -- Source: our own; noninterference after Volpano, Smith and Irvine 1996.
-use Rattle.std.specs.Prelude.{◌≡◌, ℕ, ◌+◌, ◌<◌, ◌==◌, if◌then◌else◌, List, [], ◌∷◌, slice_get, take, drop, Option, Some}
+use Rattle.std.specs.Prelude.{◌≡◌, ℕ, ◌+◌, ◌<◌, ◌==◌, if◌then◌else◌, List, [], ◌∷◌, slice_get, take, drop, Some}
 use Rattle.labels.specs.declared.sent.Pair.{Pair}
 use Rattle.bytecode.specs.Contents.{ModuleContents}
 use Rattle.bytecode.specs.Form.{Spells}
@@ -9,7 +9,7 @@ use Rattle.bytecode.specs.Format.{module_file}
 use Rattle.bytecode.specs.Machine.{sent_after}
 use Rattle.channels.specs.World.{InputNumbers, numbers_of_channel}
 use Rattle.host.specs.Isolated.{seen_of, Agree, OneBegins, IsIsolated}
-use Rattle.host.specs.Meaning.{HostContents, HostEvent, Open, Turn, View, Close, HostAnswer, Opened, Turned, Viewed, Closed, Refused, Answered}
+use Rattle.host.specs.Meaning.{HostContents, HostEvent, Open, Turn, View, HostAnswer, Opened, Turned, Viewed, Answered}
 
 -- the steps that an event's answer tells of the session of an id
 abbrev pub told_of : ℕ → HostEvent → HostAnswer → ℕ

@@ -1,6 +1,6 @@
 -- The hosts, events, answers and results of the code as those of the meaning.
 -- Source: our own.
-use Rattle.std.specs.Prelude.{ℕ, ◌^◌, List, Option, Some, None, Result, Ok, Err, map}
+use Rattle.std.specs.Prelude.{ℕ, List, Result, Ok, Err, map}
 use Rattle.std.specs.Global.{Vec}
 use Rattle.labels.specs.declared.sent.Pair.{Pair}
 use Rattle.machine.specs.Run.{RunContents, machine_of}

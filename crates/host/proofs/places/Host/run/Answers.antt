@@ -1,11 +1,8 @@
-use Rattle.std.proofs.Common.{◌≡◌, ◌++◌, ◌∷◌, [], List, length, map, take, refl, sym, ap, ◌∙◌, subst, arith}
-use Rattle.std.specs.Prelude.{◌≤◌}
+use Rattle.std.proofs.Common.{◌++◌, ◌∷◌, [], length, arith}
 use Rattle.std.proofs.lemmas.Iterator.Consumers.{YieldsList-turn}
 use Rattle.std.proofs.lemmas.Iterator.Adapters.{YieldsList-from_vec}
-use Rattle.std.proofs.lemmas.List.{take_more, length_push}
-use Rattle.host.specs.Meaning.{HostEvent, HostAnswer, Answered}
-use Rattle.host.specs.Values.{answer_of, event_of, host_of}
-use Rattle.host.specs.declared.event.Event.{Event}
+use Rattle.std.proofs.lemmas.List.{length_push}
+use Rattle.host.specs.Values.{host_of}
 use Rattle.host.specs.declared.places.TheConstants.{PLACES}
 use Rattle.host.proofs.Answered.{so_far}
 use Rattle.host.proofs.places.Host.run.Goals as goal

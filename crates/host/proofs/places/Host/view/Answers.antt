@@ -1,4 +1,4 @@
-use Rattle.std.proofs.Common.{◌≡◌, ℕ, ◌<◌, ◌==◌, List, length, refl, ap, ◌∙◌, subst, arith}
+use Rattle.std.proofs.Common.{◌≡◌, ◌<◌, ◌==◌, List, length, refl, ap, ◌∙◌, subst, arith}
 use Rattle.std.specs.Prelude.{position}
 use Rattle.principals.specs.ActsFor.{PrincipalHierarchy}
 use Rattle.bytecode.specs.Contents.{ModuleContents}
