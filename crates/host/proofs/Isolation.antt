@@ -6,8 +6,8 @@ use Rattle.bytecode.specs.Format.{module_file}
 use Rattle.bytecode.specs.Machine.{sent_after}
 use Rattle.channels.specs.World.{numbers_of_channel}
 use Rattle.host.specs.Isolated.{seen_of, OneBegins}
-use Rattle.host.specs.Laws.{SessionsAreFreshRuns, SessionsAreIsolated, steps_of}
-use Rattle.host.proofs.Lives.{shown_fresh}
+use Rattle.host.specs.Laws.{SessionsAreFreshRuns, SessionsAreIsolated, SessionsStandAsTold, IdsGoUp, steps_of}
+use Rattle.host.proofs.Lives.{shown_fresh, stands, ids_go_up}
 
 -- bytes spell one module at most
 module _ (one : (m n : ModuleContents) (bytes : List ℕ) → Spells module_file m bytes → Spells module_file n bytes → m ≡ n) where
@@ -22,3 +22,11 @@ module _ (one : (m n : ModuleContents) (bytes : List ℕ) → Spells module_file
       subst (λ xs. OneBegins xs others) (sym (fresh_runs bytes first p pairs m spelled shown))
       (subst (λ ys. OneBegins (seen_of m p (sent_after m (numbers_of_channel m first) i)) ys) (sym (fresh_runs bytes second p others m spelled other_shown))
       (isolated_module p (numbers_of_channel m first) (numbers_of_channel m second) agree i j))
+
+  pub stand_as_told : SessionsStandAsTold
+  stand_as_told bytes world m spelled places old events answers new by id opened opens opened_so session there =
+      stands places id bytes world m (λ n h. one n m bytes h spelled) events answers old new by opened opens opened_so session there
+
+pub go_up : IdsGoUp
+go_up places old events answers new by i j first second later one other =
+    ids_go_up places events answers old new by i j first second later one other

@@ -1,5 +1,5 @@
 -- What becomes of a session while a host answers events.
-use Rattle.std.proofs.Common.{◌≡◌, ℕ, zero, suc, ◌+◌, ◌<◌, ◌⊎◌, ◌==◌, Bool, true, false, not, cond, List, [], ◌∷◌, take, drop, None, Some, refl, sym, ap, ◌∙◌, subst, inl, inr, ⊎_elim, arith, eq-eqb, eqb-true, ne_eqb}
+use Rattle.std.proofs.Common.{◌≡◌, ℕ, zero, suc, ◌+◌, ◌<◌, ◌≤◌, ◌⊎◌, ◌==◌, Bool, true, false, not, cond, List, [], ◌∷◌, take, drop, None, Some, refl, sym, ap, ◌∙◌, subst, inl, inr, ⊎_elim, arith, eq-eqb, eqb-true, ne_eqb}
 use Rattle.std.specs.Prelude.{slice_get}
 use Rattle.std.proofs.lemmas.Option.{none-some}
 use Rattle.labels.specs.declared.sent.Pair.{Pair}
@@ -254,3 +254,111 @@ module _ (places id p : ℕ) (pairs : List Pair) (bytes : List ℕ) (world : Lis
       ∙ ap (λ k. seen_of m p (sent_of (exec (program_of m) k (first_machine m world)))) steps
   shown_fresh (event ∷ events) (answer ∷ answers) old new by (suc i) (suc j) later opens opened views viewed =
       shown_fresh events answers by.0 new by.2 i j (omega arith) opens opened views viewed
+
+-- ---- to the end of the list
+
+module _ (places id : ℕ) where
+  still_gone : (events : List HostEvent) (answers : List HostAnswer) (old new : HostContents) → Answered places old events answers new
+      → IsGone id old → IsGone id new
+  still_gone [] [] old new by gone = subst (λ h. IsGone id h) (sym by) gone
+  still_gone [] (answer ∷ answers) old new by gone = absurd by
+  still_gone (event ∷ events) [] old new by gone = absurd by
+  still_gone (event ∷ events) (answer ∷ answers) old new by gone =
+      still_gone events answers by.0 new by.2 (gone_event places id old by.0 event answer by.1 gone)
+
+  still_moved : (events : List HostEvent) (answers : List HostAnswer) (old new : HostContents) (s : SessionContents)
+      → Answered places old events answers new → IsLive id s old
+      → IsLive id (moved s (steps_told id events answers)) new ⊎ IsGone id new
+  still_moved [] [] old new s by live = inl (subst (λ h. IsLive id s h) (sym by) live)
+  still_moved [] (answer ∷ answers) old new s by live = absurd by
+  still_moved (event ∷ events) [] old new s by live = absurd by
+  still_moved (event ∷ events) (answer ∷ answers) old new s by live =
+      ⊎_elim
+      (λ next. ⊎_elim
+      (λ l. inl (subst (λ (m : Machine). IsLive id (record s { machine = m }) new) (exec-more (program_of s.program) (told_of id event answer) (steps_told id events answers) s.machine) l))
+      (λ g. inr g)
+      (still_moved events answers by.0 new (moved s (told_of id event answer)) by.2 next))
+      (λ gone. inr (still_gone events answers by.0 new by.2 gone))
+      (live_event places id s old by.0 event answer by.1 live)
+
+module _ (places id : ℕ) (bytes : List ℕ) (world : List InputNumbers) (m : ModuleContents)
+    (unique : (n : ModuleContents) → Spells module_file n bytes → n ≡ m) where
+  pub stands : (events : List HostEvent) (answers : List HostAnswer) (old new : HostContents) → Answered places old events answers new
+      → (i : ℕ) → slice_get events i ≡ Some (Open bytes world) → slice_get answers i ≡ Some (Opened id)
+      → (session : SessionContents) → IsOpen new id session
+      → session ≡ record { id = id; program = m; machine = exec (program_of m) (steps_told id (drop i events) (drop i answers)) (first_machine m world) }
+  stands [] answers old new by i opens opened session there = absurd (none-some (Open bytes world) opens)
+  stands (event ∷ events) [] old new by i opens opened session there = absurd by
+  stands (event ∷ events) (answer ∷ answers) old new by zero opens opened session there =
+      let at = known places old by.0 event (Open bytes world) answer (Opened id) opens opened by.1 in
+      let n : ModuleContents = at.2.0 in
+      let live = subst (λ h. IsLive id (record { id = old.next; program = n; machine = first_machine n world }) h) (sym at.2.2) (opened_live id old n world at.1) in
+      let first : told_of id event answer ≡ 0 = ap (λ e. told_of id e answer) (some_is event (Open bytes world) opens) ∙ ap (told_of id (Open bytes world)) (some_is answer (Opened id) opened) in
+      let steps : steps_told id events answers ≡ told_of id event answer + steps_told id events answers = omega (arith, first) in
+      let same = unique n at.2.1.spelled in
+      ⊎_elim
+      (λ l.
+      one_session new id id session (moved (record { id = old.next; program = n; machine = first_machine n world }) (steps_told id events answers)) refl there l.is_open
+      ∙ (λ i. record { id = sym at.1 i; program = same i; machine = exec (program_of (same i)) (steps i) (first_machine (same i) world) }))
+      (λ g. absurd (none-some session (sym g.is_shut ∙ there)))
+      (still_moved places id events answers by.0 new (record { id = old.next; program = n; machine = first_machine n world }) by.2 live)
+  stands (event ∷ events) (answer ∷ answers) old new by (suc i) opens opened session there =
+      stands events answers by.0 new by.2 i opens opened session there
+
+-- ---- ids
+
+opened_next : (places : ℕ) (old new : HostContents) (event : HostEvent) (n : ℕ) → Answers places old event (Opened n) new
+    → (n ≡ old.next) × (new.next ≡ old.next + 1)
+opened_next places old new (Open bytes world) n by = (by.1, ap (λ (h : HostContents). h.next) by.2.2)
+opened_next places old new event n by = absurd by
+
+same_next : (old new : HostContents) → new ≡ old → old.next ≤ new.next
+same_next old new e =
+    let next = ap (λ (h : HostContents). h.next) e in
+    omega arith
+
+next_grows : (places : ℕ) (old new : HostContents) (event : HostEvent) (answer : HostAnswer) → Answers places old event answer new → old.next ≤ new.next
+next_grows places old new (Open bytes world) (Opened n) by =
+    let next = ap (λ (h : HostContents). h.next) by.2.2 in
+    omega arith
+next_grows places old new (Open bytes world) (Refused fault) by = same_next old new by.1
+next_grows places old new (Turn id n) (Turned taken status) by =
+    let next = ap (λ (h : HostContents). h.next) by.2.2 in
+    omega arith
+next_grows places old new (Turn id n) (Refused fault) by = same_next old new by.2
+next_grows places old new (View id p) (Viewed pairs) by = same_next old new by.4
+next_grows places old new (View id p) (Refused fault) by = same_next old new by.1
+next_grows places old new (Close id) Closed by =
+    let next = ap (λ (h : HostContents). h.next) by.1 in
+    omega arith
+next_grows places old new (Close id) (Refused fault) by = same_next old new by.2
+next_grows places old new event answer by = absurd by
+
+opened_by : (places : ℕ) (old new : HostContents) (event : HostEvent) (answer : HostAnswer) (n : ℕ) → Some answer ≡ Some (Opened n)
+    → Answers places old event answer new → (n ≡ old.next) × (new.next ≡ old.next + 1)
+opened_by places old new event answer n e by =
+    opened_next places old new event n (subst (λ y. Answers places old event y new) (some_is answer (Opened n) e) by)
+
+ids_from : (places : ℕ) (events : List HostEvent) (answers : List HostAnswer) (old new : HostContents) → Answered places old events answers new
+    → (j n : ℕ) → slice_get answers j ≡ Some (Opened n) → old.next ≤ n
+ids_from places events [] old new by j n told = absurd (none-some (Opened n) told)
+ids_from places [] (answer ∷ answers) old new by j n told = absurd by
+ids_from places (event ∷ events) (answer ∷ answers) old new by zero n told =
+    let at = opened_by places old by.0 event answer n told by.1 in
+    omega (arith, at.0)
+ids_from places (event ∷ events) (answer ∷ answers) old new by (suc j) n told =
+    let one = next_grows places old by.0 event answer by.1 in
+    let more = ids_from places events answers by.0 new by.2 j n told in
+    omega (arith, one, more)
+
+pub ids_go_up : (places : ℕ) (events : List HostEvent) (answers : List HostAnswer) (old new : HostContents) → Answered places old events answers new
+    → (i j first second : ℕ) → i < j → slice_get answers i ≡ Some (Opened first) → slice_get answers j ≡ Some (Opened second) → first < second
+ids_go_up places events answers old new by i zero first second later one other = absurd (omega arith)
+ids_go_up places events [] old new by i (suc j) first second later one other = absurd (none-some (Opened first) one)
+ids_go_up places [] (answer ∷ answers) old new by i (suc j) first second later one other = absurd by
+ids_go_up places (event ∷ events) (answer ∷ answers) old new by zero (suc j) first second later one other =
+    let at = opened_by places old by.0 event answer first one by.1 in
+    let rest = ids_from places events answers by.0 new by.2 j second other in
+    omega (arith, at.0, at.1, rest)
+ids_go_up places (event ∷ events) (answer ∷ answers) old new by (suc i) (suc j) first second later one other =
+    ids_go_up places events answers by.0 new by.2 i j first second (omega arith) one other

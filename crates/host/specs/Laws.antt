@@ -1,15 +1,15 @@
 -- What the meaning of hosts implies, for every host and every list of events: a session is a run of its module alone on its
--- world, by as many steps as its own turns told; and sessions of isolated bytes are isolated.
+-- world, by as many steps as its own turns told; sessions of isolated bytes are isolated; no id is given twice.
 -- Source: our own; noninterference after Volpano, Smith and Irvine 1996.
 use Rattle.std.specs.Prelude.{◌≡◌, ℕ, ◌+◌, ◌<◌, ◌==◌, if◌then◌else◌, List, [], ◌∷◌, slice_get, take, drop, Some}
 use Rattle.labels.specs.declared.sent.Pair.{Pair}
 use Rattle.bytecode.specs.Contents.{ModuleContents}
 use Rattle.bytecode.specs.Form.{Spells}
 use Rattle.bytecode.specs.Format.{module_file}
-use Rattle.bytecode.specs.Machine.{sent_after}
+use Rattle.bytecode.specs.Machine.{after_steps, sent_after}
 use Rattle.channels.specs.World.{InputNumbers, numbers_of_channel}
 use Rattle.host.specs.Isolated.{seen_of, Agree, OneBegins, IsIsolated}
-use Rattle.host.specs.Meaning.{HostContents, HostEvent, Open, Turn, View, HostAnswer, Opened, Turned, Viewed, Answered}
+use Rattle.host.specs.Meaning.{SessionContents, HostContents, HostEvent, Open, Turn, View, HostAnswer, Opened, Turned, Viewed, Answered, IsOpen}
 
 -- the steps that an event's answer tells of the session of an id
 abbrev pub told_of : ℕ → HostEvent → HostAnswer → ℕ
@@ -60,3 +60,26 @@ SessionsAreIsolated =
     (bytes : List ℕ) (m : ModuleContents) → Spells module_file m bytes → IsIsolated m
     → (p : ℕ) (first second : List InputNumbers) → Agree m p (numbers_of_channel m first) (numbers_of_channel m second)
     → (pairs others : List Pair) → Shows bytes first p pairs → Shows bytes second p others → OneBegins pairs others
+
+-- a session that is opened among any events and is open after them stands where a fresh run of the module that the bytes spell,
+-- alone on the world, stands after the steps that the session's own turns told
+abbrev pub SessionsStandAsTold : Type 0
+SessionsStandAsTold =
+    (bytes : List ℕ) (world : List InputNumbers) (m : ModuleContents) → Spells module_file m bytes
+    → (places : ℕ) (old : HostContents) (events : List HostEvent) (answers : List HostAnswer) (new : HostContents)
+    → Answered places old events answers new
+    → (id opened : ℕ) → slice_get events opened ≡ Some (Open bytes world) → slice_get answers opened ≡ Some (Opened id)
+    → (session : SessionContents) → IsOpen new id session
+    → session ≡ record {
+      id = id;
+      program = m;
+      machine = after_steps m (numbers_of_channel m world) (steps_told id (drop opened events) (drop opened answers));
+    }
+
+-- no id is given twice: of two sessions that a host opens, the later one has the greater id
+abbrev pub IdsGoUp : Type 0
+IdsGoUp =
+    (places : ℕ) (old : HostContents) (events : List HostEvent) (answers : List HostAnswer) (new : HostContents)
+    → Answered places old events answers new
+    → (i j first second : ℕ) → i < j → slice_get answers i ≡ Some (Opened first) → slice_get answers j ≡ Some (Opened second)
+    → first < second

@@ -1,11 +1,13 @@
 //! Laws of hosts, proved for every host and every list of events. They do nothing when they are called.
 
-ghost use Rattle.host.specs.Laws.{SessionsAreFreshRuns, SessionsAreIsolated};
+ghost use Rattle.host.specs.Laws.{IdsGoUp, SessionsAreFreshRuns, SessionsAreIsolated, SessionsStandAsTold};
 
-/// What is shown of a session is what a run of its module alone on its world has sent after the steps that its own turns told,
-/// whatever events of other sessions come between.
+/// A session is a run of its module alone on its world. What is shown of it is what that run has sent after the steps that the
+/// session's own turns told, and after all events it stands where that run stands, whatever events of other sessions come
+/// between.
 pub fn sessions_are_fresh_runs()
-    ensures { SessionsAreFreshRuns }
+    ensures shown { SessionsAreFreshRuns }
+    ensures stands { SessionsStandAsTold }
 {
     bytecode::laws::one_spelling();
 }
@@ -17,3 +19,8 @@ pub fn sessions_are_isolated()
 {
     bytecode::laws::one_spelling();
 }
+
+/// No id is given twice: of two sessions that a host opens, the later one has the greater id.
+pub fn ids_are_never_given_again()
+    ensures { IdsGoUp }
+{}

@@ -211,4 +211,5 @@ fn answer_of(host: &mut Host, event: Event) -> Answer {
 fn laws_take_no_time_and_no_memory(_rt: HostRuntime) {
     laws::sessions_are_fresh_runs();
     laws::sessions_are_isolated();
+    laws::ids_are_never_given_again();
 }
