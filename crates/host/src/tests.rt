@@ -34,14 +34,23 @@ const SECOND: Pair = Pair {
     number: 5,
 };
 
-// The world that has these numbers for the input `s`.
-fn world_of(alloc: Global, numbers: &[i32]) -> Result<World, Fail> {
-    let whole = decode(alloc, &MODULE)?;
-    let mut text = String::from_str(alloc, "s =")?;
+// The world that has these numbers for the input `s`, or none where memory is refused.
+fn read_world(alloc: Global, numbers: &[i32]) -> Option<World> {
+    let whole = decode(alloc, &MODULE).ok()?;
+    let mut text = String::from_str(alloc, "s =").ok()?;
     for number in numbers {
-        text.push_str(&format!(in alloc; " {number}")?)?;
+        let word = format!(in alloc; " {number}").ok()?;
+        text.push_str(&word).ok()?;
     }
-    Ok(World::read(alloc, &whole, &text)?)
+    World::read(alloc, &whole, &text).ok()
+}
+
+// The same, made anew where memory is refused.
+fn world_of(alloc: Global, numbers: &[i32]) -> Result<World, Fail> {
+    if let Some(world) = read_world(alloc, numbers) {
+        return Ok(world);
+    }
+    Ok(read_world(alloc, numbers).ok_or("no world")?)
 }
 
 // A host with one session that has run to its end.
@@ -136,24 +145,33 @@ fn tells_faults_in_words(rt: HostRuntime) -> Result<(), Fail> {
     Ok(())
 }
 
-// The events that the next test asks, all at once and one by one.
-fn events_of(alloc: Global) -> Result<Vec<Event>, Fail> {
-    let bytes = Vec::from_slice(alloc, &MODULE)?;
-    let again = Vec::from_slice(alloc, &MODULE)?;
-    Ok(vec![in alloc;
+// Twelve events of all kinds, or none where memory is refused.
+fn list_events(alloc: Global) -> Option<Vec<Event>> {
+    let bytes = Vec::from_slice(alloc, &MODULE).ok()?;
+    let again = Vec::from_slice(alloc, &MODULE).ok()?;
+    let events = vec![in alloc;
         Event::View(0, ALICE),
-        Event::Open(bytes, world_of(alloc, &[4])?),
+        Event::Open(bytes, read_world(alloc, &[4])?),
         Event::Turn(0, 2),
         Event::View(0, ALICE),
-        Event::Open(again, world_of(alloc, &[7])?),
+        Event::Open(again, read_world(alloc, &[7])?),
         Event::Turn(0, 100),
         Event::Turn(1, 100),
         Event::View(0, ALICE),
         Event::View(0, BOB),
         Event::View(0, 9),
         Event::Close(0),
-        Event::Close(0),
-    ]?)
+        Event::Close(0)
+    ];
+    events.ok()
+}
+
+// The same, made anew where memory is refused.
+fn events_of(alloc: Global) -> Result<Vec<Event>, Fail> {
+    if let Some(events) = list_events(alloc) {
+        return Ok(events);
+    }
+    Ok(list_events(alloc).ok_or("no events")?)
 }
 
 #[test]
@@ -205,6 +223,49 @@ fn answer_of(host: &mut Host, event: Event) -> Answer {
             Err(fault) => Answer::Refused(fault),
         },
     }
+}
+
+// Whichever growth is refused, a call answers want of memory or what it answers undisturbed, and asked again it answers that.
+#[test]
+fn a_refused_growth_changes_nothing(rt: HostRuntime) -> Result<(), Fail> {
+    let alloc = rt.alloc();
+    let mut host = Host::new(alloc);
+    let mut opened = host.open(&MODULE, world_of(alloc, &[4])?);
+    if opened == Err(HostFault::NoMemory) {
+        opened = host.open(&MODULE, world_of(alloc, &[4])?);
+    }
+    assert_eq!(rt; opened, Ok(0));
+    let (mut taken, mut status) = host.turn(0, 1000)?;
+    if status == Status::NoMemory {
+        let (more, then) = host.turn(0, 1000)?;
+        taken += more;
+        status = then;
+    }
+    assert_eq!(rt; (taken, status), (9, Status::Finished));
+    let shown = match host.view(0, ALICE) {
+        Err(HostFault::NoMemory) => host.view(0, ALICE)?,
+        other => other?,
+    };
+    assert_eq!(rt; shown.as_slice(), [FIRST, SECOND].as_slice());
+    assert_eq!(rt; host.close(0), Ok(()));
+    Ok(())
+}
+
+// Where the list of answers is refused, no event was answered.
+#[test]
+fn a_refused_list_answers_nothing(rt: HostRuntime) -> Result<(), Fail> {
+    let alloc = rt.alloc();
+    let mut host = Host::new(alloc);
+    let events = events_of(alloc)?;
+    match host.run(events) {
+        Err(_) => {
+            assert_eq!(rt; host.close(0), Err(HostFault::UnknownId));
+            let again = host.open(&MODULE, world_of(alloc, &[])?);
+            assert_eq!(rt; again, Ok(0));
+        }
+        Ok(answers) => assert_eq!(rt; answers.len(), 12),
+    }
+    Ok(())
 }
 
 #[test]
