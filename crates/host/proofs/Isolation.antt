@@ -1,0 +1,32 @@
+-- Sessions of isolated bytes are isolated.
+use Rattle.std.proofs.Common.{◌≡◌, ℕ, List, sym, subst}
+use Rattle.bytecode.specs.Contents.{ModuleContents}
+use Rattle.bytecode.specs.Form.{Spells}
+use Rattle.bytecode.specs.Format.{module_file}
+use Rattle.bytecode.specs.Machine.{sent_after}
+use Rattle.channels.specs.World.{numbers_of_channel}
+use Rattle.host.specs.Isolated.{seen_of, OneBegins}
+use Rattle.host.specs.Laws.{SessionsAreFreshRuns, SessionsAreIsolated, SessionsStandAsTold, IdsGoUp, steps_of}
+use Rattle.host.proofs.Lives.{shown_fresh, stands, ids_go_up}
+
+-- bytes spell one module at most
+module _ (one : (m n : ModuleContents) (bytes : List ℕ) → Spells module_file m bytes → Spells module_file n bytes → m ≡ n) where
+  pub fresh_runs : SessionsAreFreshRuns
+  fresh_runs bytes world p pairs m spelled shows =
+      shown_fresh shows.places shows.id p pairs bytes world m (λ n h. one n m bytes h spelled) shows.events shows.answers shows.old shows.new shows.answered shows.opened shows.viewed shows.later shows.opens shows.opened_so shows.views shows.viewed_so
+
+  pub isolated : SessionsAreIsolated
+  isolated bytes m spelled isolated_module p first second agree pairs others shown other_shown =
+      let i = steps_of bytes first p pairs shown in
+      let j = steps_of bytes second p others other_shown in
+      subst (λ xs. OneBegins xs others) (sym (fresh_runs bytes first p pairs m spelled shown))
+      (subst (λ ys. OneBegins (seen_of m p (sent_after m (numbers_of_channel m first) i)) ys) (sym (fresh_runs bytes second p others m spelled other_shown))
+      (isolated_module p (numbers_of_channel m first) (numbers_of_channel m second) agree i j))
+
+  pub stand_as_told : SessionsStandAsTold
+  stand_as_told bytes world m spelled places old events answers new by id opened opens opened_so session there =
+      stands places id bytes world m (λ n h. one n m bytes h spelled) events answers old new by opened opens opened_so session there
+
+pub go_up : IdsGoUp
+go_up places old events answers new by i j first second later one other =
+    ids_go_up places events answers old new by i j first second later one other

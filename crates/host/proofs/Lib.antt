@@ -1,0 +1,4 @@
+mod Answered
+mod Isolation
+mod Lives
+mod Sessions

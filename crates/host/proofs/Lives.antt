@@ -1,0 +1,364 @@
+-- What becomes of a session while a host answers events.
+use Rattle.std.proofs.Common.{◌≡◌, ℕ, zero, suc, ◌+◌, ◌<◌, ◌≤◌, ◌⊎◌, ◌==◌, Bool, true, false, not, cond, List, [], ◌∷◌, take, drop, None, Some, refl, sym, ap, ◌∙◌, subst, inl, inr, ⊎_elim, arith, eq-eqb, eqb-true, ne_eqb}
+use Rattle.std.specs.Prelude.{slice_get}
+use Rattle.std.proofs.lemmas.Option.{none-some}
+use Rattle.labels.specs.declared.sent.Pair.{Pair}
+use Rattle.bytecode.specs.Contents.{ModuleContents}
+use Rattle.bytecode.specs.Form.{Spells}
+use Rattle.bytecode.specs.Format.{module_file}
+use Rattle.bytecode.specs.Machine.{Machine, Program, exec, step, program_of, sent_of}
+use Rattle.channels.specs.World.{InputNumbers}
+use Rattle.host.specs.Isolated.{seen_of}
+use Rattle.host.specs.Meaning.{SessionContents, HostContents, HostEvent, Open, Turn, View, Close, HostAnswer, Opened, Turned, Viewed, Closed, Refused, Answers, Answered, session_of, with_machine, without, IsOpen, IsNotOpen, first_machine, with_opened}
+use Rattle.host.specs.Laws.{told_of, steps_told}
+
+-- ---- steps
+
+exec-more : (p : Program) (j k : ℕ) (machine : Machine) → exec p k (exec p j machine) ≡ exec p (j + k) machine
+exec-more p zero k machine =
+    let e : k ≡ 0 + k = omega arith in
+    ap (λ n. exec p n machine) e
+exec-more p (suc j) k machine =
+    let e : suc (j + k) ≡ suc j + k = omega arith in
+    exec-more p j k (step p machine) ∙ ap (λ n. exec p n machine) e
+
+-- ---- the session of an id when another one changes
+
+module _ (id other : ℕ) (apart : (other == id) ≡ false) where
+  passes_by : (n : ℕ) → (n == other) ≡ true → (n == id) ≡ false
+  passes_by n e = ap (λ k. k == id) (eqb-true n other e) ∙ apart
+
+  with_machine-other : (machine : Machine) (sessions : List SessionContents)
+      → session_of id (with_machine other machine sessions) ≡ session_of id sessions
+  with_machine-other machine [] = refl
+  with_machine-other machine (x ∷ sessions) = go (x.id == other) refl (with_machine-other machine sessions)
+    where
+      go : (b : Bool) → (x.id == other) ≡ b → session_of id (with_machine other machine sessions) ≡ session_of id sessions
+          → session_of id (cond b (record x { machine = machine } ∷ sessions) (x ∷ with_machine other machine sessions)) ≡ cond (x.id == id) (Some x) (session_of id sessions)
+      go true e rest =
+          ap (λ b. cond b (Some (record x { machine = machine })) (session_of id sessions)) (passes_by x.id e)
+          ∙ sym (ap (λ b. cond b (Some x) (session_of id sessions)) (passes_by x.id e))
+      go false e rest = ap (λ r. cond (x.id == id) (Some x) r) rest
+
+  without-other : (sessions : List SessionContents) → session_of id (without other sessions) ≡ session_of id sessions
+  without-other [] = refl
+  without-other (x ∷ sessions) = go (x.id == other) refl (without-other sessions)
+    where
+      go : (b : Bool) → (x.id == other) ≡ b → session_of id (without other sessions) ≡ session_of id sessions
+          → session_of id (cond (not b) (x ∷ without other sessions) (without other sessions)) ≡ cond (x.id == id) (Some x) (session_of id sessions)
+      go true e rest = rest ∙ sym (ap (λ b. cond b (Some x) (session_of id sessions)) (passes_by x.id e))
+      go false e rest = ap (λ r. cond (x.id == id) (Some x) r) rest
+
+-- ---- and when it changes itself
+
+with_machine-same : (id : ℕ) (machine : Machine) (sessions : List SessionContents) (s : SessionContents) → session_of id sessions ≡ Some s
+    → session_of id (with_machine id machine sessions) ≡ Some (record s { machine = machine })
+with_machine-same id machine [] s h = absurd (none-some s h)
+with_machine-same id machine (x ∷ sessions) s h = go (x.id == id) refl h (with_machine-same id machine sessions s)
+  where
+    go : (b : Bool) → (x.id == id) ≡ b → cond b (Some x) (session_of id sessions) ≡ Some s
+        → (session_of id sessions ≡ Some s → session_of id (with_machine id machine sessions) ≡ Some (record s { machine = machine }))
+        → session_of id (cond b (record x { machine = machine } ∷ sessions) (x ∷ with_machine id machine sessions)) ≡ Some (record s { machine = machine })
+    go true e h rest =
+        let same : x ≡ s = cc in
+        ap (λ b. cond b (Some (record x { machine = machine })) (session_of id sessions)) e
+        ∙ ap (λ (y : SessionContents). Some (record y { machine = machine })) same
+    go false e h rest =
+        ap (λ b. cond b (Some x) (session_of id (with_machine id machine sessions))) e ∙ rest h
+
+without-same : (id : ℕ) (sessions : List SessionContents) → session_of id (without id sessions) ≡ None
+without-same id [] = refl
+without-same id (x ∷ sessions) = go (x.id == id) refl (without-same id sessions)
+  where
+    go : (b : Bool) → (x.id == id) ≡ b → session_of id (without id sessions) ≡ None
+        → session_of id (cond (not b) (x ∷ without id sessions) (without id sessions)) ≡ None
+    go true e rest = rest
+    go false e rest = ap (λ b. cond b (Some x) (session_of id (without id sessions))) e ∙ rest
+
+-- ---- one event
+
+-- a session of an id that was given is open, or is there no more
+record IsLive (id : ℕ) (session : SessionContents) (host : HostContents) : Type 0 where
+  given : id < host.next
+  is_open : IsOpen host id session
+
+record IsGone (id : ℕ) (host : HostContents) : Type 0 where
+  given : id < host.next
+  is_shut : IsNotOpen host id
+
+-- a session some steps on
+abbrev moved : SessionContents → ℕ → SessionContents
+moved session n = record session { machine = exec (program_of session.program) n session.machine }
+
+is_older : (id next : ℕ) → id < next → (next == id) ≡ false
+is_older id next below = ne_eqb next id (λ e. omega (arith, e))
+
+one_session : (host : HostContents) (id other : ℕ) (first second : SessionContents) → other ≡ id → IsOpen host other first → IsOpen host id second → first ≡ second
+one_session host id other first second e h k =
+    let same = ap (λ n. session_of n host.sessions) e in
+    cc
+
+live_event : (places id : ℕ) (s : SessionContents) (old new : HostContents) (event : HostEvent) (answer : HostAnswer)
+    → Answers places old event answer new → IsLive id s old
+    → IsLive id (moved s (told_of id event answer)) new ⊎ IsGone id new
+live_event places id s old new (Open bytes world) (Opened n) by live =
+    inl (subst (λ h. IsLive id s h) (sym by.2.2) (record {
+      given = omega (arith, live.given);
+      is_open = ap (λ b. cond b (Some (record { id = old.next; program = by.2.0; machine = first_machine by.2.0 world })) (session_of id old.sessions)) (is_older id old.next live.given) ∙ live.is_open;
+    }))
+live_event places id s old new (Open bytes world) (Refused fault) by live = inl (subst (λ h. IsLive id s h) (sym by.1) live)
+live_event places id s old new (Turn other n) (Turned taken status) by live = go (other == id) refl
+  where
+    go : (b : Bool) → (other == id) ≡ b → IsLive id (moved s (cond b taken 0)) new ⊎ IsGone id new
+    go true e =
+        let number : other ≡ id = eqb-true other id e in
+        let same = one_session old id other by.0 s number by.1 live.is_open in
+        inl (subst (λ h. IsLive id (moved s taken) h) (sym by.2.2) (record {
+          given = live.given;
+          is_open = ap (λ k. session_of id (with_machine k by.2.0 old.sessions)) number
+              ∙ with_machine-same id by.2.0 old.sessions s live.is_open
+              ∙ ap (λ (m : Machine). Some (record s { machine = m })) (by.2.1.machine ∙ ap (λ (x : SessionContents). exec (program_of x.program) taken x.machine) same);
+        }))
+    go false e =
+        inl (subst (λ h. IsLive id s h) (sym by.2.2) (record {
+          given = live.given;
+          is_open = with_machine-other id other e by.2.0 old.sessions ∙ live.is_open;
+        }))
+live_event places id s old new (Turn other n) (Refused fault) by live = inl (subst (λ h. IsLive id s h) (sym by.2) live)
+live_event places id s old new (View other p) (Viewed pairs) by live = inl (subst (λ h. IsLive id s h) (sym by.4) live)
+live_event places id s old new (View other p) (Refused fault) by live = inl (subst (λ h. IsLive id s h) (sym by.1) live)
+live_event places id s old new (Close other) Closed by live = go (other == id) refl
+  where
+    go : (b : Bool) → (other == id) ≡ b → IsLive id s new ⊎ IsGone id new
+    go true e =
+        inr (subst (λ h. IsGone id h) (sym by.1) (record {
+          given = live.given;
+          is_shut = ap (λ k. session_of id (without k old.sessions)) (eqb-true other id e) ∙ without-same id old.sessions;
+        }))
+    go false e =
+        inl (subst (λ h. IsLive id s h) (sym by.1) (record {
+          given = live.given;
+          is_open = without-other id other e old.sessions ∙ live.is_open;
+        }))
+live_event places id s old new (Close other) (Refused fault) by live = inl (subst (λ h. IsLive id s h) (sym by.2) live)
+live_event places id s old new event answer by live = absurd by
+
+gone_event : (places id : ℕ) (old new : HostContents) (event : HostEvent) (answer : HostAnswer)
+    → Answers places old event answer new → IsGone id old → IsGone id new
+gone_event places id old new (Open bytes world) (Opened n) by gone =
+    subst (λ h. IsGone id h) (sym by.2.2) (record {
+      given = omega (arith, gone.given);
+      is_shut = ap (λ b. cond b (Some (record { id = old.next; program = by.2.0; machine = first_machine by.2.0 world })) (session_of id old.sessions)) (is_older id old.next gone.given) ∙ gone.is_shut;
+    })
+gone_event places id old new (Open bytes world) (Refused fault) by gone = subst (λ h. IsGone id h) (sym by.1) gone
+gone_event places id old new (Turn other n) (Turned taken status) by gone = go (other == id) refl
+  where
+    go : (b : Bool) → (other == id) ≡ b → IsGone id new
+    go true e =
+        absurd (none-some by.0 (sym gone.is_shut ∙ ap (λ k. session_of k old.sessions) (sym (eqb-true other id e)) ∙ by.1))
+    go false e =
+        subst (λ h. IsGone id h) (sym by.2.2) (record {
+          given = gone.given;
+          is_shut = with_machine-other id other e by.2.0 old.sessions ∙ gone.is_shut;
+        })
+gone_event places id old new (Turn other n) (Refused fault) by gone = subst (λ h. IsGone id h) (sym by.2) gone
+gone_event places id old new (View other p) (Viewed pairs) by gone = subst (λ h. IsGone id h) (sym by.4) gone
+gone_event places id old new (View other p) (Refused fault) by gone = subst (λ h. IsGone id h) (sym by.1) gone
+gone_event places id old new (Close other) Closed by gone = go (other == id) refl
+  where
+    go : (b : Bool) → (other == id) ≡ b → IsGone id new
+    go true e =
+        subst (λ h. IsGone id h) (sym by.1) (record {
+          given = gone.given;
+          is_shut = ap (λ k. session_of id (without k old.sessions)) (eqb-true other id e) ∙ without-same id old.sessions;
+        })
+    go false e =
+        subst (λ h. IsGone id h) (sym by.1) (record {
+          given = gone.given;
+          is_shut = without-other id other e old.sessions ∙ gone.is_shut;
+        })
+gone_event places id old new (Close other) (Refused fault) by gone = subst (λ h. IsGone id h) (sym by.2) gone
+gone_event places id old new event answer by gone = absurd by
+
+-- ---- lists of events
+
+some_is : {X : Type 0} (x y : X) → Some x ≡ Some y → x ≡ y
+some_is x y e = cc
+
+-- what an event and its answer are, where the first ones of the lists are known
+known : (places : ℕ) (old new : HostContents) (event event' : HostEvent) (answer answer' : HostAnswer) → Some event ≡ Some event' → Some answer ≡ Some answer'
+    → Answers places old event answer new → Answers places old event' answer' new
+known places old new event event' answer answer' e a by =
+    subst (λ y. Answers places old event' y new) (some_is answer answer' a) (subst (λ x. Answers places old x answer new) (some_is event event' e) by)
+
+module _ (places id p : ℕ) (pairs : List Pair) where
+  -- a session that is gone is not shown
+  never_shown : (events : List HostEvent) (answers : List HostAnswer) (old new : HostContents) → Answered places old events answers new → IsGone id old
+      → (k : ℕ) → slice_get events k ≡ Some (View id p) → slice_get answers k ≡ Some (Viewed pairs) → ⊥
+  never_shown [] answers old new by gone k asked told = none-some (View id p) asked
+  never_shown (event ∷ events) [] old new by gone k asked told = by
+  never_shown (event ∷ events) (answer ∷ answers) old new by gone zero asked told =
+      let shown = known places old by.0 event (View id p) answer (Viewed pairs) asked told by.1 in
+      none-some shown.0 (sym gone.is_shut ∙ shown.1)
+  never_shown (event ∷ events) (answer ∷ answers) old new by gone (suc k) asked told =
+      never_shown events answers by.0 new by.2 (gone_event places id old by.0 event answer by.1 gone) k asked told
+
+  -- a session that is there is shown as many steps on as its turns told
+  shown_moved : (events : List HostEvent) (answers : List HostAnswer) (old new : HostContents) (s : SessionContents)
+      → Answered places old events answers new → IsLive id s old
+      → (k : ℕ) → slice_get events k ≡ Some (View id p) → slice_get answers k ≡ Some (Viewed pairs)
+      → pairs ≡ seen_of s.program p (sent_of (exec (program_of s.program) (steps_told id (take k events) (take k answers)) s.machine))
+  shown_moved [] answers old new s by live k asked told = absurd (none-some (View id p) asked)
+  shown_moved (event ∷ events) [] old new s by live k asked told = absurd by
+  shown_moved (event ∷ events) (answer ∷ answers) old new s by live zero asked told =
+      let shown = known places old by.0 event (View id p) answer (Viewed pairs) asked told by.1 in
+      let same = one_session old id id shown.0 s refl shown.1 live.is_open in
+      shown.3 ∙ ap (λ (x : SessionContents). seen_of x.program p (sent_of x.machine)) same
+  shown_moved (event ∷ events) (answer ∷ answers) old new s by live (suc k) asked told =
+      ⊎_elim
+      (λ next.
+      shown_moved events answers by.0 new (moved s (told_of id event answer)) by.2 next k asked told
+      ∙ ap (λ m. seen_of s.program p (sent_of m)) (exec-more (program_of s.program) (told_of id event answer) (steps_told id (take k events) (take k answers)) s.machine))
+      (λ gone. absurd (never_shown events answers by.0 new by.2 gone k asked told))
+      (live_event places id s old by.0 event answer by.1 live)
+
+-- ---- from its opening on
+
+opened_live : (id : ℕ) (old : HostContents) (m : ModuleContents) (world : List InputNumbers) → id ≡ old.next
+    → IsLive id (record { id = old.next; program = m; machine = first_machine m world }) (with_opened old m world)
+opened_live id old m world e = record {
+  given = omega (arith, e);
+  is_open =
+      ap (λ b. cond b (Some (record { id = old.next; program = m; machine = first_machine m world })) (session_of id old.sessions))
+      (eq-eqb old.next id (sym e));
+}
+
+module _ (places id p : ℕ) (pairs : List Pair) (bytes : List ℕ) (world : List InputNumbers) (m : ModuleContents)
+    (unique : (n : ModuleContents) → Spells module_file n bytes → n ≡ m) where
+  pub shown_fresh : (events : List HostEvent) (answers : List HostAnswer) (old new : HostContents) → Answered places old events answers new
+      → (i j : ℕ) → i < j
+      → slice_get events i ≡ Some (Open bytes world) → slice_get answers i ≡ Some (Opened id)
+      → slice_get events j ≡ Some (View id p) → slice_get answers j ≡ Some (Viewed pairs)
+      → pairs ≡ seen_of m p (sent_of (exec (program_of m) (steps_told id (drop i (take j events)) (drop i (take j answers))) (first_machine m world)))
+  shown_fresh events answers old new by i zero later opens opened views viewed = absurd (omega arith)
+  shown_fresh [] answers old new by i (suc j) later opens opened views viewed = absurd (none-some (Open bytes world) opens)
+  shown_fresh (event ∷ events) [] old new by i (suc j) later opens opened views viewed = absurd by
+  shown_fresh (event ∷ events) (answer ∷ answers) old new by zero (suc j) later opens opened views viewed =
+      let at = known places old by.0 event (Open bytes world) answer (Opened id) opens opened by.1 in
+      let n : ModuleContents = at.2.0 in
+      let live = subst (λ h. IsLive id (record { id = old.next; program = n; machine = first_machine n world }) h) (sym at.2.2) (opened_live id old n world at.1) in
+      let first : told_of id event answer ≡ 0 = ap (λ e. told_of id e answer) (some_is event (Open bytes world) opens) ∙ ap (told_of id (Open bytes world)) (some_is answer (Opened id) opened) in
+      let steps : steps_told id (take j events) (take j answers) ≡ told_of id event answer + steps_told id (take j events) (take j answers) = omega (arith, first) in
+      shown_moved places id p pairs events answers by.0 new (record { id = old.next; program = n; machine = first_machine n world }) by.2 live j views viewed
+      ∙ ap (λ (x : ModuleContents). seen_of x p (sent_of (exec (program_of x) (steps_told id (take j events) (take j answers)) (first_machine x world)))) (unique n at.2.1.spelled)
+      ∙ ap (λ k. seen_of m p (sent_of (exec (program_of m) k (first_machine m world)))) steps
+  shown_fresh (event ∷ events) (answer ∷ answers) old new by (suc i) (suc j) later opens opened views viewed =
+      shown_fresh events answers by.0 new by.2 i j (omega arith) opens opened views viewed
+
+-- ---- to the end of the list
+
+module _ (places id : ℕ) where
+  still_gone : (events : List HostEvent) (answers : List HostAnswer) (old new : HostContents) → Answered places old events answers new
+      → IsGone id old → IsGone id new
+  still_gone [] [] old new by gone = subst (λ h. IsGone id h) (sym by) gone
+  still_gone [] (answer ∷ answers) old new by gone = absurd by
+  still_gone (event ∷ events) [] old new by gone = absurd by
+  still_gone (event ∷ events) (answer ∷ answers) old new by gone =
+      still_gone events answers by.0 new by.2 (gone_event places id old by.0 event answer by.1 gone)
+
+  still_moved : (events : List HostEvent) (answers : List HostAnswer) (old new : HostContents) (s : SessionContents)
+      → Answered places old events answers new → IsLive id s old
+      → IsLive id (moved s (steps_told id events answers)) new ⊎ IsGone id new
+  still_moved [] [] old new s by live = inl (subst (λ h. IsLive id s h) (sym by) live)
+  still_moved [] (answer ∷ answers) old new s by live = absurd by
+  still_moved (event ∷ events) [] old new s by live = absurd by
+  still_moved (event ∷ events) (answer ∷ answers) old new s by live =
+      ⊎_elim
+      (λ next. ⊎_elim
+      (λ l. inl (subst (λ (m : Machine). IsLive id (record s { machine = m }) new) (exec-more (program_of s.program) (told_of id event answer) (steps_told id events answers) s.machine) l))
+      (λ g. inr g)
+      (still_moved events answers by.0 new (moved s (told_of id event answer)) by.2 next))
+      (λ gone. inr (still_gone events answers by.0 new by.2 gone))
+      (live_event places id s old by.0 event answer by.1 live)
+
+module _ (places id : ℕ) (bytes : List ℕ) (world : List InputNumbers) (m : ModuleContents)
+    (unique : (n : ModuleContents) → Spells module_file n bytes → n ≡ m) where
+  pub stands : (events : List HostEvent) (answers : List HostAnswer) (old new : HostContents) → Answered places old events answers new
+      → (i : ℕ) → slice_get events i ≡ Some (Open bytes world) → slice_get answers i ≡ Some (Opened id)
+      → (session : SessionContents) → IsOpen new id session
+      → session ≡ record { id = id; program = m; machine = exec (program_of m) (steps_told id (drop i events) (drop i answers)) (first_machine m world) }
+  stands [] answers old new by i opens opened session there = absurd (none-some (Open bytes world) opens)
+  stands (event ∷ events) [] old new by i opens opened session there = absurd by
+  stands (event ∷ events) (answer ∷ answers) old new by zero opens opened session there =
+      let at = known places old by.0 event (Open bytes world) answer (Opened id) opens opened by.1 in
+      let n : ModuleContents = at.2.0 in
+      let live = subst (λ h. IsLive id (record { id = old.next; program = n; machine = first_machine n world }) h) (sym at.2.2) (opened_live id old n world at.1) in
+      let first : told_of id event answer ≡ 0 = ap (λ e. told_of id e answer) (some_is event (Open bytes world) opens) ∙ ap (told_of id (Open bytes world)) (some_is answer (Opened id) opened) in
+      let steps : steps_told id events answers ≡ told_of id event answer + steps_told id events answers = omega (arith, first) in
+      let same = unique n at.2.1.spelled in
+      ⊎_elim
+      (λ l.
+      one_session new id id session (moved (record { id = old.next; program = n; machine = first_machine n world }) (steps_told id events answers)) refl there l.is_open
+      ∙ (λ i. record { id = sym at.1 i; program = same i; machine = exec (program_of (same i)) (steps i) (first_machine (same i) world) }))
+      (λ g. absurd (none-some session (sym g.is_shut ∙ there)))
+      (still_moved places id events answers by.0 new (record { id = old.next; program = n; machine = first_machine n world }) by.2 live)
+  stands (event ∷ events) (answer ∷ answers) old new by (suc i) opens opened session there =
+      stands events answers by.0 new by.2 i opens opened session there
+
+-- ---- ids
+
+opened_next : (places : ℕ) (old new : HostContents) (event : HostEvent) (n : ℕ) → Answers places old event (Opened n) new
+    → (n ≡ old.next) × (new.next ≡ old.next + 1)
+opened_next places old new (Open bytes world) n by = (by.1, ap (λ (h : HostContents). h.next) by.2.2)
+opened_next places old new event n by = absurd by
+
+same_next : (old new : HostContents) → new ≡ old → old.next ≤ new.next
+same_next old new e =
+    let next = ap (λ (h : HostContents). h.next) e in
+    omega arith
+
+next_grows : (places : ℕ) (old new : HostContents) (event : HostEvent) (answer : HostAnswer) → Answers places old event answer new → old.next ≤ new.next
+next_grows places old new (Open bytes world) (Opened n) by =
+    let next = ap (λ (h : HostContents). h.next) by.2.2 in
+    omega arith
+next_grows places old new (Open bytes world) (Refused fault) by = same_next old new by.1
+next_grows places old new (Turn id n) (Turned taken status) by =
+    let next = ap (λ (h : HostContents). h.next) by.2.2 in
+    omega arith
+next_grows places old new (Turn id n) (Refused fault) by = same_next old new by.2
+next_grows places old new (View id p) (Viewed pairs) by = same_next old new by.4
+next_grows places old new (View id p) (Refused fault) by = same_next old new by.1
+next_grows places old new (Close id) Closed by =
+    let next = ap (λ (h : HostContents). h.next) by.1 in
+    omega arith
+next_grows places old new (Close id) (Refused fault) by = same_next old new by.2
+next_grows places old new event answer by = absurd by
+
+opened_by : (places : ℕ) (old new : HostContents) (event : HostEvent) (answer : HostAnswer) (n : ℕ) → Some answer ≡ Some (Opened n)
+    → Answers places old event answer new → (n ≡ old.next) × (new.next ≡ old.next + 1)
+opened_by places old new event answer n e by =
+    opened_next places old new event n (subst (λ y. Answers places old event y new) (some_is answer (Opened n) e) by)
+
+ids_from : (places : ℕ) (events : List HostEvent) (answers : List HostAnswer) (old new : HostContents) → Answered places old events answers new
+    → (j n : ℕ) → slice_get answers j ≡ Some (Opened n) → old.next ≤ n
+ids_from places events [] old new by j n told = absurd (none-some (Opened n) told)
+ids_from places [] (answer ∷ answers) old new by j n told = absurd by
+ids_from places (event ∷ events) (answer ∷ answers) old new by zero n told =
+    let at = opened_by places old by.0 event answer n told by.1 in
+    omega (arith, at.0)
+ids_from places (event ∷ events) (answer ∷ answers) old new by (suc j) n told =
+    let one = next_grows places old by.0 event answer by.1 in
+    let more = ids_from places events answers by.0 new by.2 j n told in
+    omega (arith, one, more)
+
+pub ids_go_up : (places : ℕ) (events : List HostEvent) (answers : List HostAnswer) (old new : HostContents) → Answered places old events answers new
+    → (i j first second : ℕ) → i < j → slice_get answers i ≡ Some (Opened first) → slice_get answers j ≡ Some (Opened second) → first < second
+ids_go_up places events answers old new by i zero first second later one other = absurd (omega arith)
+ids_go_up places events [] old new by i (suc j) first second later one other = absurd (none-some (Opened first) one)
+ids_go_up places [] (answer ∷ answers) old new by i (suc j) first second later one other = absurd by
+ids_go_up places (event ∷ events) (answer ∷ answers) old new by zero (suc j) first second later one other =
+    let at = opened_by places old by.0 event answer first one by.1 in
+    let rest = ids_from places events answers by.0 new by.2 j second other in
+    omega (arith, at.0, at.1, rest)
+ids_go_up places (event ∷ events) (answer ∷ answers) old new by (suc i) (suc j) first second later one other =
+    ids_go_up places events answers by.0 new by.2 i j first second (omega arith) one other

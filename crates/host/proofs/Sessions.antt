@@ -1,0 +1,167 @@
+-- Kept sessions and those of the meaning.
+use Rattle.std.proofs.Common.{◌≡◌, ℕ, zero, suc, ◌+◌, ◌^◌, ◌<◌, ◌≤◌, ◌==◌, Bool, true, false, not, cond, List, [], ◌∷◌, map, length, get_or, set, Option, None, Some, refl, sym, ap, ◌∙◌, subst, arith}
+use Rattle.std.specs.Prelude.{filter, position, option_map}
+use Rattle.std.specs.List.{find, insert, position_or_len}
+use Rattle.std.specs.Option.{SomeIff}
+use Rattle.std.proofs.lemmas.List.{length-map}
+use Rattle.channels.specs.World.{InputNumbers}
+use Rattle.std.proofs.lemmas.Grind.{common_steps}
+use Rattle.std.proofs.lemmas.List.Folds.{find_at}
+use Rattle.std.proofs.lemmas.List.Quantifiers.{position-Some}
+use Rattle.std.proofs.lemmas.Option.{none-some, slice_get_past}
+use Rattle.bytecode.specs.Machine.{Machine}
+use Rattle.machine.specs.Run.{machine_of}
+use Rattle.host.specs.Meaning.{SessionContents, HostContents, IsOpen, IsNotOpen, session_of, with_machine, without, HasRoom, CannotOpen, OpenRefused, first_machine, with_opened}
+use Rattle.host.specs.Next.{next_of}
+use Rattle.host.specs.declared.fault.HostFault.{HostFault}
+use Rattle.host.specs.declared.fault.HostFault.TheVariants.{NoMemory, Full, UnknownId, UnknownPrincipal, UnknownChannel, Bytes, Code}
+use Rattle.host.specs.Values.{KeptSession, KeptHost, contents_of, host_of}
+
+abbrev has_id : ℕ → KeptSession → Bool
+has_id id session = session.id == id
+
+-- ---- looking up
+
+found : (id : ℕ) (xs : List KeptSession) → session_of id (map contents_of xs) ≡ option_map contents_of (find (has_id id) xs)
+found id [] = refl
+found id (x ∷ xs) = by (x.id == id) (found id xs)
+  where
+    by : (b : Bool) → session_of id (map contents_of xs) ≡ option_map contents_of (find (has_id id) xs) → cond b (Some (contents_of x)) (session_of id (map contents_of xs)) ≡ option_map contents_of (cond b (Some x) (find (has_id id) xs))
+    by true rest = refl
+    by false rest = rest
+
+missing_place : (p : KeptSession → Bool) (xs : List KeptSession) → position p xs ≡ None → length xs ≤ position_or_len p xs
+missing_place p xs e = grind (arith, common_steps)
+
+pub not_there : (id : ℕ) (xs : List KeptSession) → position (has_id id) xs ≡ None → session_of id (map contents_of xs) ≡ None
+not_there id xs e =
+    found id xs
+    ∙ ap (option_map contents_of) (find_at (has_id id) xs ∙ slice_get_past xs (position_or_len (has_id id) xs) (missing_place (has_id id) xs e))
+
+-- at the first place with an id stands its session
+at_first : (id : ℕ) (xs : List KeptSession) (place : ℕ) (d : KeptSession) → place < length xs → has_id id (get_or xs place d) ≡ true
+    → ((k : ℕ) → k < place → has_id id (get_or xs k d) ≡ false)
+    → session_of id (map contents_of xs) ≡ Some (contents_of (get_or xs place d))
+at_first id [] place d inside here before = absurd (omega arith)
+at_first id (x ∷ xs) zero d inside here before =
+    ap (λ b. cond b (Some (contents_of x)) (session_of id (map contents_of xs))) here
+at_first id (x ∷ xs) (suc place) d inside here before =
+    let head : (x.id == id) ≡ false = before 0 (omega arith) in
+    ap (λ b. cond b (Some (contents_of x)) (session_of id (map contents_of xs))) head
+    ∙ at_first id xs place d (omega arith) here (λ k below. before (suc k) (omega arith))
+
+pub there : (id : ℕ) (xs : List KeptSession) (place : ℕ) (d : KeptSession) → position (has_id id) xs ≡ Some place
+    → session_of id (map contents_of xs) ≡ Some (contents_of (get_or xs place d))
+there id xs place d e =
+    let at = position-Some (has_id id) xs place d e in
+    at_first id xs place d at.0 at.1 at.2
+
+pub somewhere : (id : ℕ) (xs : List KeptSession) (place : ℕ) → position (has_id id) xs ≡ Some place
+    → (session : SessionContents) × (session_of id (map contents_of xs) ≡ Some session)
+somewhere id [] place e = absurd (none-some place e)
+somewhere id (x ∷ xs) place e = (contents_of (get_or (x ∷ xs) place x), there id (x ∷ xs) place x e)
+
+-- ---- changing
+
+changed_first : (id : ℕ) (xs : List KeptSession) (place : ℕ) (d new : KeptSession) → place < length xs → has_id id (get_or xs place d) ≡ true
+    → ((k : ℕ) → k < place → has_id id (get_or xs k d) ≡ false)
+    → (machine : Machine) → contents_of new ≡ record (contents_of (get_or xs place d)) { machine = machine }
+    → map contents_of (set xs place new) ≡ with_machine id machine (map contents_of xs)
+changed_first id [] place d new inside here before machine e = absurd (omega arith)
+changed_first id (x ∷ xs) zero d new inside here before machine e =
+    let y = record (contents_of x) { machine = machine } in
+    ap (λ s. s ∷ map contents_of xs) e
+    ∙ sym (ap (λ b. cond b (y ∷ map contents_of xs) (contents_of x ∷ with_machine id machine (map contents_of xs))) here)
+changed_first id (x ∷ xs) (suc place) d new inside here before machine e =
+    let head : (x.id == id) ≡ false = before 0 (omega arith) in
+    let y = record (contents_of x) { machine = machine } in
+    ap (λ s. contents_of x ∷ s) (changed_first id xs place d new (omega arith) here (λ k below. before (suc k) (omega arith)) machine e)
+    ∙ sym (ap (λ b. cond b (y ∷ map contents_of xs) (contents_of x ∷ with_machine id machine (map contents_of xs))) head)
+
+pub changed : (id : ℕ) (xs : List KeptSession) (place : ℕ) (d new : KeptSession) → position (has_id id) xs ≡ Some place
+    → (machine : Machine) → contents_of new ≡ record (contents_of (get_or xs place d)) { machine = machine }
+    → map contents_of (set xs place new) ≡ with_machine id machine (map contents_of xs)
+changed id xs place d new e machine same =
+    let at = position-Some (has_id id) xs place d e in
+    changed_first id xs place d new at.0 at.1 at.2 machine same
+
+-- the session of an id is another one with the same id and module
+pub turned : (id : ℕ) (xs : List KeptSession) (place : ℕ) (old new : KeptSession) → position (has_id id) xs ≡ Some place
+    → old ≡ get_or xs place old → new.id ≡ old.id → new.run.program ≡ old.run.program
+    → map contents_of (set xs place new) ≡ with_machine id (machine_of new.run) (map contents_of xs)
+turned id xs place old new e at same_id same_program =
+    changed id xs place old new e (machine_of new.run)
+    (λ i. record { id = (same_id ∙ ap (λ (s : KeptSession). s.id) at) i; program = (same_program ∙ ap (λ (s : KeptSession). s.run.program) at) i; machine = machine_of new.run })
+
+pub filtered : (id : ℕ) (xs : List KeptSession) → map contents_of (filter (λ session. not (session.id == id)) xs) ≡ without id (map contents_of xs)
+filtered id [] = refl
+filtered id (x ∷ xs) = by (x.id == id) (filtered id xs)
+  where
+    by : (b : Bool) → map contents_of (filter (λ session. not (session.id == id)) xs) ≡ without id (map contents_of xs)
+        → map contents_of (cond (not b) (x ∷ filter (λ session. not (session.id == id)) xs) (filter (λ session. not (session.id == id)) xs))
+        ≡ cond (not b) (contents_of x ∷ without id (map contents_of xs)) (without id (map contents_of xs))
+    by true rest = rest
+    by false rest = ap (λ s. contents_of x ∷ s) rest
+
+-- ---- in a host
+
+-- sessions that are those of a host
+module _ (host : KeptHost) (xs : List KeptSession) (are : xs ≡ host.sessions) (id : ℕ) where
+  pub is_not_open : (r : Option ℕ) → r ≡ position (has_id id) xs → r ≡ None → IsNotOpen (host_of host) id
+  is_not_open r found none = ap (λ l. session_of id (map contents_of l)) (sym are) ∙ not_there id xs (sym found ∙ none)
+
+  pub is_open : (r : Option ℕ) (place : ℕ) (session : KeptSession) → r ≡ position (has_id id) xs → r ≡ Some place
+      → session ≡ get_or xs place session → IsOpen (host_of host) id (contents_of session)
+  is_open r place session found some at =
+      ap (λ l. session_of id (map contents_of l)) (sym are)
+      ∙ there id xs place session (sym found ∙ some)
+      ∙ ap (λ s. Some (contents_of s)) (sym at)
+
+  pub is_open_somewhere : (r : Option ℕ) (place : ℕ) → r ≡ position (has_id id) xs → r ≡ Some place
+      → (session : SessionContents) × IsOpen (host_of host) id session
+  is_open_somewhere r place found some =
+      let at = somewhere id xs place (sym found ∙ some) in
+      (at.0, ap (λ l. session_of id (map contents_of l)) (sym are) ∙ at.1)
+
+-- a host by its parts
+pub of_parts : (next next' : ℕ) (sessions sessions' : List SessionContents) → next ≡ next' → sessions ≡ sessions'
+    → ◌≡◌ {A = HostContents} (record { next = next; sessions = sessions }) (record { next = next'; sessions = sessions' })
+of_parts next next' sessions sessions' e f = λ i. record { next = e i; sessions = f i }
+
+-- ---- opening
+
+pub has_room : (places : ℕ) (host : KeptHost) (next : Option ℕ) (xs : List KeptSession)
+    → ◌≡◌ {A = KeptHost} (record { next = next_of next; sessions = xs }) host
+    → (id : ℕ) → next ≡ Some id → id < 2 ^ 64 → length xs < places → HasRoom places (host_of host)
+has_room places host next xs is id e below inside =
+    let first : next_of next ≡ id = ap next_of e in
+    let kept : HasRoom places (record { next = next_of next; sessions = map contents_of xs }) =
+    record { place_left = rw length-map inside; id_left = omega (arith, first) } in
+    subst (λ h. HasRoom places (host_of h)) is kept
+
+pub refused_with_room : (places : ℕ) (host : HostContents) (bytes : List ℕ) (world : List InputNumbers) (fault : HostFault)
+    → HasRoom places host → CannotOpen bytes world fault → OpenRefused places host bytes world fault
+refused_with_room places host bytes world (Bytes refusal offset) room cannot = (room, cannot)
+refused_with_room places host bytes world (Code fault) room cannot = (room, cannot)
+refused_with_room places host bytes world UnknownChannel room cannot = (room, cannot)
+refused_with_room places host bytes world NoMemory room cannot = (room, cannot)
+refused_with_room places host bytes world Full room cannot = absurd cannot
+refused_with_room places host bytes world UnknownId room cannot = absurd cannot
+refused_with_room places host bytes world UnknownPrincipal room cannot = absurd cannot
+
+pub next_after : (id : ℕ) → id < 2 ^ 64 → (after : Option ℕ) → SomeIff after (id + 1 < 18446744073709551616) (id + 1) → next_of after ≡ id + 1
+next_after id below None none = omega (arith, none)
+next_after id below (Some next) some = some.1
+
+pub opened_as : (host : KeptHost) (next after : Option ℕ) (xs ys : List KeptSession)
+    → ◌≡◌ {A = KeptHost} (record { next = next_of next; sessions = xs }) host
+    → (id : ℕ) → next ≡ Some id → next_of after ≡ id + 1
+    → (new : KeptSession) → ys ≡ insert xs 0 new → (world : List InputNumbers) → new.id ≡ id
+    → machine_of new.run ≡ first_machine new.run.program world
+    → host_of (record { next = next_of after; sessions = ys }) ≡ with_opened (host_of host) new.run.program world
+opened_as host next after xs ys is id e sum new inserted world same first =
+    let number : id ≡ host.next = sym (ap next_of e) ∙ ap (λ (h : KeptHost). h.next) is in
+    of_parts (next_of after) (host.next + 1) (map contents_of ys) (record { id = host.next; program = new.run.program; machine = first_machine new.run.program world } ∷ map contents_of host.sessions)
+    (sum ∙ ap (λ n. n + 1) number)
+    (ap (map contents_of) (inserted)
+    ∙ (λ i. record { id = (same ∙ number) i; program = new.run.program; machine = first i } ∷ map contents_of (is i).sessions))

@@ -1,0 +1,85 @@
+-- What the meaning of hosts implies, for every host and every list of events: a session is a run of its module alone on its
+-- world, by as many steps as its own turns told; sessions of isolated bytes are isolated; no id is given twice.
+-- Source: our own; noninterference after Volpano, Smith and Irvine 1996.
+use Rattle.std.specs.Prelude.{◌≡◌, ℕ, ◌+◌, ◌<◌, ◌==◌, if◌then◌else◌, List, [], ◌∷◌, slice_get, take, drop, Some}
+use Rattle.labels.specs.declared.sent.Pair.{Pair}
+use Rattle.bytecode.specs.Contents.{ModuleContents}
+use Rattle.bytecode.specs.Form.{Spells}
+use Rattle.bytecode.specs.Format.{module_file}
+use Rattle.bytecode.specs.Machine.{after_steps, sent_after}
+use Rattle.channels.specs.World.{InputNumbers, numbers_of_channel}
+use Rattle.host.specs.Isolated.{seen_of, Agree, OneBegins, IsIsolated}
+use Rattle.host.specs.Meaning.{SessionContents, HostContents, HostEvent, Open, Turn, View, HostAnswer, Opened, Turned, Viewed, Answered, IsOpen}
+
+-- the steps that an event's answer tells of the session of an id
+abbrev pub told_of : ℕ → HostEvent → HostAnswer → ℕ
+told_of id (Turn other n) (Turned taken status) = if other == id then taken else 0
+told_of id event answer = 0
+
+-- the steps that the turns of an id tell in sum
+abbrev pub steps_told : ℕ → List HostEvent → List HostAnswer → ℕ
+steps_told id [] answers = 0
+steps_told id (event ∷ events) [] = 0
+steps_told id (event ∷ events) (answer ∷ answers) = told_of id event answer + steps_told id events answers
+
+-- some host was asked these events and gave these answers. In one place a session of these bytes on this world is opened,
+-- and in a later one a principal is shown these pairs of it
+pub record Shows (bytes : List ℕ) (world : List InputNumbers) (p : ℕ) (pairs : List Pair) : Type 0 where
+  pub places : ℕ
+  pub old : HostContents
+  pub events : List HostEvent
+  pub answers : List HostAnswer
+  pub new : HostContents
+  pub answered : Answered places old events answers new
+  pub id : ℕ
+  pub opened : ℕ
+  pub viewed : ℕ
+  pub later : opened < viewed
+  pub opens : slice_get events opened ≡ Some (Open bytes world)
+  pub opened_so : slice_get answers opened ≡ Some (Opened id)
+  pub views : slice_get events viewed ≡ Some (View id p)
+  pub viewed_so : slice_get answers viewed ≡ Some (Viewed pairs)
+
+-- the steps that the session's own turns told before it was viewed
+abbrev pub steps_of : (bytes : List ℕ) (world : List InputNumbers) (p : ℕ) (pairs : List Pair) → Shows bytes world p pairs → ℕ
+steps_of bytes world p pairs shows =
+    steps_told shows.id (drop shows.opened (take shows.viewed shows.events)) (drop shows.opened (take shows.viewed shows.answers))
+
+-- whatever a session is asked, and whatever events of other sessions come between: what is shown of it is what a fresh run of the
+-- module that the bytes spell, alone on the world, has sent after the steps that the session's own turns told
+abbrev pub SessionsAreFreshRuns : Type 0
+SessionsAreFreshRuns =
+    (bytes : List ℕ) (world : List InputNumbers) (p : ℕ) (pairs : List Pair) (m : ModuleContents) → Spells module_file m bytes
+    → (shows : Shows bytes world p pairs)
+    → pairs ≡ seen_of m p (sent_after m (numbers_of_channel m world) (steps_of bytes world p pairs shows))
+
+-- two sessions of one isolated module, each opened from the same bytes by any host among any events, on worlds that agree for a
+-- principal: one of what the two show to the principal begins the other
+abbrev pub SessionsAreIsolated : Type 0
+SessionsAreIsolated =
+    (bytes : List ℕ) (m : ModuleContents) → Spells module_file m bytes → IsIsolated m
+    → (p : ℕ) (first second : List InputNumbers) → Agree m p (numbers_of_channel m first) (numbers_of_channel m second)
+    → (pairs others : List Pair) → Shows bytes first p pairs → Shows bytes second p others → OneBegins pairs others
+
+-- a session that is opened among any events and is open after them stands where a fresh run of the module that the bytes spell,
+-- alone on the world, stands after the steps that the session's own turns told
+abbrev pub SessionsStandAsTold : Type 0
+SessionsStandAsTold =
+    (bytes : List ℕ) (world : List InputNumbers) (m : ModuleContents) → Spells module_file m bytes
+    → (places : ℕ) (old : HostContents) (events : List HostEvent) (answers : List HostAnswer) (new : HostContents)
+    → Answered places old events answers new
+    → (id opened : ℕ) → slice_get events opened ≡ Some (Open bytes world) → slice_get answers opened ≡ Some (Opened id)
+    → (session : SessionContents) → IsOpen new id session
+    → session ≡ record {
+      id = id;
+      program = m;
+      machine = after_steps m (numbers_of_channel m world) (steps_told id (drop opened events) (drop opened answers));
+    }
+
+-- no id is given twice: of two sessions that a host opens, the later one has the greater id
+abbrev pub IdsGoUp : Type 0
+IdsGoUp =
+    (places : ℕ) (old : HostContents) (events : List HostEvent) (answers : List HostAnswer) (new : HostContents)
+    → Answered places old events answers new
+    → (i j first second : ℕ) → i < j → slice_get answers i ≡ Some (Opened first) → slice_get answers j ≡ Some (Opened second)
+    → first < second

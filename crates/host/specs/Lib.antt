@@ -1,0 +1,5 @@
+pub mod Isolated
+pub mod Meaning
+pub mod Values
+pub mod Laws
+pub mod Next

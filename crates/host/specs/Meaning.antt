@@ -1,0 +1,172 @@
+-- The meaning of a host: how it may answer each event and what it then is. A relation, since memory may be refused, and since
+-- of several faults of one module any may be told that the verifier may tell.
+-- Source: our own.
+use Rattle.std.specs.Prelude.{◌≡◌, ◌≢◌, ℕ, ◌+◌, ◌<◌, ◌≤◌, ◌^◌, ◌==◌, not, if◌then◌else◌, List, [], ◌∷◌, length, filter, Option, Some, None}
+use Rattle.labels.specs.declared.sent.Pair.{Pair}
+use Rattle.bytecode.specs.Contents.{ModuleContents}
+use Rattle.bytecode.specs.Decoded.{first_refusal}
+use Rattle.bytecode.specs.Form.{Spells}
+use Rattle.bytecode.specs.Format.{module_file}
+use Rattle.bytecode.specs.Machine.{Machine, after_steps, exec, program_of, sent_of}
+use Rattle.channels.specs.World.{InputNumbers, input_names, numbers_of_channel}
+use Rattle.machine.specs.Run.{IsTold, WasRunning, names_of}
+use Rattle.machine.specs.declared.status.Status.{Status}
+use Rattle.verifier.specs.Faults as faults
+use Rattle.verifier.specs.Faults.{HasNoFault}
+use Rattle.host.specs.Isolated.{seen_of}
+use Rattle.host.specs.declared.fault.HostFault.{HostFault}
+use Rattle.host.specs.declared.fault.HostFault.TheVariants.{NoMemory, Full, UnknownId, UnknownPrincipal, UnknownChannel, Bytes, Code}
+
+-- ---- hosts
+
+-- an open session: its id, what its module contains, and the machine of its run, the run's end included
+pub record SessionContents : Type 0 where
+  pub id : ℕ
+  pub program : ModuleContents
+  pub machine : Machine
+
+-- a host: the least id that was never given, and the open sessions, the newest first
+pub record HostContents : Type 0 where
+  pub next : ℕ
+  pub sessions : List SessionContents
+
+-- the open session of an id
+abbrev pub session_of : ℕ → List SessionContents → Option SessionContents
+session_of id [] = None
+session_of id (session ∷ sessions) = if session.id == id then Some session else session_of id sessions
+
+abbrev pub IsOpen : HostContents → ℕ → SessionContents → Type 0
+IsOpen host id session = session_of id host.sessions ≡ Some session
+
+abbrev pub IsNotOpen : HostContents → ℕ → Type 0
+IsNotOpen host id = session_of id host.sessions ≡ None
+
+-- sessions with another machine for the one of an id
+abbrev pub with_machine : ℕ → Machine → List SessionContents → List SessionContents
+with_machine id machine [] = []
+with_machine id machine (session ∷ sessions) =
+    if session.id == id
+    then record session { machine = machine } ∷ sessions
+    else session ∷ with_machine id machine sessions
+
+-- sessions without that of an id
+abbrev pub without : ℕ → List SessionContents → List SessionContents
+without id sessions = filter (λ session. not (session.id == id)) sessions
+
+-- there is a place for one more session, and an id of 64 bits
+pub record HasRoom (places : ℕ) (host : HostContents) : Type 0 where
+  pub place_left : length host.sessions < places
+  pub id_left : host.next < 2 ^ 64
+
+-- ---- events and answers
+
+-- what a host is asked: to open a session of bytes on a world, to let the session of an id take at most so many steps, to show
+-- what a principal sees of it, or to close it
+pub data HostEvent : Type 0 where
+  Open : List ℕ → List InputNumbers → HostEvent
+  Turn : ℕ → ℕ → HostEvent
+  View : ℕ → ℕ → HostEvent
+  Close : ℕ → HostEvent
+
+pub data HostAnswer : Type 0 where
+  Opened : ℕ → HostAnswer
+  Turned : ℕ → Status → HostAnswer
+  Viewed : List Pair → HostAnswer
+  Closed : HostAnswer
+  Refused : HostFault → HostAnswer
+
+-- ---- opening
+
+-- bytes can be opened on a world as this module: they spell it, its code has no fault, and the world is for its inputs
+pub record CanOpen (bytes : List ℕ) (world : List InputNumbers) (m : ModuleContents) : Type 0 where
+  pub spelled : Spells module_file m bytes
+  pub faultless : HasNoFault m
+  pub named : names_of world ≡ input_names m
+
+-- a module on a world before its first step
+abbrev pub first_machine : ModuleContents → List InputNumbers → Machine
+first_machine m world = after_steps m (numbers_of_channel m world) 0
+
+-- a host with one more session, of the next id
+abbrev pub with_opened : HostContents → ModuleContents → List InputNumbers → HostContents
+with_opened host m world = record {
+  next = host.next + 1;
+  sessions = record { id = host.next; program = m; machine = first_machine m world } ∷ host.sessions;
+}
+
+-- why bytes are not opened on a world where there is room. The first of these in this order that applies is told, or want of
+-- memory: a refusal of the bytes, a fault of the code, a world for other inputs
+abbrev pub CannotOpen : List ℕ → List InputNumbers → HostFault → Type 0
+CannotOpen bytes world (Bytes refusal offset) = first_refusal bytes ≡ Some (refusal, offset)
+CannotOpen bytes world (Code fault) = (m : ModuleContents) × Spells module_file m bytes × faults.IsTold m fault
+CannotOpen bytes world UnknownChannel =
+    (m : ModuleContents) × Spells module_file m bytes × HasNoFault m × (names_of world ≢ input_names m)
+CannotOpen bytes world NoMemory = Unit {0}
+CannotOpen bytes world Full = ⊥
+CannotOpen bytes world UnknownId = ⊥
+CannotOpen bytes world UnknownPrincipal = ⊥
+
+-- a full host is told before all else
+abbrev pub OpenRefused : ℕ → HostContents → List ℕ → List InputNumbers → HostFault → Type 0
+OpenRefused places host bytes world Full = HasRoom places host → ⊥
+OpenRefused places host bytes world fault = HasRoom places host × CannotOpen bytes world fault
+
+-- ---- turns and views
+
+-- a session may be let take at most so many steps, takes so many, and tells so how it then stands
+pub record Takes (session : SessionContents) (n taken : ℕ) (status : Status) (after : Machine) : Type 0 where
+  pub within : taken ≤ n
+  pub running : WasRunning (program_of session.program) taken session.machine
+  pub machine : after ≡ exec (program_of session.program) taken session.machine
+  pub told : IsTold (program_of session.program) n taken status after
+
+-- a number is that of a principal of a session's module
+abbrev pub IsPrincipal : SessionContents → ℕ → Type 0
+IsPrincipal session p = p < length session.program.hierarchy.names
+
+-- what a principal sees of a session
+abbrev pub view_of : SessionContents → ℕ → List Pair
+view_of session p = seen_of session.program p (sent_of session.machine)
+
+-- why a view is refused
+abbrev pub ViewRefused : HostContents → ℕ → ℕ → HostFault → Type 0
+ViewRefused host id p UnknownId = IsNotOpen host id
+ViewRefused host id p UnknownPrincipal = (session : SessionContents) × IsOpen host id session × (IsPrincipal session p → ⊥)
+ViewRefused host id p NoMemory = (session : SessionContents) × IsOpen host id session × IsPrincipal session p
+ViewRefused host id p Full = ⊥
+ViewRefused host id p UnknownChannel = ⊥
+ViewRefused host id p (Bytes refusal offset) = ⊥
+ViewRefused host id p (Code fault) = ⊥
+
+-- ---- the meaning
+
+-- a host with so many places may answer an event so, and then is so
+abbrev pub Answers : (places : ℕ) (old : HostContents) → HostEvent → HostAnswer → (new : HostContents) → Type 0
+-- a session of the next id is opened
+Answers places old (Open bytes world) (Opened id) new =
+    HasRoom places old × (id ≡ old.next) × ((m : ModuleContents) × CanOpen bytes world m × (new ≡ with_opened old m world))
+Answers places old (Open bytes world) (Refused fault) new = OpenRefused places old bytes world fault × (new ≡ old)
+-- the session of the id, and no other, goes on by the steps that are told
+Answers places old (Turn id n) (Turned taken status) new =
+    (session : SessionContents) × IsOpen old id session
+    × ((after : Machine) × Takes session n taken status after
+    × (new ≡ record old { sessions = with_machine id after old.sessions }))
+Answers places old (Turn id n) (Refused fault) new = (fault ≡ UnknownId) × IsNotOpen old id × (new ≡ old)
+-- what the principal sees, and nothing changes
+Answers places old (View id p) (Viewed pairs) new =
+    (session : SessionContents) × IsOpen old id session × IsPrincipal session p × (pairs ≡ view_of session p) × (new ≡ old)
+Answers places old (View id p) (Refused fault) new = ViewRefused old id p fault × (new ≡ old)
+-- the session is there no more
+Answers places old (Close id) Closed new =
+    ((session : SessionContents) × IsOpen old id session) × (new ≡ record old { sessions = without id old.sessions })
+Answers places old (Close id) (Refused fault) new = (fault ≡ UnknownId) × IsNotOpen old id × (new ≡ old)
+-- no other answer is given
+Answers places old event answer new = ⊥
+
+-- the same for a list of events and the list of their answers, one after another
+abbrev pub Answered : (places : ℕ) (old : HostContents) → List HostEvent → List HostAnswer → (new : HostContents) → Type 0
+Answered places old [] [] new = new ≡ old
+Answered places old [] (answer ∷ answers) new = ⊥
+Answered places old (event ∷ events) [] new = ⊥
+Answered places old (event ∷ events) (answer ∷ answers) new =
+    (next : HostContents) × Answers places old event answer next × Answered places next events answers new

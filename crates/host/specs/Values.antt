@@ -1,0 +1,62 @@
+-- The hosts, events, answers and results of the code as those of the meaning.
+-- Source: our own.
+use Rattle.std.specs.Prelude.{ℕ, List, Result, Ok, Err, map}
+use Rattle.std.specs.Global.{Vec}
+use Rattle.labels.specs.declared.sent.Pair.{Pair}
+use Rattle.machine.specs.Run.{RunContents, machine_of}
+use Rattle.machine.specs.declared.status.Status.{Status}
+use Rattle.host.specs.Meaning as meaning
+use Rattle.host.specs.Meaning.{SessionContents, HostContents, HostEvent, HostAnswer}
+use Rattle.host.specs.declared.fault.HostFault.{HostFault}
+use Rattle.host.specs.declared.event.Event.{Event}
+use Rattle.host.specs.declared.event.Event.TheVariants.{Open, Turn, View, Close}
+use Rattle.host.specs.declared.event.Answer.{Answer}
+use Rattle.host.specs.declared.event.Answer.TheVariants.{Opened, Turned, Viewed, Closed, Refused}
+
+-- what a host keeps of an open session: its id, and its run
+pub record KeptSession : Type 0 where
+  pub id : ℕ
+  pub run : RunContents
+
+-- what a host keeps
+pub record KeptHost : Type 0 where
+  pub next : ℕ
+  pub sessions : List KeptSession
+
+abbrev pub contents_of : KeptSession → SessionContents
+contents_of session = record { id = session.id; program = session.run.program; machine = machine_of session.run }
+
+-- a kept host as one of the meaning
+abbrev pub host_of : KeptHost → HostContents
+host_of host = record { next = host.next; sessions = map contents_of host.sessions }
+
+-- an event and an answer as those of the meaning
+abbrev pub event_of : Event → HostEvent
+event_of (Open bytes world) = meaning.Open bytes.items world
+event_of (Turn id n) = meaning.Turn id n
+event_of (View id p) = meaning.View id p
+event_of (Close id) = meaning.Close id
+
+abbrev pub answer_of : Answer → HostAnswer
+answer_of (Opened id) = meaning.Opened id
+answer_of (Turned taken status) = meaning.Turned taken status
+answer_of (Viewed pairs) = meaning.Viewed pairs.items
+answer_of Closed = meaning.Closed
+answer_of (Refused fault) = meaning.Refused fault
+
+-- the result of each single call as an answer
+abbrev pub opened_or : Result ℕ HostFault → HostAnswer
+opened_or (Ok id) = meaning.Opened id
+opened_or (Err fault) = meaning.Refused fault
+
+abbrev pub turned_or : Result (ℕ × Status) HostFault → HostAnswer
+turned_or (Ok told) = meaning.Turned told.0 told.1
+turned_or (Err fault) = meaning.Refused fault
+
+abbrev pub viewed_or : Result (Vec Pair) HostFault → HostAnswer
+viewed_or (Ok pairs) = meaning.Viewed pairs.items
+viewed_or (Err fault) = meaning.Refused fault
+
+abbrev pub closed_or : {U : Type 0} → Result U HostFault → HostAnswer
+closed_or (Ok done) = meaning.Closed
+closed_or (Err fault) = meaning.Refused fault

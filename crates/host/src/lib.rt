@@ -1,0 +1,16 @@
+//! A host of sessions: runs of modules that come as bytes, each on a world of its own, and what principals see of them.
+#![tactic(auto)]
+
+pub mod event;
+pub mod fault;
+pub mod laws;
+pub mod places;
+mod session;
+mod view;
+
+pub use event::{Answer, Event, Id};
+pub use fault::HostFault;
+pub use places::{Host, PLACES};
+
+#[cfg(test)]
+mod tests;

@@ -1,0 +1,104 @@
+ghost use Rattle.bytecode.specs.Machine.{sent_of};
+ghost use Rattle.host.specs.Meaning.{CanOpen, CannotOpen, Takes, first_machine};
+ghost use Rattle.host.specs.Values.{contents_of};
+ghost use Rattle.machine.specs.Run.{machine_of};
+ghost use Rattle.std.specs.Prelude.{◌≡◌, ◌==◌, IfErr, IfOk, filter, not, position};
+
+use crate::event::Id;
+use crate::fault::HostFault;
+use bytecode::{FormatFault, Module, decode};
+use channels::{Pair, World};
+use machine::{Machine, NewFault, Status};
+use std::alloc::Global;
+use std::marker::Model;
+use verifier::{VerifyFault, verify};
+
+/// An open session.
+#[derive(Debug, Drop)]
+pub struct Session {
+    id: Id,
+    machine: Machine,
+}
+
+impl Model for Session {
+    ghost use Rattle.host.specs.Values.{KeptSession};
+
+    ghost Value = { KeptSession };
+
+    ghost view = { λ session. record { id = session.id; run = session.machine } };
+}
+
+impl Session {
+    pub fn new(id: Id, machine: Machine) -> Session
+        ensures { result ≡ record { id = id; run = machine } }
+    {
+        Session { id, machine }
+    }
+
+    pub fn id(&self) -> Id
+        ensures { result ≡ self.now.id }
+    {
+        self.id
+    }
+
+    pub fn module(&self) -> &Module
+        ensures { result.now ≡ self.now.run.program }
+    {
+        self.machine.module()
+    }
+
+    /// What the run has sent so far.
+    pub fn sent(&self) -> &[Pair]
+        ensures { result.now ≡ sent_of (machine_of self.now.run) }
+    {
+        self.machine.sent().pairs()
+    }
+
+    /// Takes at most so many steps, and tells how many it took and how the run then stands.
+    pub fn turn(&mut self, steps: u64) -> (u64, Status)
+        ensures id { self.new.id ≡ self.old.id }
+        ensures program { self.new.run.program ≡ self.old.run.program }
+        ensures takes { Takes (contents_of self.old) steps result.0 result.1 (machine_of self.new.run) }
+    {
+        self.machine.run(steps)
+    }
+}
+
+/// The run of the module that the bytes spell, on a world, before its first step.
+pub fn first_run(alloc: Global, bytes: &[u8], world: World) -> Result<Machine, HostFault>
+    ensures can { IfOk result (λ run. CanOpen bytes.now world run.program) }
+    ensures first { IfOk result (λ run. machine_of run ≡ first_machine run.program world) }
+    ensures cannot { IfErr result (λ fault. CannotOpen bytes.now world fault) }
+{
+    let whole = match decode(alloc, bytes) {
+        Ok(whole) => whole,
+        Err(FormatFault::NoMemory) => return Err(HostFault::NoMemory),
+        Err(FormatFault::Refused(refusal, offset)) => {
+            return Err(HostFault::Bytes(refusal, offset));
+        }
+    };
+    let verified = match verify(alloc, whole) {
+        Ok(verified) => verified,
+        Err(VerifyFault::NoMemory) => return Err(HostFault::NoMemory),
+        Err(VerifyFault::Wrong(fault)) => return Err(HostFault::Code(fault)),
+    };
+    match Machine::new(alloc, verified, world) {
+        Ok(run) => Ok(run),
+        Err(NewFault::NoMemory) => Err(HostFault::NoMemory),
+        Err(NewFault::UnknownChannel) => Err(HostFault::UnknownChannel),
+    }
+}
+
+/// The place of the first session with an id.
+pub fn find(sessions: &[Session], id: Id) -> Option<usize>
+    ensures { result ≡ position (λ session. session.id == id) sessions.now }
+{
+    sessions.iter().position(|session| session.id() == id)
+}
+
+/// Drops the sessions with an id.
+pub fn remove(sessions: &mut Vec<Session>, id: Id)
+    ensures { sessions.new.items ≡ filter (λ session. not (session.id == id)) sessions.old.items }
+{
+    sessions.retain(|session| session.id() != id);
+}
