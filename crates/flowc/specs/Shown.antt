@@ -1,0 +1,48 @@
+-- What a task shows on standard output, and with which status it ends.
+-- Source: our own.
+use Rattle.std.specs.Prelude.{◌≡◌, ◌≤◌, ◌⊎◌, ℕ, List, Option, Some, None, option_map, codes}
+use Rattle.std.specs.Io.KnownBytes.{Appends}
+use Rattle.std.specs.String.{string_bytes}
+use Rattle.std.specs.declared.alloc.Global.{Global}
+use Rattle.std.specs.declared.vec.Vec.{Vec}
+use Rattle.bytecode.specs.Contents.{ModuleContents}
+use Rattle.bytecode.specs.Form.{Spells}
+use Rattle.bytecode.specs.Format.{module_file}
+use Rattle.bytecode.specs.Machine.{after_steps, program_of, sent_after}
+use Rattle.channels.specs.World.{input_names, numbers_of_channel}
+use Rattle.channels.specs.WorldText.{IsWorldText, lines_of, world_of}
+use Rattle.machine.specs.Run.{IsTold}
+use Rattle.machine.specs.declared.status.Status.{Status}
+use Rattle.flowc.specs.declared.request.Task.{Task}
+use Rattle.flowc.specs.declared.request.Task.TheVariants.{Check, Build, Run}
+use Rattle.flowc.specs.Built.{bytes_at}
+use Rattle.flowc.specs.Task.{status_told}
+use Rattle.flowc.specs.View.{IsObserver, shown, view_text}
+use Rattle.std.specs.Prelude.{ℤ}
+
+-- the numbers that the text of a world has for each channel of a module
+abbrev pub numbers_in : ModuleContents → List ℕ → ℕ → List ℤ
+numbers_in whole text = numbers_of_channel whole (world_of (input_names whole) (lines_of text))
+
+-- a run was shown: the bytes are those of a module and of a world for it, at most so many steps were taken, and what was written
+-- is the view that the observer has of what was sent by then; the status tells the end, but not to an observer
+pub record ShowsRun (code text : List ℕ) (observer : Option (List ℕ)) (steps status : ℕ) (old new : Option (List ℕ)) : Type 0 where
+  pub whole : ModuleContents
+  pub principal : Option ℕ
+  pub taken : ℕ
+  pub spelled : Spells module_file whole code
+  pub right : IsWorldText (input_names whole) (lines_of text)
+  pub observed : IsObserver whole.hierarchy observer principal
+  pub within : taken ≤ steps
+  pub view : Appends old new (view_text whole (shown whole principal (sent_after whole (numbers_in whole text) taken)))
+  pub end : Status
+  pub ended : IsTold (program_of whole) steps taken end (after_steps whole (numbers_in whole text) taken)
+  pub told : status ≡ status_told principal end
+
+-- what a task has written to standard output when it ends with this status
+abbrev pub Shows : Task → List (Vec ℕ Global) → ℕ → Option (List ℕ) → Option (List ℕ) → Type 0
+Shows (Check hierarchy source) files status old new = status ≡ 0 → Appends old new (codes "ok\n")
+Shows (Build hierarchy source out) files status old new = old ≡ new
+Shows (Run file world observer steps) files status old new =
+    (status ≡ 1) ⊎ ((status ≡ 3)
+    ⊎ ShowsRun (bytes_at files 0) (bytes_at files 1) (option_map string_bytes observer) steps status old new)
