@@ -51,10 +51,10 @@ one_shown m observer pairs k pair old mid new line small is spelled before now =
     let last = get_or pairs k pair in
     let front = view_text m (shown m observer (take k pairs)) in
     let of_pair : line ≡ view_text m (shown m observer (last ∷ [])) =
-        spelled ∙ sym (append-nil (pair_line m last)) ∙ ap (view_text m) (sym (shown_pair m observer last is)) in
+    spelled ∙ sym (append-nil (pair_line m last)) ∙ ap (view_text m) (sym (shown_pair m observer last is)) in
     subst (λ (text : List ℕ). Appends old new text)
-        (ap (λ text. front ++ text) of_pair ∙ view-suc m observer pairs k pair small)
-        (Appends-trans old mid new front line before now)
+    (ap (λ text. front ++ text) of_pair ∙ view-suc m observer pairs k pair small)
+    (Appends-trans old mid new front line before now)
 
 pub one_hidden : (m : ModuleContents) (observer : Option ℕ) (pairs : List Pair) (k : ℕ) (pair : Pair) (old new : Option (List ℕ))
     → k < length pairs → is_shown m observer (get_or pairs k pair) ≡ false
@@ -63,10 +63,10 @@ pub one_hidden : (m : ModuleContents) (observer : Option ℕ) (pairs : List Pair
 one_hidden m observer pairs k pair old new small is before =
     let front = view_text m (shown m observer (take k pairs)) in
     subst (λ (text : List ℕ). Appends old new text)
-        (sym (append-nil front)
-        ∙ ap (λ list. front ++ view_text m list) (sym (hidden_pair m observer (get_or pairs k pair) is))
-        ∙ view-suc m observer pairs k pair small)
-        before
+    (sym (append-nil front)
+    ∙ ap (λ list. front ++ view_text m list) (sym (hidden_pair m observer (get_or pairs k pair) is))
+    ∙ view-suc m observer pairs k pair small)
+    before
 
 -- nothing written is the text of no pairs, and the text of as many pairs as there are is the text of all
 pub none_shown : (m : ModuleContents) (observer : Option ℕ) (pairs : List Pair) (old : Option (List ℕ))

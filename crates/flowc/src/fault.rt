@@ -114,11 +114,7 @@ pub enum Fault {
     NoMemory,
     /// One of the texts is refused, at this place.
     #[error("{cause}")]
-    Refused {
-        text: Text,
-        cause: Cause,
-        at: Place,
-    },
+    Refused { text: Text, cause: Cause, at: Place },
 }
 
 impl From<AllocError> for Fault {

@@ -14,7 +14,10 @@ pub const USUAL_STEPS: u64 = 1_000_000;
 #[derive(Debug, PartialEq, Eq, Drop)]
 pub enum Task {
     /// Check a source under a hierarchy.
-    Check { hier: String, src: String },
+    Check {
+        hier: String,
+        src: String,
+    },
     /// Compile a source under a hierarchy, and write the module to the file `out`.
     Build {
         hier: String,

@@ -7,4 +7,4 @@ use Rattle.flowc.proofs.view.write_view.Given as goal
 abbrev pub invariant-loop-pair : goal.invariant-loop-pair
 invariant-loop-pair g l =
     Appends (g.O.Sink.taken l.fn.out) (g.O.Sink.taken l.out)
-        (view_text l.whole (shown l.whole l.observer (take l.pair-index l.pairs)))
+    (view_text l.whole (shown l.whole l.observer (take l.pair-index l.pairs)))
