@@ -92,6 +92,7 @@ fn check<O: Sink>(
     ensures refused { IfErr result (λ trouble. status_of_trouble trouble ≡ 1 → ¬ IsAccepted hierarchy.entry.bytes.now source.entry.bytes.now) }
     ensures status { IfOk result (λ ended. ended.status ≡ 0) }
     ensures shown { OnOk result (Appends (O.taken out.old) (O.taken out.new) (codes "ok\n")) }
+    ensures quiet { IfErr result (λ trouble. status_of_trouble trouble ≡ 1 → O.taken out.old ≡ O.taken out.new) }
 {
     let _code = build(alloc, hierarchy, source)?;
     write_whole(out, b"ok\n")?;

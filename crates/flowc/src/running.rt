@@ -1,15 +1,17 @@
 //! Runs the module of a file on the world of another one.
 
+ghost use Rattle.bytecode.specs.Contents.{ModuleContents};
 ghost use Rattle.bytecode.specs.Form.{Spells};
 ghost use Rattle.bytecode.specs.Format.{module_file};
 ghost use Rattle.bytecode.specs.Machine.{Running, first_state};
 ghost use Rattle.channels.specs.World.{input_names};
 ghost use Rattle.channels.specs.WorldText.{IsWorldText, lines_of, world_of};
-ghost use Rattle.flowc.specs.Shown.{ShowsRun, numbers_in};
-ghost use Rattle.flowc.specs.Task.{status_told};
+ghost use Rattle.flowc.specs.Shown.{CannotRun, ShowsRun, numbers_in};
+ghost use Rattle.flowc.specs.Task.{status_of_trouble, status_told};
 ghost use Rattle.flowc.specs.View.{IsObserver};
 ghost use Rattle.machine.specs.Run.{machine_of};
-ghost use Rattle.std.specs.Prelude.{◌≡◌, IfOk, OnOk, option_map};
+ghost use Rattle.std.specs.Prelude.{◌≡◌, IfErr, IfOk, IsUtf8, ℕ, OnOk, Option, option_map};
+ghost use Rattle.verifier.specs.Faults.{HasNoFault};
 
 use crate::told::{fault_line, observer_line, refusal_line, world_line};
 use crate::trouble::Trouble;
@@ -44,7 +46,9 @@ pub fn run<O: Sink>(
     steps: u64,
     out: &mut O,
 ) -> Result<Ended, Trouble>
-    ensures { IfOk result (λ ended. ShowsRun code.entry.bytes.now world.entry.bytes.now (option_map (λ name. name.now) observer.entry) steps ended.status (O.taken out.old) (O.taken out.new)) }
+    ensures shown { IfOk result (λ ended. ShowsRun code.entry.bytes.now world.entry.bytes.now (option_map (λ name. name.now) observer.entry) steps ended.status (O.taken out.old) (O.taken out.new)) }
+    ensures refused { IfErr result (λ trouble. status_of_trouble trouble ≡ 1 → CannotRun code.entry.bytes.now world.entry.bytes.now (option_map (λ name. name.now) observer.entry)) }
+    ensures quiet { IfErr result (λ trouble. status_of_trouble trouble ≡ 1 → O.taken out.old ≡ O.taken out.new) }
 {
     let mut machine = started(alloc, code, world)?;
     let principal = principal_of(alloc, machine.module().hierarchy(), observer)?;
@@ -57,6 +61,10 @@ pub fn run<O: Sink>(
 // The machine of a file's module at its start on the world of another file.
 fn started(alloc: Global, code: File<'_>, world: File<'_>) -> Result<Machine, Trouble>
     ensures spelled { IfOk result (λ machine. Spells module_file machine.program code.entry.bytes.now) }
+    ensures only { IfOk result (λ machine. (whole : ModuleContents) → Spells module_file whole code.entry.bytes.now → machine.program ≡ whole) }
+    ensures faultless { IfOk result (λ machine. HasNoFault machine.program) }
+    ensures encoded { OnOk result (IsUtf8 world.entry.bytes.now) }
+    ensures refused { IfErr result (λ trouble. status_of_trouble trouble ≡ 1 → (whole : ModuleContents) → Spells module_file whole code.entry.bytes.now → HasNoFault whole → IsUtf8 world.entry.bytes.now → ¬ IsWorldText (input_names whole) (lines_of world.entry.bytes.now)) }
     ensures right { IfOk result (λ machine. IsWorldText (input_names machine.program) (lines_of world.entry.bytes.now)) }
     ensures first { IfOk result (λ machine. machine_of machine ≡ Running (first_state machine.program (numbers_in machine.program world.entry.bytes.now))) }
 {
@@ -74,7 +82,10 @@ fn started(alloc: Global, code: File<'_>, world: File<'_>) -> Result<Machine, Tr
 
 // The verified module that the bytes of a file spell.
 fn read_module(alloc: Global, file: File<'_>) -> Result<Verified, Trouble>
-    ensures { IfOk result (λ verified. Spells module_file verified file.entry.bytes.now) }
+    ensures spelled { IfOk result (λ verified. Spells module_file verified file.entry.bytes.now) }
+    ensures only { IfOk result (λ verified. (whole : ModuleContents) → Spells module_file whole file.entry.bytes.now → verified ≡ whole) }
+    ensures faultless { IfOk result (λ verified. HasNoFault verified) }
+    ensures refused { IfErr result (λ trouble. status_of_trouble trouble ≡ 1 → (whole : ModuleContents) → Spells module_file whole file.entry.bytes.now → ¬ HasNoFault whole) }
 {
     let whole = match decode(alloc, file.bytes) {
         Ok(whole) => whole,
@@ -95,8 +106,10 @@ fn read_module(alloc: Global, file: File<'_>) -> Result<Verified, Trouble>
 
 // The world that the bytes of a file write for a module.
 fn read_world(alloc: Global, whole: &Module, file: File<'_>) -> Result<World, Trouble>
+    ensures encoded { OnOk result (IsUtf8 file.entry.bytes.now) }
     ensures right { OnOk result (IsWorldText (input_names whole.now) (lines_of file.entry.bytes.now)) }
     ensures world { IfOk result (λ world. world ≡ world_of (input_names whole.now) (lines_of file.entry.bytes.now)) }
+    ensures refused { IfErr result (λ trouble. status_of_trouble trouble ≡ 1 → IsUtf8 file.entry.bytes.now → ¬ IsWorldText (input_names whole.now) (lines_of file.entry.bytes.now)) }
 {
     let path = file.path;
     let Ok(text) = std::str::from_utf8(file.bytes) else {
@@ -117,7 +130,8 @@ fn principal_of(
     hierarchy: &Hierarchy,
     observer: Option<&str>,
 ) -> Result<Option<u32>, Trouble>
-    ensures { IfOk result (λ principal. IsObserver hierarchy.now (option_map (λ name. name.now) observer.entry) principal) }
+    ensures found { IfOk result (λ principal. IsObserver hierarchy.now (option_map (λ name. name.now) observer.entry) principal) }
+    ensures refused { IfErr result (λ trouble. status_of_trouble trouble ≡ 1 → (principal : Option ℕ) → ¬ IsObserver hierarchy.now (option_map (λ name. name.now) observer.entry) principal) }
 {
     let Some(name) = observer else {
         return Ok(None);
@@ -135,7 +149,8 @@ fn told_end(
     observer: Option<u32>,
     status: Status,
 ) -> Result<Ended, Trouble>
-    ensures { IfOk result (λ ended. ended.status ≡ status_told observer status) }
+    ensures told { IfOk result (λ ended. ended.status ≡ status_told observer status) }
+    ensures memory { IfErr result (λ trouble. status_of_trouble trouble ≡ 3) }
 {
     if observer.is_some() {
         return Ok(Ended {

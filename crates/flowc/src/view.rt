@@ -1,8 +1,9 @@
 //! What of the pairs that were sent is shown, and to whom.
 
+ghost use Rattle.flowc.specs.Task.{status_of_trouble};
 ghost use Rattle.flowc.specs.View.{is_shown, name_in, pair_line, shown, view_text};
 ghost use Rattle.std.specs.Io.KnownBytes.{Appends};
-ghost use Rattle.std.specs.Prelude.{◌≡◌, IfOk, OnOk, slice_get};
+ghost use Rattle.std.specs.Prelude.{◌≡◌, IfErr, IfOk, OnOk, slice_get};
 ghost use Rattle.std.specs.String.{string_bytes};
 
 use crate::trouble::Trouble;
@@ -51,6 +52,7 @@ pub fn write_view<O: Sink>(
     pairs: &[Pair],
     out: &mut O,
 ) -> Result<(), Trouble>
+    ensures failed { IfErr result (λ trouble. status_of_trouble trouble ≡ 3) }
     ensures view { OnOk result (Appends (O.taken out.old) (O.taken out.new) (view_text whole.now (shown whole.now observer pairs.now))) }
 {
     for pair in pairs {
