@@ -2,7 +2,8 @@ ghost use Rattle.flowc.specs.Built.{HoldsProgram, IsAccepted, IsBuilt, IsCompile
 ghost use Rattle.flowc.specs.Shown.{Shows};
 ghost use Rattle.flowc.specs.Task.{files_of, makes_file, may_end, reads_source, status_of_trouble};
 ghost use Rattle.std.specs.Io.KnownBytes.{Appends};
-ghost use Rattle.std.specs.Prelude.{◌≡◌, ◌≤◌, ◌<◌, ◌↔◌, IfErr, IfOk, IfSome, IsSome, IsTrue, MatchResult, None, OnOk, codes, length};
+ghost use Rattle.std.specs.Prelude.{◌≡◌, ◌≤◌, ◌<◌, ◌↔◌, IfErr, IfOk, IfSome, IsSome, IsTrue, MatchResult, None, OnOk, codes, length, option_map};
+ghost use Rattle.std.specs.String.{string_bytes};
 
 use crate::compile::compile;
 use crate::fault::{Fault, Text};
@@ -56,9 +57,8 @@ pub fn perform<O: Sink, E: Sink>(
             observer,
             steps,
         } => {
-            let observer = observer.as_ref().map(|name| name.as_str());
             let (code, world) = (named(file, first), named(world, second));
-            ended(run(alloc, code, world, observer, *steps, out), err)
+            ended(run(alloc, code, world, name_of(observer), *steps, out), err)
         }
     }
 }
@@ -69,6 +69,16 @@ fn bytes_of(files: &[Vec<u8>], index: usize) -> &[u8]
     ensures { result.now ≡ bytes_at files.now index }
 {
     files[index].as_slice()
+}
+
+// The name of an observer, if one is named.
+fn name_of(observer: &Option<String>) -> Option<&str>
+    ensures { option_map (λ name. name.now) result ≡ option_map string_bytes observer.now }
+{
+    match observer {
+        Some(name) => Some(name.as_str()),
+        None => None,
+    }
 }
 
 // A file that was read, by its path.

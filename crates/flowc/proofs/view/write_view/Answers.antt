@@ -17,7 +17,6 @@ loop-pair-preserved g c = elim c.if-is_seen.branch [
       (sym c.is_seen.ensures ∙ w.if-is_seen.false) c.loop-pair.invariant)
 ]
 
-pub returns : goal.returns
-returns g c = record {
-  view = all_shown c.args.whole.now c.args.observer c.args.pairs.now _ _ _ c.loop-pair-test.false c.loop-pair.invariant;
-}
+pub returns-clause-view : goal.returns-clause-view
+returns-clause-view g c =
+    all_shown c.args.whole.now c.args.observer c.args.pairs.now _ _ _ c.loop-pair-test.false c.loop-pair.invariant
