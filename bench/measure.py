@@ -1,5 +1,5 @@
 #!/usr/bin/env python3
-"""How fast the program reads a module file and takes its steps, against a reference command.
+"""How fast the program checks and compiles a source, reads a module file and takes its steps, against a reference command.
 
     bench/measure.py PROGRAM REFERENCE [WORD..]
 
@@ -8,6 +8,10 @@ any command that takes about a second of one processor, and it is timed in the s
 can be compared: "bytes in the time of the reference" is the number of bytes of a module file that the program decodes
 and verifies while the reference runs once, and "steps" likewise the number of steps of the machine. Each command is
 timed several times, and the least time counts.
+
+`check` and `build` are timed on generated straight-line sources of 128 KiB, 256 KiB, 512 KiB and 1 MiB. Beside each time
+stands how many times that of half the source it is: 2 where the time grows in step with the source. The time of an
+empty program is taken off all of them. A program that has not these commands is measured without them.
 """
 
 import struct
@@ -19,6 +23,9 @@ from pathlib import Path
 
 ROUNDS = 9
 PAIRS = 4_000_000
+SIZES = [1 << power for power in (17, 18, 19, 20)]
+HEAD = "input{} q;\noutput{} pub;\nvoid main() throws (End{}) {\n"
+TAIL = "}\n"
 
 
 def module(pairs):
@@ -30,6 +37,23 @@ def module(pairs):
     procedure = struct.pack(">IBI", 1, 0, 0) + struct.pack(">I", 1) + slot
     body = struct.pack(">I", len(code)) + code + struct.pack(">I", 0)
     return head + procedure + body + struct.pack(">I", 0)
+
+
+def source(size):
+    """A program of so many bytes that receives numbers, adds to them and sends them, each in a variable of its own."""
+    parts = [HEAD]
+    left = size - len(HEAD) - len(TAIL)
+    number = 0
+    while True:
+        name = f"v{number}"
+        part = f"    int{{}} {name} = receive q;\n    {name} = {name} + 1;\n    send pub, {name} + 2;\n"
+        if len(part) > left:
+            break
+        parts.append(part)
+        left -= len(part)
+        number += 1
+    parts.append(" " * left + TAIL)
+    return "".join(parts)
 
 
 def seconds(command, statuses):
@@ -45,21 +69,41 @@ def seconds(command, statuses):
     return least
 
 
-def main(words):
-    if len(words) < 2:
-        sys.exit(__doc__)
-    program, reference = words[0], words[1:]
+def measure_texts(program, folder, unit):
+    """Tells how fast the program checks and compiles sources, if it does."""
+    hierarchy, module = folder / "hierarchy.txt", folder / "module.flob"
+    hierarchy.write_text("")
+    empty = folder / "empty.flow"
+    empty.write_text("void main() { }")
+    command = [program, "check", str(hierarchy), str(empty)]
+    if subprocess.run(command, capture_output=True).returncode != 0:
+        print("check and build: not in this program")
+        return
+    for verb, last in (("check", []), ("build", [str(module)])):
+        command = [program, verb, str(hierarchy)]
+        start = seconds(command + [str(empty)] + last, {0})
+        before = None
+        for size in SIZES:
+            text = folder / "long.flow"
+            text.write_text(source(size))
+            took = max(seconds(command + [str(text)] + last, {0}) - start, 1e-6)
+            ratio = "" if before is None else f", {took / before:.2f} times that of half"
+            print(f"{verb} of {size >> 10} KiB: {took * 1000:.1f} ms{ratio}")
+            before = took
+        rate = SIZES[-1] / before
+        print(f"{verb}: {rate:,.0f} bytes per second, {rate * unit:,.0f} in the time of the reference")
+
+
+def measure_modules(program, folder, unit):
+    """Tells how fast the program decodes and verifies a module file, and takes its steps."""
     steps = 2 * PAIRS + 1
-    with tempfile.TemporaryDirectory() as folder:
-        file, world = Path(folder) / "long.flob", Path(folder) / "empty.txt"
-        content = module(PAIRS)
-        file.write_bytes(content)
-        world.write_bytes(b"")
-        run = [program, "run", str(file), str(world), "--steps"]
-        unit = seconds(reference, None)
-        read = seconds(run + ["0"], {6})
-        whole = seconds(run + [str(steps)], {0})
-    print(f"reference: {unit:.3f} s")
+    file, world = folder / "long.flob", folder / "empty.txt"
+    content = module(PAIRS)
+    file.write_bytes(content)
+    world.write_bytes(b"")
+    run = [program, "run", str(file), str(world), "--steps"]
+    read = seconds(run + ["0"], {6})
+    whole = seconds(run + [str(steps)], {0})
     rate = len(content) / read
     print(f"decode and verify: {rate:,.0f} bytes per second, {rate * unit:,.0f} in the time of the reference")
     taken = whole - read
@@ -67,6 +111,17 @@ def main(words):
         print("run: its steps take less time than two runs differ by; try again on a quiet machine")
         return
     print(f"run: {steps / taken:,.0f} steps per second, {steps / taken * unit:,.0f} in the time of the reference")
+
+
+def main(words):
+    if len(words) < 2:
+        sys.exit(__doc__)
+    program, reference = words[0], words[1:]
+    unit = seconds(reference, None)
+    print(f"reference: {unit:.3f} s")
+    with tempfile.TemporaryDirectory() as folder:
+        measure_texts(program, Path(folder), unit)
+        measure_modules(program, Path(folder), unit)
 
 
 main(sys.argv[1:])

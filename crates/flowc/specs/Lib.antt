@@ -1,1 +1,5 @@
+pub mod Built
+pub mod Causes
+pub mod Shown
 pub mod Task
+pub mod View

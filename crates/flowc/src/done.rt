@@ -1,13 +1,18 @@
-ghost use Rattle.flowc.specs.Task.{files_of};
-ghost use Rattle.std.specs.Prelude.{◌≡◌, ◌≤◌, IsNone, length};
+ghost use Rattle.flowc.specs.Built.{HoldsProgram, IsAccepted, IsBuilt, IsCompiled, bytes_at};
+ghost use Rattle.flowc.specs.Shown.{Shows};
+ghost use Rattle.flowc.specs.Task.{files_of, makes_file, may_end, reads_source, status_of_trouble};
+ghost use Rattle.std.specs.Io.KnownBytes.{Appends};
+ghost use Rattle.std.specs.Prelude.{◌≡◌, ◌≤◌, ◌<◌, ◌↔◌, IfErr, IfOk, IfSome, IsSome, IsTrue, MatchResult, None, OnOk, codes, length, option_map};
+ghost use Rattle.std.specs.String.{string_bytes};
 
+use crate::compile::compile;
+use crate::fault::{Fault, Text};
 use crate::request::Task;
-use crate::told::{fault_line, refusal_line, world_line};
-use bytecode::{FormatFault, Module, decode};
-use channels::{Pair, Sink, SinkFault, World, WorldDefect, WorldFault, write_whole};
-use machine::{Machine, NewFault, Status};
-use std::alloc::{AllocError, AllocFailed, Global};
-use verifier::{Verified, VerifyFault, verify};
+use crate::running::{Ended, File, run};
+use crate::told::cause_line;
+use crate::trouble::Trouble;
+use channels::{Sink, write_whole};
+use std::alloc::Global;
 
 /// What the program leaves to do: its exit status, and the bytes for the output file if it makes one.
 #[derive(Debug, Drop)]
@@ -16,43 +21,10 @@ pub struct Done {
     pub code: Option<Vec<u8>>,
 }
 
-// Why a task was not done.
-#[derive(Drop)]
-enum Trouble {
-    // A fault, by the line that tells it.
-    Refused(String),
-    CannotWrite,
-    OutOfMemory,
-}
-
-impl From<AllocError> for Trouble {
-    fn from(_error: AllocError) -> Trouble {
-        Trouble::OutOfMemory
-    }
-}
-
-impl<T: Drop> From<AllocFailed<T>> for Trouble {
-    fn from(_error: AllocFailed<T>) -> Trouble {
-        Trouble::OutOfMemory
-    }
-}
-
-impl From<SinkFault> for Trouble {
-    fn from(_fault: SinkFault) -> Trouble {
-        Trouble::CannotWrite
-    }
-}
-
-// How a task ended: its exit status, and the line for standard error.
-#[derive(Drop)]
-struct Ended {
-    status: u8,
-    line: String,
-    ghost small: { status ≤ 6 },
-}
-
 /// Does a task: all of the program but for its files. What goes to standard output and to standard error is written to the
 /// two sinks. The caller owes the bytes of each file that the task reads, in the order in which the task names them.
+///
+/// There are bytes for the output file exactly where a task builds a module and ends with status 0.
 pub fn perform<O: Sink, E: Sink>(
     alloc: Global,
     task: &Task,
@@ -61,124 +33,131 @@ pub fn perform<O: Sink, E: Sink>(
     err: &mut E,
 ) -> Done
     requires files { length files.now ≡ files_of task.now }
-    ensures status { result.status ≤ 6 }
-    ensures code { IsNone result.code }
+    ensures small { result.status ≤ 6 }
+    ensures status { IsTrue (may_end task.now result.status) }
+    ensures code { IsSome result.code ↔ (IsTrue (makes_file task.now) × (result.status ≡ 0)) }
+    ensures built { IfSome result.code (λ code. IsBuilt files.now code.items) }
+    ensures accepted { IsTrue (reads_source task.now) → result.status ≡ 0 → HoldsProgram files.now }
+    ensures refused { IsTrue (reads_source task.now) → result.status ≡ 1 → ¬ HoldsProgram files.now }
+    ensures shown { Shows task.now files.now result.status (O.taken out.old) (O.taken out.new) }
 {
-    let Task::Run { file, world, steps } = task;
-    let outcome = run_file(
-        alloc,
-        (file.as_str(), files[0].as_slice()),
-        (world.as_str(), files[1].as_slice()),
-        *steps,
-        out,
-    );
+    let (first, second) = (bytes_of(files, 0), bytes_of(files, 1));
+    match task {
+        Task::Check { hier, src } => {
+            let checked = check(alloc, named(hier, first), named(src, second), out);
+            ended(checked, err)
+        }
+        Task::Build { hier, src, .. } => {
+            let built = build(alloc, named(hier, first), named(src, second));
+            left(built, err)
+        }
+        Task::Run {
+            file,
+            world,
+            observer,
+            steps,
+        } => {
+            let (code, world) = (named(file, first), named(world, second));
+            ended(run(alloc, code, world, name_of(observer), *steps, out), err)
+        }
+    }
+}
+
+// The bytes of one of the files.
+fn bytes_of(files: &[Vec<u8>], index: usize) -> &[u8]
+    requires { index < length files.now }
+    ensures { result.now ≡ bytes_at files.now index }
+{
+    files[index].as_slice()
+}
+
+// The name of an observer, if one is named.
+fn name_of(observer: &Option<String>) -> Option<&str>
+    ensures { option_map (λ name. name.now) result ≡ option_map string_bytes observer.now }
+{
+    match observer {
+        Some(name) => Some(name.as_str()),
+        None => None,
+    }
+}
+
+// A file that was read, by its path.
+fn named<'a>(path: &'a String, bytes: &'a [u8]) -> File<'a>
+    ensures { result.bytes.now ≡ bytes.now }
+{
+    File {
+        path: path.as_str(),
+        bytes,
+    }
+}
+
+// Checks a source under a hierarchy, and says so on standard output.
+fn check<O: Sink>(
+    alloc: Global,
+    hierarchy: File<'_>,
+    source: File<'_>,
+    out: &mut O,
+) -> Result<Ended, Trouble>
+    ensures accepted { OnOk result (IsAccepted hierarchy.entry.bytes.now source.entry.bytes.now) }
+    ensures refused { IfErr result (λ trouble. status_of_trouble trouble ≡ 1 → ¬ IsAccepted hierarchy.entry.bytes.now source.entry.bytes.now) }
+    ensures status { IfOk result (λ ended. ended.status ≡ 0) }
+    ensures shown { OnOk result (Appends (O.taken out.old) (O.taken out.new) (codes "ok\n")) }
+    ensures quiet { IfErr result (λ trouble. status_of_trouble trouble ≡ 1 → O.taken out.old ≡ O.taken out.new) }
+{
+    let _code = build(alloc, hierarchy, source)?;
+    write_whole(out, b"ok\n")?;
+    Ok(Ended {
+        status: 0,
+        line: String::new(alloc),
+    })
+}
+
+// The bytes of the module that a source under a hierarchy is compiled to.
+fn build(alloc: Global, hierarchy: File<'_>, source: File<'_>) -> Result<Vec<u8>, Trouble>
+    ensures accepted { OnOk result (IsAccepted hierarchy.entry.bytes.now source.entry.bytes.now) }
+    ensures compiled { IfOk result (λ code. IsCompiled hierarchy.entry.bytes.now source.entry.bytes.now code.items) }
+    ensures refused { IfErr result (λ trouble. status_of_trouble trouble ≡ 1 → ¬ IsAccepted hierarchy.entry.bytes.now source.entry.bytes.now) }
+{
+    match compile(alloc, hierarchy.bytes, source.bytes) {
+        Ok(code) => Ok(code),
+        Err(Fault::NoMemory) => Err(Trouble::OutOfMemory),
+        Err(Fault::Refused { text, cause, at }) => {
+            let path = match text {
+                Text::Hierarchy => hierarchy.path,
+                Text::Source => source.path,
+            };
+            Err(Trouble::Refused(cause_line(alloc, path, cause, at)?))
+        }
+    }
+}
+
+// The end of a task that leaves nothing for a file. Where standard error fails too, nothing is left to tell it on.
+fn ended<E: Sink>(outcome: Result<Ended, Trouble>, err: &mut E) -> Done
+    ensures code { result.code ≡ None }
+    ensures status { MatchResult outcome (λ ended. result.status ≡ ended.status) (λ trouble. result.status ≡ status_of_trouble trouble) }
+{
     let (status, line) = match &outcome {
         Ok(ended) => (ended.status, ended.line.as_str()),
-        Err(Trouble::Refused(line)) => (1, line.as_str()),
-        Err(Trouble::CannotWrite) => (3, "flowc: cannot write\n"),
-        Err(Trouble::OutOfMemory) => (3, "flowc: no memory\n"),
+        Err(trouble) => trouble.told(),
     };
-    // Where standard error fails too, nothing is left to tell it on.
     let _ = write_whole(err, line.as_bytes());
     Done { status, code: None }
 }
 
-// Runs the module of a file on the world of another one, and writes what it sent.
-fn run_file<O: Sink>(
-    alloc: Global,
-    file: (&str, &[u8]),
-    world: (&str, &[u8]),
-    steps: u64,
-    out: &mut O,
-) -> Result<Ended, Trouble> {
-    let verified = read_module(alloc, file.0, file.1)?;
-    let numbers = read_world(alloc, verified.module(), world.0, world.1)?;
-    let mut machine = match Machine::new(alloc, verified, numbers) {
-        Ok(machine) => machine,
-        Err(NewFault::NoMemory) => return Err(Trouble::OutOfMemory),
-        Err(NewFault::UnknownChannel) => {
-            let line = world_line(alloc, world.0, 1, WorldDefect::UnknownChannel)?;
-            return Err(Trouble::Refused(line));
+// The end of a task that leaves bytes for a file.
+fn left<E: Sink>(built: Result<Vec<u8>, Trouble>, err: &mut E) -> Done
+    ensures code { MatchResult built (λ code. result.code ≡ Some code) (λ _. result.code ≡ None) }
+    ensures status { MatchResult built (λ _. result.status ≡ 0) (λ trouble. result.status ≡ status_of_trouble trouble) }
+{
+    match built {
+        Ok(code) => Done {
+            status: 0,
+            code: Some(code),
+        },
+        Err(trouble) => {
+            let (status, line) = trouble.told();
+            let _ = write_whole(err, line.as_bytes());
+            Done { status, code: None }
         }
-    };
-    let (_, status) = machine.run(steps);
-    write_pairs(alloc, machine.module(), machine.sent().pairs(), out)?;
-    ended_by(alloc, machine.module(), status)
-}
-
-// The verified module that the bytes of a file spell.
-fn read_module(alloc: Global, path: &str, bytes: &[u8]) -> Result<Verified, Trouble> {
-    let whole = match decode(alloc, bytes) {
-        Ok(whole) => whole,
-        Err(FormatFault::NoMemory) => return Err(Trouble::OutOfMemory),
-        Err(FormatFault::Refused(refusal, offset)) => {
-            return Err(Trouble::Refused(refusal_line(alloc, path, refusal, offset)?));
-        }
-    };
-    match verify(alloc, whole) {
-        Ok(verified) => Ok(verified),
-        Err(VerifyFault::NoMemory) => Err(Trouble::OutOfMemory),
-        Err(VerifyFault::Wrong(fault)) => Err(Trouble::Refused(fault_line(alloc, path, fault)?)),
-    }
-}
-
-// The world that the bytes of a file write for a module.
-fn read_world(alloc: Global, whole: &Module, path: &str, bytes: &[u8]) -> Result<World, Trouble> {
-    let Ok(text) = std::str::from_utf8(bytes) else {
-        return Err(Trouble::Refused(format!(in alloc; "{path}:1: 100 not UTF-8\n")?));
-    };
-    match World::read(alloc, whole, text) {
-        Ok(world) => Ok(world),
-        Err(WorldFault::NoMemory) => Err(Trouble::OutOfMemory),
-        Err(WorldFault::Line { line, defect }) => {
-            Err(Trouble::Refused(world_line(alloc, path, line, defect)?))
-        }
-    }
-}
-
-// Writes a line for each sent pair: the channel's name and the number.
-fn write_pairs<O: Sink>(
-    alloc: Global,
-    whole: &Module,
-    pairs: &[Pair],
-    out: &mut O,
-) -> Result<(), Trouble> {
-    let channels = whole.channels();
-    for pair in pairs {
-        if let Some(channel) = channels.get(pair.channel as usize) {
-            let name = channel.name();
-            let number = pair.number;
-            let line = format!(in alloc; "{name} {number}\n")?;
-            write_whole(out, line.as_bytes())?;
-        }
-    }
-    Ok(())
-}
-
-// The exit status and the line of the end of a run.
-fn ended_by(alloc: Global, whole: &Module, status: Status) -> Result<Ended, Trouble> {
-    let (status, line) = match status {
-        Status::Finished => (0, String::from_str(alloc, "finished\n")?),
-        Status::Threw(exception) => {
-            let name = exception_name(whole, exception);
-            (4, format!(in alloc; "threw {name}\n")?)
-        }
-        Status::Deep => (5, String::from_str(alloc, "deep\n")?),
-        Status::Running => (6, String::from_str(alloc, "running\n")?),
-        Status::NoMemory => (3, String::from_str(alloc, "no memory\n")?),
-    };
-    Ok(Ended { status, line })
-}
-
-// The name of an exception: of one that every program has, or of a declared one.
-fn exception_name(whole: &Module, exception: u32) -> &str {
-    match exception {
-        0 => "Arith",
-        1 => "Bounds",
-        2 => "End",
-        _ => whole
-            .exceptions()
-            .get((exception - 3) as usize)
-            .map_or("", |name| name.as_str()),
     }
 }

@@ -13,12 +13,42 @@ pub const USUAL_STEPS: u64 = 1_000_000;
 /// What a command line asks for. Files are named by their paths.
 #[derive(Debug, PartialEq, Eq, Drop)]
 pub enum Task {
-    /// Run a module on a world for at most so many steps.
+    /// Check a source under a hierarchy.
+    Check {
+        hier: String,
+        src: String,
+    },
+    /// Compile a source under a hierarchy, and write the module to the file `out`.
+    Build {
+        hier: String,
+        src: String,
+        out: String,
+    },
+    /// Run a module on a world for at most so many steps, and show what this principal may read, or all of it where none is
+    /// named.
     Run {
         file: String,
         world: String,
+        observer: Option<String>,
         steps: u64,
     },
+}
+
+impl Task {
+    ghost use Rattle.flowc.specs.Task.{paths_of};
+    ghost use Rattle.std.specs.Prelude.{map, ◌≡◌};
+
+    /// The paths of the two files that the task reads, in the order in which it names them.
+    pub fn paths(&self) -> [&str; 2]
+        ensures { map (λ path. path.now) result ≡ paths_of self.now }
+    {
+        match self {
+            Task::Check { hier, src } | Task::Build { hier, src, .. } => {
+                [hier.as_str(), src.as_str()]
+            }
+            Task::Run { file, world, .. } => [file.as_str(), world.as_str()],
+        }
+    }
 }
 
 /// Why a command line is no task.

@@ -2,7 +2,7 @@ ghost use Rattle.std.specs.Prelude.{true};
 
 use super::*;
 use channels::{Device, Sink, SinkFault};
-use std::alloc::{AllocError, Global};
+use std::alloc::Global;
 use std::test::Fail;
 
 // The module that sends 7 on its only channel, the output `pub`, and ends.
@@ -17,6 +17,15 @@ const ECHO: [u8; 86] = [
     70, 76, 79, 66, 0, 0, 0, 1, 0, 0, 0, 0, 0, 0, 0, 0, 0, 0, 0, 0, 0, 0, 0, 2, 0, 0, 0, 0, 1, 113,
     0, 0, 0, 0, 1, 0, 0, 0, 3, 112, 117, 98, 0, 0, 0, 0, 0, 0, 0, 0, 0, 0, 0, 1, 0, 0, 0, 0, 0, 0,
     0, 0, 0, 0, 0, 0, 11, 37, 0, 0, 0, 0, 38, 0, 0, 0, 1, 35, 0, 0, 0, 0, 0, 0, 0, 0,
+];
+
+// Under the principals Alice and Bob, the module that sends 1 on the output `pub` of `{}` and 5 on the output `a` of `{Alice:}`.
+const BOTH: [u8; 120] = [
+    70, 76, 79, 66, 0, 0, 0, 1, 0, 0, 0, 2, 0, 0, 0, 5, 65, 108, 105, 99, 101, 0, 0, 0, 3, 66, 111,
+    98, 0, 0, 0, 0, 0, 0, 0, 0, 0, 0, 0, 2, 1, 0, 0, 0, 3, 112, 117, 98, 0, 0, 0, 0, 1, 0, 0, 0, 1,
+    97, 0, 0, 0, 1, 0, 0, 0, 0, 0, 0, 0, 0, 0, 0, 0, 0, 0, 0, 0, 1, 0, 0, 0, 0, 0, 0, 0, 0, 0, 0,
+    0, 0, 21, 1, 0, 0, 0, 1, 38, 0, 0, 0, 0, 1, 0, 0, 0, 5, 38, 0, 0, 0, 1, 35, 0, 0, 0, 0, 0, 0,
+    0, 0,
 ];
 
 // A sink that takes nothing.
@@ -35,23 +44,26 @@ impl Sink for Closed {
     }
 }
 
-// What a run wrote and its status.
+/// What a task wrote, its status, and the bytes that it left for a file.
 #[derive(Drop)]
-struct Outcome {
-    out: Vec<u8>,
-    err: Vec<u8>,
-    status: u8,
+pub struct Outcome {
+    pub out: Vec<u8>,
+    pub err: Vec<u8>,
+    pub status: u8,
+    pub code: Option<Vec<u8>>,
 }
 
-fn run_of(alloc: Global, module: &[u8], world: &[u8], steps: u64) -> Result<Outcome, AllocError> {
-    let asked = Task::Run {
-        file: String::from_str(alloc, "m.flob")?,
-        world: String::from_str(alloc, "w.txt")?,
-        steps,
-    };
+/// Does what words ask for, on the bytes of two files.
+pub fn done_by(
+    alloc: Global,
+    words: &[&str],
+    first: &[u8],
+    second: &[u8],
+) -> Result<Outcome, TaskFault> {
+    let asked = task(alloc, words)?;
     let files = [
-        Vec::from_slice(alloc, module)?,
-        Vec::from_slice(alloc, world)?,
+        Vec::from_slice(alloc, first)?,
+        Vec::from_slice(alloc, second)?,
     ];
     let mut out = Device::new(Vec::new(alloc));
     let mut err = Device::new(Vec::new(alloc));
@@ -60,18 +72,25 @@ fn run_of(alloc: Global, module: &[u8], world: &[u8], steps: u64) -> Result<Outc
         out: out.into_inner(),
         err: err.into_inner(),
         status: done.status,
+        code: done.code,
     })
+}
+
+// Runs a module on a world for at most so many steps.
+fn run_of(alloc: Global, module: &[u8], world: &[u8], steps: &str) -> Result<Outcome, TaskFault> {
+    let words = ["flowc", "run", "m.flob", "w.txt", "--steps", steps];
+    done_by(alloc, &words, module, world)
 }
 
 #[test]
 fn runs_modules(rt: HostRuntime) -> Result<(), Fail> {
-    let cases: [(&[u8], &str, u64, &str, &str, u8); 6] = [
-        (&SEVEN, "", 1_000_000, "pub 7\n", "finished\n", 0),
-        (&SEVEN, "", 3, "pub 7\n", "finished\n", 0),
-        (&SEVEN, "", 2, "pub 7\n", "running\n", 6),
-        (&SEVEN, "", 0, "", "running\n", 6),
-        (&ECHO, "q = -41 5\n", 10, "pub -41\n", "finished\n", 0),
-        (&ECHO, "q =", 10, "", "threw End\n", 4),
+    let cases: [(&[u8], &str, &str, &str, &str, u8); 6] = [
+        (&SEVEN, "", "1000000", "pub 7\n", "finished\n", 0),
+        (&SEVEN, "", "3", "pub 7\n", "finished\n", 0),
+        (&SEVEN, "", "2", "pub 7\n", "running\n", 6),
+        (&SEVEN, "", "0", "", "running\n", 6),
+        (&ECHO, "q = -41 5\n", "10", "pub -41\n", "finished\n", 0),
+        (&ECHO, "q =", "10", "", "threw End\n", 4),
     ];
     for (module, world, steps, out, err, status) in cases {
         let outcome = run_of(rt.alloc(), module, world.as_bytes(), steps)?;
@@ -93,16 +112,16 @@ fn tells_faults_of_modules(rt: HostRuntime) -> Result<(), Fail> {
     for (place, byte, line) in cases {
         let mut module = SEVEN;
         module[place] = byte;
-        let outcome = run_of(rt.alloc(), &module, b"", 9)?;
+        let outcome = run_of(rt.alloc(), &module, b"", "9")?;
         assert_eq!(rt; outcome.err.as_slice(), line.as_bytes(), "{line}");
         assert_eq!(rt; outcome.out.len(), 0);
         assert_eq!(rt; outcome.status, 1);
     }
-    let short = run_of(rt.alloc(), &SEVEN[..75], b"", 9)?;
+    let short = run_of(rt.alloc(), &SEVEN[..75], b"", "9")?;
     assert_eq!(rt; short.err.as_slice(), b"m.flob:75: 803 short\n".as_slice());
     let mut longer = Vec::from_slice(rt.alloc(), &SEVEN)?;
     longer.push(0)?;
-    let trailing = run_of(rt.alloc(), &longer, b"", 9)?;
+    let trailing = run_of(rt.alloc(), &longer, b"", "9")?;
     assert_eq!(rt;
         trailing.err.as_slice(),
         b"m.flob:76: 806 trailing bytes\n".as_slice()
@@ -120,7 +139,7 @@ fn tells_faults_of_worlds(rt: HostRuntime) -> Result<(), Fail> {
         (b"q = 1\n\xff", "w.txt:1: 100 not UTF-8\n"),
     ];
     for (world, line) in cases {
-        let outcome = run_of(rt.alloc(), &ECHO, world, 9)?;
+        let outcome = run_of(rt.alloc(), &ECHO, world, "9")?;
         assert_eq!(rt; outcome.err.as_slice(), line.as_bytes(), "{line}");
         assert_eq!(rt; outcome.out.len(), 0);
         assert_eq!(rt; outcome.status, 1);
@@ -131,11 +150,7 @@ fn tells_faults_of_worlds(rt: HostRuntime) -> Result<(), Fail> {
 #[test]
 fn tells_an_output_that_fails(rt: HostRuntime) -> Result<(), Fail> {
     let alloc = rt.alloc();
-    let asked = Task::Run {
-        file: String::from_str(alloc, "m.flob")?,
-        world: String::from_str(alloc, "w.txt")?,
-        steps: 9,
-    };
+    let asked = task(alloc, &["flowc", "run", "m.flob", "w.txt"])?;
     let files = [Vec::from_slice(alloc, &SEVEN)?, Vec::new(alloc)];
     let mut err = Device::new(Vec::new(alloc));
     let done = perform(alloc, &asked, &files, &mut Closed, &mut err);
@@ -143,5 +158,60 @@ fn tells_an_output_that_fails(rt: HostRuntime) -> Result<(), Fail> {
     assert!(rt; done.code.is_none());
     let line = b"flowc: cannot write\n".as_slice();
     assert_eq!(rt; err.into_inner().as_slice(), line);
+    Ok(())
+}
+
+#[test]
+fn shows_an_observer_what_it_may_read(rt: HostRuntime) -> Result<(), Fail> {
+    let cases: [(&str, &str, &str); 6] = [
+        ("Alice", "9", "pub 1\na 5\n"),
+        ("Bob", "9", "pub 1\n"),
+        ("Alice", "4", "pub 1\na 5\n"),
+        ("Alice", "3", "pub 1\n"),
+        ("Bob", "3", "pub 1\n"),
+        ("Alice", "0", ""),
+    ];
+    for (observer, steps, out) in cases {
+        let words = [
+            "flowc",
+            "run",
+            "m",
+            "w",
+            "--observer",
+            observer,
+            "--steps",
+            steps,
+        ];
+        let outcome = done_by(rt.alloc(), &words, &BOTH, b"")?;
+        assert_eq!(rt;
+            outcome.out.as_slice(),
+            out.as_bytes(),
+            "{observer} {steps}"
+        );
+        assert_eq!(rt; outcome.err.len(), 0);
+        assert_eq!(rt; outcome.status, 0);
+    }
+    let all = run_of(rt.alloc(), &BOTH, b"", "9")?;
+    assert_eq!(rt; all.out.as_slice(), b"pub 1\na 5\n".as_slice());
+    assert_eq!(rt; all.err.as_slice(), b"finished\n".as_slice());
+    Ok(())
+}
+
+#[test]
+fn tests_the_module_and_the_world_before_the_observer(rt: HostRuntime) -> Result<(), Fail> {
+    let cases: [(&[u8], &[u8], &str); 5] = [
+        (&BOTH, b"", "Dave: 153 unknown principal\n"),
+        (&SEVEN, b"", "Dave: 153 unknown principal\n"),
+        (&BOTH, b"q", "w.txt:1: 851 syntax\n"),
+        (&BOTH, b"pub = 1", "w.txt:1: 852 unknown channel\n"),
+        (b"", b"q", "m.flob:0: 803 short\n"),
+    ];
+    let words = ["flowc", "run", "m.flob", "w.txt", "--observer", "Dave"];
+    for (module, world, line) in cases {
+        let outcome = done_by(rt.alloc(), &words, module, world)?;
+        assert_eq!(rt; outcome.err.as_slice(), line.as_bytes(), "{line}");
+        assert_eq!(rt; outcome.out.len(), 0);
+        assert_eq!(rt; outcome.status, 1);
+    }
     Ok(())
 }

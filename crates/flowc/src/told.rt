@@ -1,7 +1,9 @@
 //! The words of faults, as the program prints them.
 
+use crate::fault::{Cause, Text};
 use bytecode::Refusal;
 use channels::WorldDefect;
+use lexer::Place;
 use std::alloc::{AllocError, Global};
 use verifier::{Defect, Fault};
 
@@ -67,4 +69,21 @@ pub fn world_line(
 ) -> Result<String, AllocError> {
     let (number, words) = world_words(defect);
     format!(in alloc; "{path}:{line}: {number} {words}\n")
+}
+
+/// The line that tells what is wrong with a text, at a line and a column.
+pub fn cause_line(
+    alloc: Global,
+    path: &str,
+    cause: Cause,
+    at: Place,
+) -> Result<String, AllocError> {
+    let Place { line, column } = at;
+    let number = cause.number();
+    format!(in alloc; "{path}:{line}:{column}: {number} {cause}\n")
+}
+
+/// The line that tells that no principal of a module has the name of an observer.
+pub fn observer_line(alloc: Global, name: &str) -> Result<String, AllocError> {
+    format!(in alloc; "{name}: 153 unknown principal\n")
 }

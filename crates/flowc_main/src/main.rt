@@ -8,12 +8,13 @@ use std::process::ExitCode;
 use std::rt::Files;
 use std::{env, fs};
 
-// Why the program stops before its task is begun.
+// Why the program stops but for what its task tells.
 #[derive(Debug, Drop)]
 enum Failure {
     // Wrong words, or a wish for help: the text that says so.
     Words(String),
-    CannotRead(String),
+    // A file that cannot be read or written: the line that says so.
+    File(String),
     // The words of the command line cannot be had.
     NoWords,
     OutOfMemory,
@@ -63,20 +64,36 @@ fn done(rt: &HostRuntime) -> Result<u8, Failure> {
         lent.push(word.as_str())?;
     }
     let asked = task(rt.alloc(), &lent)?;
-    let Task::Run { file, world, .. } = &asked;
-    let files = [read(rt, file)?, read(rt, world)?];
+    let [first, second] = asked.paths();
+    let files = [read(rt, first)?, read(rt, second)?];
     let mut out = Device::new(rt.stdout());
     let mut err = Device::new(rt.stderr());
-    Ok(perform(rt.alloc(), &asked, &files, &mut out, &mut err).status)
+    let done = perform(rt.alloc(), &asked, &files, &mut out, &mut err);
+    // The file for a module is not touched before there is a module.
+    if let (Task::Build { out, .. }, Some(code)) = (&asked, &done.code) {
+        write(rt, out.as_str(), code)?;
+    }
+    Ok(done.status)
 }
 
 // All bytes of a file.
-fn read(rt: &HostRuntime, path: &String) -> Result<Vec<u8>, Failure> {
-    match fs::read(rt, path.as_str()) {
+fn read(rt: &HostRuntime, path: &str) -> Result<Vec<u8>, Failure> {
+    match fs::read(rt, path) {
         Ok(bytes) => Ok(bytes),
         Err(_) => {
             let line = format!(in rt.alloc(); "flowc: {path}: cannot read\n")?;
-            Err(Failure::CannotRead(line))
+            Err(Failure::File(line))
+        }
+    }
+}
+
+// Makes these bytes the content of a file.
+fn write(rt: &HostRuntime, path: &str, bytes: &[u8]) -> Result<(), Failure> {
+    match fs::write(rt, path, bytes) {
+        Ok(()) => Ok(()),
+        Err(_) => {
+            let line = format!(in rt.alloc(); "flowc: {path}: cannot write\n")?;
+            Err(Failure::File(line))
         }
     }
 }
@@ -85,7 +102,7 @@ fn read(rt: &HostRuntime, path: &String) -> Result<Vec<u8>, Failure> {
 fn told(rt: &HostRuntime, failure: &Failure) -> u8 {
     let (line, status) = match failure {
         Failure::Words(text) => (text.as_str(), 2),
-        Failure::CannotRead(line) => (line.as_str(), 3),
+        Failure::File(line) => (line.as_str(), 3),
         Failure::NoWords => ("flowc: cannot read the command line\n", 3),
         Failure::OutOfMemory => ("flowc: no memory\n", 3),
     };

@@ -1,0 +1,63 @@
+-- What is refused is wrong.
+use Rattle.std.proofs.Common.{◌≡◌, ap, subst, sym, ◌∙◌, ℕ, List, [], ◌∷◌, refl, inl, inr, ◌⊎◌, Option, Result, Ok, Err, IfOk, IfErr, MatchResult}
+use Rattle.bytecode.specs.Contents.{ModuleContents}
+use Rattle.channels.specs.World.{InputNumbers, input_names}
+use Rattle.channels.specs.WorldText.{IsFirstDefect, IsTextFault, IsWorldText, world_of}
+use Rattle.channels.specs.declared.defect.WorldDefect.{WorldDefect}
+use Rattle.channels.specs.declared.defect.WorldFault.TheVariants.{Line}
+use Rattle.machine.specs.Run.{names_of}
+use Rattle.verifier.specs.Faults.{HasNoFault, IsTold, IsToldAfter, IsToldOf, fixed_faults}
+use Rattle.verifier.specs.declared.fault.Fault.{Fault}
+use Rattle.verifier.specs.declared.fault.VerifyFault.{VerifyFault}
+use Rattle.verifier.specs.declared.fault.VerifyFault.TheVariants.{Wrong}
+use Rattle.flowc.specs.Shown.{CannotRun, ShowsRun}
+use Rattle.flowc.specs.Task.{status_of_trouble}
+use Rattle.flowc.specs.declared.running.Ended.{Ended}
+use Rattle.flowc.specs.declared.trouble.Trouble.{Trouble}
+use Rattle.flowc.specs.declared.trouble.Trouble.TheVariants.{Refused, CannotWrite, OutOfMemory}
+
+told_after : (m : ModuleContents) (faults : List Fault) (fault : Fault) → IsToldAfter m faults fault → faults ≡ [] → ((other : Fault) → IsToldAfter m [] other → ⊥) → ⊥
+told_after m [] fault told fixed flow = flow fault told
+told_after m (first ∷ more) fault told fixed flow = cc
+
+-- a module with a fault that may be told is not without one
+told_is_fault : (m : ModuleContents) (fault : Fault) → IsTold m fault → HasNoFault m → ⊥
+told_is_fault m fault told none = told_after m (fixed_faults m) fault told none.fixed none.flow
+
+pub told_of_is_fault : (m : ModuleContents) (answer : VerifyFault) (fault : Fault) → answer ≡ Wrong fault → IsToldOf m answer → HasNoFault m → ⊥
+told_of_is_fault m answer fault is told none =
+    told_is_fault m fault (subst (λ (v : VerifyFault). IsToldOf m v) is told) none
+
+-- a text with a wrong line is no world
+pub wrong_is_no_world : (inputs : List (List ℕ)) (lines : List (List (List ℕ))) (line : ℕ) (defect : WorldDefect)
+    → IsTextFault inputs lines (Line line defect) → IsWorldText inputs lines → ⊥
+wrong_is_no_world inputs lines line defect wrong right =
+    let here = right wrong.place wrong.there in
+    let there = wrong.wrong in
+    cc
+
+-- the world of a text has the inputs that it was read for
+pub names_of-world_of : (inputs : List (List ℕ)) (lines : List (List (List ℕ))) → names_of (world_of inputs lines) ≡ inputs
+names_of-world_of [] lines = refl
+names_of-world_of (input ∷ inputs) lines = ap (λ rest. input ∷ rest) (names_of-world_of inputs lines)
+
+-- the world that was read for a module is a world for it
+pub named_world : (m w : ModuleContents) (numbers : List InputNumbers) (lines : List (List (List ℕ))) → w ≡ m
+    → numbers ≡ world_of (input_names w) lines → names_of numbers ≡ input_names m
+named_world m w numbers lines is read =
+    ap names_of read ∙ names_of-world_of (input_names w) lines ∙ ap input_names is
+
+-- what a run shows, or why it shows nothing
+pub run_shows : (code text code' text' : List ℕ) (name name' : Option (List ℕ)) (steps status : ℕ) (old new : Option (List ℕ)) (outcome : Result Ended Trouble)
+    → IfOk outcome (λ ended. ShowsRun code' text' name' steps ended.status old new)
+    → IfErr outcome (λ trouble. status_of_trouble trouble ≡ 1 → CannotRun code' text' name')
+    → IfErr outcome (λ trouble. status_of_trouble trouble ≡ 1 → old ≡ new)
+    → MatchResult outcome (λ ended. status ≡ ended.status) (λ trouble. status ≡ status_of_trouble trouble)
+    → code' ≡ code → text' ≡ text → name' ≡ name
+    → ((status ≡ 1) × (old ≡ new) × CannotRun code text name) ⊎ ((status ≡ 3) ⊎ ShowsRun code text name steps status old new)
+run_shows code text code' text' name name' steps status old new (Ok ended) shown refused quiet is c t n =
+    inr (inr (rw (is, sym c, sym t, sym n) shown))
+run_shows code text code' text' name name' steps status old new (Err (Refused line)) shown refused quiet is c t n =
+    inl (is, quiet refl, rw (sym c, sym t, sym n) (refused refl))
+run_shows code text code' text' name name' steps status old new (Err CannotWrite) shown refused quiet is c t n = inr (inl is)
+run_shows code text code' text' name name' steps status old new (Err OutOfMemory) shown refused quiet is c t n = inr (inl is)

@@ -1,0 +1,81 @@
+-- The text of a view grows at its end, a pair at a time.
+use Rattle.std.proofs.Common.{◌≡◌, ◌∙◌, ap, subst, ℕ, ◌+◌, ◌<◌, ◌≤◌, Bool, true, false, List, [], ◌∷◌, ◌++◌, length, take, suc, refl, sym, get_or, append_assoc, Option, Some, None}
+use Rattle.std.proofs.Math.Numerals.{add-one}
+use Rattle.std.proofs.Math.Seq.{take-suc}
+use Rattle.std.proofs.KnownBytes.{Appends-nil, Appends-trans}
+use Rattle.std.proofs.lemmas.List.{append-nil, take_all}
+use Rattle.std.proofs.lemmas.List.Elements.{filter-append}
+use Rattle.std.specs.Io.KnownBytes.{Appends}
+use Rattle.labels.specs.declared.sent.Pair.{Pair}
+use Rattle.bytecode.specs.Contents.{ModuleContents}
+use Rattle.flowc.specs.View.{is_shown, pair_line, shown, view_text}
+
+view_text-append : (m : ModuleContents) (front back : List Pair) → view_text m (front ++ back) ≡ view_text m front ++ view_text m back
+view_text-append m [] back = refl
+view_text-append m (pair ∷ front) back =
+    ap (λ text. pair_line m pair ++ text) (view_text-append m front back)
+    ∙ sym (append_assoc (pair_line m pair) (view_text m front) (view_text m back))
+
+shown-append : (m : ModuleContents) (observer : Option ℕ) (front back : List Pair)
+    → shown m observer (front ++ back) ≡ shown m observer front ++ shown m observer back
+shown-append m None front back = refl
+shown-append m (Some p) front back = filter-append (is_shown m (Some p)) front back
+
+-- the text of one pair
+shown_pair : (m : ModuleContents) (observer : Option ℕ) (pair : Pair) → is_shown m observer pair ≡ true
+    → shown m observer (pair ∷ []) ≡ pair ∷ []
+shown_pair m None pair is = refl
+shown_pair m (Some p) pair is = rw is refl
+
+hidden_pair : (m : ModuleContents) (observer : Option ℕ) (pair : Pair) → is_shown m observer pair ≡ false
+    → shown m observer (pair ∷ []) ≡ []
+hidden_pair m None pair is = cc
+hidden_pair m (Some p) pair is = rw is refl
+
+-- the text after one pair more
+view-suc : (m : ModuleContents) (observer : Option ℕ) (pairs : List Pair) (k : ℕ) (pair : Pair) → k < length pairs
+    → view_text m (shown m observer (take k pairs)) ++ view_text m (shown m observer (get_or pairs k pair ∷ []))
+    ≡ view_text m (shown m observer (take (k + 1) pairs))
+view-suc m observer pairs k pair small = sym
+    (ap (λ n. view_text m (shown m observer (take n pairs))) (add-one k)
+    ∙ ap (λ list. view_text m (shown m observer list)) (take-suc pairs k pair small)
+    ∙ ap (view_text m) (shown-append m observer (take k pairs) (get_or pairs k pair ∷ []))
+    ∙ view_text-append m (shown m observer (take k pairs)) (shown m observer (get_or pairs k pair ∷ [])))
+
+-- what holds the text so far holds the text after one more pair: with its line where it is shown, as it is where it is not
+pub one_shown : (m : ModuleContents) (observer : Option ℕ) (pairs : List Pair) (k : ℕ) (pair : Pair) (old mid new : Option (List ℕ)) (line : List ℕ)
+    → k < length pairs → is_shown m observer (get_or pairs k pair) ≡ true → line ≡ pair_line m (get_or pairs k pair)
+    → Appends old mid (view_text m (shown m observer (take k pairs))) → Appends mid new line
+    → Appends old new (view_text m (shown m observer (take (k + 1) pairs)))
+one_shown m observer pairs k pair old mid new line small is spelled before now =
+    let last = get_or pairs k pair in
+    let front = view_text m (shown m observer (take k pairs)) in
+    let of_pair : line ≡ view_text m (shown m observer (last ∷ [])) =
+    spelled ∙ sym (append-nil (pair_line m last)) ∙ ap (view_text m) (sym (shown_pair m observer last is)) in
+    subst (λ (text : List ℕ). Appends old new text)
+    (ap (λ text. front ++ text) of_pair ∙ view-suc m observer pairs k pair small)
+    (Appends-trans old mid new front line before now)
+
+pub one_hidden : (m : ModuleContents) (observer : Option ℕ) (pairs : List Pair) (k : ℕ) (pair : Pair) (old new : Option (List ℕ))
+    → k < length pairs → is_shown m observer (get_or pairs k pair) ≡ false
+    → Appends old new (view_text m (shown m observer (take k pairs)))
+    → Appends old new (view_text m (shown m observer (take (k + 1) pairs)))
+one_hidden m observer pairs k pair old new small is before =
+    let front = view_text m (shown m observer (take k pairs)) in
+    subst (λ (text : List ℕ). Appends old new text)
+    (sym (append-nil front)
+    ∙ ap (λ list. front ++ view_text m list) (sym (hidden_pair m observer (get_or pairs k pair) is))
+    ∙ view-suc m observer pairs k pair small)
+    before
+
+-- nothing written is the text of no pairs, and the text of as many pairs as there are is the text of all
+pub none_shown : (m : ModuleContents) (observer : Option ℕ) (pairs : List Pair) (old : Option (List ℕ))
+    → Appends old old (view_text m (shown m observer (take 0 pairs)))
+none_shown m None pairs old = Appends-nil old
+none_shown m (Some p) pairs old = Appends-nil old
+
+pub all_shown : (m : ModuleContents) (observer : Option ℕ) (pairs : List Pair) (k : ℕ) (old new : Option (List ℕ)) → length pairs ≤ k
+    → Appends old new (view_text m (shown m observer (take k pairs)))
+    → Appends old new (view_text m (shown m observer pairs))
+all_shown m observer pairs k old new all before =
+    subst (λ (list : List Pair). Appends old new (view_text m (shown m observer list))) (take_all k pairs all) before

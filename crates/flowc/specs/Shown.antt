@@ -1,0 +1,64 @@
+-- What a task shows on standard output, and with which status it ends.
+-- Source: our own.
+use Rattle.std.specs.Prelude.{◌≡◌, ◌≤◌, ◌⊎◌, ℕ, ℤ, List, Option, option_map, codes, IsUtf8}
+use Rattle.std.specs.Io.KnownBytes.{Appends}
+use Rattle.std.specs.String.{string_bytes}
+use Rattle.std.specs.declared.alloc.Global.{Global}
+use Rattle.std.specs.declared.vec.Vec.{Vec}
+use Rattle.bytecode.specs.Contents.{ModuleContents}
+use Rattle.bytecode.specs.Form.{Spells}
+use Rattle.bytecode.specs.Format.{module_file}
+use Rattle.bytecode.specs.Machine.{after_steps, program_of, sent_after}
+use Rattle.channels.specs.World.{input_names, numbers_of_channel}
+use Rattle.channels.specs.WorldText.{IsWorldText, lines_of, world_of}
+use Rattle.verifier.specs.Faults.{HasNoFault}
+use Rattle.machine.specs.Run.{IsTold}
+use Rattle.machine.specs.declared.status.Status.{Status}
+use Rattle.flowc.specs.declared.request.Task.{Task}
+use Rattle.flowc.specs.declared.request.Task.TheVariants.{Check, Build, Run}
+use Rattle.flowc.specs.Built.{bytes_at}
+use Rattle.flowc.specs.Task.{status_told}
+use Rattle.flowc.specs.View.{IsObserver, shown, view_text}
+
+-- the numbers that the text of a world has for each channel of a module
+abbrev pub numbers_in : ModuleContents → List ℕ → ℕ → List ℤ
+numbers_in whole text = numbers_of_channel whole (world_of (input_names whole) (lines_of text))
+
+-- what can be run for an observer: the bytes of a module without a fault, a world for it, and one of its principals
+pub record CanRun (code text : List ℕ) (observer : Option (List ℕ)) (whole : ModuleContents) (principal : Option ℕ) : Type 0 where
+  pub spelled : Spells module_file whole code
+  pub faultless : HasNoFault whole
+  pub encoded : IsUtf8 text
+  pub right : IsWorldText (input_names whole) (lines_of text)
+  pub observed : IsObserver whole.hierarchy observer principal
+
+-- nothing can be run
+abbrev pub CannotRun : List ℕ → List ℕ → Option (List ℕ) → Type 0
+CannotRun code text observer =
+    (whole : ModuleContents) (principal : Option ℕ) → ¬ CanRun code text observer whole principal
+
+-- a run was shown: at most so many steps were taken, and what was written is the view that the observer has of what was sent by
+-- then; the status tells the end, but not to an observer
+pub record ShowsRun (code text : List ℕ) (observer : Option (List ℕ)) (steps status : ℕ) (old new : Option (List ℕ)) : Type 0 where
+  pub whole : ModuleContents
+  pub principal : Option ℕ
+  pub taken : ℕ
+  pub can_run : CanRun code text observer whole principal
+  pub within : taken ≤ steps
+  pub view : Appends old new (view_text whole (shown whole principal (sent_after whole (numbers_in whole text) taken)))
+  pub end : Status
+  pub ended : IsTold (program_of whole) steps taken end (after_steps whole (numbers_in whole text) taken)
+  pub told : status ≡ status_told principal end
+
+-- what a task has written to standard output when it ends with this status; nothing where what it read is refused, and where a
+-- stream failed or memory was wanting nothing is said
+abbrev pub Shows : Task → List (Vec ℕ Global) → ℕ → Option (List ℕ) → Option (List ℕ) → Type 0
+Shows (Check hierarchy source) files status old new =
+    ((status ≡ 1) × (old ≡ new)) ⊎ ((status ≡ 3) ⊎ ((status ≡ 0) × Appends old new (codes "ok\n")))
+Shows (Build hierarchy source out) files status old new = old ≡ new
+Shows (Run file world observer steps) files status old new =
+    let code = bytes_at files 0 in
+    let text = bytes_at files 1 in
+    let name = option_map string_bytes observer in
+    ((status ≡ 1) × (old ≡ new) × CannotRun code text name)
+    ⊎ ((status ≡ 3) ⊎ ShowsRun code text name steps status old new)

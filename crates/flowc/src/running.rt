@@ -1,0 +1,185 @@
+//! Runs the module of a file on the world of another one.
+
+ghost use Rattle.bytecode.specs.Contents.{ModuleContents};
+ghost use Rattle.bytecode.specs.Form.{Spells};
+ghost use Rattle.bytecode.specs.Format.{module_file};
+ghost use Rattle.bytecode.specs.Machine.{Running, first_state};
+ghost use Rattle.channels.specs.World.{input_names};
+ghost use Rattle.channels.specs.WorldText.{IsWorldText, lines_of, world_of};
+ghost use Rattle.flowc.specs.Shown.{CannotRun, ShowsRun, numbers_in};
+ghost use Rattle.flowc.specs.Task.{status_of_trouble, status_told};
+ghost use Rattle.flowc.specs.View.{IsObserver};
+ghost use Rattle.machine.specs.Run.{machine_of};
+ghost use Rattle.std.specs.Prelude.{◌≡◌, IfErr, IfOk, IsUtf8, ℕ, OnOk, Option, option_map};
+ghost use Rattle.verifier.specs.Faults.{HasNoFault};
+
+use crate::told::{fault_line, observer_line, refusal_line, world_line};
+use crate::trouble::Trouble;
+use crate::view::write_view;
+use bytecode::{FormatFault, Module, decode};
+use channels::{Sink, World, WorldDefect, WorldFault};
+use machine::{Machine, NewFault, Status};
+use principals::Hierarchy;
+use std::alloc::Global;
+use verifier::{Verified, VerifyFault, verify};
+
+/// A file that was read: its path and its bytes.
+#[derive(Clone, Copy)]
+pub struct File<'a> {
+    pub path: &'a str,
+    pub bytes: &'a [u8],
+}
+
+/// How a run ended, as the program tells it: its exit status, and the line for standard error.
+#[derive(Drop)]
+pub struct Ended {
+    pub status: u8,
+    pub line: String,
+}
+
+/// Runs a module on a world for at most so many steps, and writes what it sent: all of it, or what the observer may read.
+pub fn run<O: Sink>(
+    alloc: Global,
+    code: File<'_>,
+    world: File<'_>,
+    observer: Option<&str>,
+    steps: u64,
+    out: &mut O,
+) -> Result<Ended, Trouble>
+    ensures shown { IfOk result (λ ended. ShowsRun code.entry.bytes.now world.entry.bytes.now (option_map (λ name. name.now) observer.entry) steps ended.status (O.taken out.old) (O.taken out.new)) }
+    ensures refused { IfErr result (λ trouble. status_of_trouble trouble ≡ 1 → CannotRun code.entry.bytes.now world.entry.bytes.now (option_map (λ name. name.now) observer.entry)) }
+    ensures quiet { IfErr result (λ trouble. status_of_trouble trouble ≡ 1 → O.taken out.old ≡ O.taken out.new) }
+{
+    let mut machine = started(alloc, code, world)?;
+    let principal = principal_of(alloc, machine.module().hierarchy(), observer)?;
+    let (_, status) = machine.run(steps);
+    let whole = machine.module();
+    write_view(alloc, whole, principal, machine.sent().pairs(), out)?;
+    told_end(alloc, whole, principal, status)
+}
+
+// The machine of a file's module at its start on the world of another file.
+fn started(alloc: Global, code: File<'_>, world: File<'_>) -> Result<Machine, Trouble>
+    ensures spelled { IfOk result (λ machine. Spells module_file machine.program code.entry.bytes.now) }
+    ensures only { IfOk result (λ machine. (whole : ModuleContents) → Spells module_file whole code.entry.bytes.now → machine.program ≡ whole) }
+    ensures faultless { IfOk result (λ machine. HasNoFault machine.program) }
+    ensures encoded { OnOk result (IsUtf8 world.entry.bytes.now) }
+    ensures refused { IfErr result (λ trouble. status_of_trouble trouble ≡ 1 → (whole : ModuleContents) → Spells module_file whole code.entry.bytes.now → HasNoFault whole → IsUtf8 world.entry.bytes.now → ¬ IsWorldText (input_names whole) (lines_of world.entry.bytes.now)) }
+    ensures right { IfOk result (λ machine. IsWorldText (input_names machine.program) (lines_of world.entry.bytes.now)) }
+    ensures first { IfOk result (λ machine. machine_of machine ≡ Running (first_state machine.program (numbers_in machine.program world.entry.bytes.now))) }
+{
+    let verified = read_module(alloc, code)?;
+    let numbers = read_world(alloc, verified.module(), world)?;
+    match Machine::new(alloc, verified, numbers) {
+        Ok(machine) => Ok(machine),
+        Err(NewFault::NoMemory) => Err(Trouble::OutOfMemory),
+        Err(NewFault::UnknownChannel) => {
+            let line = world_line(alloc, world.path, 1, WorldDefect::UnknownChannel)?;
+            Err(Trouble::Refused(line))
+        }
+    }
+}
+
+// The verified module that the bytes of a file spell.
+fn read_module(alloc: Global, file: File<'_>) -> Result<Verified, Trouble>
+    ensures spelled { IfOk result (λ verified. Spells module_file verified file.entry.bytes.now) }
+    ensures only { IfOk result (λ verified. (whole : ModuleContents) → Spells module_file whole file.entry.bytes.now → verified ≡ whole) }
+    ensures faultless { IfOk result (λ verified. HasNoFault verified) }
+    ensures refused { IfErr result (λ trouble. status_of_trouble trouble ≡ 1 → (whole : ModuleContents) → Spells module_file whole file.entry.bytes.now → ¬ HasNoFault whole) }
+{
+    let whole = match decode(alloc, file.bytes) {
+        Ok(whole) => whole,
+        Err(FormatFault::NoMemory) => return Err(Trouble::OutOfMemory),
+        Err(FormatFault::Refused(refusal, offset)) => {
+            let line = refusal_line(alloc, file.path, refusal, offset)?;
+            return Err(Trouble::Refused(line));
+        }
+    };
+    match verify(alloc, whole) {
+        Ok(verified) => Ok(verified),
+        Err(VerifyFault::NoMemory) => Err(Trouble::OutOfMemory),
+        Err(VerifyFault::Wrong(fault)) => {
+            Err(Trouble::Refused(fault_line(alloc, file.path, fault)?))
+        }
+    }
+}
+
+// The world that the bytes of a file write for a module.
+fn read_world(alloc: Global, whole: &Module, file: File<'_>) -> Result<World, Trouble>
+    ensures encoded { OnOk result (IsUtf8 file.entry.bytes.now) }
+    ensures right { OnOk result (IsWorldText (input_names whole.now) (lines_of file.entry.bytes.now)) }
+    ensures world { IfOk result (λ world. world ≡ world_of (input_names whole.now) (lines_of file.entry.bytes.now)) }
+    ensures refused { IfErr result (λ trouble. status_of_trouble trouble ≡ 1 → IsUtf8 file.entry.bytes.now → ¬ IsWorldText (input_names whole.now) (lines_of file.entry.bytes.now)) }
+{
+    let path = file.path;
+    let Ok(text) = std::str::from_utf8(file.bytes) else {
+        return Err(Trouble::Refused(format!(in alloc; "{path}:1: 100 not UTF-8\n")?));
+    };
+    match World::read(alloc, whole, text) {
+        Ok(world) => Ok(world),
+        Err(WorldFault::NoMemory) => Err(Trouble::OutOfMemory),
+        Err(WorldFault::Line { line, defect }) => {
+            Err(Trouble::Refused(world_line(alloc, path, line, defect)?))
+        }
+    }
+}
+
+// The number of the principal who observes, if one is named.
+fn principal_of(
+    alloc: Global,
+    hierarchy: &Hierarchy,
+    observer: Option<&str>,
+) -> Result<Option<u32>, Trouble>
+    ensures found { IfOk result (λ principal. IsObserver hierarchy.now (option_map (λ name. name.now) observer.entry) principal) }
+    ensures refused { IfErr result (λ trouble. status_of_trouble trouble ≡ 1 → (principal : Option ℕ) → ¬ IsObserver hierarchy.now (option_map (λ name. name.now) observer.entry) principal) }
+{
+    let Some(name) = observer else {
+        return Ok(None);
+    };
+    match hierarchy.find(name) {
+        Some(number) => Ok(Some(number)),
+        None => Err(Trouble::Refused(observer_line(alloc, name)?)),
+    }
+}
+
+// The exit status and the line of the end of a run, which an observer is not told.
+fn told_end(
+    alloc: Global,
+    whole: &Module,
+    observer: Option<u32>,
+    status: Status,
+) -> Result<Ended, Trouble>
+    ensures told { IfOk result (λ ended. ended.status ≡ status_told observer status) }
+    ensures memory { IfErr result (λ trouble. status_of_trouble trouble ≡ 3) }
+{
+    if observer.is_some() {
+        return Ok(Ended {
+            status: 0,
+            line: String::new(alloc),
+        });
+    }
+    let (status, line) = match status {
+        Status::Finished => (0, String::from_str(alloc, "finished\n")?),
+        Status::Threw(exception) => {
+            let name = exception_name(whole, exception);
+            (4, format!(in alloc; "threw {name}\n")?)
+        }
+        Status::Deep => (5, String::from_str(alloc, "deep\n")?),
+        Status::Running => (6, String::from_str(alloc, "running\n")?),
+        Status::NoMemory => (3, String::from_str(alloc, "no memory\n")?),
+    };
+    Ok(Ended { status, line })
+}
+
+// The name of an exception: of one that every program has, or of a declared one.
+fn exception_name(whole: &Module, exception: u32) -> &str {
+    match exception {
+        0 => "Arith",
+        1 => "Bounds",
+        2 => "End",
+        _ => whole
+            .exceptions()
+            .get((exception - 3) as usize)
+            .map_or("", |name| name.as_str()),
+    }
+}
