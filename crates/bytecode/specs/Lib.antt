@@ -13,3 +13,4 @@ pub mod Machine
 pub mod StraightLine
 pub mod Decoded
 pub mod Writing
+pub mod Isolated

@@ -5,7 +5,7 @@ use Rattle.bytecode.specs.Form.{Spells}
 use Rattle.bytecode.specs.Format.{module_file}
 use Rattle.bytecode.specs.Machine.{sent_after}
 use Rattle.channels.specs.World.{numbers_of_channel}
-use Rattle.host.specs.Isolated.{seen_of, OneBegins}
+use Rattle.bytecode.specs.Isolated.{seen_of, OneBegins}
 use Rattle.host.specs.Laws.{SessionsAreFreshRuns, SessionsAreIsolated, SessionsStandAsTold, IdsGoUp, steps_of}
 use Rattle.host.proofs.Lives.{shown_fresh, stands, ids_go_up}
 

@@ -8,7 +8,7 @@ use Rattle.bytecode.specs.Form.{Spells}
 use Rattle.bytecode.specs.Format.{module_file}
 use Rattle.bytecode.specs.Machine.{Machine, Program, exec, step, program_of, sent_of}
 use Rattle.channels.specs.World.{InputNumbers}
-use Rattle.host.specs.Isolated.{seen_of}
+use Rattle.bytecode.specs.Isolated.{seen_of}
 use Rattle.host.specs.Meaning.{SessionContents, HostContents, HostEvent, Open, Turn, View, Close, HostAnswer, Opened, Turned, Viewed, Closed, Refused, Answers, Answered, session_of, with_machine, without, IsOpen, IsNotOpen, first_machine, with_opened}
 use Rattle.host.specs.Laws.{told_of, steps_told}
 

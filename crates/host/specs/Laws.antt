@@ -8,7 +8,7 @@ use Rattle.bytecode.specs.Form.{Spells}
 use Rattle.bytecode.specs.Format.{module_file}
 use Rattle.bytecode.specs.Machine.{after_steps, sent_after}
 use Rattle.channels.specs.World.{InputNumbers, numbers_of_channel}
-use Rattle.host.specs.Isolated.{seen_of, Agree, OneBegins, IsIsolated}
+use Rattle.bytecode.specs.Isolated.{seen_of, Agree, OneBegins, IsIsolated}
 use Rattle.host.specs.Meaning.{SessionContents, HostContents, HostEvent, Open, Turn, View, HostAnswer, Opened, Turned, Viewed, Answered, IsOpen}
 
 -- the steps that an event's answer tells of the session of an id

@@ -1,4 +1,3 @@
-pub mod Isolated
 pub mod Meaning
 pub mod Values
 pub mod Laws

@@ -13,7 +13,7 @@ use Rattle.machine.specs.Run.{IsTold, WasRunning, names_of}
 use Rattle.machine.specs.declared.status.Status.{Status}
 use Rattle.verifier.specs.Faults as faults
 use Rattle.verifier.specs.Faults.{HasNoFault}
-use Rattle.host.specs.Isolated.{seen_of}
+use Rattle.bytecode.specs.Isolated.{seen_of}
 use Rattle.host.specs.declared.fault.HostFault.{HostFault}
 use Rattle.host.specs.declared.fault.HostFault.TheVariants.{NoMemory, Full, UnknownId, UnknownPrincipal, UnknownChannel, Bytes, Code}
 

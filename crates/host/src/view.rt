@@ -1,4 +1,4 @@
-ghost use Rattle.host.specs.Isolated.{channel_label, seen_of};
+ghost use Rattle.bytecode.specs.Isolated.{channel_label, seen_of};
 ghost use Rattle.labels.specs.Label.{may_read as reads};
 ghost use Rattle.std.specs.Prelude.{◌≡◌, IfOk};
 

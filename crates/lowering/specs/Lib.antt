@@ -2,4 +2,3 @@ pub mod Interface
 pub mod StraightCode
 pub mod Kept
 pub mod Names
-pub mod Observed

@@ -1,5 +1,5 @@
 use Rattle.std.proofs.Common.{◌≡◌, take}
-use Rattle.host.specs.Isolated.{seen_of}
+use Rattle.bytecode.specs.Isolated.{seen_of}
 use Rattle.host.proofs.view.seen.Given as goal
 
 -- the pairs that are seen of those so far

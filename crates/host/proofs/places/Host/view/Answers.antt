@@ -2,7 +2,7 @@ use Rattle.std.proofs.Common.{◌≡◌, ◌<◌, ◌==◌, List, length, refl, 
 use Rattle.std.specs.Prelude.{position}
 use Rattle.principals.specs.ActsFor.{PrincipalHierarchy}
 use Rattle.bytecode.specs.Contents.{ModuleContents}
-use Rattle.host.specs.Isolated.{seen_of}
+use Rattle.bytecode.specs.Isolated.{seen_of}
 use Rattle.host.specs.Meaning.{IsOpen}
 use Rattle.host.specs.Values.{KeptHost, KeptSession, contents_of, host_of}
 use Rattle.host.proofs.Sessions.{is_not_open, is_open}
