@@ -1,12 +1,14 @@
 -- What is wrong with the names and sizes of a program, as one list in the order in which the rules look; its first is told.
 -- Source: our own.
-use Rattle.std.specs.Prelude.{ℕ, List, [], ◌∷◌, ◌++◌, Bool, true, false, not, ◌==◌, flat_map, if◌then◌else◌, Option, Some, None, is_some, is_none, nat_le, codes}
+use Rattle.std.specs.Prelude.{◌≡◌, ℕ, List, [], ◌∷◌, ◌++◌, Bool, true, false, not, ◌==◌, flat_map, if◌then◌else◌, Option, Some, None, is_some, is_none, nat_le, codes}
 use Rattle.std.specs.List.{list_any}
 use Rattle.principals.specs.ActsFor.{PrincipalHierarchy, number_of}
 use Rattle.syntax.specs.Tree.{NameTree, PolicyTree, LabelTree, ExpressionTree, IntegerTree, VariableTree, BinaryTree, RightTree, ReceivedTree, ValueTree, StatementTree, DeclareTree, AssignTree, ReceiveTree, SendTree, ThrownTree, ProcedureTree, ItemTree, ChannelItem, ProcedureItem, ProgramTree}
 use Rattle.resolved.specs.WellFormed.{cell_limit}
 use Rattle.types.specs.declared.fault.Refusal.{Refusal}
 use Rattle.types.specs.declared.fault.Refusal.TheVariants as refusals
+use Rattle.types.specs.declared.fault.TypeFault.{TypeFault}
+use Rattle.types.specs.declared.fault.TypeFault.TheVariants as type_faults
 use Rattle.types.specs.declared.scope.Meaning.{Meaning}
 use Rattle.types.specs.declared.scope.Meaning.TheVariants as meanings
 use Rattle.types.specs.Scope.{Declaration, look_up, TopLevel, built_in, item_name, with_item, top_scope, Place, body_begin, behind, behind_all}
@@ -131,3 +133,8 @@ faults h program =
 -- the one that is told
 abbrev pub first_fault : PrincipalHierarchy → ProgramTree → Option Fault
 first_fault h program = first (faults h program)
+
+-- a refusal is the fault that is told, unless memory ran out
+abbrev pub IsTold : Option Fault → TypeFault → Type 0
+IsTold told type_faults.NoMemory = Unit {0}
+IsTold told (type_faults.Refused refusal at) = told ≡ Some (record { refusal = refusal; at = at })

@@ -1,8 +1,12 @@
 //! Names, base types and sizes: from a syntax tree to a resolved program.
 #![tactic(auto)]
 
+mod body;
 pub mod fault;
-pub mod laws;
-pub mod scope;
+mod label;
+mod procedure;
+pub mod program;
+mod scope;
+mod top;
 
 pub use fault::{Refusal, TypeFault};
