@@ -1,4 +1,4 @@
-use Rattle.std.proofs.Common.{◌≡◌, List, [], ◌∷◌, ◌++◌, map, length, Some, None, Ok, ap, sym, ◌∙◌}
+use Rattle.std.proofs.Common.{◌≡◌, List, [], ◌∷◌, ◌++◌, map, length, Some, None, Ok, ap, sym, ◌∙◌, arith}
 use Rattle.std.specs.Prelude.{string_bytes}
 use Rattle.std.proofs.lemmas.List.{map_push, length-map}
 use Rattle.resolved.specs.declared.expression.Base.TheVariants.{Int}
@@ -15,7 +15,7 @@ returns-clause-made c =
     let slots = before.slots.items in
     let text = string_bytes c.args.name.now.text in
     let find : Finds = λ other. or_else (found_in before.locals other) (found_in before.top.now other) in
-    let slot : length (map slot_entry slots) ≡ c.len-slot.result = length-map slots slot_entry ∙ sym c.len-slot.ensures in
+    let slot : length (map slot_entry slots) ≡ c.len-slot.result = omega (arith, length-map slots slot_entry) in
     let named : with_name text (Local (length (map slot_entry slots))) find ≡ (λ other. or_else (found_in c.insert.new.table other) (found_in before.top.now other)) =
     ap (λ number. with_name text (Local number) find) slot
     ∙ ap (λ name. with_name name (Local c.len-slot.result) find) (sym c.as_str.ensures.value)
