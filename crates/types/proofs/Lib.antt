@@ -1,2 +1,4 @@
 mod Loops
 mod Tables
+mod Sizes
+mod Blocks
