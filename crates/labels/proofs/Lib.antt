@@ -6,5 +6,6 @@ pub mod Joined
 pub mod Meaning
 pub mod Merge
 pub mod Order
+pub mod Begins
 pub mod Tests
 pub mod Written

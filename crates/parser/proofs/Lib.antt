@@ -1,4 +1,5 @@
 pub mod Costs
+pub mod Kept
 pub mod Loops
 pub mod Outcomes
 pub mod Parsing
@@ -8,3 +9,4 @@ pub mod Productions
 pub mod Programs
 pub mod SameKind
 pub mod Sums
+pub mod Written

@@ -2,7 +2,7 @@ ghost use Rattle.std.specs.Prelude.{◌≡◌, ◌≤◌, ℕ, length, IfOk, Err
 ghost use Rattle.lexer.specs.declared.token.Kind.TheVariants.{Comma};
 ghost use Rattle.lexer.specs.Terminal.{IsTerminated, terminals_of};
 ghost use Rattle.syntax.specs.Grammar.{Spells};
-ghost use Rattle.syntax.specs.Laws.{SpellsOneTree, SpelledIsTerminated, SpelledHasFewNodes};
+ghost use Rattle.syntax.specs.Laws.{SpellsOneTree, SpelledIsTerminated, SpelledHasFewNodes, SpelledIsWritten};
 ghost use Rattle.syntax.specs.Nodes.{program_nodes};
 ghost use Rattle.syntax.specs.Tree.{ProgramTree, item_tree, thrown_tree, program_tree};
 ghost use Rattle.parser.specs.Readers.{Gives, kind_at, is_channel, item_trees, thrown_trees, way, parted_at, direction_at, channel_at, thrown_at, thrown_list_at, throws_at, procedure_at, channels_at, items_at, program_at};
@@ -184,10 +184,11 @@ pub fn parse(alloc: Global, tokens: &[Token<'_>]) -> Result<Program, ParseFault>
     parser.program()
 }
 
-/// The laws that tokens spell at most one tree, that what they spell ends in the one end marker, and that a tree has at most as
-/// many nodes as the tokens that spell it.
+/// The laws that tokens spell at most one tree, that what they spell ends in the one end marker, that a tree has at most as
+/// many nodes as the tokens that spell it, and that its names, integers and places are those of the tokens.
 pub fn spelling_laws()
     ensures one_tree { SpellsOneTree }
     ensures terminated { SpelledIsTerminated }
     ensures few_nodes { SpelledHasFewNodes }
+    ensures written { SpelledIsWritten }
 {}

@@ -8,3 +8,4 @@ mod Automaton
 mod Building
 mod Uniqueness
 mod Spots
+pub mod Called

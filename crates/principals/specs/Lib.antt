@@ -2,4 +2,5 @@ pub mod ActsFor
 pub mod Table
 pub mod Inside
 pub mod HierarchyText
+pub mod Laws
 pub mod Reading

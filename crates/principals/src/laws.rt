@@ -1,6 +1,7 @@
-//! Laws of acts-for, over all lists of pairs.
+//! Laws of acts-for, over all lists of pairs, and of the texts of hierarchies.
 
 ghost use Rattle.principals.specs.ActsFor.{ActsFor, acts_for};
+ghost use Rattle.principals.specs.Laws.{NamesAreNames};
 ghost use Rattle.std.specs.Prelude.{Bool, Contains, IsTrue, List, ℕ, ◌↔◌};
 
 /// The test and the relation say the same of every list of pairs and every two numbers.
@@ -25,4 +26,9 @@ pub fn acts_for_is_monotone()
     ensures { (pairs others : List (ℕ × ℕ)) →
         ((a b : ℕ) → Contains pairs (a, b) → Contains others (a, b)) →
         (a b : ℕ) → ActsFor pairs a b → ActsFor others a b }
+{}
+
+/// The principals of a text have names in UTF-8 that are no longer than the text.
+pub fn names_are_names()
+    ensures { NamesAreNames }
 {}

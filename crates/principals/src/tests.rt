@@ -69,6 +69,7 @@ fn reads_three_principals(rt: HostRuntime) -> Result<(), Fail> {
     laws::acts_for_decides();
     laws::acts_for_is_least();
     laws::acts_for_is_monotone();
+    laws::names_are_names();
     Ok(())
 }
 

@@ -1,10 +1,12 @@
 -- Laws of the spelling of programs.
 -- Source: our own.
-use Rattle.std.specs.Prelude.{◌≡◌, ◌≤◌, List, length}
+use Rattle.std.specs.Prelude.{◌≡◌, ℕ, ◌≤◌, List, length, map, All, Contains}
+use Rattle.lexer.specs.Listing.{IsSpelled}
 use Rattle.lexer.specs.Terminal.{Terminal, IsTerminated}
 use Rattle.syntax.specs.Grammar.{Spells}
 use Rattle.syntax.specs.Nodes.{program_nodes}
 use Rattle.syntax.specs.Tree.{ProgramTree}
+use Rattle.syntax.specs.Written.{IsWritten}
 
 -- tokens spell at most one tree
 abbrev pub SpellsOneTree : Type 0
@@ -19,3 +21,11 @@ SpelledIsTerminated = (tokens : List Terminal) (tree : ProgramTree) → Spells t
 abbrev pub SpelledHasFewNodes : Type 0
 SpelledHasFewNodes =
     (tokens : List Terminal) (tree : ProgramTree) → Spells tokens tree → program_nodes tree ≤ length tokens
+
+-- what tokens spell is written: where each token is spelled and has at most so many bytes, the tree's names are names of at
+-- most so many bytes, its integers are small enough, its nodes stand where tokens begin, and it has at most one procedure
+abbrev pub SpelledIsWritten : Type 0
+SpelledIsWritten =
+    (longest : ℕ) (tokens : List Terminal) (tree : ProgramTree) → Spells tokens tree → All IsSpelled tokens
+    → All (λ token. length token.text ≤ longest) tokens
+    → IsWritten (Contains (map (λ token. token.start) tokens)) longest tree

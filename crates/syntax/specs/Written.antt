@@ -1,7 +1,7 @@
 -- What holds of the tree of a text beside its form: its names are names and not too long, its integers are small enough, its
 -- nodes stand at places that fit, and it has at most one procedure.
 -- Source: our own.
-use Rattle.std.specs.Prelude.{ℕ, ◌≤◌, List, [], ◌∷◌, ◌++◌, length, flat_map, IsTrue, All}
+use Rattle.std.specs.Prelude.{ℕ, ◌≤◌, List, [], ◌∷◌, length, flat_map, IsTrue, All}
 use Rattle.lexer.specs.Lexeme.{greatest_literal}
 use Rattle.lexer.specs.Words.{is_name_text}
 use Rattle.syntax.specs.Tree.{NameTree, PolicyTree, LabelTree, ExpressionTree, IntegerTree, VariableTree, BinaryTree, RightTree, ReceivedTree, ValueTree, StatementTree, DeclareTree, AssignTree, ReceiveTree, SendTree, ThrownTree, ProcedureTree, ItemTree, ChannelItem, ProcedureItem, ProgramTree}

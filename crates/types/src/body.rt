@@ -187,10 +187,7 @@ impl<'a> Body<'a> {
     }
 
     /// Statements in a row.
-    pub fn statements(
-        &mut self,
-        written: &[syntax::Statement],
-    ) -> Result<Vec<Statement>, TypeFault>
+    pub fn statements(&mut self, written: &[syntax::Statement]) -> Result<Vec<Statement>, TypeFault>
         requires { length self.old.slots.items + length written.now ≤ 1048577 }
         ensures { Gives (λ made. (body_state self.new, statements_list made)) result (statements_checked (body_state self.old) (map statement_tree written.now)) }
     {

@@ -4,9 +4,14 @@
 mod body;
 pub mod fault;
 mod label;
+pub mod laws;
 mod procedure;
 pub mod program;
 mod scope;
 mod top;
 
 pub use fault::{Refusal, TypeFault};
+pub use program::{MAX_CELLS, resolve};
+
+#[cfg(test)]
+mod tests;

@@ -18,11 +18,7 @@ use std::alloc::{AllocError, Global};
 
 /// The number of an exception that is not named yet, which is named now.
 #[tactic(auto, unfolding(crate::specs::Checks::name_checked))]
-fn name_once(
-    named: &mut IndexSet<u32>,
-    found: Option<Meaning>,
-    at: usize,
-) -> Result<u32, TypeFault>
+fn name_once(named: &mut IndexSet<u32>, found: Option<Meaning>, at: usize) -> Result<u32, TypeFault>
     ensures { Gives (λ number. (named.new.keys, number)) result (name_checked named.old.keys found at) }
 {
     let number = exception(found, at)?;

@@ -1,8 +1,8 @@
 //! Whole programs.
 
-ghost use Rattle.std.specs.Prelude.{IfErr, IfOk, None, Some, length, map, sum_by, ◌≡◌, ◌≤◌, List, ℕ};
+ghost use Rattle.std.specs.Prelude.{[], IfErr, IfOk, None, Some, length, map, sum_by, ◌≡◌, ◌≤◌, List, ℕ};
 ghost use Rattle.resolved.specs.CoreOf.{program_of};
-ghost use Rattle.resolved.specs.ProgramOf.{channel_entry, procedure_entry};
+ghost use Rattle.resolved.specs.ProgramOf.{channel_entry, procedure_entry, program_from};
 ghost use Rattle.syntax.specs.Nodes.{item_nodes, program_nodes};
 ghost use Rattle.syntax.specs.Tree.{channel_tree, item_tree, program_tree};
 ghost use Rattle.syntax.specs.Written.{IsWritten};
@@ -68,7 +68,7 @@ fn items(
 
 /// The number of the procedure at which a run begins.
 #[tactic(auto, unfolding(crate::specs::Checks::main_checked))]
-fn main_number(found: Option<Meaning>) -> Result<u32, TypeFault>
+pub(crate) fn main_number(found: Option<Meaning>) -> Result<u32, TypeFault>
     ensures { Gives itself result (main_checked found) }
 {
     match found {
@@ -87,4 +87,70 @@ fn limit_cells(procedures: &[Procedure]) -> Result<(), TypeFault>
         }
     }
     Ok(())
+}
+
+/// The tables of a program, and the number of the procedure at which a run begins.
+#[derive(Drop)]
+struct Parts {
+    channels: Vec<Channel>,
+    procedures: Vec<Procedure>,
+    main: u32,
+}
+
+/// The tables of a program, which are refused as the rules look.
+#[tactic(auto, unfolding(crate::specs::Checks::program_checked))]
+fn parts_of(alloc: Global, hierarchy: &Hierarchy, written: &[Item]) -> Result<Parts, TypeFault>
+    requires { sum_by item_nodes (map item_tree written.now) ≤ 1048577 }
+    ensures { Gives (λ parts. program_from hierarchy.now parts.channels.items [] [] parts.procedures.items parts.main) result
+        (program_checked hierarchy.now (map item_tree written.now)) }
+{
+    let top = TopLevel::of(alloc, written)?;
+    let (channels, procedures) = items(alloc, hierarchy, &top.names, written)?;
+    let main = main_number(find(&top.names, "main"))?;
+    limit_cells(procedures.as_slice())?;
+    Ok(Parts {
+        channels,
+        procedures,
+        main,
+    })
+}
+
+/// The resolved program that a syntax tree stands for under a hierarchy: names give way to numbers, and labels to their canonical
+/// forms. The tree owes to be that of a text: few nodes, names that are names, literals that are small enough, and at most one
+/// procedure.
+///
+/// # Errors
+///
+/// The first fault in the order in which the rules look, or want of memory.
+pub fn resolve(
+    alloc: Global,
+    tree: syntax::Program,
+    hierarchy: &Hierarchy,
+) -> Result<Core, TypeFault>
+    requires few { program_nodes (program_tree tree) ≤ 1048577 }
+    requires written { IsWritten (λ _. Unit {0}) 1048576 (program_tree tree) }
+
+    // Where there is an answer, the program has no fault.
+    ensures clean { IfOk result (λ core. first_fault hierarchy.now (program_tree tree) ≡ None) }
+
+    // The answer is what the tree resolves to.
+    ensures resolved { IfOk result (λ core. program_of core ≡ resolved_of hierarchy.now (program_tree tree)) }
+
+    // A refusal is the first fault, and stands where that stands.
+    ensures refused { IfErr result (IsTold (first_fault hierarchy.now (program_tree tree))) }
+{
+    prove!(hierarchy.count() <= 256);
+    let Parts {
+        channels,
+        procedures,
+        main,
+    } = parts_of(alloc, hierarchy, tree.items.as_slice())?;
+    Ok(Core {
+        hierarchy: hierarchy.clone()?,
+        channels,
+        exceptions: Vec::new(alloc),
+        globals: Vec::new(alloc),
+        procedures,
+        main,
+    })
 }

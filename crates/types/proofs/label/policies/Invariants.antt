@@ -9,5 +9,5 @@ use Rattle.types.proofs.label.policies.Given as goal
 abbrev pub invariant-loop-one : goal.invariant-loop-one
 invariant-loop-one l = record {
   made : GoesOn (collecting (policy_checked l.hierarchy)) policy_tree l.written (policies_checked l.hierarchy (map policy_tree l.written)) l.policies.items l.one-index;
-  canonical : All IsCanonicalPolicy l.policies.items
+  canonical : All IsCanonicalPolicy l.policies.items;
 }

@@ -7,5 +7,5 @@ use Rattle.types.proofs.top.TopLevel.of.Given as goal
 abbrev pub invariant-loop-item : goal.invariant-loop-item
 invariant-loop-item l = record {
   on : GoesOn next_name item_tree l.items (top_checked (map item_tree l.items)) (top_state l.top) l.item-index;
-  few : l.top.channels + l.top.procedures ≤ l.item-index
+  few : l.top.channels + l.top.procedures ≤ l.item-index;
 }

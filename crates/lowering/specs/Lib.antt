@@ -1,0 +1,3 @@
+pub mod Interface
+pub mod StraightCode
+pub mod Kept

@@ -1,0 +1,77 @@
+-- The names of a hierarchy text are names.
+use Rattle.std.proofs.Common.{◌≡◌, ℕ, ◌+◌, ◌-◌, ◌≤◌, Bool, true, List, [], ◌∷◌, ◌++◌, length, drop, get_or, refl, sym, ap, subst, IsTrue, arith}
+use Rattle.std.proofs.lemmas.Bool.{and_parts, and_from}
+use Rattle.std.proofs.lemmas.List.{length-take, length-drop}
+use Rattle.std.proofs.lemmas.List.Elements.{All-from_recursion, All-append, All-cons, All-nil, All-head, All-tail}
+use Rattle.std.proofs.lemmas.Str.{scalars-chars, IsUtf8-nil}
+use Rattle.std.specs.List.{AllByRecursion, All}
+use Rattle.std.specs.Str.{chars, IsUtf8, encode_utf8_all, all_scalars}
+use Rattle.lexer.proofs.Listed.{Listed, listed}
+use Rattle.lexer.specs.Cut.{Cuts, Nothing, Token, Between, IsCut, terminal_at, size}
+use Rattle.lexer.specs.Listing as listing
+use Rattle.lexer.specs.Listing.{IsSliceOf, IsSpelled}
+use Rattle.lexer.specs.Terminal.{Terminal}
+use Rattle.lexer.specs.Words.{is_name_text}
+use Rattle.lexer.specs.declared.token.Kind.TheVariants.{Name, End}
+use Rattle.principals.specs.ActsFor.{PrincipalHierarchy}
+use Rattle.principals.specs.HierarchyText.{Entry, Nonterminal, Derives, Finish, Declaration, Relation, OneMore, Last, IsPrincipalName, declared, IsHierarchyOf}
+use Rattle.principals.specs.Laws.{IsNameWithin}
+
+scalars_parts : (xs ys : List ℕ) → all_scalars (xs ++ ys) ≡ true → (all_scalars xs ≡ true) × (all_scalars ys ≡ true)
+scalars_parts [] ys e = (refl, e)
+scalars_parts (x ∷ xs) ys e =
+    let (first, others) = and_parts _ _ e in
+    let (front, rest) = scalars_parts xs ys others in
+    (and_from _ _ first front, rest)
+
+-- the text of a token is UTF-8
+abbrev IsText : Terminal → Type 0
+IsText token = IsUtf8 token.text
+
+cut_texts : (start : ℕ) (text : List ℕ) (tokens : List Terminal) (end : ℕ) (rest : List ℕ) → Cuts start text tokens end rest → all_scalars text ≡ true → AllByRecursion IsText tokens
+cut_texts start text tokens end rest (Nothing _ _) scalars = tt
+cut_texts start text tokens end rest (Token _ _ kind front left others _ _ next cuts) scalars =
+    let (here, later) = scalars_parts front left (subst (λ t. all_scalars t ≡ true) next.parts scalars) in
+    ((front, (here, refl)), cut_texts (start + size front) left others end rest cuts later)
+cut_texts start text tokens end rest (Between _ _ front left _ _ _ next cuts) scalars =
+    let (here, later) = scalars_parts front left (subst (λ t. all_scalars t ≡ true) next.parts scalars) in
+    cut_texts (start + size front) left tokens end rest cuts later
+
+pub token_texts : (text : List ℕ) (tokens : List Terminal) → IsUtf8 text → IsCut text tokens → All (λ token. IsUtf8 token.text) tokens
+token_texts text tokens ok cut =
+    let last : Terminal = terminal_at (length text) End [] in
+    subst (All IsText) (sym cut.ended) (All-append IsText cut.words (last ∷ []) (All-from_recursion IsText cut.words (cut_texts 0 (chars text) cut.words (length text) [] cut.cuts (scalars-chars text ok))) (All-cons IsText last [] IsUtf8-nil (All-nil IsText)))
+
+-- what holds of the text of each token that is a name holds of each name that is declared
+module _ (P : List ℕ → Type 0) where
+  abbrev Holds : Terminal → Type 0
+  Holds token = token.kind ≡ Name → P token.text
+
+  pub declared_hold : (form : Nonterminal) (tokens : List Terminal) (entries : List Entry) → Derives form tokens entries → All (λ token. token.kind ≡ Name → P token.text) tokens → All P (declared entries)
+  declared_hold _ _ _ (Finish end kind) all = All-nil P
+  declared_hold _ _ _ (Declaration word rest entries kind derived) all =
+      declared_hold _ rest entries derived (All-tail Holds word rest all)
+  declared_hold _ _ _ (Relation left word right semicolon rest entries a b c d derived) all =
+      declared_hold _ rest entries derived (All-tail Holds semicolon rest (All-tail Holds right (semicolon ∷ rest) (All-tail Holds word (right ∷ semicolon ∷ rest) (All-tail Holds left (word ∷ right ∷ semicolon ∷ rest) all))))
+  declared_hold _ _ _ (OneMore name comma rest entries named kind derived) all =
+      All-cons P name.text (declared entries) (All-head Holds name (comma ∷ rest) all named.name) (declared_hold _ rest entries derived (All-tail Holds comma rest (All-tail Holds name (comma ∷ rest) all)))
+  declared_hold _ _ _ (Last name semicolon rest entries named kind derived) all =
+      All-cons P name.text (declared entries) (All-head Holds name (semicolon ∷ rest) all named.name) (declared_hold _ rest entries derived (All-tail Holds semicolon rest (All-tail Holds name (semicolon ∷ rest) all)))
+
+slice_short : (text : List ℕ) (token : Terminal) → IsSliceOf text token → length token.text ≤ length text
+slice_short text token slice =
+    omega (arith, ap length slice, length-take (token.end - token.start) (drop token.start text), length-drop token.start text)
+
+name_within : (text : List ℕ) (token : Terminal) → IsSliceOf text token → IsSpelled token → IsText token → token.kind ≡ Name → IsNameWithin (length text) token.text
+name_within text token slice spelled characters kind = record {
+  named = subst (λ kind. listing.Spells kind token.text) kind spelled;
+  characters = characters;
+  short = slice_short text token slice;
+}
+
+pub names_are_names : (text : List ℕ) (hierarchy : PrincipalHierarchy) → IsUtf8 text → IsHierarchyOf text hierarchy → All (IsNameWithin (length text)) hierarchy.names
+names_are_names text hierarchy ok h =
+    let tokens = h.says.tokens in
+    let each = listed text tokens ok h.says.cut in
+    let texts = token_texts text tokens ok h.says.cut in
+    subst (All (IsNameWithin (length text))) (sym h.said.names) (declared_hold (IsNameWithin (length text)) _ tokens h.entries h.says.form (λ k d lt. name_within text (get_or tokens k d) (each.slices k d lt) (each.spelled k d lt) (texts k d lt)))
