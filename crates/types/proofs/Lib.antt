@@ -1,3 +1,9 @@
+mod Loops
+mod Tables
+mod Sizes
+mod Blocks
+mod Agree
+mod Programs
 pub mod NoFault
 pub mod Means
 pub mod Meaning

@@ -5,3 +5,4 @@ pub mod FirstFault
 pub mod Resolution
 pub mod Reading
 pub mod Laws
+pub mod Checks
