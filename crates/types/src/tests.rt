@@ -1,5 +1,7 @@
 //! Small programs and each refusal, part by part, with values worked out by hand.
 
+ghost use Rattle.std.specs.Prelude.{length, ◌≤◌};
+
 use crate::body::Body;
 use crate::fault::{Refusal, TypeFault};
 use crate::laws::{numbers_read_as_names, places_stay, resolves_to_straight_line};
@@ -89,27 +91,24 @@ fn top_level(alloc: Global, more: &str) -> Result<TopLevel, TypeFault> {
 }
 
 // What these statements resolve to behind `input{} c; output{} pub; output{} other;`.
-fn body(
-    rt: &HostRuntime,
-    written: &[syntax::Statement],
-) -> Result<Result<Vec<Statement>, TypeFault>, Fail> {
-    let alloc = rt.alloc();
-    assert!(rt; written.len() <= 1_000);
+fn body(alloc: Global, written: &[syntax::Statement]) -> Result<Vec<Statement>, TypeFault>
+    requires { length written.now ≤ 1000 }
+{
     let hierarchy = hierarchy(alloc)?;
     let top = top_level(alloc, "other")?;
     let mut place = Body::new(alloc, &hierarchy, &top.names);
-    assert_eq!(rt; place.slots.len(), 0);
-    Ok(place.statements(written))
+    place.statements(written)
 }
 
-// The refusal of one statement behind `int{} x = 7;`.
-fn refused(rt: &HostRuntime, statement: syntax::Statement) -> Result<Option<TypeFault>, Fail> {
-    let alloc = rt.alloc();
+// Whether one statement is refused behind `int{} x = 7;`.
+fn behind_x(alloc: Global, statement: syntax::Statement) -> Result<(), TypeFault> {
     let written = vec![in alloc; declare(alloc, 100, "x", seven(110))?, statement]?;
-    match body(rt, written.as_slice())? {
-        Ok(_) => Ok(None),
-        Err(fault) => Ok(Some(fault)),
-    }
+    body(alloc, written.as_slice())?;
+    Ok(())
+}
+
+fn refused(refusal: Refusal, at: usize) -> Result<(), TypeFault> {
+    Err(TypeFault::Refused(refusal, at))
 }
 
 #[test]
@@ -161,7 +160,7 @@ fn names_become_numbers(rt: HostRuntime) -> Result<(), Fail> {
         Statement::Receive(160, 0, None),
         Statement::Send(170, 1, Expression::Read(Variable::Local(0))),
     ]?;
-    let made = body(&rt, written.as_slice())??;
+    let made = body(alloc, written.as_slice())?;
     assert_eq!(rt; made.as_slice(), expected.as_slice());
     Ok(())
 }
@@ -171,8 +170,8 @@ fn names_that_are_wrong_in_a_body(rt: HostRuntime) -> Result<(), Fail> {
     let alloc = rt.alloc();
     let unknown = send(alloc, 200, "pub", variable(alloc, 210, "y")?)?;
     assert_eq!(rt;
-        refused(&rt, unknown)?,
-        Some(TypeFault::Refused(Refusal::UnknownName, 210))
+        behind_x(alloc, unknown),
+        refused(Refusal::UnknownName, 210)
     );
     let itself = declare(
         alloc,
@@ -180,43 +179,25 @@ fn names_that_are_wrong_in_a_body(rt: HostRuntime) -> Result<(), Fail> {
         "y",
         RightSide::Value(variable(alloc, 210, "y")?),
     )?;
-    assert_eq!(rt;
-        refused(&rt, itself)?,
-        Some(TypeFault::Refused(Refusal::UnknownName, 210))
-    );
+    assert_eq!(rt; behind_x(alloc, itself), refused(Refusal::UnknownName, 210));
     let twice = declare(alloc, 200, "x", seven(210))?;
     assert_eq!(rt;
-        refused(&rt, twice)?,
-        Some(TypeFault::Refused(Refusal::DeclaredTwice, 206))
+        behind_x(alloc, twice),
+        refused(Refusal::DeclaredTwice, 206)
     );
     let top = declare(alloc, 200, "pub", seven(210))?;
-    assert_eq!(rt;
-        refused(&rt, top)?,
-        Some(TypeFault::Refused(Refusal::DeclaredTwice, 206))
-    );
+    assert_eq!(rt; behind_x(alloc, top), refused(Refusal::DeclaredTwice, 206));
     let input = send(alloc, 200, "c", variable(alloc, 210, "x")?)?;
-    assert_eq!(rt;
-        refused(&rt, input)?,
-        Some(TypeFault::Refused(Refusal::WrongUse, 205))
-    );
+    assert_eq!(rt; behind_x(alloc, input), refused(Refusal::WrongUse, 205));
     let local = send(alloc, 200, "x", variable(alloc, 210, "x")?)?;
-    assert_eq!(rt;
-        refused(&rt, local)?,
-        Some(TypeFault::Refused(Refusal::WrongUse, 205))
-    );
+    assert_eq!(rt; behind_x(alloc, local), refused(Refusal::WrongUse, 205));
     let output = syntax::Statement::Receive {
         at: 200,
         channel: name(alloc, 208, "pub")?,
     };
-    assert_eq!(rt;
-        refused(&rt, output)?,
-        Some(TypeFault::Refused(Refusal::WrongUse, 208))
-    );
+    assert_eq!(rt; behind_x(alloc, output), refused(Refusal::WrongUse, 208));
     let exception = send(alloc, 200, "pub", variable(alloc, 210, "Arith")?)?;
-    assert_eq!(rt;
-        refused(&rt, exception)?,
-        Some(TypeFault::Refused(Refusal::WrongUse, 210))
-    );
+    assert_eq!(rt; behind_x(alloc, exception), refused(Refusal::WrongUse, 210));
     Ok(())
 }
 
@@ -237,15 +218,14 @@ fn principals_that_are_unknown(rt: HostRuntime) -> Result<(), Fail> {
         value: seven(216),
     };
     assert_eq!(rt;
-        refused(&rt, written)?,
-        Some(TypeFault::Refused(Refusal::UnknownPrincipal, 204))
+        behind_x(alloc, written),
+        refused(Refusal::UnknownPrincipal, 204)
     );
     Ok(())
 }
 
-// The refusal of `void main() throws(FIRST{}, SECOND{}) { }`, with the names at 60 and 70.
-fn refused_throws(rt: &HostRuntime, first: &str, second: &str) -> Result<Option<TypeFault>, Fail> {
-    let alloc = rt.alloc();
+// The exceptions of `void main() throws(FIRST{}, SECOND{}) { }`, with the names at 60 and 70.
+fn thrown(alloc: Global, first: &str, second: &str) -> Result<Vec<u32>, TypeFault> {
     let hierarchy = hierarchy(alloc)?;
     let top = top_level(alloc, "other")?;
     let written = Procedure {
@@ -266,41 +246,49 @@ fn refused_throws(rt: &HostRuntime, first: &str, second: &str) -> Result<Option<
             statements: Vec::new(alloc),
         },
     };
-    match procedure(alloc, &hierarchy, &top.names, &written) {
-        Ok(made) => {
-            assert_eq!(rt; made.at, 55);
-            assert_eq!(rt; made.throws.len(), 2);
-            assert_eq!(rt; made.throws[0].exception, 2);
-            assert_eq!(rt; made.throws[1].exception, 0);
-            Ok(None)
-        }
-        Err(fault) => Ok(Some(fault)),
+    let made = procedure(alloc, &hierarchy, &top.names, &written)?;
+    let mut numbers = Vec::new(alloc);
+    for thrown in &made.throws {
+        numbers.push(thrown.exception)?;
     }
+    Ok(numbers)
+}
+
+fn throwing(alloc: Global, first: &str, second: &str) -> Result<(), TypeFault> {
+    thrown(alloc, first, second)?;
+    Ok(())
 }
 
 #[test]
 fn exceptions_that_are_thrown(rt: HostRuntime) -> Result<(), Fail> {
-    assert_eq!(rt; refused_throws(&rt, "End", "Arith")?, None);
-    let twice = Some(TypeFault::Refused(Refusal::DeclaredTwice, 70));
-    assert_eq!(rt; refused_throws(&rt, "Bounds", "Bounds")?, twice);
-    let unknown = Some(TypeFault::Refused(Refusal::UnknownName, 60));
-    assert_eq!(rt; refused_throws(&rt, "Other", "End")?, unknown);
-    let wrong = Some(TypeFault::Refused(Refusal::WrongUse, 70));
-    assert_eq!(rt; refused_throws(&rt, "End", "pub")?, wrong);
+    let alloc = rt.alloc();
+    let numbers = thrown(alloc, "End", "Arith")?;
+    assert_eq!(rt; numbers.as_slice(), [2, 0].as_slice());
+    assert_eq!(rt;
+        throwing(alloc, "Bounds", "Bounds"),
+        refused(Refusal::DeclaredTwice, 70)
+    );
+    assert_eq!(rt;
+        throwing(alloc, "Other", "End"),
+        refused(Refusal::UnknownName, 60)
+    );
+    assert_eq!(rt;
+        throwing(alloc, "End", "pub"),
+        refused(Refusal::WrongUse, 70)
+    );
+    Ok(())
+}
+
+fn declared(alloc: Global, more: &str) -> Result<(), TypeFault> {
+    top_level(alloc, more)?;
     Ok(())
 }
 
 #[test]
 fn items_that_are_declared_twice_or_missing(rt: HostRuntime) -> Result<(), Fail> {
     let alloc = rt.alloc();
-    match top_level(alloc, "c") {
-        Ok(_) => assert!(rt; false),
-        Err(fault) => assert_eq!(rt; fault, TypeFault::Refused(Refusal::DeclaredTwice, 50)),
-    }
-    match top_level(alloc, "End") {
-        Ok(_) => assert!(rt; false),
-        Err(fault) => assert_eq!(rt; fault, TypeFault::Refused(Refusal::DeclaredTwice, 50)),
-    }
+    assert_eq!(rt; declared(alloc, "c"), refused(Refusal::DeclaredTwice, 50));
+    assert_eq!(rt; declared(alloc, "End"), refused(Refusal::DeclaredTwice, 50));
     let top = top_level(alloc, "main")?;
     assert_eq!(rt; find(&top.names, "main"), Some(Meaning::Output(2)));
     let none = TypeFault::Refused(Refusal::NoProperMain, 0);

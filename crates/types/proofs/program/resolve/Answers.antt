@@ -25,7 +25,7 @@ invariant_of-result c =
     let tree = program_tree c.args.tree in
     let parts = c.in_ok-channels.field-0 in
     let same = is_resolved h tree c.in_ok-clone.field-0 parts.channels.items c.new.result.items c.new-2.result.items parts.procedures.items parts.main c.in_ok-clone.ensures.cases c.new.ensures.items c.new-2.ensures.items e in
-    record { well_formed = rw same (well_formed_of h tree c.count.ensures.kept c.requires.few c.requires.written (is_clean h tree _ e).0) }
+    record { well_formed = subst (λ (program : Program). IsTrue (well_formed program)) (sym same) (well_formed_of h tree c.count.ensures.kept c.requires.few c.requires.written (is_clean h tree _ e).0) }
 
 pub returns-clause-clean : goal.returns-clause-clean
 returns-clause-clean c =
