@@ -215,3 +215,33 @@ fn tests_the_module_and_the_world_before_the_observer(rt: HostRuntime) -> Result
     }
     Ok(())
 }
+
+#[test]
+fn has_a_number_and_words_for_each_cause(rt: HostRuntime) -> Result<(), Fail> {
+    let causes: [(Cause, u32, &str); 19] = [
+        (Cause::NotUtf8, 100, "not UTF-8"),
+        (Cause::NoToken, 101, "no token"),
+        (Cause::LiteralTooLarge, 102, "literal too large"),
+        (Cause::OpenComment, 103, "open comment"),
+        (Cause::Syntax, 151, "syntax"),
+        (Cause::PrincipalTwice, 152, "declared twice"),
+        (Cause::UnknownPrincipal, 153, "unknown principal"),
+        (Cause::TooManyPrincipals, 154, "too many principals"),
+        (Cause::UnexpectedToken, 201, "unexpected token"),
+        (Cause::TooDeep, 202, "nested too deep"),
+        (Cause::UnknownName, 301, "unknown name"),
+        (Cause::DeclaredTwice, 302, "declared twice"),
+        (Cause::UnknownPrincipalInLabel, 303, "unknown principal"),
+        (Cause::NoProperMain, 304, "no proper main"),
+        (Cause::WrongUse, 403, "wrong use"),
+        (Cause::ExceptionNotDeclared, 503, "exception not declared"),
+        (Cause::FlowNotAllowed, 601, "flow not allowed"),
+        (Cause::TextTooLong, 701, "text too long"),
+        (Cause::TooManyCells, 704, "too many cells"),
+    ];
+    for (cause, number, words) in causes {
+        assert_eq!(rt; cause.number(), number);
+        assert_eq!(rt; format!(in rt.alloc(); "{cause}")?.as_str(), words);
+    }
+    Ok(())
+}

@@ -168,6 +168,7 @@ mod tests {
         };
         let words = ["flowc", "build", "h.txt", "s.flow", "m.flob"];
         assert_eq!(rt; task(alloc, &words)?, build);
+        assert_eq!(rt; build.paths(), ["h.txt", "s.flow"]);
         let run = Task::Run {
             file: text("m.flob")?,
             world: text("w.txt")?,
