@@ -1,8 +1,8 @@
 -- Names of the small programs that the tests build.
-use Rattle.std.proofs.Common.{◌≡◌, ℕ, suc, ◌≤◌, List, [], ◌∷◌, length, map, refl, sym, subst, arith, true}
+use Rattle.std.proofs.Common.{◌≡◌, ℕ, suc, ◌≤◌, List, [], ◌∷◌, length, map, get_or, refl, sym, ap, ◌∙◌, subst, arith, true}
 use Rattle.std.specs.Prelude.{All, Contains, IsUtf8}
 use Rattle.std.proofs.lemmas.Str.{is_utf8-from_IsUtf8}
-use Rattle.std.proofs.lemmas.List.Elements.{All-nil, All-cons}
+use Rattle.std.proofs.lemmas.List.Elements.{All-nil, All-cons, All-from_recursion}
 use Rattle.std.proofs.lemmas.List.Kept.{AllPairs-cons}
 use Rattle.lexer.specs.Words.{is_name_text}
 use Rattle.principals.specs.ActsFor.{PrincipalHierarchy, IsHierarchy, AllDifferent}
@@ -18,10 +18,7 @@ use Rattle.bytecode.specs.Format.{built_in}
 use Rattle.lowering.specs.Names.{IsShortName, IsChannelName, HasNames, channel_names}
 
 built_in_longer : All (λ (name : List ℕ). 3 ≤ length name) built_in
-built_in_longer =
-    All-cons (λ (name : List ℕ). 3 ≤ length name) _ _ (omega arith)
-    (All-cons (λ (name : List ℕ). 3 ≤ length name) _ _ (omega arith)
-    (All-cons (λ (name : List ℕ). 3 ≤ length name) _ _ (omega arith) (All-nil (λ (name : List ℕ). 3 ≤ length name))))
+built_in_longer = All-from_recursion (λ (name : List ℕ). 3 ≤ length name) built_in (omega arith, (omega arith, (omega arith, tt)))
 
 -- a name of one letter is that of no built-in exception
 pub letter_named : (name : List ℕ) → is_name_text name ≡ true → IsUtf8 name → length name ≡ 1 → IsChannelName name
@@ -43,6 +40,14 @@ people_named text h characters said =
 canonical : (label : Label) → label ≡ [] → IsCanonicalLabel label
 canonical label e = subst IsCanonicalLabel (sym e) IsCanonicalLabel-least
 
+pub letters_apart : (a b : List ℕ) → a ≡ 113 ∷ [] → b ≡ 112 ∷ [] → a ≡ b → ⊥
+letters_apart a b first second same =
+    let letters : 113 ≡ 112 = ap (λ (l : List ℕ). get_or l 0 0) (sym first ∙ same ∙ second) in
+    absurd (omega arith)
+
+abbrev Apart : List ℕ → List ℕ → Type 0
+Apart x y = x ≡ y → ⊥
+
 -- two channels with different names and empty labels
 pub two_named : (program : Program) (first second : ChannelEntry) → program.channels ≡ first ∷ second ∷ [] → IsHierarchy program.hierarchy → All IsShortName program.hierarchy.names → IsChannelName first.name → IsChannelName second.name → (first.name ≡ second.name → ⊥) → first.label ≡ [] → second.label ≡ [] → HasNames program
 two_named program first second are kept people a b different c d = record {
@@ -60,6 +65,3 @@ two_named program first second are kept people a b different c d = record {
       (All-cons (λ (entry : ChannelEntry). IsCanonicalLabel entry.label) first (second ∷ []) (canonical first.label c)
       (All-cons (λ (entry : ChannelEntry). IsCanonicalLabel entry.label) second [] (canonical second.label d) (All-nil (λ (entry : ChannelEntry). IsCanonicalLabel entry.label))));
 }
-  where
-    abbrev Apart : List ℕ → List ℕ → Type 0
-    Apart x y = x ≡ y → ⊥

@@ -8,7 +8,7 @@ ghost use Rattle.resolved.specs.declared.tables.Direction.TheVariants as way;
 ghost use Rattle.std.specs.Prelude.{All, IfOk, IsTrue, None, Some, [], ◌∷◌, length, string_bytes, ◌≡◌};
 
 use super::*;
-use bytecode::{Arithmetic, Instruction, Kind, Module, Slot};
+use bytecode::{Arithmetic, Instruction, Kind, Slot};
 use labels::Label;
 use principals::Hierarchy;
 use resolved::expression::{Base, Expression, Operator, Variable};
@@ -18,12 +18,14 @@ use resolved::tables;
 use std::alloc::{AllocError, Global};
 use std::test::Fail;
 
-// Two principals of whom each acts for the other, which is written three times.
-fn people(alloc: Global) -> Result<Hierarchy, Fail>
+// Two principals of whom each acts for the other, one of which is written twice.
+const PEOPLE: &str = "principal A, B; B actsfor A; A actsfor B; B actsfor A;";
+
+// The principals of a text.
+fn people(alloc: Global, text: &str) -> Result<Hierarchy, Fail>
     ensures kept { IfOk result IsHierarchy }
     ensures named { IfOk result (λ hierarchy. All IsShortName hierarchy.names) }
 {
-    let text = "principal A, B; B actsfor A; A actsfor B; B actsfor A;";
     let hierarchy = Hierarchy::read(alloc, text)?;
     let _count = hierarchy.count();
     Ok(hierarchy)
@@ -99,12 +101,13 @@ fn sending(alloc: Global) -> Result<Core, Fail>
     ]?;
     let slots = vec![in alloc; int_slot(alloc, "x")?]?;
     let procedure = procedure_of(alloc, slots, body)?;
-    let hierarchy = people(alloc)?;
+    let hierarchy = people(alloc, PEOPLE)?;
     let input = channel(alloc, tables::Direction::Input, "q")?;
     let output = channel(alloc, tables::Direction::Output, "p")?;
+    let channels = vec![in alloc; input, output]?;
     Ok(Core {
         hierarchy,
-        channels: vec![in alloc; input, output]?,
+        channels,
         exceptions: Vec::new(alloc),
         globals: Vec::new(alloc),
         procedures: vec![in alloc; procedure]?,
@@ -169,12 +172,13 @@ fn adding(alloc: Global) -> Result<Core, Fail>
     ]?;
     let slots = vec![in alloc; int_slot(alloc, "x")?, int_slot(alloc, "y")?]?;
     let procedure = procedure_of(alloc, slots, body)?;
-    let hierarchy = people(alloc)?;
+    let hierarchy = people(alloc, PEOPLE)?;
     let input = channel(alloc, tables::Direction::Input, "q")?;
     let output = channel(alloc, tables::Direction::Output, "p")?;
+    let channels = vec![in alloc; input, output]?;
     Ok(Core {
         hierarchy,
-        channels: vec![in alloc; input, output]?,
+        channels,
         exceptions: Vec::new(alloc),
         globals: Vec::new(alloc),
         procedures: vec![in alloc; procedure]?,
