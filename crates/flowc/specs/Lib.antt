@@ -3,3 +3,4 @@ pub mod Causes
 pub mod Shown
 pub mod Task
 pub mod View
+pub mod Compiled

@@ -63,9 +63,21 @@ pub enum Cause {
     /// 403: a name of another kind than its place wants.
     #[error("wrong use")]
     WrongUse,
+    /// 501: a statement that is never reached.
+    #[error("unreachable")]
+    Unreachable,
+    /// 502: a procedure with a value that can end without one.
+    #[error("no value returned")]
+    NoValueReturned,
     /// 503: an exception can leave a procedure that does not declare it.
     #[error("exception not declared")]
     ExceptionNotDeclared,
+    /// 504: a handler of an exception that never comes.
+    #[error("never raised")]
+    NeverRaised,
+    /// 505: `break` or `continue` outside a loop.
+    #[error("not in a loop")]
+    OutsideLoop,
     /// 601: something would flow to where its readers are not kept to.
     #[error("flow not allowed")]
     FlowNotAllowed,
@@ -98,7 +110,11 @@ impl Cause {
             Cause::UnknownPrincipalInLabel => 303,
             Cause::NoProperMain => 304,
             Cause::WrongUse => 403,
+            Cause::Unreachable => 501,
+            Cause::NoValueReturned => 502,
             Cause::ExceptionNotDeclared => 503,
+            Cause::NeverRaised => 504,
+            Cause::OutsideLoop => 505,
             Cause::FlowNotAllowed => 601,
             Cause::TextTooLong => 701,
             Cause::TooManyCells => 704,
