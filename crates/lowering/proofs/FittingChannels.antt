@@ -1,12 +1,12 @@
 -- The channels of a module, with their labels, fit the format.
-use Rattle.std.proofs.Common.{◌≡◌, ◌≢◌, ℕ, zero, suc, ◌+◌, ◌^◌, ◌<◌, ◌≤◌, Bool, true, false, not, ◌&&◌, ◌||◌, ltb, eqb, List, [], ◌∷◌, ◌++◌, length, map, get_or, refl, sym, ap, ◌∙◌, subst, IsTrue, arith, sum_by}
+use Rattle.std.proofs.Common.{◌≡◌, ◌≢◌, ℕ, ◌+◌, ◌^◌, ◌<◌, ◌≤◌, true, false, not, ◌||◌, ltb, eqb, List, [], ◌∷◌, ◌++◌, length, map, get_or, refl, sym, ap, ◌∙◌, subst, arith, sum_by}
 use Rattle.std.specs.Prelude.{All, Contains}
 use Rattle.std.specs.List.{list_all}
-use Rattle.std.specs.List.Sorted.{IsStrictlySortedBy, IsStrictlyIncreasing}
+use Rattle.std.specs.List.Sorted.{IsStrictlySortedBy}
 use Rattle.std.specs.Ordering.{nat_cmp}
 use Rattle.std.proofs.lemmas.Bool.{and_from, and_parts, not_from_false, false_from_ne_true, ltb-true, eqb-true}
 use Rattle.std.proofs.lemmas.List.{map-append, length-map, get_or-map}
-use Rattle.std.proofs.lemmas.List.Elements.{All-weaker, All-map, Contains-get_or, Contains-append_left, Contains-append_right}
+use Rattle.std.proofs.lemmas.List.Elements.{All-weaker, All-map, Contains-get_or}
 use Rattle.std.proofs.lemmas.List.Sums.{sum_by-cons, get_or-le-sum_by, AllPass-from_list_all}
 use Rattle.std.proofs.lemmas.Map.Keys.{sorted_from_strictly_increasing}
 use Rattle.principals.specs.ActsFor.{PrincipalHierarchy, AllDifferent}
@@ -15,10 +15,10 @@ use Rattle.labels.specs.Canonical.{policy_cmp, IsCanonicalPolicy, IsCanonicalLab
 use Rattle.resolved.specs.Program.{ChannelEntry}
 use Rattle.resolved.specs.WellFormed.{policy_fits, label_fits, label_nodes}
 use Rattle.bytecode.specs.Contents.{ChannelContents}
-use Rattle.bytecode.specs.Form.{Fits, FitEach}
+use Rattle.bytecode.specs.Form.{Fits}
 use Rattle.bytecode.specs.Format.{is_above, is_among, built_in, is_built_in, reader_after, policy_after, label, channel_after, channels, channel_names, exceptions, declared}
 use Rattle.lowering.specs.Interface.{channel_contents}
-use Rattle.lowering.specs.Names.{IsShortName, IsChannelName}
+use Rattle.lowering.specs.Names.{IsChannelName}
 use Rattle.lowering.proofs.Fronts.{FitEach-from_fronts, All-at_seam, not_among_front, above_from_sorted}
 use Rattle.lowering.proofs.FittingNames.{name_fits, number_fits, not_built_in, direction_fits}
 

@@ -1,13 +1,12 @@
 -- The hierarchy and the channels of a module fit the format.
-use Rattle.std.proofs.Common.{◌≡◌, ◌≢◌, ◌⊎◌, ℕ, zero, suc, ◌+◌, ◌*◌, ◌^◌, ◌<◌, ◌≤◌, Bool, true, false, not, cond, ◌&&◌, ◌||◌, ltb, eqb, List, [], ◌∷◌, ◌++◌, length, map, get_or, refl, sym, ap, ◌∙◌, subst, IsTrue, inl, inr, ⊎_elim, arith, length-append}
-use Rattle.std.specs.Prelude.{All, Contains, bytes_eq, sum_by}
+use Rattle.std.proofs.Common.{◌≡◌, ◌⊎◌, ℕ, ◌+◌, ◌*◌, ◌<◌, ◌≤◌, Bool, true, false, cond, ◌||◌, ltb, eqb, List, [], ◌∷◌, length, get_or, refl, subst, inl, inr, arith}
+use Rattle.std.specs.Prelude.{All, Contains, bytes_eq}
 use Rattle.std.specs.Cmp.{IsTotalOrder}
 use Rattle.std.specs.List.Sorted.{IsStrictlySortedBy}
 use Rattle.std.specs.Ordering.{nat_cmp, ordering_then}
 use Rattle.std.specs.declared.cmp.Ordering.TheVariants.{Less, Equal, Greater}
 use Rattle.std.proofs.lemmas.Bool.{and_from, not_from_false, false_from_ne_true, le-leb, lt-ltb, ltb-true, eqb-true}
 use Rattle.std.proofs.lemmas.Cmp.{nat_cmp_total, on_total, then_total}
-use Rattle.std.proofs.lemmas.List.{map-append}
 use Rattle.std.proofs.lemmas.List.Elements.{All-from_recursion, All-head, All-tail, Contains-get_or}
 use Rattle.std.proofs.lemmas.List.Folds.{list_any_none}
 use Rattle.std.proofs.lemmas.Map.Keys.{sorted_head, sorted_tail}
@@ -21,7 +20,7 @@ use Rattle.bytecode.specs.declared.parts.Direction.{Direction}
 use Rattle.bytecode.specs.declared.parts.Direction.TheVariants.{Input, Output}
 use Rattle.bytecode.specs.Form.{Fits}
 use Rattle.bytecode.specs.Format.{is_among, is_above, pair_cmp, name_after, number_below, principals, pair_after, hierarchy, built_in, is_built_in, direction}
-use Rattle.lowering.specs.Names.{IsShortName, longest_name}
+use Rattle.lowering.specs.Names.{IsShortName}
 use Rattle.lowering.specs.StraightCode.{hierarchy_contents}
 use Rattle.lowering.proofs.Fronts.{FitEach-from_fronts, All-at_seam, not_among_front, above_from_sorted}
 

@@ -1,22 +1,19 @@
 -- Who may read what in a module is who may do so in its program.
-use Rattle.std.proofs.Common.{◌≡◌, ℕ, zero, suc, ◌<◌, Bool, ◌||◌, List, [], ◌∷◌, ◌++◌, length, map, filter, get_or, refl, sym, ap, ◌∙◌, subst, IsTrue, arith}
-use Rattle.std.specs.Prelude.{slice_index_or}
+use Rattle.std.proofs.Common.{◌≡◌, ℕ, zero, suc, ◌||◌, List, [], ◌∷◌, length, map, filter, get_or, refl, ap, ◌∙◌, arith}
 use Rattle.std.specs.List.{list_all, list_any}
 use Rattle.std.proofs.lemmas.Bool.Decides.{same_from_decides}
 use Rattle.std.proofs.lemmas.List.{length-map}
-use Rattle.principals.specs.ActsFor.{PrincipalHierarchy, ActsFor, acts_for}
+use Rattle.principals.specs.ActsFor.{acts_for}
 use Rattle.principals.proofs.Closure.{acts_for-decides}
 use Rattle.labels.specs.declared.sent.Pair.{Pair}
 use Rattle.labels.specs.Label.{Label, may_read}
 use Rattle.labels.specs.Sent.{seen}
-use Rattle.resolved.specs.declared.tables.Direction.{Direction}
 use Rattle.resolved.specs.declared.tables.Direction.TheVariants as channel
 use Rattle.resolved.specs.Isolated.{Agree}
 use Rattle.resolved.specs.Labelled.{channel_label}
 use Rattle.resolved.specs.Program.{Program, ChannelEntry, channel_at}
 use Rattle.resolved.specs.State.{World}
 use Rattle.bytecode.specs.Contents.{ChannelContents, ModuleContents}
-use Rattle.bytecode.specs.declared.parts.Direction.TheVariants.{Input}
 use Rattle.lowering.specs.Interface.{SameInterface, direction_of, channel_contents}
 use Rattle.lowering.specs.Observed.{channel_in, label_in, AgreeOn}
 

@@ -1,11 +1,10 @@
 -- The module of a straight-line program has a spelling.
-use Rattle.std.proofs.Common.{◌≡◌, ℕ, zero, suc, ◌+◌, ◌*◌, ◌^◌, ◌<◌, ◌≤◌, Bool, true, false, ◌&&◌, ◌||◌, leb, eqb, List, [], ◌∷◌, ◌++◌, length, map, replicate, Some, None, refl, sym, ap, ◌∙◌, subst, IsTrue, arith, sum_by, lit<}
+use Rattle.std.proofs.Common.{◌≡◌, ℕ, zero, suc, ◌+◌, ◌*◌, ◌^◌, ◌<◌, ◌≤◌, true, ◌||◌, leb, eqb, List, [], ◌∷◌, ◌++◌, length, replicate, refl, sym, ap, ◌∙◌, subst, IsTrue, arith, sum_by}
 use Rattle.std.specs.Prelude.{slice_index_or, is_none}
 use Rattle.std.specs.List.{list_all}
 use Rattle.std.proofs.lemmas.Bool.{and_parts, and_from, le-leb, leb-true, eqb-true}
 use Rattle.std.proofs.lemmas.List.{length-replicate}
 use Rattle.std.proofs.lemmas.List.Sums.{sum_by-cons, sum_by-append}
-use Rattle.principals.specs.ActsFor.{PrincipalHierarchy}
 use Rattle.resolved.specs.Program.{Program, ProcedureEntry, ChannelEntry, procedure_at}
 use Rattle.resolved.specs.StraightLine.{is_labelled_int, is_straight_procedure, is_only_procedure, is_straight_line, is_straight_block}
 use Rattle.resolved.specs.WellFormed.{well_formed, procedure_fits, block_fits, label_fits, label_nodes, block_nodes, procedure_nodes, program_nodes, node_limit}
@@ -14,9 +13,8 @@ use Rattle.bytecode.specs.declared.instruction.Instruction.TheVariants.{Return}
 use Rattle.bytecode.specs.declared.parts.Kind.TheVariants.{Int}
 use Rattle.bytecode.specs.declared.parts.Slot.{Slot}
 use Rattle.bytecode.specs.declared.parts.Slot.TheVariants.{Scalar}
-use Rattle.bytecode.specs.Contents.{ProcedureContents, ModuleContents}
 use Rattle.bytecode.specs.Form.{Fits, FitEach, Code}
-use Rattle.bytecode.specs.Format.{cells_of_size, slot_parts, slot_cells, is_size, is_slot_size, slot_kind, slot_after, slots, returned, parameters, handlers, procedure, procedures, globals, main, program as program_form, contents, module_file}
+use Rattle.bytecode.specs.Format.{cells_of_size, slot_parts, slot_cells, is_size, slot_kind, slot_after, slots, returned, parameters, handlers, procedure, procedures, globals, main, program as program_form, contents, module_file}
 use Rattle.bytecode.specs.Opcodes.{instructions}
 use Rattle.bytecode.proofs.Straight.{spelled-length}
 use Rattle.lowering.specs.Names.{HasNames}
