@@ -9,7 +9,7 @@ use Rattle.resolved.specs.declared.statement.Statement as S
 use Rattle.resolved.specs.TreeOf.{statement_of, block_of}
 use Rattle.resolved.specs.Program.{Program, ProcedureEntry, procedure_at}
 use Rattle.resolved.specs.StraightLine.{is_only_procedure, is_straight_line}
-use Rattle.resolved.specs.WellFormed.{procedure_nodes, program_nodes, node_limit, well_formed}
+use Rattle.resolved.specs.WellFormed.{procedure_nodes, program_nodes, well_formed}
 use Rattle.resolved.proofs.Parts.{program_parts, procedure_at_is}
 use Rattle.lowering.specs.StraightCode.{statement_code, block_code}
 

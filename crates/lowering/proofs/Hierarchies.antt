@@ -1,17 +1,16 @@
 -- The hierarchy of a module: its pairs are made by sorting and dropping what stands twice, and its principals act as before.
-use Rattle.std.proofs.Common.{◌≡◌, ℕ, ◌<◌, Bool, true, List, length, refl, sym, ap, ◌∙◌, subst, arith, IfOk, Result, Ok, Err, ◌&&◌}
-use Rattle.std.specs.Prelude.{All, Contains, ◌==◌, ◌↔◌}
+use Rattle.std.proofs.Common.{◌≡◌, ℕ, ◌<◌, Bool, true, List, refl, sym, ap, ◌∙◌, IfOk, Result, Ok, Err, ◌&&◌}
+use Rattle.std.specs.Prelude.{◌==◌}
 use Rattle.std.specs.List.{dedup}
 use Rattle.std.specs.List.Sorted.{IsPermutation, IsSorted}
-use Rattle.std.specs.Cmp.{IsTotalOrder, Equal-is, unsigned_tied}
+use Rattle.std.specs.Cmp.{Equal-is, unsigned_tied}
 use Rattle.std.specs.Ordering.{nat_cmp, ordering_then, eq_by_cmp, is_eq}
 use Rattle.std.specs.declared.alloc.AllocError.{AllocError}
 use Rattle.std.specs.declared.cmp.Ordering.{Ordering}
 use Rattle.std.specs.declared.cmp.Ordering.TheVariants.{Less, Equal, Greater}
 use Rattle.std.proofs.Math.Path.{fun_ext}
-use Rattle.std.proofs.lemmas.Cmp.{nat_cmp_total, on_total, then_total, eq_by_cmp_equiv}
-use Rattle.std.proofs.lemmas.Map.Lookups.{CmpEqualImpliesEq, exact_unsigned}
-use Rattle.principals.specs.ActsFor.{PrincipalHierarchy, ActsFor, AllBelow}
+use Rattle.std.proofs.lemmas.Cmp.{eq_by_cmp_equiv}
+use Rattle.principals.specs.ActsFor.{PrincipalHierarchy, AllBelow}
 use Rattle.principals.proofs.Closure.{ActsFor-monotone}
 use Rattle.labels.specs.Sets.{SameSet, ascending_set}
 use Rattle.labels.proofs.Ascending.{ascending_set-SameSet}

@@ -1,6 +1,6 @@
 -- Where a piece of code stands in a longer one.
-use Rattle.std.proofs.Common.{◌≡◌, ℕ, ◌+◌, List, [], ◌∷◌, ◌++◌, Option, Some, refl, sym, ap, ◌∙◌, arith, append_assoc}
-use Rattle.bytecode.specs.Code.{width_of, code_length, instruction_at}
+use Rattle.std.proofs.Common.{◌≡◌, ℕ, ◌+◌, List, ◌∷◌, ◌++◌, Some, sym, ap, ◌∙◌, arith, append_assoc}
+use Rattle.bytecode.specs.Code.{code_length, instruction_at}
 use Rattle.bytecode.specs.declared.instruction.Instruction.{Instruction}
 use Rattle.verifier.proofs.Offsets.{instruction_at-append, code_length-append}
 

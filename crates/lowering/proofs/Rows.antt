@@ -1,12 +1,12 @@
 -- Single steps of a machine that runs straight-line code.
-use Rattle.std.proofs.Common.{◌≡◌, ℕ, ◌+◌, ◌≤◌, Bool, true, ℤ, ◌+ℤ◌, List, [], ◌∷◌, ◌++◌, length, Option, Some, None, refl, sym, ap, ◌∙◌, slice_get}
+use Rattle.std.proofs.Common.{◌≡◌, ℕ, ◌+◌, ◌≤◌, true, ℤ, ◌+ℤ◌, List, [], ◌∷◌, ◌++◌, length, Some, None, ap, ◌∙◌, slice_get}
 use Rattle.std.specs.Int.{w32, int_wrap}
 use Rattle.labels.specs.declared.sent.Pair.{Pair}
 use Rattle.resolved.specs.Program as resolved
 use Rattle.resolved.specs.WellFormed.{channel_is}
 use Rattle.resolved.specs.declared.tables.Direction.TheVariants as channel
-use Rattle.bytecode.specs.Code.{width_of, code_length, instruction_at}
-use Rattle.bytecode.specs.Machine.{Operand, Number, State, Machine, Running, Ended, Finished, Threw, Header, Program, act, acts, step, place_after, slots_of, scalar_cell, changed, end_of_input, loads, stores, receives, takes, sends, handled, unwound, returns_nothing, leaves_without}
+use Rattle.bytecode.specs.Code.{width_of, instruction_at}
+use Rattle.bytecode.specs.Machine.{Operand, Number, Machine, Running, Ended, Finished, Threw, Header, Program, act, acts, step, place_after, slots_of, changed, end_of_input, loads, stores, receives, takes, sends, handled, unwound, returns_nothing, leaves_without}
 use Rattle.bytecode.specs.declared.instruction.Arithmetic.TheVariants.{Add}
 use Rattle.bytecode.specs.declared.instruction.Instruction.{Instruction}
 use Rattle.bytecode.specs.declared.instruction.Instruction.TheVariants.{Push, Load, Store, Compute, Return, Receive, Send}

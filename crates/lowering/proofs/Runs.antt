@@ -1,5 +1,5 @@
 -- The module of a straight-line program keeps its meaning.
-use Rattle.std.proofs.Common.{◌≡◌, ℕ, zero, suc, ◌+◌, ◌<◌, ◌≤◌, Bool, true, false, ℤ, pos, List, [], ◌∷◌, ◌++◌, length, Option, Some, None, refl, sym, ap, ◌∙◌, subst, slice_get, get_or, arith, map, replicate, IsTrue, ◌&&◌, not, ◌==◌}
+use Rattle.std.proofs.Common.{◌≡◌, ℕ, zero, suc, ◌+◌, ◌<◌, ◌≤◌, true, false, ℤ, pos, List, [], ◌∷◌, ◌++◌, length, Option, Some, None, refl, sym, ap, ◌∙◌, subst, slice_get, get_or, arith, map, replicate, ◌&&◌, not, ◌==◌}
 use Rattle.std.specs.Prelude.{is_none}
 use Rattle.std.specs.List.{list_all}
 use Rattle.std.proofs.lemmas.Bool.{and_parts, eqb-true}
@@ -9,11 +9,9 @@ use Rattle.labels.specs.declared.sent.Pair.{Pair}
 use Rattle.labels.specs.Sent.{Begins}
 use Rattle.resolved.specs.declared.expression.Base.TheVariants as base
 use Rattle.resolved.specs.declared.expression.Value.{Value}
-use Rattle.resolved.specs.declared.expression.Value.TheVariants as value
 use Rattle.resolved.specs.declared.statement.Exit.TheVariants as exit
 use Rattle.resolved.specs.declared.tables.Direction.{Direction as ChannelDirection}
 use Rattle.resolved.specs.declared.tables.Direction.TheVariants as channel
-use Rattle.resolved.specs.Tree as tree
 use Rattle.resolved.specs.Program.{Program, ProcedureEntry, SlotEntry, ChannelEntry, procedure_at}
 use Rattle.resolved.specs.Value.{zero_value}
 use Rattle.resolved.specs.State as source
@@ -23,7 +21,6 @@ use Rattle.resolved.specs.WellFormed.{channel_is, same_direction, same_base, blo
 use Rattle.resolved.proofs.Parts.{procedure_there, procedure_at_is, passes_at}
 use Rattle.bytecode.specs.Code.{code_length}
 use Rattle.bytecode.specs.Machine as machine
-use Rattle.bytecode.specs.declared.instruction.Instruction.{Instruction}
 use Rattle.bytecode.specs.declared.instruction.Instruction.TheVariants.{Return}
 use Rattle.bytecode.specs.declared.parts.Kind.TheVariants.{Int}
 use Rattle.bytecode.specs.declared.parts.Slot.{Slot}
@@ -40,7 +37,7 @@ use Rattle.lowering.proofs.Steps.{Leads, leads-through, sent-before, ends-once}
 use Rattle.lowering.proofs.Places.{Stands, stands-front, stands-back}
 use Rattle.lowering.proofs.Rows.{Serves, returns}
 use Rattle.lowering.proofs.Values.{Holds, Matches}
-use Rattle.lowering.proofs.Statements.{Falls, Does, int-base, block-does}
+use Rattle.lowering.proofs.Statements.{Does, int-base, block-does}
 
 -- ---- the one procedure
 

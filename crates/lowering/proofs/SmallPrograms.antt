@@ -1,6 +1,6 @@
 -- Names of the small programs that the tests build.
-use Rattle.std.proofs.Common.{◌≡◌, ℕ, suc, ◌≤◌, List, [], ◌∷◌, length, map, get_or, refl, sym, ap, ◌∙◌, subst, arith, true}
-use Rattle.std.specs.Prelude.{All, Contains, IsUtf8}
+use Rattle.std.proofs.Common.{◌≡◌, ℕ, ◌≤◌, List, [], ◌∷◌, length, map, get_or, sym, ap, ◌∙◌, subst, arith, true}
+use Rattle.std.specs.Prelude.{All, IsUtf8}
 use Rattle.std.proofs.lemmas.Str.{is_utf8-from_IsUtf8}
 use Rattle.std.proofs.lemmas.List.Elements.{All-nil, All-cons, All-from_recursion}
 use Rattle.std.proofs.lemmas.List.Kept.{AllPairs-cons}
@@ -15,7 +15,7 @@ use Rattle.labels.proofs.Elements.{All-from_each, each_from_All}
 use Rattle.labels.proofs.Written.{IsCanonicalLabel-least}
 use Rattle.resolved.specs.Program.{Program, ChannelEntry}
 use Rattle.bytecode.specs.Format.{built_in}
-use Rattle.lowering.specs.Names.{IsShortName, IsChannelName, HasNames, channel_names}
+use Rattle.lowering.specs.Names.{IsShortName, IsChannelName, HasNames}
 
 built_in_longer : All (λ (name : List ℕ). 3 ≤ length name) built_in
 built_in_longer = All-from_recursion (λ (name : List ℕ). 3 ≤ length name) built_in (omega arith, (omega arith, (omega arith, tt)))

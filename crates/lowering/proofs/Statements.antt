@@ -1,5 +1,5 @@
 -- Code of statements does what they do.
-use Rattle.std.proofs.Common.{◌≡◌, ℕ, zero, suc, ◌+◌, ◌<◌, ◌≤◌, Bool, true, false, cond, eqb, ℤ, List, [], ◌∷◌, ◌++◌, length, Option, Some, None, refl, sym, ap, ◌∙◌, subst, slice_get, arith, ◌&&◌, not}
+use Rattle.std.proofs.Common.{◌≡◌, ℕ, ◌+◌, ◌<◌, ◌≤◌, Bool, true, false, cond, eqb, ℤ, List, [], ◌∷◌, ◌++◌, length, Option, Some, None, refl, sym, subst, slice_get, arith, ◌&&◌, not}
 use Rattle.std.specs.Prelude.{is_none}
 use Rattle.std.specs.List.{list_all}
 use Rattle.std.proofs.Math.Nat.{add-zero}
@@ -16,14 +16,13 @@ use Rattle.resolved.specs.declared.statement.Exit.TheVariants as exit
 use Rattle.resolved.specs.declared.tables.Direction.TheVariants as channel
 use Rattle.resolved.specs.Tree as tree
 use Rattle.resolved.specs.Program as resolved
-use Rattle.resolved.specs.Value.{Evaluated, Gives, end_exception}
 use Rattle.resolved.specs.State as source
 use Rattle.resolved.specs.Meaning as meaning
 use Rattle.resolved.specs.StraightLine.{is_sum, is_local_target, is_straight_statement, is_straight_block, is_labelled_int}
 use Rattle.resolved.specs.WellFormed.{slot_type, scalar_by, has_base, channel_is, same_base, target_by, statement_fits, block_fits}
 use Rattle.resolved.proofs.Parts.{passes_at}
 use Rattle.bytecode.specs.Code.{code_length}
-use Rattle.bytecode.specs.Machine.{Operand, Number, Machine, Running, Ended, Threw, Program, changed}
+use Rattle.bytecode.specs.Machine.{Machine, Running, Ended, Threw, Program, changed}
 use Rattle.bytecode.specs.declared.instruction.Instruction.{Instruction}
 use Rattle.bytecode.specs.declared.instruction.Instruction.TheVariants.{Store, Receive, Send}
 use Rattle.verifier.proofs.Straight.{state_at}

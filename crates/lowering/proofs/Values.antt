@@ -1,5 +1,5 @@
 -- Code of an expression pushes its value.
-use Rattle.std.proofs.Common.{◌≡◌, ℕ, ◌+◌, ◌<◌, ◌≤◌, Bool, true, false, ℤ, ◌+ℤ◌, List, [], ◌∷◌, ◌++◌, length, Option, Some, None, refl, sym, ap, ◌∙◌, subst, slice_get, arith, IsTrue, ◌&&◌}
+use Rattle.std.proofs.Common.{◌≡◌, ℕ, ◌+◌, ◌<◌, Bool, true, false, ℤ, ◌+ℤ◌, List, [], ◌∷◌, ◌++◌, length, Option, Some, None, refl, ap, ◌∙◌, subst, slice_get, arith}
 use Rattle.std.specs.Int.{w32, int_wrap}
 use Rattle.std.proofs.lemmas.Bool.{and_parts}
 use Rattle.std.proofs.lemmas.Option.{slice_get_within}
@@ -12,15 +12,15 @@ use Rattle.resolved.specs.declared.expression.Value.TheVariants as value
 use Rattle.resolved.specs.declared.tables.Direction.TheVariants as channel
 use Rattle.resolved.specs.Tree as tree
 use Rattle.resolved.specs.Program as resolved
-use Rattle.resolved.specs.Value.{Evaluated, Gives, literal_number, then_with, operator_value}
+use Rattle.resolved.specs.Value.{Gives, literal_number, then_with, operator_value}
 use Rattle.resolved.specs.State as source
 use Rattle.resolved.specs.StraightLine.{is_sum}
-use Rattle.resolved.specs.WellFormed.{VariableType, slot_type, scalar_by, has_base, channel_is, same_base}
+use Rattle.resolved.specs.WellFormed.{slot_type, scalar_by, has_base, channel_is, same_base}
 use Rattle.bytecode.specs.Code.{code_length}
-use Rattle.bytecode.specs.Machine.{Operand, Number, Machine, Running, Program}
+use Rattle.bytecode.specs.Machine.{Operand, Number, Running, Program}
 use Rattle.bytecode.specs.declared.instruction.Arithmetic.TheVariants.{Add}
 use Rattle.bytecode.specs.declared.instruction.Instruction.{Instruction}
-use Rattle.bytecode.specs.declared.instruction.Instruction.TheVariants.{Push, Load, Compute}
+use Rattle.bytecode.specs.declared.instruction.Instruction.TheVariants.{Load, Compute}
 use Rattle.verifier.proofs.Straight.{state_at}
 use Rattle.lowering.specs.StraightCode.{sum_code}
 use Rattle.lowering.proofs.Steps.{Leads, leads-through}

@@ -65,11 +65,7 @@ fn push_statement(
 }
 
 /// The code of a body, with a return behind it.
-fn body_code(
-    alloc: Global,
-    spare: u32,
-    body: &[Statement],
-) -> Result<Vec<Instruction>, AllocError>
+fn body_code(alloc: Global, spare: u32, body: &[Statement]) -> Result<Vec<Instruction>, AllocError>
     ensures { IfOk result (λ code. code.items ≡ block_code spare (block_of body.now) ++ Return ∷ []) }
 {
     let mut code = Vec::new(alloc);

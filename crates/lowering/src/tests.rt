@@ -32,11 +32,7 @@ fn people(alloc: Global, text: &str) -> Result<Hierarchy, Fail>
 }
 
 // A channel with a name of one letter, which carries what everyone may read.
-fn channel(
-    alloc: Global,
-    direction: tables::Direction,
-    name: &str,
-) -> Result<tables::Channel, Fail>
+fn channel(alloc: Global, direction: tables::Direction, name: &str) -> Result<tables::Channel, Fail>
     requires { length name.now ≡ 1 }
     ensures parts { IfOk result (λ made. (made.direction ≡ direction) × (string_bytes made.name ≡ name.now) × (made.label ≡ [])) }
     ensures named { IfOk result (λ made. IsChannelName (string_bytes made.name)) }
@@ -170,7 +166,11 @@ fn adding(alloc: Global) -> Result<Core, Fail>
     let body = vec![in alloc;
         Statement::Receive(5, 0, Some(Variable::Local(0))),
         Statement::Receive(9, 0, None),
-        Statement::Assign(12, Variable::Local(1), Expression::Binary(Operator::Add, first, inner)),
+        Statement::Assign(
+            12,
+            Variable::Local(1),
+            Expression::Binary(Operator::Add, first, inner)
+        ),
         Statement::Send(15, 1, Expression::Binary(Operator::Add, third, fourth)),
     ]?;
     let slots = vec![in alloc; int_slot(alloc, "x")?, int_slot(alloc, "y")?]?;

@@ -34,7 +34,5 @@ pub fn emit(alloc: Global, core: &Core) -> Result<Module, AllocError>
     let procedures = vec![in alloc; procedure]?;
     let exceptions = Vec::new(alloc);
     let globals = Vec::new(alloc);
-    Ok(Module::new(
-        hierarchy, exceptions, channels, globals, procedures, 0,
-    ))
+    Ok(Module::new(hierarchy, exceptions, channels, globals, procedures, 0))
 }

@@ -1,4 +1,4 @@
-use Rattle.std.proofs.Common.{rules, map, ◌≡◌, ℕ, ◌<◌, ◌≤◌, length, sym, ap, ◌∙◌, subst, arith}
+use Rattle.std.proofs.Common.{rules, map, ◌≡◌, length, sym, ap, subst, arith}
 use Rattle.std.proofs.lemmas.List.{length-map}
 use Rattle.std.specs.String.{string_bytes}
 use Rattle.bytecode.specs.Contents.{ModuleContents}
