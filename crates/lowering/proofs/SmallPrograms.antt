@@ -42,7 +42,7 @@ canonical label e = subst IsCanonicalLabel (sym e) IsCanonicalLabel-least
 
 pub letters_apart : (a b : List ℕ) → a ≡ 113 ∷ [] → b ≡ 112 ∷ [] → a ≡ b → ⊥
 letters_apart a b first second same =
-    let letters : 113 ≡ 112 = ap (λ (l : List ℕ). get_or l 0 0) (sym first ∙ same ∙ second) in
+    let letters : ◌≡◌ {A = ℕ} 113 112 = ap (λ (l : List ℕ). get_or l 0 0) (sym first ∙ same ∙ second) in
     absurd (omega arith)
 
 abbrev Apart : List ℕ → List ℕ → Type 0

@@ -105,12 +105,15 @@ fn sending(alloc: Global) -> Result<Core, Fail>
     let input = channel(alloc, tables::Direction::Input, "q")?;
     let output = channel(alloc, tables::Direction::Output, "p")?;
     let channels = vec![in alloc; input, output]?;
+    let exceptions = Vec::new(alloc);
+    let globals = Vec::new(alloc);
+    let procedures = vec![in alloc; procedure]?;
     Ok(Core {
         hierarchy,
         channels,
-        exceptions: Vec::new(alloc),
-        globals: Vec::new(alloc),
-        procedures: vec![in alloc; procedure]?,
+        exceptions,
+        globals,
+        procedures,
         main: 0,
     })
 }
@@ -176,12 +179,15 @@ fn adding(alloc: Global) -> Result<Core, Fail>
     let input = channel(alloc, tables::Direction::Input, "q")?;
     let output = channel(alloc, tables::Direction::Output, "p")?;
     let channels = vec![in alloc; input, output]?;
+    let exceptions = Vec::new(alloc);
+    let globals = Vec::new(alloc);
+    let procedures = vec![in alloc; procedure]?;
     Ok(Core {
         hierarchy,
         channels,
-        exceptions: Vec::new(alloc),
-        globals: Vec::new(alloc),
-        procedures: vec![in alloc; procedure]?,
+        exceptions,
+        globals,
+        procedures,
         main: 0,
     })
 }
