@@ -1,5 +1,5 @@
 -- What the module file wants of names, from what is known of a program that a text stands for.
-use Rattle.std.proofs.Common.{◌≡◌, ◌≢◌, ℕ, suc, ◌+◌, ◌-◌, ◌<◌, ◌≤◌, List, [], ◌∷◌, ◌++◌, length, map, get_or, sym, ap, ◌∙◌, subst, IsTrue, refl, arith, length-append}
+use Rattle.std.proofs.Common.{◌≡◌, ℕ, suc, ◌+◌, ◌-◌, ◌<◌, ◌≤◌, List, [], ◌∷◌, ◌++◌, length, get_or, sym, ap, ◌∙◌, IsTrue, refl, arith, length-append}
 use Rattle.std.specs.Prelude.{All, Contains}
 use Rattle.std.specs.Str.{is_utf8}
 use Rattle.std.proofs.lemmas.List.{get_or_append_left, get_or-append_right, get_or_default}
@@ -11,7 +11,7 @@ use Rattle.principals.specs.Laws.{IsNameWithin}
 use Rattle.labels.specs.Canonical.{IsCanonicalLabel}
 use Rattle.resolved.specs.Program.{Program, ChannelEntry}
 use Rattle.bytecode.specs.Format.{built_in}
-use Rattle.lowering.specs.Names.{longest_name, IsShortName, IsChannelName, channel_names, HasNames}
+use Rattle.lowering.specs.Names.{longest_name, IsShortName, channel_names, HasNames}
 
 -- ---- names that are all different
 
