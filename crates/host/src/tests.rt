@@ -161,7 +161,7 @@ fn list_events(alloc: Global) -> Option<Vec<Event>> {
         Event::View(0, BOB),
         Event::View(0, 9),
         Event::Close(0),
-        Event::Close(0)
+        Event::Close(0),
     ];
     events.ok()
 }
