@@ -1,6 +1,6 @@
 -- A body that reads as written statements fits its program.
-use Rattle.std.proofs.Common.{◌≡◌, refl, sym, ◌∙◌, subst, ap, ℕ, ◌≤◌, List, [], ◌∷◌, ◌++◌, length, Bool, true, false}
-use Rattle.std.specs.Prelude.{Some, None, All, slice_get, is_none, not, ◌==◌, ◌&&◌}
+use Rattle.std.proofs.Common.{◌≡◌, refl, sym, ◌∙◌, subst, ap, ℕ, List, [], ◌∷◌, ◌++◌, Bool, true}
+use Rattle.std.specs.Prelude.{All, slice_get, is_none, not, ◌&&◌}
 use Rattle.std.specs.List.{list_all}
 use Rattle.std.proofs.lemmas.Bool.{le-leb}
 use Rattle.std.proofs.lemmas.List.Elements.{All-head, All-tail}
@@ -12,10 +12,10 @@ use Rattle.resolved.specs.declared.expression.Base.TheVariants.{Int}
 use Rattle.resolved.specs.declared.expression.Variable.TheVariants.{Local}
 use Rattle.resolved.specs.declared.tables.Direction.{Direction}
 use Rattle.resolved.specs.declared.tables.Direction.TheVariants.{Input, Output}
-use Rattle.resolved.specs.Program.{Program, ProcedureEntry, SlotEntry}
+use Rattle.resolved.specs.Program.{Program, ProcedureEntry}
 use Rattle.resolved.specs.StraightLine.{is_labelled_int}
-use Rattle.resolved.specs.WellFormed.{same_base, slot_type, variable_type, scalar_by, has_base, same_direction, channel_is, target_by, literal_limit, statement_fits, block_fits, statement_loops, block_loops}
-use Rattle.resolved.proofs.Sound.Values.{both, same_base_is, same_base_itself}
+use Rattle.resolved.specs.WellFormed.{same_base, slot_type, variable_type, scalar_by, has_base, same_direction, channel_is, literal_limit, statement_fits, block_fits, statement_loops, block_loops}
+use Rattle.resolved.proofs.Sound.Values.{both, same_base_is}
 use Rattle.resolved.proofs.Parts.{both_back, passes_at}
 use Rattle.types.specs.Scope.{Declaration, look_up, Place, behind}
 use Rattle.types.specs.Resolution.{slot_number, channel_number, expression_of, assignment_of, statement_of, statements_of, block_from}

@@ -1,6 +1,6 @@
 -- What a program resolves to has fewer nodes than the program.
-use Rattle.std.proofs.Common.{◌≡◌, refl, sym, ◌∙◌, ap, ℕ, ◌+◌, ◌<◌, ◌≤◌, List, [], ◌∷◌, ◌++◌, length, arith}
-use Rattle.std.specs.Prelude.{flat_map, map, sum_by}
+use Rattle.std.proofs.Common.{ℕ, ◌+◌, ◌<◌, ◌≤◌, List, [], ◌∷◌, length, arith}
+use Rattle.std.specs.Prelude.{flat_map, sum_by}
 use Rattle.std.proofs.lemmas.List.Sums.{sum_by-cons}
 use Rattle.principals.specs.ActsFor.{PrincipalHierarchy}
 use Rattle.syntax.specs.declared.tree.BinaryOperator.TheVariants.{Add}
@@ -9,7 +9,7 @@ use Rattle.syntax.specs.Nodes as written
 use Rattle.resolved.specs.Program.{ChannelEntry}
 use Rattle.resolved.specs.WellFormed.{expression_nodes, statement_nodes, block_nodes, label_nodes, procedure_nodes, program_nodes}
 use Rattle.types.specs.Scope.{Declaration, look_up, top_scope, Place, body_begin, behind}
-use Rattle.types.specs.Resolution.{slot_number, expression_of, assignment_of, statement_of, statements_of, block_from, slots_by, slots_of, thrown_of, channel_of, channels_by, procedure_of, procedures_by, resolved_of}
+use Rattle.types.specs.Resolution.{slot_number, expression_of, assignment_of, statements_of, block_from, slots_of, thrown_of, channel_of, channels_by, procedure_of, procedures_by, resolved_of}
 use Rattle.types.proofs.LabelsFit.{label_shorter, map-length}
 
 expression_shorter : (scope : List Declaration) (e : ExpressionTree) → expression_nodes (expression_of scope e) ≤ written.expression_nodes e

@@ -1,7 +1,7 @@
 -- The labels that written ones without a fault stand for: they are of principals that are there, canonical, and no longer than the
 -- written ones.
-use Rattle.std.proofs.Common.{◌≡◌, refl, sym, ◌∙◌, subst, ap, ℕ, suc, ◌+◌, ◌≤◌, List, [], ◌∷◌, ◌++◌, length, Bool, true, false, arith}
-use Rattle.std.specs.Prelude.{Option, Some, None, All, cond, flat_map, map, filter, sum_by, nat_lt, not, bytes_eq, ◌==◌, ◌&&◌}
+use Rattle.std.proofs.Common.{◌≡◌, refl, ◌∙◌, ap, ℕ, suc, ◌+◌, ◌≤◌, List, [], ◌∷◌, ◌++◌, length, Bool, true, false, arith}
+use Rattle.std.specs.Prelude.{Option, Some, None, All, cond, flat_map, map, filter, sum_by, nat_lt, not, bytes_eq, ◌==◌}
 use Rattle.std.specs.List.{list_all}
 use Rattle.std.specs.declared.cmp.Ordering.{Ordering}
 use Rattle.std.specs.declared.cmp.Ordering.TheVariants.{Less, Equal, Greater}
@@ -14,7 +14,7 @@ use Rattle.std.proofs.lemmas.List.Sums.{sum_by-cons}
 use Rattle.principals.specs.ActsFor.{PrincipalHierarchy, number_of}
 use Rattle.labels.specs.Label.{ReaderPolicy, Label}
 use Rattle.labels.specs.Sets.{by_order, with_element, ascending_set}
-use Rattle.labels.specs.Canonical.{IsCanonicalPolicy, IsCanonicalLabel, policy_cmp, readers_beside, written_policy, joined}
+use Rattle.labels.specs.Canonical.{IsCanonicalPolicy, IsCanonicalLabel, policy_cmp, readers_beside, joined}
 use Rattle.labels.proofs.Written.{IsCanonicalPolicy-written, IsCanonicalLabel-written}
 use Rattle.syntax.specs.Tree.{NameTree, PolicyTree, LabelTree}
 use Rattle.syntax.specs.Nodes.{policy_nodes, label_nodes as written_nodes}

@@ -1,12 +1,12 @@
 -- What a program without a fault resolves to reads as the program, and its names are all different.
-use Rattle.std.proofs.Common.{◌≡◌, refl, sym, ◌∙◌, subst, ap, ℕ, List, [], ◌∷◌, ◌++◌, length, Bool, true, false, arith}
-use Rattle.std.specs.Prelude.{◌≢◌, Option, Some, None, slice_get, bytes_eq, codes, flat_map, map, All, AllPairs}
+use Rattle.std.proofs.Common.{◌≡◌, refl, sym, subst, ap, ℕ, List, [], ◌∷◌, ◌++◌, length, Bool, true, false, arith}
+use Rattle.std.specs.Prelude.{◌≢◌, Some, None, slice_get, bytes_eq, codes, flat_map, map, All}
 use Rattle.std.specs.List.{AllZip}
 use Rattle.std.proofs.lemmas.List.Elements.{All-nil, All-cons, All-weaker}
 use Rattle.std.proofs.lemmas.List.Kept.{AllPairs-cons}
 use Rattle.principals.specs.ActsFor.{PrincipalHierarchy, AllDifferent}
 use Rattle.syntax.specs.declared.tree.BinaryOperator.TheVariants.{Add}
-use Rattle.syntax.specs.Tree.{NameTree, LabelTree, ExpressionTree, IntegerTree, VariableTree, BinaryTree, RightTree, ReceivedTree, ValueTree, StatementTree, DeclareTree, AssignTree, ReceiveTree, SendTree, ThrownTree, ProcedureTree, ItemTree, ChannelItem, ProcedureItem, ProgramTree}
+use Rattle.syntax.specs.Tree.{NameTree, ExpressionTree, IntegerTree, VariableTree, BinaryTree, RightTree, ReceivedTree, ValueTree, StatementTree, DeclareTree, AssignTree, ReceiveTree, SendTree, ThrownTree, ProcedureTree, ItemTree, ChannelItem, ProcedureItem, ProgramTree}
 use Rattle.syntax.specs.Written.{procedures_of}
 use Rattle.resolved.specs.declared.expression.Base.TheVariants.{Int}
 use Rattle.resolved.specs.declared.tables.Direction.TheVariants as ways
@@ -14,8 +14,8 @@ use Rattle.resolved.specs.Program.{ChannelEntry, SlotEntry}
 use Rattle.types.specs.declared.scope.Meaning.TheVariants as meanings
 use Rattle.types.specs.Scope.{Declaration, look_up, TopLevel, built_in, channel_meaning, with_item, top_scope, Place, body_begin, behind}
 use Rattle.types.specs.FirstFault.{first_fault, label_faults, is_local, is_input, is_output, use_faults, fresh_faults, expression_faults, right_faults, statement_faults, body_faults, named_faults, exception_number, throws_faults, item_faults, names_faults}
-use Rattle.types.specs.Resolution.{label_of, slot_number, channel_number, procedure_number, expression_of, assignment_of, statement_of, statements_of, block_from, slots_by, slots_of, thrown_of, channel_of, channels_by, procedure_of, procedures_by, resolved_of}
-use Rattle.types.specs.Reading.{exception_names, HasSlot, HasChannel, ReadsExpression, ReadsAssignment, ReadsStatement, ReadsBlock, ReadsThrown, ReadsProcedure, HasProcedure}
+use Rattle.types.specs.Resolution.{label_of, slot_number, channel_number, procedure_number, expression_of, assignment_of, statements_of, block_from, slots_of, thrown_of, channels_by, procedure_of, procedures_by, resolved_of}
+use Rattle.types.specs.Reading.{exception_names, HasSlot, HasChannel, ReadsExpression, ReadsAssignment, ReadsBlock, ReadsThrown, ReadsProcedure, HasProcedure}
 use Rattle.types.specs.Laws.{NumbersReadAsNames, NamesDiffer}
 use Rattle.types.proofs.NoFault.{both_empty, found_local, found_input, found_output, found_exception, found_main, is_fresh, has_no_fault}
 use Rattle.types.proofs.Means.{AllMean, at_place, moved, one_longer, other_bytes, look_up_means, tables_of, top_means}

@@ -1,6 +1,6 @@
 -- What the names of a scope stand for, in the tables that a program resolves to.
-use Rattle.std.proofs.Common.{◌≡◌, refl, sym, ◌∙◌, subst, ap, ℕ, zero, suc, ◌+◌, List, [], ◌∷◌, ◌++◌, length, Bool, true, false, arith, append_assoc, length-append, add-one}
-use Rattle.std.specs.Prelude.{Option, Some, None, slice_get, bytes_eq, codes, flat_map, ◌≢◌}
+use Rattle.std.proofs.Common.{◌≡◌, refl, sym, ◌∙◌, subst, ℕ, ◌+◌, List, [], ◌∷◌, ◌++◌, length, Bool, true, false, arith, append_assoc, length-append}
+use Rattle.std.specs.Prelude.{Some, slice_get, bytes_eq, codes, flat_map, ◌≢◌}
 use Rattle.std.proofs.lemmas.Slice.Eq.{bytes_eq-Decides}
 use Rattle.principals.specs.ActsFor.{PrincipalHierarchy}
 use Rattle.syntax.specs.declared.tree.Direction.{Direction}

@@ -1,10 +1,9 @@
 -- Where places of a tree pass a test, so do those of its faults and of what it resolves to.
-use Rattle.std.proofs.Common.{◌≡◌, refl, subst, ℕ, List, [], ◌∷◌, ◌++◌, Bool, true, false}
+use Rattle.std.proofs.Common.{◌≡◌, subst, ℕ, List, [], ◌∷◌, ◌++◌, Bool, true, false}
 use Rattle.std.specs.Prelude.{Option, Some, None, All, IsTrue, is_none, is_some, flat_map, codes, nat_le, not, ◌==◌}
 use Rattle.std.specs.List.{list_any}
 use Rattle.std.proofs.lemmas.List.Elements.{All-nil, All-cons, All-head, All-tail}
 use Rattle.principals.specs.ActsFor.{PrincipalHierarchy, number_of}
-use Rattle.syntax.specs.declared.tree.BinaryOperator.TheVariants.{Add}
 use Rattle.syntax.specs.Tree.{NameTree, PolicyTree, LabelTree, ExpressionTree, IntegerTree, VariableTree, BinaryTree, RightTree, ReceivedTree, ValueTree, StatementTree, DeclareTree, AssignTree, ReceiveTree, SendTree, ThrownTree, ItemTree, ChannelItem, ProcedureItem, ProgramTree}
 use Rattle.syntax.specs.Written.{IsWrittenName, IsWrittenPolicy, IsWrittenLabel, IsWrittenExpression, IsWrittenRight, IsWrittenStatement, IsWrittenThrown, IsWrittenItem, IsWritten}
 use Rattle.resolved.specs.Tree.{place_of}
@@ -16,7 +15,7 @@ use Rattle.types.specs.declared.scope.Meaning.{Meaning}
 use Rattle.types.specs.declared.scope.Meaning.TheVariants as meanings
 use Rattle.types.specs.Scope.{Declaration, look_up, TopLevel, built_in, item_name, with_item, top_scope, Place, body_begin, behind, behind_all}
 use Rattle.types.specs.FirstFault.{Fault, fault_if, first, principal_faults, policy_faults, label_faults, is_local, is_input, is_output, found_faults, use_faults, fresh_faults, expression_faults, right_faults, statement_faults, body_faults, named_faults, exception_number, throws_faults, item_faults, names_faults, main_faults, cells_faults, faults, first_fault}
-use Rattle.types.specs.Resolution.{slot_number, assignment_of, statement_of, statements_of, block_from, procedure_of, procedures_by, resolved_of}
+use Rattle.types.specs.Resolution.{slot_number, assignment_of, statement_of, statements_of, block_from, procedure_of, procedures_by}
 use Rattle.types.specs.Laws.{PlacesPass, PlacesStay}
 
 -- ---- faults

@@ -1,13 +1,13 @@
 -- A written program of few nodes without a fault resolves to a well-formed program.
-use Rattle.std.proofs.Common.{◌≡◌, refl, sym, ◌∙◌, subst, ap, ℕ, zero, suc, ◌+◌, ◌≤◌, List, [], ◌∷◌, ◌++◌, length, Bool, true, false, arith}
-use Rattle.std.specs.Prelude.{Some, None, All, IsTrue, flat_map, map, sum_by, slice_get, nat_le, codes, is_none, not, ◌==◌, ◌&&◌}
+use Rattle.std.proofs.Common.{◌≡◌, refl, sym, subst, ap, ℕ, ◌+◌, ◌≤◌, List, [], ◌∷◌, ◌++◌, length, Bool, true, false, arith}
+use Rattle.std.specs.Prelude.{Some, None, All, IsTrue, flat_map, sum_by, slice_get, nat_le, is_none, not, ◌==◌, ◌&&◌}
 use Rattle.std.specs.List.{list_all}
 use Rattle.std.proofs.lemmas.Bool.{le-leb}
 use Rattle.std.proofs.lemmas.List.Elements.{All-head, All-tail}
 use Rattle.std.proofs.lemmas.List.Sums.{sum_by-cons}
 use Rattle.principals.specs.ActsFor.{PrincipalHierarchy, IsHierarchy}
 use Rattle.syntax.specs.Tree.{StatementTree, DeclareTree, AssignTree, ReceiveTree, SendTree, ProcedureTree, ItemTree, ChannelItem, ProcedureItem, ProgramTree}
-use Rattle.syntax.specs.Written.{IsWrittenStatement, IsWrittenItem, IsWritten}
+use Rattle.syntax.specs.Written.{IsWrittenItem, IsWritten}
 use Rattle.syntax.specs.Nodes.{program_nodes as written_nodes}
 use Rattle.resolved.specs.declared.expression.Base.TheVariants.{Int}
 use Rattle.resolved.specs.Program.{ChannelEntry, ProcedureEntry, SlotEntry}
@@ -16,7 +16,7 @@ use Rattle.resolved.proofs.Parts.{both_back, passes_at, procedure_from_parts, pr
 use Rattle.types.specs.declared.fault.Refusal.TheVariants as refusals
 use Rattle.types.specs.Scope.{top_scope, Place, body_begin, behind, behind_all}
 use Rattle.types.specs.FirstFault.{first_fault, label_faults, fresh_faults, right_faults, statement_faults, body_faults, throws_faults, item_faults, cells_faults}
-use Rattle.types.specs.Resolution.{label_of, statements_of, block_from, slots_of, thrown_of, channel_of, channels_by, procedure_of, procedures_by, resolved_of}
+use Rattle.types.specs.Resolution.{label_of, slots_of, channels_by, procedure_of, procedures_by, resolved_of}
 use Rattle.types.proofs.NoFault.{both_empty, no_fault_if, has_no_fault}
 use Rattle.types.proofs.Means.{top_means}
 use Rattle.types.proofs.Meaning.{block_read, main_read}

@@ -1,21 +1,21 @@
 -- What a procedure without a fault may throw fits its program: exceptions that are there, each named once, with labels of principals
 -- that are there.
-use Rattle.std.proofs.Common.{◌≡◌, refl, sym, ◌∙◌, subst, ap, ℕ, ◌<◌, List, [], ◌∷◌, ◌++◌, Bool, true, false}
+use Rattle.std.proofs.Common.{◌≡◌, refl, sym, subst, ap, ℕ, List, [], ◌∷◌, ◌++◌, Bool, true, false}
 use Rattle.std.specs.Prelude.{Option, Some, None, slice_get, map, nat_lt, not, ◌==◌, ◌&&◌, ◌||◌}
 use Rattle.std.specs.List.{list_all, list_any}
 use Rattle.std.proofs.lemmas.Bool.{eq-eqb, eqb-true, lt-ltb}
 use Rattle.std.proofs.lemmas.Option.{slice_get_within}
 use Rattle.principals.specs.ActsFor.{PrincipalHierarchy}
 use Rattle.syntax.specs.Tree.{ThrownTree, ProgramTree}
-use Rattle.resolved.specs.Program.{Program, ThrownEntry}
+use Rattle.resolved.specs.Program.{ThrownEntry}
 use Rattle.resolved.specs.WellFormed.{is_exception, label_fits, throws_fit}
 use Rattle.resolved.proofs.Parts.{both_back}
 use Rattle.types.specs.declared.fault.Refusal.TheVariants as refusals
 use Rattle.types.specs.declared.scope.Meaning.{Meaning}
 use Rattle.types.specs.declared.scope.Meaning.TheVariants as meanings
-use Rattle.types.specs.Scope.{Declaration, look_up, top_scope}
+use Rattle.types.specs.Scope.{look_up, top_scope}
 use Rattle.types.specs.FirstFault.{label_faults, named_faults, exception_number, throws_faults}
-use Rattle.types.specs.Resolution.{label_of, thrown_of, resolved_of}
+use Rattle.types.specs.Resolution.{thrown_of, resolved_of}
 use Rattle.types.proofs.NoFault.{both_empty, no_fault_if, found_exception}
 use Rattle.types.proofs.Means.{built_in_exceptions, look_up_means, tables_of, top_means}
 use Rattle.types.proofs.LabelsFit.{label_there}
