@@ -1,15 +1,14 @@
 -- What the checks give is told by the list of faults: where it is empty, they give what the part resolves to, and else its first
 -- fault.
 use Rattle.std.proofs.Common.{◌≡◌, ℕ, ◌+◌, List, [], ◌∷◌, ◌++◌, map, length, ◌==◌, Bool, true, false, cond, Option, Some, None, Result, Ok, Err, refl, sym, ◌∙◌, ap, subst, append-nil, append_assoc}
-use Rattle.std.specs.Prelude.{flat_map, is_some, is_none, unwrap_or, not, nat_le, codes}
+use Rattle.std.specs.Prelude.{flat_map, is_some, is_none, unwrap_or}
 use Rattle.std.specs.List.{list_any}
-use Rattle.std.proofs.lemmas.List.{length-append, map-append}
+use Rattle.std.proofs.lemmas.List.{length-append}
 use Rattle.principals.specs.ActsFor.{PrincipalHierarchy, number_of}
 use Rattle.labels.specs.Canonical.{written_policy, written_label}
-use Rattle.syntax.specs.declared.tree.Direction.{Direction}
-use Rattle.syntax.specs.Tree.{NameTree, PolicyTree, LabelTree, ExpressionTree, IntegerTree, VariableTree, BinaryTree, RightTree, ReceivedTree, ValueTree, StatementTree, DeclareTree, AssignTree, ReceiveTree, SendTree, ThrownTree, ProcedureTree, ItemTree, ChannelItem, ProcedureItem, ProgramTree}
+use Rattle.syntax.specs.Tree.{NameTree, PolicyTree, LabelTree, ExpressionTree, IntegerTree, VariableTree, BinaryTree, RightTree, ReceivedTree, ValueTree, StatementTree, DeclareTree, AssignTree, ReceiveTree, SendTree, ThrownTree}
 use Rattle.resolved.specs.declared.expression.Variable.TheVariants.{Local}
-use Rattle.resolved.specs.Tree.{Integer, Read, Binary, Statement, Assign, Receive, Send}
+use Rattle.resolved.specs.Tree.{Read, Binary, Statement, Assign, Receive, Send}
 use Rattle.resolved.specs.Program.{SlotEntry, ThrownEntry}
 use Rattle.types.specs.declared.fault.Refusal.TheVariants as refusals
 use Rattle.types.specs.declared.scope.Meaning.{Meaning}
@@ -17,7 +16,7 @@ use Rattle.types.specs.declared.scope.Meaning.TheVariants as meanings
 use Rattle.types.specs.FirstFault.{Fault, first, fault_if, principal_faults, policy_faults, label_faults, is_local, is_input, is_output, found_faults, fresh_faults, expression_faults, right_faults, statement_faults, body_faults, named_faults, exception_number, throws_faults}
 use Rattle.types.specs.Resolution.{principal_of, policy_of, label_of, slot_number, channel_number, operator_of, expression_of, assignment_of, statement_of, statements_of, slots_by, slots_of, thrown_of}
 use Rattle.types.specs.Scope.{Declaration, look_up, Place, behind, behind_all}
-use Rattle.types.specs.Checks.{then_checked, refuse, each_checked, collecting, all_checked, with_name, fresh_checked, local_checked, input_checked, output_checked, exception_checked, number_or_fault, principal_checked, readers_checked, policy_checked, policies_checked, label_checked, BodyState, expression_checked, assigned_checked, declared_behind, declare_checked, assign_checked, receive_checked, send_checked, staying, statement_checked, next_statement, statements_checked, name_checked, next_thrown, throws_checked}
+use Rattle.types.specs.Checks.{then_checked, refuse, each_checked, collecting, fresh_checked, local_checked, input_checked, output_checked, exception_checked, number_or_fault, principal_checked, readers_checked, policy_checked, policies_checked, label_checked, BodyState, expression_checked, assigned_checked, declared_behind, declare_checked, assign_checked, receive_checked, send_checked, statement_checked, next_statement, name_checked, next_thrown}
 
 -- an outcome agrees with a list of faults and a value
 abbrev pub Agrees : {A : Type 0} → Result A Fault → List Fault → A → Type 0

@@ -1,10 +1,10 @@
 -- A loop over a list: what is checked so far, and going on with the rest, is the whole.
-use Rattle.std.proofs.Common.{◌≡◌, ℕ, ◌+◌, ◌<◌, ◌≤◌, List, [], ◌∷◌, ◌++◌, map, length, get_or, drop, Result, Ok, Err, refl, sym, ◌∙◌, ap, subst}
+use Rattle.std.proofs.Common.{◌≡◌, ℕ, ◌+◌, ◌<◌, ◌≤◌, List, [], ◌∷◌, ◌++◌, map, length, get_or, drop, Result, Ok, sym, ◌∙◌, ap, subst}
 use Rattle.std.proofs.lemmas.List.{drop_more, drop_all}
 use Rattle.types.specs.declared.fault.TypeFault.{TypeFault}
 use Rattle.types.specs.declared.fault.TypeFault.TheVariants as type_faults
 use Rattle.types.specs.FirstFault.{Fault}
-use Rattle.types.specs.Checks.{Fails, then_checked, each_checked, collecting, all_checked}
+use Rattle.types.specs.Checks.{Fails, then_checked, each_checked, collecting}
 
 -- from this state and this element on, the check gives what the whole gives
 pub record GoesOn {S X Y : Type 0} (step : S → X → Result S Fault) (tree : Y → X) (xs : List Y) (whole : Result S Fault) (state : S) (i : ℕ) : Type 0 where

@@ -1,11 +1,10 @@
 -- Programs: what the checks of their parts give, by the list of faults.
-use Rattle.std.proofs.Common.{◌≡◌, ℕ, zero, suc, ◌+◌, List, [], ◌∷◌, ◌++◌, map, length, Bool, true, false, cond, Option, Some, None, Result, Ok, Err, refl, sym, ◌∙◌, ap, subst, append-nil, append_assoc, arith}
+use Rattle.std.proofs.Common.{◌≡◌, ℕ, ◌+◌, List, [], ◌∷◌, ◌++◌, map, length, Bool, true, false, cond, Option, Some, None, Ok, refl, sym, ◌∙◌, ap, subst, append-nil, append_assoc, arith}
 use Rattle.std.specs.declared.alloc.Global.{Global}
 use Rattle.std.specs.Prelude.{String, flat_map, not, nat_le, codes}
-use Rattle.std.proofs.lemmas.List.{length-append}
 use Rattle.principals.specs.ActsFor.{PrincipalHierarchy}
 use Rattle.syntax.specs.Tree.{StatementTree, DeclareTree, AssignTree, ReceiveTree, SendTree, ProcedureTree, ChannelTree, ItemTree, ChannelItem, ProcedureItem, ProgramTree}
-use Rattle.resolved.specs.Program.{Program, ChannelEntry, ProcedureEntry}
+use Rattle.resolved.specs.Program.{Program}
 use Rattle.resolved.specs.declared.tables.Channel.{Channel}
 use Rattle.resolved.specs.declared.tables.GlobalVariable.{GlobalVariable}
 use Rattle.resolved.specs.declared.tables.Procedure.{Procedure}
@@ -16,10 +15,10 @@ use Rattle.types.specs.declared.fault.TypeFault.{TypeFault}
 use Rattle.types.specs.declared.fault.TypeFault.TheVariants as type_faults
 use Rattle.types.specs.declared.scope.Meaning.{Meaning}
 use Rattle.types.specs.declared.scope.Meaning.TheVariants as meanings
-use Rattle.types.specs.FirstFault.{Fault, first, fault_if, label_faults, fresh_faults, body_faults, throws_faults, item_faults, names_faults, main_faults, cells_faults, faults, first_fault, IsTold}
-use Rattle.types.specs.Resolution.{label_of, slots_by, slots_of, statements_of, block_from, thrown_of, joined_all, procedure_of, way_of, channel_of, channels_by, procedures_by, procedure_number, resolved_of}
-use Rattle.types.specs.Scope.{Declaration, look_up, TopLevel, built_in, channel_meaning, item_name, with_item, with_items, top_scope, Place, body_begin, behind, behind_all}
-use Rattle.types.specs.Checks.{Fails, then_checked, refuse, each_checked, fresh_checked, throws_checked, statements_checked, procedure_checked, channel_checked, label_checked, TopState, next_name, top_begin, top_checked, Entries, next_item, items_checked, main_checked, next_cells, cells_checked, program_checked}
+use Rattle.types.specs.FirstFault.{first, fault_if, label_faults, fresh_faults, body_faults, throws_faults, item_faults, names_faults, main_faults, cells_faults, faults, first_fault, IsTold}
+use Rattle.types.specs.Resolution.{slots_of, block_from, thrown_of, joined_all, procedure_of, way_of, channel_of, channels_by, procedures_by, procedure_number, resolved_of}
+use Rattle.types.specs.Scope.{Declaration, look_up, TopLevel, built_in, item_name, with_item, with_items, Place, body_begin, behind, behind_all}
+use Rattle.types.specs.Checks.{Fails, refuse, each_checked, fresh_checked, throws_checked, statements_checked, procedure_checked, channel_checked, label_checked, TopState, next_name, top_checked, Entries, next_item, items_checked, main_checked, next_cells, cells_checked, program_checked}
 use Rattle.types.proofs.Agree.{Agrees, then_agrees, use_agrees, label_agrees, fresh_agrees, statements_agree, throws_agree}
 
 procedure_agrees : (h : PrincipalHierarchy) (top : List Declaration) (procedure : ProcedureTree)

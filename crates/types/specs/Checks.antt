@@ -1,6 +1,6 @@
 -- What each private function gives: a value or the first fault, part by part. No public contract cites it.
 -- Source: our own.
-use Rattle.std.specs.Prelude.{◌≡◌, ℕ, ◌+◌, List, [], ◌∷◌, ◌++◌, map, length, Bool, ◌==◌, if◌then◌else◌, bytes_eq, codes, nat_le, not, Option, Some, None, Result, Ok, Err, String, Vec}
+use Rattle.std.specs.Prelude.{◌≡◌, ℕ, ◌+◌, List, [], ◌∷◌, ◌++◌, map, length, ◌==◌, if◌then◌else◌, bytes_eq, codes, nat_le, Option, Some, None, Result, Ok, Err, String, Vec}
 use Rattle.std.specs.declared.alloc.Global.{Global}
 use Rattle.std.specs.List.{list_any}
 use Rattle.std.specs.HashMap.{HashMap, get_by_text}
@@ -10,11 +10,9 @@ use Rattle.labels.specs.Canonical.{written_policy, written_label}
 use Rattle.syntax.specs.Tree.{NameTree, PolicyTree, LabelTree, ExpressionTree, IntegerTree, VariableTree, BinaryTree, RightTree, ReceivedTree, ValueTree, StatementTree, DeclareTree, AssignTree, ReceiveTree, SendTree, ThrownTree, ProcedureTree, ChannelTree, ItemTree, ChannelItem, ProcedureItem}
 use Rattle.resolved.specs.declared.expression.Base.TheVariants.{Int}
 use Rattle.resolved.specs.declared.expression.Variable.TheVariants.{Local}
-use Rattle.resolved.specs.declared.program.Core.{Core}
 use Rattle.resolved.specs.declared.statement.Statement.{Statement as CodeStatement}
 use Rattle.resolved.specs.declared.tables.Channel.{Channel}
 use Rattle.resolved.specs.declared.tables.Procedure.{Procedure}
-use Rattle.resolved.specs.declared.tables.Slot.{Slot}
 use Rattle.resolved.specs.declared.tables.Thrown.{Thrown}
 use Rattle.resolved.specs.Tree.{Expression, Integer, Read, Binary, Statement, Assign, Receive, Send}
 use Rattle.resolved.specs.Program.{Program, ChannelEntry, SlotEntry, ThrownEntry, ProcedureEntry}

@@ -1,6 +1,6 @@
 -- Laws of what programs resolve to, and of where their faults stand.
 -- Source: our own.
-use Rattle.std.specs.Prelude.{◌≡◌, ℕ, ◌≤◌, List, ◌++◌, map, length, All, Bool, None, Some, IsTrue, codes}
+use Rattle.std.specs.Prelude.{◌≡◌, ℕ, ◌≤◌, ◌++◌, map, length, All, Bool, None, Some, IsTrue, codes}
 use Rattle.std.specs.List.{AllZip}
 use Rattle.principals.specs.ActsFor.{PrincipalHierarchy, AllDifferent}
 use Rattle.syntax.specs.Tree.{ProgramTree}

@@ -1,7 +1,7 @@
 -- The resolved program that a syntax tree stands for: each name gives way to the number of what it stands for, and each label to
 -- its canonical form. Where a name stands for nothing of the kind that is wanted, as in no program without a fault, 0 is taken.
 -- Source: our own; the begin and the end label of a procedure that writes neither as in JFlow (Myers 1999).
-use Rattle.std.specs.Prelude.{ℕ, List, [], ◌∷◌, ◌++◌, map, flat_map, Option, Some, None, unwrap_or, codes}
+use Rattle.std.specs.Prelude.{ℕ, List, [], ◌∷◌, map, flat_map, Option, Some, None, unwrap_or, codes}
 use Rattle.principals.specs.ActsFor.{PrincipalHierarchy, number_of}
 use Rattle.labels.specs.Label.{ReaderPolicy, Label}
 use Rattle.labels.specs.Canonical.{written_policy, written_label, joined}

@@ -41,7 +41,9 @@ fn declare(
     at: usize,
     text: &str,
     value: RightSide,
-) -> Result<syntax::Statement, AllocError> {
+) -> Result<syntax::Statement, AllocError>
+    requires { at ≤ 1000 }
+{
     Ok(syntax::Statement::Declare {
         at,
         label: plain(alloc, at + 3),
@@ -59,7 +61,9 @@ fn send(
     at: usize,
     channel: &str,
     value: syntax::Expression,
-) -> Result<syntax::Statement, AllocError> {
+) -> Result<syntax::Statement, AllocError>
+    requires { at ≤ 1000 }
+{
     Ok(syntax::Statement::Send {
         at,
         channel: name(alloc, at + 5, channel)?,
@@ -67,7 +71,9 @@ fn send(
     })
 }
 
-fn channel(alloc: Global, at: usize, direction: Direction, text: &str) -> Result<Item, AllocError> {
+fn channel(alloc: Global, at: usize, direction: Direction, text: &str) -> Result<Item, AllocError>
+    requires { at ≤ 1000 }
+{
     Ok(Item::Channel(Channel {
         at,
         direction,

@@ -1,4 +1,4 @@
-use Rattle.std.proofs.Common.{◌++◌, ◌∷◌, [], arith}
+use Rattle.std.proofs.Common.{[], arith}
 use Rattle.std.proofs.lemmas.Result.{err_from_is_err_and}
 use Rattle.types.specs.Checks.{principal_checked, readers_checked}
 use Rattle.types.proofs.Loops.{starts, collects, collects_wrong, goes_to_end}

@@ -1,6 +1,5 @@
-use Rattle.std.proofs.Common.{◌≡◌, ◌∷◌, ◌+◌, map, drop, [], ap, sym, ◌∙◌, arith}
+use Rattle.std.proofs.Common.{◌∷◌, ◌+◌, map, drop, ap, sym, ◌∙◌, arith}
 use Rattle.std.proofs.lemmas.List.{drop_more, drop_all}
-use Rattle.labels.specs.Canonical.{joined}
 use Rattle.resolved.specs.ProgramOf.{thrown_entry}
 use Rattle.types.specs.Resolution.{joined_all}
 use Rattle.types.proofs.procedure.end_label.Goals as goal

@@ -1,9 +1,8 @@
-use Rattle.std.proofs.Common.{◌≡◌, ℕ, List, [], ◌∷◌, ◌++◌, map, Ok, ap, sym, ◌∙◌, arith}
+use Rattle.std.proofs.Common.{◌≡◌, [], ◌∷◌, ◌++◌, map, Ok, ap, sym, ◌∙◌, arith}
 use Rattle.std.proofs.lemmas.List.{map_push}
 use Rattle.std.proofs.lemmas.Result.{err_from_is_err_and}
 use Rattle.resolved.specs.ProgramOf.{thrown_entry}
-use Rattle.syntax.specs.Tree.{thrown_tree}
-use Rattle.types.specs.Checks.{throws_checked, next_thrown, found_in, label_checked, name_checked, then_checked}
+use Rattle.types.specs.Checks.{throws_checked}
 use Rattle.types.proofs.Loops.{starts, goes_further, goes_wrong, goes_to_end, fails_later, fails_second, then_ok}
 use Rattle.types.proofs.procedure.throws.Goals as goal
 

@@ -1,4 +1,4 @@
-use Rattle.std.proofs.Common.{◌≡◌, ◌<◌, ◌≤◌, length, map, Ok, refl, arith}
+use Rattle.std.proofs.Common.{◌<◌, ◌≤◌, length, map, Ok, refl, arith}
 use Rattle.std.proofs.lemmas.Bool.{le-leb, lt-leb, cond-true, cond-false}
 use Rattle.std.proofs.lemmas.List.{length-map}
 use Rattle.resolved.specs.ProgramOf.{slot_entry}

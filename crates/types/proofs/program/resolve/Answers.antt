@@ -1,10 +1,8 @@
-use Rattle.std.proofs.Common.{◌≡◌, [], ap, sym, subst, ◌∙◌, IsTrue, arith}
+use Rattle.std.proofs.Common.{sym, subst, IsTrue, arith}
 use Rattle.std.proofs.lemmas.Result.{err_from_is_err_and}
 use Rattle.resolved.specs.Program.{Program}
-use Rattle.resolved.specs.ProgramOf.{program_from}
 use Rattle.resolved.specs.WellFormed.{well_formed}
 use Rattle.syntax.specs.Tree.{program_tree}
-use Rattle.types.specs.Resolution.{resolved_of}
 use Rattle.types.proofs.Programs.{is_clean, is_resolved, is_told}
 use Rattle.types.proofs.Sound.{well_formed_of}
 use Rattle.types.proofs.program.resolve.Goals as goal

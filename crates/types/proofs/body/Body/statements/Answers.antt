@@ -2,7 +2,7 @@ use Rattle.std.proofs.Common.{◌≡◌, [], ◌∷◌, ◌++◌, map, Ok, ap, s
 use Rattle.std.proofs.lemmas.List.{map_push}
 use Rattle.std.proofs.lemmas.Result.{err_from_is_err_and}
 use Rattle.resolved.specs.TreeOf.{statement_of}
-use Rattle.types.specs.Checks.{statements_checked, statements_list, body_state}
+use Rattle.types.specs.Checks.{statements_checked, body_state}
 use Rattle.types.proofs.Loops.{starts, goes_further, goes_wrong, goes_to_end, fails_later, then_ok}
 use Rattle.types.proofs.body.Body.statements.Goals as goal
 

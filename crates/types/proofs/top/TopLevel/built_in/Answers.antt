@@ -1,4 +1,4 @@
-use Rattle.std.proofs.Common.{◌≡◌, ℕ, List, None, Ok, ap, sym, ◌∙◌}
+use Rattle.std.proofs.Common.{◌≡◌, Ok, ap, ◌∙◌}
 use Rattle.std.specs.Prelude.{codes}
 use Rattle.types.specs.declared.scope.Meaning.TheVariants.{Exception}
 use Rattle.types.specs.Checks.{found_in, with_name, nothing_declared}

@@ -1,7 +1,6 @@
 use Rattle.std.proofs.Common.{◌≡◌, sym, ap, arith}
-use Rattle.std.proofs.lemmas.Result.{err_from_is_err_and}
 use Rattle.types.specs.Checks.{top_checked, top_begin, top_state}
-use Rattle.types.proofs.Loops.{starts, goes_further, goes_wrong, goes_to_end}
+use Rattle.types.proofs.Loops.{starts}
 use Rattle.types.proofs.Tables.{ok_inside}
 use Rattle.types.proofs.top.TopLevel.of.Goals as goal
 
