@@ -73,7 +73,7 @@ module _ (h : PrincipalHierarchy) (source : List ℕ) (tree : ProgramTree) (ok :
       let labelling : ℕ → Labelling = λ _. record { local_label = λ _. []; loop_label = λ _. [] } in
       let first = told labelling in
       let fits = demand-place (is_boundary source) program labelling first.0 (subst (λ p. IsTrue (is_straight_line p)) (sym e) (straight_here none))
-          (subst (λ (p : Program). All (ProcedureFits (is_boundary source)) p.procedures) (sym e) procedures_fit) first.1 in
+      (subst (λ (p : Program). All (ProcedureFits (is_boundary source)) p.procedures) (sym e) procedures_fit) first.1 in
       passes-boundary source unmet.at (subst (λ at. IsTrue (is_boundary source at)) (sym first.2.at_is) fits)
 
 -- the first fault that was told

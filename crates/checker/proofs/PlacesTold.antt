@@ -134,6 +134,6 @@ module _ (fits : ℕ → Bool) where
       here [] only one all = absurd (let no : false ≡ true = one in cc)
       here (p ∷ []) only one all =
           let faults = ap (flat_map (procedure_faults program)) only ∙ append-nil (procedure_faults program p)
-              ∙ procedure-faults program (length program.channels) (length p.slots) p (straight_parts p one).no_result (only-ready program p w only one) in
+          ∙ procedure-faults program (length program.channels) (length p.slots) p (straight_parts p one).no_result (only-ready program p w only one) in
           fault-place _ Undeclared p.at f (All-head ProcedureFits p [] all).0 (sym (ap first_of faults) ∙ e)
       here (p ∷ q ∷ rest) only one all = absurd (let no : false ≡ true = one in cc)

@@ -1,4 +1,4 @@
-//! The last two phases of checking a program: its possible ends, and its labels. So far for straight-line programs.
+//! Checking a source under a hierarchy, phase by phase. So far programs are straight-line.
 #![tactic(auto)]
 
 pub mod ends;
@@ -16,3 +16,5 @@ pub use refusal::{EndDefect, EndRefusal, FlowRefusal, LabelRule, UnmetDemand};
 
 #[cfg(test)]
 mod tests;
+#[cfg(test)]
+mod tests_check;

@@ -35,15 +35,21 @@ refused-requires c =
 pub returns-in-Err-Refused-clause-refused : goal.returns-in-Err-Refused-clause-refused
 returns-in-Err-Refused-clause-refused c =
     c.refused.ensures.told c.args.hierarchy.now
-    (rw (c.in-Err-Refused.refusal-is, c.in-Err-Refused.at-is) (c.in-Ok.ensures.short, (program_tree c.in-Ok.tree, c.in-Ok.ensures.spelled,
-    names_told c.args.hierarchy.now (program_tree c.in-Ok.tree) c.in-Err-Refused.field-0 c.in-Err-Refused.refusal c.in-Err-Refused.at c.in-Err-Refused.field-0-is c.in-Err-Refused.ensures.refused)))
+    (rw (c.in-Err-Refused.refusal-is, c.in-Err-Refused.at-is) (
+      c.in-Ok.ensures.short,
+      (
+        program_tree c.in-Ok.tree,
+        c.in-Ok.ensures.spelled,
+        names_told c.args.hierarchy.now (program_tree c.in-Ok.tree) c.in-Err-Refused.field-0 c.in-Err-Refused.refusal c.in-Err-Refused.at c.in-Err-Refused.field-0-is c.in-Err-Refused.ensures.refused,
+      ),
+    ))
 
 pub returns-in-Err-Refused-clause-not_accepted : goal.returns-in-Err-Refused-clause-not_accepted
 returns-in-Err-Refused-clause-not_accepted c =
     inr (λ accepted.
-      let none = (of_tree c.args.hierarchy.now c.args.source.now (program_tree c.in-Ok.tree) c.in-Ok.ensures.only accepted).named in
-      let some = names_told c.args.hierarchy.now (program_tree c.in-Ok.tree) c.in-Err-Refused.field-0 c.in-Err-Refused.refusal c.in-Err-Refused.at c.in-Err-Refused.field-0-is c.in-Err-Refused.ensures.refused in
-      absurd (let no : Some _ ≡ None = sym some ∙ none in cc))
+    let none = (of_tree c.args.hierarchy.now c.args.source.now (program_tree c.in-Ok.tree) c.in-Ok.ensures.only accepted).named in
+    let some = names_told c.args.hierarchy.now (program_tree c.in-Ok.tree) c.in-Err-Refused.field-0 c.in-Err-Refused.refusal c.in-Err-Refused.at c.in-Err-Refused.field-0-is c.in-Err-Refused.ensures.refused in
+    absurd (let no : Some _ ≡ None = sym some ∙ none in cc))
 
 pub check_ends-requires : goal.check_ends-requires
 check_ends-requires c =
@@ -68,16 +74,22 @@ refused-requires-in-Err-check_ends c =
 
 pub returns-in-Err-check_ends-clause-refused : goal.returns-in-Err-check_ends-clause-refused
 returns-in-Err-check_ends-clause-refused c =
-    c.refused-in-Err-check_ends.ensures.told c.args.hierarchy.now
-    (c.in-Ok.ensures.short, (program_tree c.in-Ok.tree, c.in-Ok.ensures.spelled, c.in-Ok-resolve.ensures.clean,
-    ap (λ p. first_of (end_faults p)) (sym c.in-Ok-resolve.ensures.resolved) ∙ c.in-Err-check_ends.ensures.refused))
+    c.refused-in-Err-check_ends.ensures.told c.args.hierarchy.now (
+      c.in-Ok.ensures.short,
+      (
+        program_tree c.in-Ok.tree,
+        c.in-Ok.ensures.spelled,
+        c.in-Ok-resolve.ensures.clean,
+        ap (λ p. first_of (end_faults p)) (sym c.in-Ok-resolve.ensures.resolved) ∙ c.in-Err-check_ends.ensures.refused,
+      ),
+    )
 
 pub returns-in-Err-check_ends-clause-not_accepted : goal.returns-in-Err-check_ends-clause-not_accepted
 returns-in-Err-check_ends-clause-not_accepted c =
     inr (λ accepted.
-      let none = (of_tree c.args.hierarchy.now c.args.source.now (program_tree c.in-Ok.tree) c.in-Ok.ensures.only accepted).ended in
-      let no : None ≡ Some (fault_of c.in-Err-check_ends.field-0) = sym (ap first_of (ap end_faults c.in-Ok-resolve.ensures.resolved ∙ none)) ∙ c.in-Err-check_ends.ensures.refused in
-      absurd (cc))
+    let none = (of_tree c.args.hierarchy.now c.args.source.now (program_tree c.in-Ok.tree) c.in-Ok.ensures.only accepted).ended in
+    let no : None ≡ Some (fault_of c.in-Err-check_ends.field-0) = sym (ap first_of (ap end_faults c.in-Ok-resolve.ensures.resolved ∙ none)) ∙ c.in-Err-check_ends.ensures.refused in
+    absurd (cc))
 
 pub invariant_of-result : goal.invariant_of-result
 invariant_of-result c = record {
@@ -118,15 +130,22 @@ refused-requires-in-Err-Unmet c =
 
 pub returns-clause-refused : goal.returns-clause-refused
 returns-clause-refused c =
-    c.refused-in-Err-Unmet.ensures.told c.args.hierarchy.now
-    (c.in-Ok.ensures.short, (program_tree c.in-Ok.tree, c.in-Ok.ensures.spelled, c.in-Ok-resolve.ensures.clean,
-    sym (ap end_faults c.in-Ok-resolve.ensures.resolved) ∙ c.in-Ok-check_ends.ensures.clean.0 refl,
-    subst (λ p. TellsFirstDemand p (Unmet c.in-Err-Unmet.unmet)) c.in-Ok-resolve.ensures.resolved
-    (subst (TellsFirstDemand (program_of c.in-Ok-resolve.core)) c.in-Err-Unmet.field-0-is c.in-Err-Unmet.ensures.refused), refl))
+    c.refused-in-Err-Unmet.ensures.told c.args.hierarchy.now (
+      c.in-Ok.ensures.short,
+      (
+        program_tree c.in-Ok.tree,
+        c.in-Ok.ensures.spelled,
+        c.in-Ok-resolve.ensures.clean,
+        sym (ap end_faults c.in-Ok-resolve.ensures.resolved) ∙ c.in-Ok-check_ends.ensures.clean.0 refl,
+        subst (λ p. TellsFirstDemand p (Unmet c.in-Err-Unmet.unmet)) c.in-Ok-resolve.ensures.resolved
+            (subst (TellsFirstDemand (program_of c.in-Ok-resolve.core)) c.in-Err-Unmet.field-0-is c.in-Err-Unmet.ensures.refused),
+        refl,
+      ),
+    )
 
 pub returns-clause-not_accepted : goal.returns-clause-not_accepted
 returns-clause-not_accepted c =
     inr (λ accepted.
-      let labelled = (of_tree c.args.hierarchy.now c.args.source.now (program_tree c.in-Ok.tree) c.in-Ok.ensures.only accepted).labelled in
-      let out : RulesOut (program_of c.in-Ok-resolve.core) (Unmet c.in-Err-Unmet.unmet) = subst (RulesOut (program_of c.in-Ok-resolve.core)) c.in-Err-Unmet.field-0-is c.in-Err-Unmet.ensures.not_labelled in
-      out (subst Labelled (sym c.in-Ok-resolve.ensures.resolved) labelled))
+    let labelled = (of_tree c.args.hierarchy.now c.args.source.now (program_tree c.in-Ok.tree) c.in-Ok.ensures.only accepted).labelled in
+    let out : RulesOut (program_of c.in-Ok-resolve.core) (Unmet c.in-Err-Unmet.unmet) = subst (RulesOut (program_of c.in-Ok-resolve.core)) c.in-Err-Unmet.field-0-is c.in-Err-Unmet.ensures.not_labelled in
+    out (subst Labelled (sym c.in-Ok-resolve.ensures.resolved) labelled))

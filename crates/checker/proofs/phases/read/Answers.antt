@@ -18,8 +18,10 @@ refused-requires c = record { boundary = IsCharBoundary-start c.args.source.now 
 pub returns-in-Err-NoToken-clause-refused : goal.returns-in-Err-NoToken-clause-refused
 returns-in-Err-NoToken-clause-refused c = λ h.
     let other : c.in-Err-NoToken.field-0 ≡ lexical.NoMemory → ⊥ = (λ no. absurd (cc)) in
-    c.refused-in-Err-NoToken.ensures.told h (omega (arith, c.if-source-gt-GREATEST_SOURCE.false),
-    subst (IsRefused c.args.source.now) (c.in-Err-NoToken.field-0-is ∙ ap lexical.NoToken (sym c.in-Err-NoToken.at-is)) (refusal_of c.args.source.now c.in-Err-NoToken.field-0 other c.in-Err-NoToken.ensures.refused))
+    c.refused-in-Err-NoToken.ensures.told h (
+      omega (arith, c.if-source-gt-GREATEST_SOURCE.false),
+      subst (IsRefused c.args.source.now) (c.in-Err-NoToken.field-0-is ∙ ap lexical.NoToken (sym c.in-Err-NoToken.at-is)) (refusal_of c.args.source.now c.in-Err-NoToken.field-0 other c.in-Err-NoToken.ensures.refused),
+    )
 
 pub returns-in-Err-NoToken-clause-not_accepted : goal.returns-in-Err-NoToken-clause-not_accepted
 returns-in-Err-NoToken-clause-not_accepted c =
@@ -28,8 +30,10 @@ returns-in-Err-NoToken-clause-not_accepted c =
 pub returns-in-Err-LiteralTooLarge-clause-refused : goal.returns-in-Err-LiteralTooLarge-clause-refused
 returns-in-Err-LiteralTooLarge-clause-refused c = λ h.
     let other : c.in-Err-LiteralTooLarge.field-0 ≡ lexical.NoMemory → ⊥ = (λ no. absurd (cc)) in
-    c.refused-in-Err-LiteralTooLarge.ensures.told h (omega (arith, c.if-source-gt-GREATEST_SOURCE.false),
-    subst (IsRefused c.args.source.now) (c.in-Err-LiteralTooLarge.field-0-is ∙ ap lexical.LiteralTooLarge (sym c.in-Err-LiteralTooLarge.at-is)) (refusal_of c.args.source.now c.in-Err-LiteralTooLarge.field-0 other c.in-Err-LiteralTooLarge.ensures.refused))
+    c.refused-in-Err-LiteralTooLarge.ensures.told h (
+      omega (arith, c.if-source-gt-GREATEST_SOURCE.false),
+      subst (IsRefused c.args.source.now) (c.in-Err-LiteralTooLarge.field-0-is ∙ ap lexical.LiteralTooLarge (sym c.in-Err-LiteralTooLarge.at-is)) (refusal_of c.args.source.now c.in-Err-LiteralTooLarge.field-0 other c.in-Err-LiteralTooLarge.ensures.refused),
+    )
 
 pub returns-in-Err-LiteralTooLarge-clause-not_accepted : goal.returns-in-Err-LiteralTooLarge-clause-not_accepted
 returns-in-Err-LiteralTooLarge-clause-not_accepted c =
@@ -38,8 +42,10 @@ returns-in-Err-LiteralTooLarge-clause-not_accepted c =
 pub returns-in-Err-UnclosedComment-clause-refused : goal.returns-in-Err-UnclosedComment-clause-refused
 returns-in-Err-UnclosedComment-clause-refused c = λ h.
     let other : c.in-Err-UnclosedComment.field-0 ≡ lexical.NoMemory → ⊥ = (λ no. absurd (cc)) in
-    c.refused-in-Err-UnclosedComment.ensures.told h (omega (arith, c.if-source-gt-GREATEST_SOURCE.false),
-    subst (IsRefused c.args.source.now) (c.in-Err-UnclosedComment.field-0-is ∙ ap lexical.UnclosedComment (sym c.in-Err-UnclosedComment.at-is)) (refusal_of c.args.source.now c.in-Err-UnclosedComment.field-0 other c.in-Err-UnclosedComment.ensures.refused))
+    c.refused-in-Err-UnclosedComment.ensures.told h (
+      omega (arith, c.if-source-gt-GREATEST_SOURCE.false),
+      subst (IsRefused c.args.source.now) (c.in-Err-UnclosedComment.field-0-is ∙ ap lexical.UnclosedComment (sym c.in-Err-UnclosedComment.at-is)) (refusal_of c.args.source.now c.in-Err-UnclosedComment.field-0 other c.in-Err-UnclosedComment.ensures.refused),
+    )
 
 pub returns-in-Err-UnclosedComment-clause-not_accepted : goal.returns-in-Err-UnclosedComment-clause-not_accepted
 returns-in-Err-UnclosedComment-clause-not_accepted c =
@@ -51,15 +57,17 @@ refused-requires-in-Err-Unexpected c =
 
 pub returns-in-Err-Unexpected-clause-refused : goal.returns-in-Err-Unexpected-clause-refused
 returns-in-Err-Unexpected-clause-refused c = λ h.
-    c.refused-in-Err-Unexpected.ensures.told h (omega (arith, c.if-source-gt-GREATEST_SOURCE.false),
-    (terminals_of c.as_slice.result.now, rw c.as_slice.ensures.value c.in-Ok.ensures.cut, c.in-Err-Unexpected.ensures.unexpected c.in-Err-Unexpected.at (ap Err c.in-Err-Unexpected.field-0-is)))
+    c.refused-in-Err-Unexpected.ensures.told h (
+      omega (arith, c.if-source-gt-GREATEST_SOURCE.false),
+      (terminals_of c.as_slice.result.now, rw c.as_slice.ensures.value c.in-Ok.ensures.cut, c.in-Err-Unexpected.ensures.unexpected c.in-Err-Unexpected.at (ap Err c.in-Err-Unexpected.field-0-is)),
+    )
 
 pub returns-in-Err-Unexpected-clause-not_accepted : goal.returns-in-Err-Unexpected-clause-not_accepted
 returns-in-Err-Unexpected-clause-not_accepted c =
     inr (λ h accepted.
-      let same : terminals_of c.as_slice.result.now ≡ accepted.spelled.tokens = rw c.as_slice.ensures.value (c.in-Ok.ensures.only accepted.spelled.tokens accepted.spelled.cut) in
-      let no = c.in-Err-Unexpected.ensures.only accepted.tree (subst (λ ts. Spells ts accepted.tree) (sym same) accepted.spelled.spelled) in
-      no_tree (Err c.in-Err-Unexpected.field-0) (faults.Unexpected c.in-Err-Unexpected.at) accepted.tree (ap Err c.in-Err-Unexpected.field-0-is) (λ e. absurd (cc)) no)
+    let same : terminals_of c.as_slice.result.now ≡ accepted.spelled.tokens = rw c.as_slice.ensures.value (c.in-Ok.ensures.only accepted.spelled.tokens accepted.spelled.cut) in
+    let no = c.in-Err-Unexpected.ensures.only accepted.tree (subst (λ ts. Spells ts accepted.tree) (sym same) accepted.spelled.spelled) in
+    no_tree (Err c.in-Err-Unexpected.field-0) (faults.Unexpected c.in-Err-Unexpected.at) accepted.tree (ap Err c.in-Err-Unexpected.field-0-is) (λ e. absurd (cc)) no)
 
 pub refused-requires-in-Err-TooDeep : goal.refused-requires-in-Err-TooDeep
 refused-requires-in-Err-TooDeep c =
@@ -67,15 +75,17 @@ refused-requires-in-Err-TooDeep c =
 
 pub returns-clause-refused : goal.returns-clause-refused
 returns-clause-refused c = λ h.
-    c.refused-in-Err-TooDeep.ensures.told h (omega (arith, c.if-source-gt-GREATEST_SOURCE.false),
-    (terminals_of c.as_slice.result.now, rw c.as_slice.ensures.value c.in-Ok.ensures.cut, c.in-Err-TooDeep.ensures.too_deep c.in-Err-TooDeep.at (ap Err c.in-Err-TooDeep.field-0-is)))
+    c.refused-in-Err-TooDeep.ensures.told h (
+      omega (arith, c.if-source-gt-GREATEST_SOURCE.false),
+      (terminals_of c.as_slice.result.now, rw c.as_slice.ensures.value c.in-Ok.ensures.cut, c.in-Err-TooDeep.ensures.too_deep c.in-Err-TooDeep.at (ap Err c.in-Err-TooDeep.field-0-is)),
+    )
 
 pub returns-clause-not_accepted : goal.returns-clause-not_accepted
 returns-clause-not_accepted c =
     inr (λ h accepted.
-      let same : terminals_of c.as_slice.result.now ≡ accepted.spelled.tokens = rw c.as_slice.ensures.value (c.in-Ok.ensures.only accepted.spelled.tokens accepted.spelled.cut) in
-      let no = c.in-Err-TooDeep.ensures.only accepted.tree (subst (λ ts. Spells ts accepted.tree) (sym same) accepted.spelled.spelled) in
-      no_tree (Err c.in-Err-TooDeep.field-0) (faults.TooDeep c.in-Err-TooDeep.at) accepted.tree (ap Err c.in-Err-TooDeep.field-0-is) (λ e. absurd (cc)) no)
+    let same : terminals_of c.as_slice.result.now ≡ accepted.spelled.tokens = rw c.as_slice.ensures.value (c.in-Ok.ensures.only accepted.spelled.tokens accepted.spelled.cut) in
+    let no = c.in-Err-TooDeep.ensures.only accepted.tree (subst (λ ts. Spells ts accepted.tree) (sym same) accepted.spelled.spelled) in
+    no_tree (Err c.in-Err-TooDeep.field-0) (faults.TooDeep c.in-Err-TooDeep.at) accepted.tree (ap Err c.in-Err-TooDeep.field-0-is) (λ e. absurd (cc)) no)
 
 pub returns-in-Ok-parse-clause-only : goal.returns-in-Ok-parse-clause-only
 returns-in-Ok-parse-clause-only c = λ other tree_of.
