@@ -1,5 +1,5 @@
-ghost use Rattle.flowc.specs.Causes.{cause_number};
-ghost use Rattle.flowc.specs.declared.fault.Fault.TheVariants.{NoMemory};
+ghost use Rattle.compiler.specs.Causes.{cause_number};
+ghost use Rattle.compiler.specs.declared.fault.Fault.TheVariants.{NoMemory};
 ghost use Rattle.std.specs.Prelude.{◌≡◌};
 
 use lexer::Place;

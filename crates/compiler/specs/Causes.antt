@@ -1,8 +1,8 @@
 -- The numbers of the faults of a hierarchy text and of a source.
 -- Source: our own.
 use Rattle.std.specs.Prelude.{ℕ}
-use Rattle.flowc.specs.declared.fault.Cause.{Cause}
-use Rattle.flowc.specs.declared.fault.Cause.TheVariants as cause
+use Rattle.compiler.specs.declared.fault.Cause.{Cause}
+use Rattle.compiler.specs.declared.fault.Cause.TheVariants as cause
 
 abbrev pub cause_number : Cause → ℕ
 cause_number cause.NotUtf8 = 100

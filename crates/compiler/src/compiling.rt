@@ -2,10 +2,10 @@
 
 ghost use Rattle.checker.specs.Accepted as checker;
 ghost use Rattle.checker.specs.Accepted.{IsTreeOf};
-ghost use Rattle.checker.specs.Refused.{IsPlaceOf};
-ghost use Rattle.flowc.specs.Built.{IsAccepted, IsCompiled, IsHierarchyRefused, IsNoText, IsRefusal, IsSourceRefused, TellsFault, cause_of};
-ghost use Rattle.flowc.specs.Compiled.{IsCodeOf};
-ghost use Rattle.flowc.specs.declared.fault.Fault.TheVariants.{NoMemory};
+
+ghost use Rattle.compiler.specs.Built.{IsAccepted, IsCompiled, IsHierarchyRefused, IsNoText, IsRefusal, IsSourceRefused, TellsFault, cause_of};
+ghost use Rattle.compiler.specs.Compiled.{IsCodeOf};
+ghost use Rattle.compiler.specs.declared.fault.Fault.TheVariants.{NoMemory};
 ghost use Rattle.principals.specs.ActsFor.{PrincipalHierarchy};
 ghost use Rattle.principals.specs.HierarchyText.{HasBoundary, IsHierarchyOf, IsRefusedText};
 ghost use Rattle.resolved.specs.CoreOf.{program_of};
@@ -55,6 +55,8 @@ pub fn compile(alloc: Global, hierarchy: &[u8], source: &[u8]) -> Result<Vec<u8>
         Ok(people) => people,
         Err(fault) => return Err(fault),
     };
+    // It brings the rules that a hierarchy keeps, on which its names in the module stand.
+    prove!(people.count() <= 256);
     let checked = match checked(alloc, &people, source) {
         Ok(checked) => checked,
         Err(fault) => return Err(fault),
@@ -113,8 +115,14 @@ fn code_of(alloc: Global, checked: &Checked) -> Result<Vec<u8>, AllocError>
     requires isolated { Isolated (program_of checked.now.core) }
     ensures { IfOk result (λ code. IsCodeOf (program_of checked.now.core) code.items) }
 {
-    let whole = emit(alloc, &checked.core)?;
-    encode(alloc, &whole)
+    let whole = match emit(alloc, &checked.core) {
+        Ok(whole) => whole,
+        Err(refused) => return Err(refused),
+    };
+    match encode(alloc, &whole) {
+        Ok(code) => Ok(code),
+        Err(refused) => Err(refused),
+    }
 }
 
 // The text of some bytes.
