@@ -11,6 +11,11 @@ returns-in-Err-clause-told c = λ hierarchy characters said.
 pub returns-in-Err-Refused-clause-told : goal.returns-in-Err-Refused-clause-told
 returns-in-Err-Refused-clause-told c = λ hierarchy characters said.
     let told = subst (λ t. refused.TellsFault c.args.people.now t (check_faults.Refused c.in-Err-Refused.cause c.in-Err-Refused.at)) c.in-Ok.ensures.same
-        (subst (refused.TellsFault c.args.people.now c.in-Ok.text.now) c.in-Err-Refused.field-0-is c.in-Err-Refused.ensures.refused) in
-    (c.args.people.now, characters, said, told.0,
-    rw c.source_cause.ensures (source_refused c.args.people.now c.args.bytes.now c.in-Err-Refused.cause told.0 c.in-Ok.ensures.characters told.1), told.2)
+    (subst (refused.TellsFault c.args.people.now c.in-Ok.text.now) c.in-Err-Refused.field-0-is c.in-Err-Refused.ensures.refused) in (
+      c.args.people.now,
+      characters,
+      said,
+      told.0,
+      rw c.source_cause.ensures (source_refused c.args.people.now c.args.bytes.now c.in-Err-Refused.cause told.0 c.in-Ok.ensures.characters told.1),
+      told.2,
+    )
