@@ -1,10 +1,11 @@
 -- When two texts make a module, and what the module's bytes owe to them. So far stand-ins: a text is accepted where there is a
--- module for it, and a module is any file of the format.
+-- module for it, and a module is any file of the format that has the hierarchy of the text.
 -- Source: our own.
 use Rattle.std.specs.Prelude.{ℕ, List, [], ⊤, slice_get}
 use Rattle.std.specs.Option.{option_map_or}
 use Rattle.std.specs.declared.alloc.Global.{Global}
 use Rattle.std.specs.declared.vec.Vec.{Vec}
+use Rattle.principals.specs.HierarchyText.{IsHierarchyOf}
 use Rattle.bytecode.specs.Contents.{ModuleContents}
 use Rattle.bytecode.specs.Form.{Spells}
 use Rattle.bytecode.specs.Format.{module_file}
@@ -13,7 +14,8 @@ use Rattle.flowc.specs.declared.fault.Fault.TheVariants.{NoMemory, Refused}
 
 -- bytes are what a hierarchy text and a source are compiled to
 abbrev pub IsCompiled : List ℕ → List ℕ → List ℕ → Type 0
-IsCompiled hierarchy source code = (whole : ModuleContents) × Spells module_file whole code
+IsCompiled hierarchy source code =
+    (whole : ModuleContents) × Spells module_file whole code × IsHierarchyOf hierarchy whole.hierarchy
 
 -- a source is a program under a hierarchy text
 abbrev pub IsAccepted : List ℕ → List ℕ → Type 0
