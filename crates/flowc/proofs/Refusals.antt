@@ -2,7 +2,7 @@
 use Rattle.std.proofs.Common.{◌≡◌, ap, subst, sym, ◌∙◌, ℕ, List, [], ◌∷◌, refl, inl, inr, ◌⊎◌, Option, Result, Ok, Err, IfOk, IfErr, MatchResult}
 use Rattle.bytecode.specs.Contents.{ModuleContents}
 use Rattle.channels.specs.World.{InputNumbers, input_names}
-use Rattle.channels.specs.WorldText.{IsFirstDefect, IsTextFault, IsWorldText, world_of}
+use Rattle.channels.specs.WorldText.{IsTextFault, IsWorldText, world_of}
 use Rattle.channels.specs.declared.defect.WorldDefect.{WorldDefect}
 use Rattle.channels.specs.declared.defect.WorldFault.TheVariants.{Line}
 use Rattle.machine.specs.Run.{names_of}

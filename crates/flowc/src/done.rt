@@ -1,12 +1,13 @@
-ghost use Rattle.flowc.specs.Built.{HoldsProgram, IsAccepted, IsBuilt, IsCompiled, bytes_at};
+ghost use Rattle.compiler.specs.Built.{IsAccepted, IsCompiled};
+ghost use Rattle.flowc.specs.Built.{HoldsProgram, IsBuilt, bytes_at};
 ghost use Rattle.flowc.specs.Shown.{Shows};
 ghost use Rattle.flowc.specs.Task.{files_of, makes_file, may_end, reads_source, status_of_trouble};
 ghost use Rattle.std.specs.Io.KnownBytes.{Appends};
 ghost use Rattle.std.specs.Prelude.{◌≡◌, ◌≤◌, ◌<◌, ◌↔◌, IfErr, IfOk, IfSome, IsSome, IsTrue, MatchResult, None, OnOk, codes, length, option_map};
 ghost use Rattle.std.specs.String.{string_bytes};
 
-use crate::compile::compile;
-use crate::fault::{Fault, Text};
+use compiler::compile;
+use compiler::{Fault, Text};
 use crate::request::Task;
 use crate::running::{Ended, File, run};
 use crate::told::cause_line;

@@ -1,7 +1,7 @@
 //! Sources through the commands: what is accepted, what it sends, and each fault with its place.
 
 use super::*;
-use crate::compile::compile;
+use compiler::compile;
 use crate::tests::{Outcome, done_by};
 use std::alloc::{AllocError, Global};
 use std::test::Fail;

@@ -1,6 +1,6 @@
 //! The words of faults, as the program prints them.
 
-use crate::fault::{Cause, Text};
+use compiler::{Cause, Text};
 use bytecode::Refusal;
 use channels::WorldDefect;
 use lexer::Place;
