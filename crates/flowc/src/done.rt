@@ -6,13 +6,12 @@ ghost use Rattle.std.specs.Io.KnownBytes.{Appends};
 ghost use Rattle.std.specs.Prelude.{◌≡◌, ◌≤◌, ◌<◌, ◌↔◌, IfErr, IfOk, IfSome, IsSome, IsTrue, MatchResult, None, OnOk, codes, length, option_map};
 ghost use Rattle.std.specs.String.{string_bytes};
 
-use compiler::compile;
-use compiler::{Fault, Text};
 use crate::request::Task;
 use crate::running::{Ended, File, run};
 use crate::told::cause_line;
 use crate::trouble::Trouble;
 use channels::{Sink, write_whole};
+use compiler::{Fault, Text, compile};
 use std::alloc::Global;
 
 /// What the program leaves to do: its exit status, and the bytes for the output file if it makes one.

@@ -1,8 +1,8 @@
 //! Sources through the commands: what is accepted, what it sends, and each fault with its place.
 
 use super::*;
-use compiler::compile;
 use crate::tests::{Outcome, done_by};
+use compiler::compile;
 use std::alloc::{AllocError, Global};
 use std::test::Fail;
 

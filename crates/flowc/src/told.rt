@@ -1,8 +1,8 @@
 //! The words of faults, as the program prints them.
 
-use compiler::{Cause, Text};
 use bytecode::Refusal;
 use channels::WorldDefect;
+use compiler::{Cause, Text};
 use lexer::Place;
 use std::alloc::{AllocError, Global};
 use verifier::{Defect, Fault};
