@@ -17,8 +17,8 @@ isolated-module program m same kept isolated p first second agree i j =
     let xs : List Pair = sent_by program first i in
     let ys : List Pair = sent_by program second j in
     let related : OneBegins (seen_of m p xs) (seen_of m p ys) =
-        subst (λ seen. OneBegins seen (seen_of m p ys)) (sym (seen-module program m same p xs))
-        (subst (OneBegins _) (sym (seen-module program m same p ys)) (isolated p first second (agree-module program m same p first second agree) i j)) in
+    subst (λ seen. OneBegins seen (seen_of m p ys)) (sym (seen-module program m same p xs))
+    (subst (OneBegins _) (sym (seen-module program m same p ys)) (isolated p first second (agree-module program m same p first second agree) i j)) in
     Begins-of-two (seen_of m p (sent_after m first i)) (seen_of m p (sent_after m second j)) (seen_of m p xs) (seen_of m p ys)
     (seen-begins m.hierarchy (channel_label m) p (sent_after m first i) xs (kept.no_more first i))
     (seen-begins m.hierarchy (channel_label m) p (sent_after m second j) ys (kept.no_more second j)) related

@@ -19,4 +19,3 @@ pub mod Literals
 pub mod Lists
 pub mod Hierarchies
 pub mod Bodies
-mod SmallPrograms
