@@ -20,35 +20,41 @@ expect() {
 
 both() { printf '%s\n%s' "$1" "$2"; }
 
-module=$folder/payroll.flob
-expect ok '' 0 check payroll/hierarchy.txt payroll/payroll.flow
-expect '' '' 0 build payroll/hierarchy.txt payroll/payroll.flow "$module"
+# An example is accepted, and its module is made.
+made() {
+    module=$folder/$1.flob
+    expect ok '' 0 check "$1/hierarchy.txt" "$1/$1.flow"
+    expect '' '' 0 build "$1/hierarchy.txt" "$1/$1.flow" "$module"
+}
+
+# The variants of an example that are told at these places let through what is not allowed.
+not_allowed() {
+    example=$1
+    shift
+    for line in "$@"; do
+        expect '' "$example/$line: 601 flow not allowed" 1 check "$example/hierarchy.txt" "$example/${line%%:*}"
+    done
+}
+
+made payroll
 expect "$(both 'months 12' 'total 10200')" finished 0 run "$module" payroll/november.txt
 expect 'months 12' '' 0 run "$module" payroll/november.txt --observer Staff
 expect "$(both 'months 12' 'total 10200')" '' 0 run "$module" payroll/november.txt --observer Auditor
 expect 'months 12' 'threw End' 4 run "$module" payroll/short.txt
 expect 'months 12' '' 0 run "$module" payroll/short.txt --observer Staff
-for line in shows-the-total.flow:9:5 counts-afterwards.flow:14:5; do
-    file=payroll/${line%%:*}
-    expect '' "payroll/$line: 601 flow not allowed" 1 check payroll/hierarchy.txt "$file"
-done
+not_allowed payroll shows-the-total.flow:9:5 counts-afterwards.flow:14:5
 sed 's/ throws (End{Office:})//' payroll/payroll.flow >"$folder/silent.flow"
 expect '' "$folder/silent.flow:8:6: 503 exception not declared" 1 check payroll/hierarchy.txt "$folder/silent.flow"
 sed 's/End{Office:}/End{}/' payroll/payroll.flow >"$folder/open.flow"
 expect '' "$folder/open.flow:8:6: 601 flow not allowed" 1 check payroll/hierarchy.txt "$folder/open.flow"
 
-module=$folder/survey.flob
-expect ok '' 0 check survey/hierarchy.txt survey/survey.flow
-expect '' '' 0 build survey/hierarchy.txt survey/survey.flow "$module"
+made survey
 expect "$(both 'asked 7' 'sum 9')" finished 0 run "$module" survey/spring.txt
 expect "$(both 'asked 7' 'sum 9')" '' 0 run "$module" survey/spring.txt --observer Institute
 expect 'asked 7' '' 0 run "$module" survey/spring.txt --observer Ann
 expect 'asked 7' 'threw End' 4 run "$module" survey/one-answer.txt
 expect 'asked 7' '' 0 run "$module" survey/one-answer.txt --observer Ann
-for line in forgets-ben.flow:10:5 asks-ben-afterwards.flow:9:5; do
-    file=survey/${line%%:*}
-    expect '' "survey/$line: 601 flow not allowed" 1 check survey/hierarchy.txt "$file"
-done
+not_allowed survey forgets-ben.flow:10:5 asks-ben-afterwards.flow:9:5
 (cat survey/hierarchy.txt && echo 'Ann actsfor Ben;') >"$folder/hierarchy.txt"
 expect ok '' 0 check "$folder/hierarchy.txt" survey/forgets-ben.flow
 

@@ -18,14 +18,38 @@ fn line_of(alloc: Global, people: &Hierarchy, source: &str) -> Result<String, Al
     }
 }
 
-#[test]
-fn tells_what_is_wrong_with_sources(rt: HostRuntime) -> Result<(), Fail> {
-    let alloc = rt.alloc();
+// The first of these lines that a source is not answered by, if there is one.
+fn first_untold<'a>(
+    alloc: Global,
+    cases: &[(&str, &'a str)],
+) -> Result<Option<&'a str>, AllocError> {
     let Ok(people) = Hierarchy::read(alloc, PEOPLE) else {
-        panic!(rt; "the hierarchy is refused")
+        return Ok(Some("a hierarchy"));
     };
-    let cases: [(&str, &str); 13] = [
+    for (source, line) in cases {
+        if line_of(alloc, &people, source)?.as_str() != *line {
+            return Ok(Some(*line));
+        }
+    }
+    Ok(None)
+}
+
+#[test]
+fn tells_what_is_wrong_with_texts(rt: HostRuntime) -> Result<(), Fail> {
+    let cases: [(&str, &str); 5] = [
+        ("void main() {", "1:14 unexpected token"),
+        ("a & b", "1:3 no token"),
+        ("2147483648", "1:1 literal too large"),
+        ("/* x", "1:1 open comment"),
         ("", "1:1 no proper main"),
+    ];
+    assert_eq!(rt; first_untold(rt.alloc(), &cases)?, None);
+    Ok(())
+}
+
+#[test]
+fn tells_what_is_wrong_with_programs(rt: HostRuntime) -> Result<(), Fail> {
+    let cases: [(&str, &str); 8] = [
         ("output{} pub; void main() { send pub, 7; }", "ok"),
         (
             "input{} q; output{} pub; void main() throws (End{}) { int{} x = receive q; send pub, x + 1; }",
@@ -55,14 +79,7 @@ fn tells_what_is_wrong_with_sources(rt: HostRuntime) -> Result<(), Fail> {
             "output{} pub; void main() { receive pub; }",
             "1:37 wrong use",
         ),
-        ("void main() {", "1:14 unexpected token"),
-        ("a & b", "1:3 no token"),
-        ("2147483648", "1:1 literal too large"),
-        ("/* x", "1:1 open comment"),
     ];
-    for (source, line) in cases {
-        let told = line_of(alloc, &people, source)?;
-        assert_eq!(rt; told.as_str(), line, "{source}");
-    }
+    assert_eq!(rt; first_untold(rt.alloc(), &cases)?, None);
     Ok(())
 }

@@ -85,3 +85,18 @@ fn tells_what_is_wrong_with_sources(rt: HostRuntime) -> Result<(), Fail> {
     }
     Ok(())
 }
+
+// Whichever growth is refused, the answer is want of memory or the undisturbed one, and asked again it is that.
+#[test]
+fn a_refused_growth_changes_no_answer(rt: HostRuntime) -> Result<(), Fail> {
+    let source = b"output{} pub; void main() { send pub, 7; }";
+    let mut answer = compile(rt.alloc(), b"", source);
+    if answer.as_ref().err() == Some(&Fault::NoMemory) {
+        answer = compile(rt.alloc(), b"", source);
+    }
+    let Ok(code) = answer else {
+        panic!(rt; "the program is refused")
+    };
+    assert_eq!(rt; code.as_slice(), SEVEN.as_slice());
+    Ok(())
+}

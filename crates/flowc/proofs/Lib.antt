@@ -1,3 +1,5 @@
+pub mod Cut
+pub mod Promises
 pub mod Refusals
 pub mod Settled
 pub mod Views

@@ -1,5 +1,5 @@
 -- What is refused is wrong.
-use Rattle.std.proofs.Common.{◌≡◌, ap, subst, sym, ◌∙◌, ℕ, List, [], ◌∷◌, refl, inl, inr, ◌⊎◌, Option, Result, Ok, Err, IfOk, IfErr, MatchResult}
+use Rattle.std.proofs.Common.{◌≡◌, ap, subst, sym, ◌∙◌, ℕ, List, [], ◌∷◌, refl, inl, inr, ◌⊎◌, Option, Result, Ok, Err, IfOk, IfErr, OnErr, MatchResult}
 use Rattle.bytecode.specs.Contents.{ModuleContents}
 use Rattle.channels.specs.World.{InputNumbers, input_names}
 use Rattle.channels.specs.WorldText.{IsTextFault, IsWorldText, world_of}
@@ -10,7 +10,7 @@ use Rattle.verifier.specs.Faults.{HasNoFault, IsTold, IsToldAfter, IsToldOf, fix
 use Rattle.verifier.specs.declared.fault.Fault.{Fault}
 use Rattle.verifier.specs.declared.fault.VerifyFault.{VerifyFault}
 use Rattle.verifier.specs.declared.fault.VerifyFault.TheVariants.{Wrong}
-use Rattle.flowc.specs.Shown.{CannotRun, ShowsRun}
+use Rattle.flowc.specs.Shown.{CannotRun, ShowsRun, ShowsSome}
 use Rattle.flowc.specs.Task.{status_of_trouble}
 use Rattle.flowc.specs.declared.running.Ended.{Ended}
 use Rattle.flowc.specs.declared.trouble.Trouble.{Trouble}
@@ -52,12 +52,16 @@ pub run_shows : (code text code' text' : List ℕ) (name name' : Option (List �
     → IfOk outcome (λ ended. ShowsRun code' text' name' steps ended.status old new)
     → IfErr outcome (λ trouble. status_of_trouble trouble ≡ 1 → CannotRun code' text' name')
     → IfErr outcome (λ trouble. status_of_trouble trouble ≡ 1 → old ≡ new)
+    → OnErr outcome (ShowsSome code' text' name' steps old new)
     → MatchResult outcome (λ ended. status ≡ ended.status) (λ trouble. status ≡ status_of_trouble trouble)
     → code' ≡ code → text' ≡ text → name' ≡ name
-    → ((status ≡ 1) × (old ≡ new) × CannotRun code text name) ⊎ ((status ≡ 3) ⊎ ShowsRun code text name steps status old new)
-run_shows code text code' text' name name' steps status old new (Ok ended) shown refused quiet is c t n =
+    → ((status ≡ 1) × (old ≡ new) × CannotRun code text name)
+    ⊎ (((status ≡ 3) × ShowsSome code text name steps old new) ⊎ ShowsRun code text name steps status old new)
+run_shows code text code' text' name name' steps status old new (Ok ended) shown refused quiet some is c t n =
     inr (inr (rw (is, sym c, sym t, sym n) shown))
-run_shows code text code' text' name name' steps status old new (Err (Refused line)) shown refused quiet is c t n =
+run_shows code text code' text' name name' steps status old new (Err (Refused line)) shown refused quiet some is c t n =
     inl (is, quiet refl, rw (sym c, sym t, sym n) (refused refl))
-run_shows code text code' text' name name' steps status old new (Err CannotWrite) shown refused quiet is c t n = inr (inl is)
-run_shows code text code' text' name name' steps status old new (Err OutOfMemory) shown refused quiet is c t n = inr (inl is)
+run_shows code text code' text' name name' steps status old new (Err CannotWrite) shown refused quiet some is c t n =
+    inr (inl (is, rw (sym c, sym t, sym n) some))
+run_shows code text code' text' name name' steps status old new (Err OutOfMemory) shown refused quiet some is c t n =
+    inr (inl (is, rw (sym c, sym t, sym n) some))

@@ -1,4 +1,5 @@
 pub mod Built
+pub mod Promises
 pub mod Shown
 pub mod Task
 pub mod View

@@ -3,33 +3,25 @@
 use Rattle.std.specs.Prelude.{◌≡◌, ℕ, List, [], ◌∷◌, ◌++◌, Option, Some, None, slice_get, codes, Bool, true}
 use Rattle.std.specs.Fmt.{signed_decimal}
 use Rattle.principals.specs.ActsFor.{PrincipalHierarchy, HasName}
-use Rattle.labels.specs.Label.{Label, may_read}
-use Rattle.labels.specs.Sent.{seen}
+use Rattle.labels.specs.Label.{may_read}
 use Rattle.labels.specs.declared.sent.Pair.{Pair}
 use Rattle.bytecode.specs.Contents.{ModuleContents, ChannelContents}
+use Rattle.bytecode.specs.Isolated.{channel_label, seen_of}
 
--- the label and the name of a channel of a list, by its number; a number that is not there has the least label and no name
-abbrev pub label_in : Option ChannelContents → Label
-label_in None = []
-label_in (Some channel) = channel.label
-
+-- the name of a channel of a list, by its number; a number that is not there has none
 abbrev pub name_in : Option ChannelContents → List ℕ
 name_in None = []
 name_in (Some channel) = channel.name
 
--- the label of a channel of a module
-abbrev pub label_of : ModuleContents → ℕ → Label
-label_of whole channel = label_in (slice_get whole.channels channel)
-
 -- whether a pair is shown: it is on a channel that the observer may read, or there is no observer
 abbrev pub is_shown : ModuleContents → Option ℕ → Pair → Bool
 is_shown whole None pair = true
-is_shown whole (Some observer) pair = may_read whole.hierarchy observer (label_of whole pair.channel)
+is_shown whole (Some observer) pair = may_read whole.hierarchy observer (channel_label whole pair.channel)
 
 -- the pairs that are shown: what the observer sees, or all where there is none
 abbrev pub shown : ModuleContents → Option ℕ → List Pair → List Pair
 shown whole None sent = sent
-shown whole (Some observer) sent = seen whole.hierarchy (label_of whole) observer sent
+shown whole (Some observer) sent = seen_of whole observer sent
 
 -- whom an observer's name stands for, by the number of the principal; without a name no one observes
 abbrev pub IsObserver : PrincipalHierarchy → Option (List ℕ) → Option ℕ → Type 0

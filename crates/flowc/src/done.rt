@@ -1,3 +1,4 @@
+ghost use Rattle.channels.specs.Sink.{AppendsBeginning};
 ghost use Rattle.compiler.specs.Built.{IsAccepted, IsCompiled};
 ghost use Rattle.flowc.specs.Built.{HoldsProgram, IsBuilt, bytes_at};
 ghost use Rattle.flowc.specs.Shown.{Shows};
@@ -103,6 +104,7 @@ fn check<O: Sink>(
     ensures status { IfOk result (λ ended. ended.status ≡ 0) }
     ensures shown { OnOk result (Appends (O.taken out.old) (O.taken out.new) (codes "ok\n")) }
     ensures quiet { IfErr result (λ trouble. status_of_trouble trouble ≡ 1 → O.taken out.old ≡ O.taken out.new) }
+    ensures some { IfErr result (λ trouble. status_of_trouble trouble ≡ 3 → AppendsBeginning (O.taken out.old) (O.taken out.new) (codes "ok\n")) }
 {
     let _code = build(alloc, hierarchy, source)?;
     write_whole(out, b"ok\n")?;

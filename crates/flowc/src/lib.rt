@@ -2,6 +2,7 @@
 #![tactic(auto)]
 
 mod done;
+pub mod laws;
 mod request;
 mod running;
 #[cfg(test)]
@@ -15,5 +16,6 @@ mod words;
 
 pub use compiler::{Cause, Fault, Text, compile};
 pub use done::{Done, perform};
+pub use host::{Answer, Event, Host, HostFault, Id, PLACES};
 pub use request::{MOST_STEPS, Task, TaskFault, USUAL_STEPS};
 pub use words::task;

@@ -6,11 +6,11 @@ ghost use Rattle.bytecode.specs.Format.{module_file};
 ghost use Rattle.bytecode.specs.Machine.{Running, first_state};
 ghost use Rattle.channels.specs.World.{input_names};
 ghost use Rattle.channels.specs.WorldText.{IsWorldText, lines_of, world_of};
-ghost use Rattle.flowc.specs.Shown.{CannotRun, ShowsRun, numbers_in};
+ghost use Rattle.flowc.specs.Shown.{CannotRun, ShowsRun, ShowsSome, numbers_in};
 ghost use Rattle.flowc.specs.Task.{status_of_trouble, status_told};
 ghost use Rattle.flowc.specs.View.{IsObserver};
 ghost use Rattle.machine.specs.Run.{machine_of};
-ghost use Rattle.std.specs.Prelude.{◌≡◌, IfErr, IfOk, IsUtf8, ℕ, OnOk, Option, option_map};
+ghost use Rattle.std.specs.Prelude.{◌≡◌, IfErr, IfOk, IsUtf8, ℕ, OnErr, OnOk, Option, option_map};
 ghost use Rattle.verifier.specs.Faults.{HasNoFault};
 
 use crate::told::{fault_line, observer_line, refusal_line, world_line};
@@ -47,6 +47,7 @@ pub fn run<O: Sink>(
     out: &mut O,
 ) -> Result<Ended, Trouble>
     ensures shown { IfOk result (λ ended. ShowsRun code.entry.bytes.now world.entry.bytes.now (option_map (λ name. name.now) observer.entry) steps ended.status (O.taken out.old) (O.taken out.new)) }
+    ensures some { OnErr result (ShowsSome code.entry.bytes.now world.entry.bytes.now (option_map (λ name. name.now) observer.entry) steps (O.taken out.old) (O.taken out.new)) }
     ensures refused { IfErr result (λ trouble. status_of_trouble trouble ≡ 1 → CannotRun code.entry.bytes.now world.entry.bytes.now (option_map (λ name. name.now) observer.entry)) }
     ensures quiet { IfErr result (λ trouble. status_of_trouble trouble ≡ 1 → O.taken out.old ≡ O.taken out.new) }
 {

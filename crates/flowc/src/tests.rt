@@ -130,6 +130,43 @@ fn tells_faults_of_modules(rt: HostRuntime) -> Result<(), Fail> {
 }
 
 #[test]
+fn tells_pairs_that_do_not_ascend(rt: HostRuntime) -> Result<(), Fail> {
+    // Alice acts for Bob, and once more.
+    let twice = [0, 0, 0, 2, 0, 0, 0, 0, 0, 0, 0, 1, 0, 0, 0, 0, 0, 0, 0, 1];
+    let mut module = Vec::from_slice(rt.alloc(), &BOTH[..28])?;
+    module.extend_from_slice(&twice)?;
+    module.extend_from_slice(&BOTH[32..])?;
+    let outcome = run_of(rt.alloc(), &module, b"", "9")?;
+    assert_eq!(rt;
+        outcome.err.as_slice(),
+        b"m.flob:40: 805 not canonical\n".as_slice()
+    );
+    Ok(())
+}
+
+#[test]
+fn tells_faults_of_codes(rt: HostRuntime) -> Result<(), Fail> {
+    // ADD where there is nothing to add.
+    let mut adds = SEVEN;
+    adds[67] = 16;
+    let added = run_of(rt.alloc(), &adds, b"", "9")?;
+    assert_eq!(rt;
+        added.err.as_slice(),
+        b"m.flob:0:10: 813 operand depth\n".as_slice()
+    );
+    // The code without its last instruction.
+    let mut ends = Vec::from_slice(rt.alloc(), &SEVEN[..67])?;
+    ends[56] = 10;
+    ends.extend_from_slice(&SEVEN[68..])?;
+    let ended = run_of(rt.alloc(), &ends, b"", "9")?;
+    assert_eq!(rt;
+        ended.err.as_slice(),
+        b"m.flob:0:10: 815 falls off the end\n".as_slice()
+    );
+    Ok(())
+}
+
+#[test]
 fn tells_faults_of_worlds(rt: HostRuntime) -> Result<(), Fail> {
     let cases: [(&[u8], &str); 5] = [
         (b"q", "w.txt:1: 851 syntax\n"),
@@ -214,6 +251,13 @@ fn tests_the_module_and_the_world_before_the_observer(rt: HostRuntime) -> Result
         assert_eq!(rt; outcome.status, 1);
     }
     Ok(())
+}
+
+#[test]
+fn laws_take_no_time_and_no_memory(_rt: HostRuntime) {
+    laws::sessions_mean_the_source();
+    laws::sessions_are_isolated();
+    laws::observers_are_told_nothing();
 }
 
 #[test]

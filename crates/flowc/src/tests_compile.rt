@@ -227,12 +227,16 @@ fn tells_faults_of_ends_and_labels(rt: HostRuntime) -> Result<(), Fail> {
     let secret = format!(in alloc;
         "{CHANNELS}void main() throws (End{{Alice:}}) {{ int{{Alice:}} x = receive s; send pub, x + 1; }}"
     )?;
-    let cases: [(&str, &str); 4] = [
+    let kept = format!(in alloc;
+        "{CHANNELS}void main() throws (End{{Alice:}}) {{ int{{Alice:}} x = 1; send pub, x; }}"
+    )?;
+    let cases: [(&str, &str); 5] = [
         (
             "input{} q; void main() { receive q; }",
             "s.flow:1:17: 503 exception not declared\n",
         ),
         (secret.as_str(), "s.flow:2:63: 601 flow not allowed\n"),
+        (kept.as_str(), "s.flow:2:55: 601 flow not allowed\n"),
         // A fault of names comes before one of ends, and that one before one of labels.
         (
             "input{} q; void main() { receive q; send q, x; }",

@@ -1,9 +1,10 @@
 //! What of the pairs that were sent is shown, and to whom.
 
+ghost use Rattle.channels.specs.Sink.{AppendsBeginning};
 ghost use Rattle.flowc.specs.Task.{status_of_trouble};
 ghost use Rattle.flowc.specs.View.{is_shown, name_in, pair_line, shown, view_text};
 ghost use Rattle.std.specs.Io.KnownBytes.{Appends};
-ghost use Rattle.std.specs.Prelude.{◌≡◌, IfErr, IfOk, OnOk, slice_get};
+ghost use Rattle.std.specs.Prelude.{◌≡◌, IfErr, IfOk, OnErr, OnOk, slice_get};
 ghost use Rattle.std.specs.String.{string_bytes};
 
 use crate::trouble::Trouble;
@@ -53,6 +54,7 @@ pub fn write_view<O: Sink>(
     out: &mut O,
 ) -> Result<(), Trouble>
     ensures failed { IfErr result (λ trouble. status_of_trouble trouble ≡ 3) }
+    ensures beginning { OnErr result (AppendsBeginning (O.taken out.old) (O.taken out.new) (view_text whole.now (shown whole.now observer pairs.now))) }
     ensures view { OnOk result (Appends (O.taken out.old) (O.taken out.new) (view_text whole.now (shown whole.now observer pairs.now))) }
 {
     for pair in pairs {

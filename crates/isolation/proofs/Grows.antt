@@ -1,9 +1,9 @@
 -- What was sent stays sent: each outcome's list is begun by the list of the state in which the statement began.
-use Rattle.std.proofs.Common.{◌≡◌, refl, ◌∙◌, sym, ap, ℕ, zero, suc, Bool, true, false, List, [], ◌∷◌, ◌++◌, append_assoc}
+use Rattle.std.proofs.Common.{◌≡◌, refl, ◌∙◌, ℕ, zero, suc, Bool, true, false, List, [], ◌∷◌}
 use Rattle.std.specs.Prelude.{Option, Some, None, if◌then◌else◌, ◌==◌, ℤ}
 use Rattle.std.proofs.lemmas.List.{append-nil}
-use Rattle.labels.specs.declared.sent.Pair.{Pair}
 use Rattle.labels.specs.Sent.{Begins}
+use Rattle.labels.proofs.Begins.{Begins-through}
 use Rattle.resolved.specs.declared.expression.Variable.{Variable}
 use Rattle.resolved.specs.declared.expression.Variable.TheVariants.{Global, Local}
 use Rattle.resolved.specs.declared.expression.Value.{Value}
@@ -14,13 +14,6 @@ use Rattle.resolved.specs.Program.{Program, procedure_at}
 use Rattle.resolved.specs.Value.{Evaluated, Gives, Raises, number_in, truth_in, checked_index}
 use Rattle.resolved.specs.State.{State, with_cells, assigned, stored, cleared, value_of, values_of, updated}
 use Rattle.resolved.specs.Meaning.{Deep, OutOfTurns, Outcome, Ended, Stopped, normally, thrown, after, evaluated, looped, turns, caught, kept_in, received, sending, leaving, returned_to, Calls, statement_meaning, block_meaning, handlers_meaning, frame_of, calls_with, state_after}
-
-pub Begins-itself : (xs : List Pair) → Begins xs xs
-Begins-itself xs = ([], append-nil xs)
-
-pub Begins-through : (xs ys zs : List Pair) → Begins xs ys → Begins ys zs → Begins xs zs
-Begins-through xs ys zs first second =
-    (first.0 ++ second.0, sym (append_assoc xs first.0 second.0) ∙ ap (λ l. l ++ second.0) first.1 ∙ second.1)
 
 -- from a state on, an outcome has only sent more
 pub record Grows (s : State) (o : Outcome) : Type 0 where

@@ -11,7 +11,8 @@ use Rattle.resolved.specs.Value.{Evaluated, Gives, Raises, truth_in}
 use Rattle.resolved.specs.State.{State, value_of, values_of}
 use Rattle.resolved.specs.Meaning.{Deep, OutOfTurns, Outcome, Ended, Stopped, normally, thrown, after, evaluated, looped, turns, caught, leaving, returned_to, Calls, statement_meaning, block_meaning, handlers_meaning, frame_of, calls_with, state_after}
 use Rattle.isolation.specs.Runs.{GoesOn}
-use Rattle.isolation.proofs.Grows.{Begins-itself, Grows, CallsGrow, grows-after, grows-looped, grows-turns, grows-caught, grows-leaving, grows-returned_to, block-grows, handlers-grow, calls-grow}
+use Rattle.labels.proofs.Begins.{Begins-itself}
+use Rattle.isolation.proofs.Grows.{Grows, CallsGrow, grows-after, grows-looped, grows-turns, grows-caught, grows-leaving, grows-returned_to, block-grows, handlers-grow, calls-grow}
 
 -- a run and the same run with more turns
 record Longer (o more : Outcome) : Type 0 where

@@ -14,7 +14,8 @@ use Rattle.resolved.specs.Value.{Evaluated, Gives, Raises, truth_in}
 use Rattle.resolved.specs.State.{State}
 use Rattle.resolved.specs.Meaning.{Stop, OutOfTurns, Outcome, Ended, Stopped, normally, thrown, after, evaluated, looped, turns, caught, state_after}
 use Rattle.resolved.specs.Ends.{same_exit, passes}
-use Rattle.isolation.proofs.Grows.{Begins-through, Grows, grows-itself, grows-after, grows-looped, grows-turns, grows-caught}
+use Rattle.labels.proofs.Begins.{Begins-through}
+use Rattle.isolation.proofs.Grows.{Grows, grows-itself, grows-after, grows-looped, grows-turns, grows-caught}
 use Rattle.isolation.proofs.Observer.{View, shown, AgreeFor, agree-across, agree-back}
 use Rattle.isolation.proofs.Values.{Alike, both_give, both_raise, SameIf}
 use Rattle.isolation.proofs.Kept.{Hidden, hidden-weaker, Kept, LoopMarks, kept-after, kept-looped, kept-turn_zero, kept-turn_suc, kept-caught}

@@ -32,7 +32,7 @@ use Rattle.verifier.proofs.Straight.{state_at}
 use Rattle.lowering.specs.Interface.{direction_of, channel_contents}
 use Rattle.lowering.specs.StraightCode.{block_code, procedure_contents, module_of}
 use Rattle.lowering.specs.Kept.{ending_of, MeaningKept, StraightCodeKeepsMeaning}
-use Rattle.lowering.proofs.Sent.{Begins-itself}
+use Rattle.labels.proofs.Begins.{Begins-itself}
 use Rattle.lowering.proofs.Steps.{Leads, leads-through, sent-before, ends-once}
 use Rattle.lowering.proofs.Places.{Stands, stands-front, stands-back}
 use Rattle.lowering.proofs.Rows.{Serves, returns}

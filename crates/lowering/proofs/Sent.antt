@@ -4,6 +4,7 @@ use Rattle.std.specs.Prelude.{if◌then◌else◌, reverse}
 use Rattle.std.proofs.lemmas.List.{append-nil}
 use Rattle.labels.specs.declared.sent.Pair.{Pair}
 use Rattle.labels.specs.Sent.{Begins}
+use Rattle.labels.proofs.Begins.{Begins-itself, Begins-through}
 use Rattle.bytecode.specs.declared.instruction.Arithmetic.{Arithmetic}
 use Rattle.bytecode.specs.declared.instruction.Comparison.{Comparison}
 use Rattle.bytecode.specs.declared.instruction.Instruction.{Instruction}
@@ -14,13 +15,6 @@ use Rattle.bytecode.specs.declared.parts.Slot.TheVariants as slot
 use Rattle.bytecode.specs.declared.parts.Direction.{Direction}
 use Rattle.bytecode.specs.declared.parts.Direction.TheVariants.{Input, Output}
 use Rattle.bytecode.specs.Machine.{Operand, Number, Truth, cell_of, has_kind, element_at, with_element, Frame, Caller, State, Machine, Running, Ended, Stuck, sent_of, Header, Program, arith, bounds, end_of_input, frame_limit, handled, unwound, raised, slot_at, with_slot, with_global, loads, stores, found, loads_element, changes, stores_element, clears, computed, pushes_number, computes, compares, same_truth, matches, drops, negates, inverts, branches, popped, enters, calls, leaves, leaves_without, returns_nothing, leaves_value, gives_back, returns_value, takes, receives, sends, throws, act, acts, step, exec}
-
-pub Begins-itself : (xs : List Pair) → Begins xs xs
-Begins-itself xs = ([], append-nil xs)
-
-pub Begins-through : (xs ys zs : List Pair) → Begins xs ys → Begins ys zs → Begins xs zs
-Begins-through xs ys zs first second =
-    (first.0 ++ second.0, sym (append_assoc xs first.0 second.0) ∙ ap (λ l. l ++ second.0) first.1 ∙ second.1)
 
 -- what was sent before a state begins what a machine has sent
 abbrev Kept : State → Machine → Type 0

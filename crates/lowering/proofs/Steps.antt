@@ -3,7 +3,8 @@ use Rattle.std.proofs.Common.{◌≡◌, ℕ, zero, suc, List, refl, sym, ap, �
 use Rattle.labels.specs.declared.sent.Pair.{Pair}
 use Rattle.labels.specs.Sent.{Begins}
 use Rattle.bytecode.specs.Machine.{Machine, Ended, Ending, Program, sent_of, step, exec}
-use Rattle.lowering.proofs.Sent.{Begins-itself, exec-keeps}
+use Rattle.labels.proofs.Begins.{Begins-itself}
+use Rattle.lowering.proofs.Sent.{exec-keeps}
 
 -- some steps lead from one machine to another
 pub record Leads (p : Program) (from to : Machine) : Type 0 where

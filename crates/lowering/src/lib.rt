@@ -8,3 +8,6 @@ pub mod laws;
 pub mod whole;
 
 pub use whole::emit;
+
+#[cfg(test)]
+mod tests;

@@ -1,5 +1,6 @@
 use Rattle.std.proofs.Common.{◌∙◌, sym}
-use Rattle.flowc.proofs.Views.{all_shown, none_shown, one_hidden, one_shown}
+use Rattle.flowc.proofs.Cut.{on_err}
+use Rattle.flowc.proofs.Views.{all_shown, cut_before, cut_within, none_shown, one_hidden, one_shown}
 use Rattle.flowc.proofs.view.write_view.Goals as goal
 use Rattle.flowc.proofs.view.write_view.Goals.{then-is_seen+in_ok-line+in_ok-write_whole, else-is_seen}
 
@@ -20,3 +21,14 @@ loop-pair-preserved g c = elim c.if-is_seen.branch [
 pub returns-clause-view : goal.returns-clause-view
 returns-clause-view g c =
     all_shown c.args.whole.now c.args.observer c.args.pairs.now _ _ _ c.loop-pair-test.false c.loop-pair.invariant
+
+pub returns-in_err-line-clause-beginning : goal.returns-in_err-line-clause-beginning
+returns-in_err-line-clause-beginning g c =
+    on_err c.from_residual.result _ (cut_before c.args.whole.now c.args.observer c.args.pairs.now c.loop-pair.pair-index _ _ c.loop-pair.invariant)
+
+pub returns-in_err-write_whole-clause-beginning : goal.returns-in_err-write_whole-clause-beginning
+returns-in_err-write_whole-clause-beginning g c =
+    on_err c.from_residual-in_err-write_whole.result _
+    (cut_within c.args.whole.now c.args.observer c.args.pairs.now c.loop-pair.pair-index _ _ _ _ _ c.loop-pair-test.true
+    (sym c.is_seen.ensures ∙ c.if-is_seen.true) (c.as_bytes.ensures.value ∙ c.in_ok-line.ensures)
+    c.loop-pair.invariant c.in_err-write_whole.ensures.beginning)

@@ -1,0 +1,128 @@
+-- What compiled bytes promise, from what is known of compiling, of hosts and of the program.
+use Rattle.std.proofs.Common.{◌≡◌, ℕ, ◌+◌, ◌-◌, ◌≤◌, List, [], ◌∷◌, ◌++◌, Option, Some, None, refl, sym, ap, ◌∙◌, subst, arith, ◌⊎◌, ⊎_elim, inl, inr}
+use Rattle.principals.specs.ActsFor.{PrincipalHierarchy, AllDifferent, HasName}
+use Rattle.principals.proofs.Names.{one_number}
+use Rattle.labels.specs.declared.sent.Pair.{Pair}
+use Rattle.labels.specs.Sent.{Begins}
+use Rattle.labels.proofs.Begins.{Begins-itself, Begins-of-two, Begins-through, seen-begins}
+use Rattle.resolved.specs.Meaning.{sent_by}
+use Rattle.resolved.specs.State.{World}
+use Rattle.bytecode.specs.Contents.{ModuleContents}
+use Rattle.bytecode.specs.Form.{Fits, Spells}
+use Rattle.bytecode.specs.Format.{contents, hierarchy, module_file}
+use Rattle.bytecode.specs.Isolated.{Agree, IsIsolated, OneBegins, channel_label, seen_of}
+use Rattle.bytecode.proofs.Facts.{principals-different}
+use Rattle.bytecode.specs.Machine.{Machine, after_steps, program_of, sent_after, sent_of}
+use Rattle.channels.specs.World.{numbers_of_channel}
+use Rattle.lowering.proofs.Readers.{seen-module}
+use Rattle.lowering.proofs.Sent.{exec-keeps}
+use Rattle.machine.proofs.Told.{exec_more}
+use Rattle.machine.specs.declared.status.Status.{Status}
+use Rattle.compiler.specs.Built.{IsCompiled}
+use Rattle.host.specs.Laws as sessions
+use Rattle.flowc.specs.Promises.{ObserversAreToldNothing, RunsShowThemselves, SessionsAreIsolated, SessionsShowNoLess, SessionsShowNoMore, module_in, program_in, seen_by}
+use Rattle.flowc.specs.Shown.{numbers_in, text_shown}
+use Rattle.flowc.specs.Task.{status_told}
+use Rattle.flowc.specs.View.{IsObserver, view_text}
+use Rattle.flowc.proofs.Views.{view_text-append}
+
+-- ---- sessions
+
+-- what was sent stays sent
+sent-grows : (m : ModuleContents) (numbers : World) (i j : ℕ) → i ≤ j → Begins (sent_after m numbers i) (sent_after m numbers j)
+sent-grows m numbers i j h =
+    let whole : j ≡ i + (j - i) = omega (arith, h) in
+    subst (λ (x : Machine). Begins (sent_after m numbers i) (sent_of x)) (exec_more (program_of m) i (j - i) j _ whole)
+    (exec-keeps (program_of m) (j - i) (after_steps m numbers i))
+
+pub no_more : sessions.SessionsAreFreshRuns → SessionsShowNoMore
+no_more fresh said source code compiled world p pairs shows =
+    let m = module_in compiled in
+    let program = program_in compiled in
+    let numbers = numbers_of_channel m world in
+    let n = sessions.steps_of code world p pairs shows in
+    let sees = seen-module program m compiled.code_of.interface p (sent_by program numbers n) in
+    subst (λ (list : List Pair). Begins list (seen_by program p numbers n)) (sym (fresh code world p pairs m compiled.code_of.spelled shows))
+    (subst (λ (list : List Pair). Begins (seen_of m p (sent_after m numbers n)) list) sees
+    (seen-begins m.hierarchy (channel_label m) p (sent_after m numbers n) (sent_by program numbers n) (compiled.code_of.kept.no_more numbers n)))
+
+pub no_less : sessions.SessionsAreFreshRuns → SessionsShowNoLess
+no_less fresh said source code compiled world p turns =
+    let m = module_in compiled in
+    let program = program_in compiled in
+    let numbers = numbers_of_channel m world in
+    let some = compiled.code_of.kept.no_less numbers turns in
+    let sent = sent_by program numbers turns in (
+      some.0,
+      λ pairs shows enough.
+          let n = sessions.steps_of code world p pairs shows in
+          let later = Begins-through sent (sent_after m numbers some.0) (sent_after m numbers n) some.1 (sent-grows m numbers some.0 n enough) in
+          subst (λ (list : List Pair). Begins (seen_by program p numbers turns) list) (sym (fresh code world p pairs m compiled.code_of.spelled shows))
+          (subst (λ (list : List Pair). Begins list (seen_of m p (sent_after m numbers n))) (seen-module program m compiled.code_of.interface p sent)
+          (seen-begins m.hierarchy (channel_label m) p sent (sent_after m numbers n) later)),
+    )
+
+pub isolated : sessions.SessionsAreIsolated → SessionsAreIsolated
+isolated law said source code compiled p first second agree pairs others shown other_shown =
+    law code (module_in compiled) compiled.code_of.spelled compiled.code_of.isolated p first second agree pairs others shown other_shown
+
+-- ---- the program
+
+-- the text of a list begins that of a list that it begins
+view-begins : (m : ModuleContents) (xs ys : List Pair) → Begins xs ys → Begins (view_text m xs) (view_text m ys)
+view-begins m xs ys b = (view_text m b.0, sym (view_text-append m xs b.0) ∙ ap (view_text m) b.1)
+
+views-begin : (m : ModuleContents) (xs ys : List Pair) → OneBegins xs ys → OneBegins (view_text m xs) (view_text m ys)
+views-begin m xs ys one = ⊎_elim (λ (b : Begins xs ys). inl (view-begins m xs ys b)) (λ (b : Begins ys xs). inr (view-begins m ys xs b)) one
+
+-- an observer with a name is told no end
+no_end_told : (h : PrincipalHierarchy) (name : List ℕ) (principal : Option ℕ) (end : Status) → IsObserver h (Some name) principal → status_told principal end ≡ 0
+no_end_told h name None end is = absurd is
+no_end_told h name (Some p) end is = refl
+
+-- the principals of a module that has a spelling have different names
+names_differ : (m : ModuleContents) → Fits module_file m → AllDifferent m.hierarchy.names
+unfolding module_file contents hierarchy
+names_differ m fits = principals-different m.hierarchy.names fits.0.0.0.0
+
+-- what an isolated module shows to the principal of a name in two runs
+texts_begin : (m : ModuleContents) → Fits module_file m → IsIsolated m → (name first second : List ℕ)
+    → ((p : ℕ) → HasName m.hierarchy p name → Agree m p (numbers_in m first) (numbers_in m second))
+    → (w v : ModuleContents) → w ≡ m → v ≡ m → (p q : Option ℕ) → IsObserver w.hierarchy (Some name) p → IsObserver v.hierarchy (Some name) q
+    → (i j : ℕ) → OneBegins (text_shown w first p i) (text_shown v second q j)
+texts_begin m fits isolated_module name first second agree w v e f None q is also i j = absurd is
+texts_begin m fits isolated_module name first second agree w v e f (Some p) None is also i j = absurd also
+texts_begin m fits isolated_module name first second agree w v e f (Some p) (Some q) is also i j =
+    let called = subst (λ (x : ModuleContents). HasName x.hierarchy p name) e is in
+    let called_too = subst (λ (x : ModuleContents). HasName x.hierarchy q name) f also in
+    let same : p ≡ q = one_number m.hierarchy.names (names_differ m fits) p q name called called_too in
+    subst (λ (x : ModuleContents). OneBegins (text_shown x first (Some p) i) (text_shown v second (Some q) j)) (sym e)
+    (subst (λ (x : ModuleContents). OneBegins (text_shown m first (Some p) i) (text_shown x second (Some q) j)) (sym f)
+    (subst (λ (n : ℕ). OneBegins (text_shown m first (Some p) i) (text_shown m second (Some n) j)) same
+    (views-begin m (seen_of m p (sent_after m (numbers_in m first) i)) (seen_of m p (sent_after m (numbers_in m second) j))
+    (isolated_module p (numbers_in m first) (numbers_in m second) (agree p called) i j))))
+
+pub shows_itself : RunsShowThemselves
+shows_itself code world name steps status old new run = (
+  run.told ∙ no_end_told run.whole.hierarchy name run.principal run.end run.can_run.observed,
+  record {
+    whole = run.whole;
+    principal = run.principal;
+    taken = run.taken;
+    can_run = run.can_run;
+    within = run.within;
+    begins = Begins-itself (text_shown run.whole world run.principal run.taken);
+  },
+)
+
+-- bytes spell one module at most
+module _ (one : (m n : ModuleContents) (bytes : List ℕ) → Spells module_file m bytes → Spells module_file n bytes → m ≡ n) where
+  pub told_nothing : ObserversAreToldNothing
+  told_nothing said source code compiled name first second agree steps more out other run again =
+      let m = module_in compiled in
+      let same = one run.whole m code run.can_run.spelled compiled.code_of.spelled in
+      let same_again = one again.whole m code again.can_run.spelled compiled.code_of.spelled in
+      Begins-of-two out other (text_shown run.whole first run.principal run.taken) (text_shown again.whole second again.principal again.taken)
+      run.begins again.begins
+      (texts_begin m compiled.code_of.spelled.0 compiled.code_of.isolated name first second agree run.whole again.whole same same_again
+      run.principal again.principal run.can_run.observed again.can_run.observed run.taken again.taken)

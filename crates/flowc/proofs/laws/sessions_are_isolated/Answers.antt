@@ -1,0 +1,5 @@
+use Rattle.flowc.proofs.Promises.{isolated}
+use Rattle.flowc.proofs.laws.sessions_are_isolated.Goals as goal
+
+pub returns : goal.returns
+returns c = isolated c.sessions_are_isolated.ensures

@@ -1,0 +1,30 @@
+//! What is promised of the bytes that two texts are compiled to, from the texts to what a principal is shown. They do nothing
+//! when they are called.
+
+ghost use Rattle.flowc.specs.Promises.{ObserversAreToldNothing, RunsShowThemselves, SessionsAreIsolated, SessionsShowNoLess, SessionsShowNoMore};
+
+/// Sessions of compiled bytes show what the source means: never more than a principal sees of the source, and all of it where
+/// they are let take enough steps.
+pub fn sessions_mean_the_source()
+    ensures no_more { SessionsShowNoMore }
+    ensures no_less { SessionsShowNoLess }
+{
+    host::laws::sessions_are_fresh_runs();
+}
+
+/// Sessions of compiled bytes are isolated: where two are opened on worlds that agree for a principal, by any hosts among any
+/// events, one of what they show to it begins the other.
+pub fn sessions_are_isolated()
+    ensures { SessionsAreIsolated }
+{
+    host::laws::sessions_are_isolated();
+}
+
+/// The program tells an observer nothing of what it may not read: where compiled bytes are run twice for it, on worlds that
+/// agree for it, one of the two texts on standard output begins the other, and a run that is shown to the end has the status 0.
+pub fn observers_are_told_nothing()
+    ensures shown { RunsShowThemselves }
+    ensures isolated { ObserversAreToldNothing }
+{
+    bytecode::laws::one_spelling();
+}
