@@ -1,3 +1,4 @@
 pub mod Refusals
 pub mod Settled
+pub mod Silence
 pub mod Views
