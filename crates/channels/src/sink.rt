@@ -1,7 +1,7 @@
 ghost use Rattle.channels.specs.Sink.{AppendsBeginning, is_failure};
 ghost use Rattle.std.specs.Io.KnownBytes.{Appends, WriteAppends};
 ghost use Rattle.std.specs.Io.{WritesAtMost};
-ghost use Rattle.std.specs.Prelude.{◌≡◌, ◌||◌, ℕ, Bool, IsTrue, List, None, OnErr, OnOk, Option, false};
+ghost use Rattle.std.specs.Prelude.{◌≡◌, ◌||◌, ℕ, Bool, IsErr, IsTrue, List, None, OnErr, OnOk, Option, false};
 
 use std::io;
 use std::io::Write;
@@ -27,7 +27,8 @@ pub trait Sink {
     fn write(&mut self, bytes: &[u8]) -> Result<usize, SinkFault>
         ensures bound { WritesAtMost result bytes.now }
         ensures taken { WriteAppends (taken self.old) (taken self.new) result bytes.now }
-        ensures fails { has_failed self.new ≡ (has_failed self.old || is_failure result bytes.now) };
+        ensures fails { has_failed self.new ≡ (has_failed self.old || is_failure result bytes.now) }
+        ensures stays { IsTrue (has_failed self.old) → IsErr result };
 
     /// Whether a write has failed so far.
     fn failed(&self) -> bool

@@ -1,5 +1,6 @@
 use super::*;
 use bytecode::decode;
+use std::io::Cursor;
 use std::test::Fail;
 
 // Two inputs `q` and `r` with an output `pub` between them, and one procedure that returns at once.
@@ -95,4 +96,18 @@ fn lists_what_was_sent(rt: HostRuntime) -> Result<(), Fail> {
     );
     assert_eq!(rt; input.into_numbers().as_slice(), [4, 2].as_slice());
     Ok(())
+}
+
+// A device over room for two bytes: the write that finds no room is its first failure, and the last thing that it asks for.
+#[test]
+fn a_device_asks_for_nothing_after_a_failure(rt: HostRuntime) {
+    let mut device = Device::new(Cursor::new([0u8; 2]));
+    assert_eq!(rt; device.write(b""), Ok(0));
+    assert!(rt; !device.failed());
+    assert_eq!(rt; device.write(b"abc"), Ok(2));
+    assert!(rt; !device.failed());
+    assert_eq!(rt; device.write(b"c"), Ok(0));
+    assert!(rt; device.failed());
+    assert_eq!(rt; device.write(b"c"), Err(SinkFault));
+    assert_eq!(rt; device.write(b""), Err(SinkFault));
 }

@@ -2,9 +2,9 @@ ghost use Rattle.channels.specs.Sink.{AppendsBeginning};
 ghost use Rattle.compiler.specs.Built.{IsAccepted, IsCompiled};
 ghost use Rattle.flowc.specs.Built.{HoldsProgram, IsBuilt, bytes_at};
 ghost use Rattle.flowc.specs.Shown.{Shows};
-ghost use Rattle.flowc.specs.Task.{files_of, makes_file, may_end, reads_source, status_of_trouble};
+ghost use Rattle.flowc.specs.Task.{files_of, makes_file, may_end, reads_source, status_of_trouble, tells_no_end};
 ghost use Rattle.std.specs.Io.KnownBytes.{Appends};
-ghost use Rattle.std.specs.Prelude.{◌≡◌, ◌≤◌, ◌<◌, ◌↔◌, IfErr, IfOk, IfSome, IsSome, IsTrue, MatchResult, None, OnOk, codes, length, option_map};
+ghost use Rattle.std.specs.Prelude.{[], ◌≡◌, ◌≤◌, ◌<◌, ◌↔◌, IfErr, IfOk, IfSome, IsSome, IsTrue, MatchResult, None, OnOk, codes, length, option_map};
 ghost use Rattle.std.specs.String.{string_bytes};
 
 use crate::request::Task;
@@ -41,6 +41,7 @@ pub fn perform<O: Sink, E: Sink>(
     ensures accepted { IsTrue (reads_source task.now) → result.status ≡ 0 → HoldsProgram files.now }
     ensures refused { IsTrue (reads_source task.now) → result.status ≡ 1 → ¬ HoldsProgram files.now }
     ensures shown { Shows task.now files.now result.status (O.taken out.old) (O.taken out.new) }
+    ensures untold { IsTrue (tells_no_end task.now) → result.status ≡ 0 → Appends (E.taken err.old) (E.taken err.new) [] }
 {
     let (first, second) = (bytes_of(files, 0), bytes_of(files, 1));
     match task {
@@ -105,6 +106,7 @@ fn check<O: Sink>(
     ensures shown { OnOk result (Appends (O.taken out.old) (O.taken out.new) (codes "ok\n")) }
     ensures quiet { IfErr result (λ trouble. status_of_trouble trouble ≡ 1 → O.taken out.old ≡ O.taken out.new) }
     ensures some { IfErr result (λ trouble. status_of_trouble trouble ≡ 3 → AppendsBeginning (O.taken out.old) (O.taken out.new) (codes "ok\n")) }
+    ensures untold { IfOk result (λ ended. string_bytes ended.line ≡ []) }
 {
     let _code = build(alloc, hierarchy, source)?;
     write_whole(out, b"ok\n")?;
@@ -137,6 +139,7 @@ fn build(alloc: Global, hierarchy: File<'_>, source: File<'_>) -> Result<Vec<u8>
 fn ended<E: Sink>(outcome: Result<Ended, Trouble>, err: &mut E) -> Done
     ensures code { result.code ≡ None }
     ensures status { MatchResult outcome (λ ended. result.status ≡ ended.status) (λ trouble. result.status ≡ status_of_trouble trouble) }
+    ensures said { IfOk outcome (λ ended. AppendsBeginning (E.taken err.old) (E.taken err.new) (string_bytes ended.line)) }
 {
     let (status, line) = match &outcome {
         Ok(ended) => (ended.status, ended.line.as_str()),
@@ -150,6 +153,7 @@ fn ended<E: Sink>(outcome: Result<Ended, Trouble>, err: &mut E) -> Done
 fn left<E: Sink>(built: Result<Vec<u8>, Trouble>, err: &mut E) -> Done
     ensures code { MatchResult built (λ code. result.code ≡ Some code) (λ _. result.code ≡ None) }
     ensures status { MatchResult built (λ _. result.status ≡ 0) (λ trouble. result.status ≡ status_of_trouble trouble) }
+    ensures said { OnOk built (E.taken err.new ≡ E.taken err.old) }
 {
     match built {
         Ok(code) => Done {

@@ -10,7 +10,8 @@ ghost use Rattle.flowc.specs.Shown.{CannotRun, ShowsRun, ShowsSome, numbers_in};
 ghost use Rattle.flowc.specs.Task.{status_of_trouble, status_told};
 ghost use Rattle.flowc.specs.View.{IsObserver};
 ghost use Rattle.machine.specs.Run.{machine_of};
-ghost use Rattle.std.specs.Prelude.{◌≡◌, IfErr, IfOk, IsUtf8, ℕ, OnErr, OnOk, Option, option_map};
+ghost use Rattle.std.specs.Prelude.{[], ◌≡◌, IfErr, IfOk, IsSome, IsUtf8, ℕ, OnErr, OnOk, Option, codes, option_map};
+ghost use Rattle.std.specs.String.{string_bytes};
 ghost use Rattle.verifier.specs.Faults.{HasNoFault};
 
 use crate::told::{fault_line, observer_line, refusal_line, world_line};
@@ -50,6 +51,7 @@ pub fn run<O: Sink>(
     ensures some { OnErr result (ShowsSome code.entry.bytes.now world.entry.bytes.now (option_map (λ name. name.now) observer.entry) steps (O.taken out.old) (O.taken out.new)) }
     ensures refused { IfErr result (λ trouble. status_of_trouble trouble ≡ 1 → CannotRun code.entry.bytes.now world.entry.bytes.now (option_map (λ name. name.now) observer.entry)) }
     ensures quiet { IfErr result (λ trouble. status_of_trouble trouble ≡ 1 → O.taken out.old ≡ O.taken out.new) }
+    ensures untold { IfOk result (λ ended. IsSome observer.entry → string_bytes ended.line ≡ []) }
 {
     let mut machine = started(alloc, code, world)?;
     let principal = principal_of(alloc, machine.module().hierarchy(), observer)?;
@@ -152,6 +154,7 @@ fn told_end(
 ) -> Result<Ended, Trouble>
     ensures told { IfOk result (λ ended. ended.status ≡ status_told observer status) }
     ensures memory { IfErr result (λ trouble. status_of_trouble trouble ≡ 3) }
+    ensures untold { IfOk result (λ ended. IsSome observer → string_bytes ended.line ≡ []) }
 {
     if observer.is_some() {
         return Ok(Ended {
@@ -173,7 +176,11 @@ fn told_end(
 }
 
 // The name of an exception: of one that every program has, or of a declared one.
-fn exception_name(whole: &Module, exception: u32) -> &str {
+fn exception_name(whole: &Module, exception: u32) -> &str
+    ensures arith { exception ≡ 0 → result.now ≡ codes "Arith" }
+    ensures bounds { exception ≡ 1 → result.now ≡ codes "Bounds" }
+    ensures end { exception ≡ 2 → result.now ≡ codes "End" }
+{
     match exception {
         0 => "Arith",
         1 => "Bounds",

@@ -1,9 +1,12 @@
 ghost use Rattle.std.specs.Prelude.{true};
 
 use super::*;
+use crate::told::{defect_words, refusal_words};
+use bytecode::Refusal;
 use channels::{Device, Sink, SinkFault};
 use std::alloc::Global;
 use std::test::Fail;
+use verifier::Defect;
 
 // The module that sends 7 on its only channel, the output `pub`, and ends.
 const SEVEN: [u8; 76] = [
@@ -262,7 +265,7 @@ fn laws_take_no_time_and_no_memory(_rt: HostRuntime) {
 
 #[test]
 fn has_a_number_and_words_for_each_cause(rt: HostRuntime) -> Result<(), Fail> {
-    let causes: [(Cause, u32, &str); 19] = [
+    let causes: [(Cause, u32, &str); 23] = [
         (Cause::NotUtf8, 100, "not UTF-8"),
         (Cause::NoToken, 101, "no token"),
         (Cause::LiteralTooLarge, 102, "literal too large"),
@@ -278,7 +281,11 @@ fn has_a_number_and_words_for_each_cause(rt: HostRuntime) -> Result<(), Fail> {
         (Cause::UnknownPrincipalInLabel, 303, "unknown principal"),
         (Cause::NoProperMain, 304, "no proper main"),
         (Cause::WrongUse, 403, "wrong use"),
+        (Cause::Unreachable, 501, "unreachable"),
+        (Cause::NoValueReturned, 502, "no value returned"),
         (Cause::ExceptionNotDeclared, 503, "exception not declared"),
+        (Cause::NeverRaised, 504, "never raised"),
+        (Cause::OutsideLoop, 505, "not in a loop"),
         (Cause::FlowNotAllowed, 601, "flow not allowed"),
         (Cause::TextTooLong, 701, "text too long"),
         (Cause::TooManyCells, 704, "too many cells"),
@@ -288,4 +295,30 @@ fn has_a_number_and_words_for_each_cause(rt: HostRuntime) -> Result<(), Fail> {
         assert_eq!(rt; format!(in rt.alloc(); "{cause}")?.as_str(), words);
     }
     Ok(())
+}
+
+#[test]
+fn has_a_number_and_words_for_each_defect_of_a_module(rt: HostRuntime) {
+    let refusals = [
+        (Refusal::Magic, 801, "magic"),
+        (Refusal::Version, 802, "version"),
+        (Refusal::Short, 803, "short"),
+        (Refusal::BadValue, 804, "bad value"),
+        (Refusal::NotCanonical, 805, "not canonical"),
+        (Refusal::Trailing, 806, "trailing bytes"),
+    ];
+    for (refusal, number, words) in refusals {
+        assert_eq!(rt; refusal.number(), number);
+        assert_eq!(rt; refusal_words(refusal), words);
+    }
+    let defects = [
+        (Defect::Jump, (811, "jump")),
+        (Defect::OperandKind, (812, "operand kind")),
+        (Defect::OperandDepth, (813, "operand depth")),
+        (Defect::SlotOrIndex, (814, "slot or index")),
+        (Defect::FallsOffEnd, (815, "falls off the end")),
+    ];
+    for (defect, told) in defects {
+        assert_eq!(rt; defect_words(defect), told);
+    }
 }

@@ -145,6 +145,39 @@ fn tells_faults_in_words(rt: HostRuntime) -> Result<(), Fail> {
     Ok(())
 }
 
+#[test]
+fn has_words_for_each_refusal_and_each_defect(rt: HostRuntime) -> Result<(), Fail> {
+    let refusals = [
+        (Refusal::Magic, "magic"),
+        (Refusal::Version, "version"),
+        (Refusal::Short, "short"),
+        (Refusal::BadValue, "bad value"),
+        (Refusal::NotCanonical, "not canonical"),
+        (Refusal::Trailing, "trailing bytes"),
+    ];
+    for (refusal, words) in refusals {
+        let told = format!(in rt.alloc(); "{}", HostFault::Bytes(refusal, 0))?;
+        assert_eq!(rt; told.as_str(), words);
+    }
+    let defects = [
+        (Defect::Jump, "jump"),
+        (Defect::OperandKind, "operand kind"),
+        (Defect::OperandDepth, "operand depth"),
+        (Defect::SlotOrIndex, "slot or index"),
+        (Defect::FallsOffEnd, "falls off the end"),
+    ];
+    for (defect, words) in defects {
+        let fault = Fault {
+            defect,
+            procedure: 0,
+            offset: 0,
+        };
+        let told = format!(in rt.alloc(); "{}", HostFault::Code(fault))?;
+        assert_eq!(rt; told.as_str(), words);
+    }
+    Ok(())
+}
+
 // Twelve events of all kinds, or none where memory is refused.
 fn list_events(alloc: Global) -> Option<Vec<Event>> {
     let bytes = Vec::from_slice(alloc, &MODULE).ok()?;

@@ -1,6 +1,8 @@
-use Rattle.std.proofs.Common.{◌∙◌, sym}
+use Rattle.std.proofs.Common.{◌≡◌, ◌∙◌, [], sym}
 use Rattle.flowc.specs.declared.running.Ended.{Ended}
 use Rattle.flowc.proofs.Refusals.{run_shows}
+use Rattle.std.specs.String.{string_bytes}
+use Rattle.flowc.proofs.Silence.{given_now, kept_is_nothing, observer_is_some, run_is_observed, untold_at_zero}
 use Rattle.flowc.proofs.Settled.{accepted_along, held_at_zero, ok_is_zero, refused_at_one}
 use Rattle.flowc.proofs.done.perform.Goals as goal
 
@@ -35,3 +37,18 @@ returns-in-Build-clause-refused g c = λ source one holds.
     c.build-built.ensures.refused (ok_is_zero c.build-built.result) c.left.ensures.status one
     (accepted_along _ _ _ _ (sym (c.named-in-Build.ensures ∙ c.bytes_of-first.ensures))
     (sym (c.named-in-Build-2.ensures ∙ c.bytes_of-second.ensures)) holds)
+
+pub returns-in-Run-clause-untold : goal.returns-in-Run-clause-untold
+returns-in-Run-clause-untold g c = λ none zero.
+    untold_at_zero _ _ c.run.result (λ (ended : Ended). string_bytes ended.line) (λ (ended : Ended). ended.status) c.ended-in-Run.result.status
+    (given_now (λ (ended : Ended). string_bytes ended.line ≡ []) c.run.result (observer_is_some _ _ c.name_of.result _ c.name_of.ensures (run_is_observed _ _ _ _ _ c.in-Run.is none)) c.run.ensures.untold)
+    c.ended-in-Run.ensures.said c.ended-in-Run.ensures.status zero
+
+pub returns-in-Check-clause-untold : goal.returns-in-Check-clause-untold
+returns-in-Check-clause-untold g c = λ none zero.
+    untold_at_zero _ _ c.check-checked.result (λ (ended : Ended). string_bytes ended.line) (λ (ended : Ended). ended.status) c.ended.result.status
+    c.check-checked.ensures.untold c.ended.ensures.said c.ended.ensures.status zero
+
+pub returns-in-Build-clause-untold : goal.returns-in-Build-clause-untold
+returns-in-Build-clause-untold g c = λ none zero.
+    kept_is_nothing _ _ (held_at_zero _ (λ code. 0) c.build-built.result c.left.result.status c.left.ensures.said c.left.ensures.status zero)
