@@ -1,17 +1,17 @@
 -- The phases of a check together: what they tell of a source, by its one tree.
-use Rattle.std.proofs.Common.{◌≡◌, ℕ, ◌≤◌, List, [], Option, Some, None, length, sym, subst, IsTrue}
+use Rattle.std.proofs.Common.{◌≡◌, ℕ, ◌≤◌, List, [], Some, None, length, sym, subst, IsTrue}
 use Rattle.std.specs.Prelude.{All}
 use Rattle.std.specs.Str.{IsUtf8, IsCharBoundary}
-use Rattle.std.proofs.lemmas.Str.{IsCharBoundary-start, is_utf8-from_IsUtf8}
+use Rattle.std.proofs.lemmas.Str.{IsCharBoundary-start}
 use Rattle.principals.specs.ActsFor.{PrincipalHierarchy}
 use Rattle.syntax.specs.Tree.{ProgramTree}
-use Rattle.syntax.specs.Written.{IsWritten, procedures_of}
+use Rattle.syntax.specs.Written.{IsWritten}
 use Rattle.resolved.specs.Program.{Program}
 use Rattle.resolved.specs.EndFaults.{EndFault, end_faults}
-use Rattle.resolved.specs.Labelled.{Demand, Labelling, Labelled, program_demands}
+use Rattle.resolved.specs.Labelled.{Labelling, Labelled}
 use Rattle.resolved.specs.StraightLine.{is_straight_line}
 use Rattle.resolved.specs.WellFormed.{well_formed}
-use Rattle.types.specs.FirstFault.{Fault, first_fault, IsTold}
+use Rattle.types.specs.FirstFault.{first_fault, IsTold}
 use Rattle.types.specs.Resolution.{resolved_of}
 use Rattle.types.specs.declared.fault.Refusal.{Refusal}
 use Rattle.types.specs.declared.fault.TypeFault.{TypeFault}
@@ -19,7 +19,7 @@ use Rattle.types.specs.declared.fault.TypeFault.TheVariants as type_faults
 use Rattle.types.proofs.Places.{fault_place_fits, places}
 use Rattle.types.proofs.Straight.{straight_line}
 use Rattle.checker.specs.Accepted.{greatest_source, IsTreeOf, IsAccepted}
-use Rattle.checker.specs.FirstDemand.{first_unmet, Tells, TellsFirstDemand}
+use Rattle.checker.specs.FirstDemand.{TellsFirstDemand}
 use Rattle.checker.specs.FirstFault.{first_of}
 use Rattle.checker.specs.declared.refusal.UnmetDemand.{UnmetDemand}
 use Rattle.checker.specs.declared.refusal.FlowRefusal.TheVariants.{Unmet}

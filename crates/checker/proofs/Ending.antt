@@ -1,13 +1,12 @@
 -- The possible ends of straight-line blocks, and what can be wrong with them.
-use Rattle.std.proofs.Common.{◌≡◌, refl, sym, ap, ◌∙◌, subst, ℕ, List, [], ◌∷◌, ◌++◌, Bool, true, false, not, ◌&&◌, ◌||◌, map, filter, append-nil, arith, flat_map, length}
+use Rattle.std.proofs.Common.{◌≡◌, refl, sym, ap, ◌∙◌, ℕ, List, [], ◌∷◌, Bool, true, false, not, ◌&&◌, ◌||◌, map, append-nil, arith, flat_map, length}
 use Rattle.std.specs.Prelude.{Option, Some, None, is_none, is_some, ◌==◌, if◌then◌else◌}
 use Rattle.std.specs.List.{list_all, list_any}
 use Rattle.std.proofs.lemmas.Bool.Decides.{nat_tests}
 use Rattle.std.proofs.lemmas.Bool.{and_parts}
 use Rattle.resolved.specs.declared.expression.Operator.TheVariants.{Add}
-use Rattle.resolved.specs.declared.expression.Variable.TheVariants.{Local}
 use Rattle.resolved.specs.declared.statement.Exit.{Exit}
-use Rattle.resolved.specs.declared.statement.Exit.TheVariants.{Normal, Return, Break, Continue, Throw}
+use Rattle.resolved.specs.declared.statement.Exit.TheVariants.{Normal, Throw}
 use Rattle.resolved.specs.declared.statement.Statement as S
 use Rattle.resolved.specs.declared.tables.Thrown.{Thrown}
 use Rattle.resolved.specs.declared.tables.Procedure.{Procedure}
@@ -17,14 +16,12 @@ use Rattle.resolved.specs.CoreOf.{program_of}
 use Rattle.resolved.specs.TreeOf.{statement_of, block_of}
 use Rattle.resolved.specs.StraightLine.{is_straight_procedure}
 use Rattle.checker.proofs.Parts.{receives-any, straight_parts}
-use Rattle.resolved.specs.Tree.{Expression, Integer, Logical, Read, Element, Unary, Binary, Short, Statement, Assign, Clear, Store, Receive, Send, Call, If, While, Leave, ReturnWith, Try, Nested, Block, Empty, Then}
-use Rattle.resolved.specs.Program.{Program, ProcedureEntry, ThrownEntry}
+use Rattle.resolved.specs.Tree.{Expression, Integer, Read, Binary, Statement, Assign, Receive, Send, Block, Empty, Then}
+use Rattle.resolved.specs.Program.{Program, ProcedureEntry}
 use Rattle.resolved.specs.Value.{end_exception}
-use Rattle.resolved.specs.Ends.{same_exit, has_end, one_end, raises, thrown_ends, declared_by, then_ends, statement_ends, block_ends}
-use Rattle.resolved.specs.EndFaults.{EndFault, NoValueReturned, Undeclared, fault_unless, may_end, block_faults, procedure_faults, end_faults}
-use Rattle.resolved.specs.Labelled.{as_one_end}
+use Rattle.resolved.specs.Ends.{has_end, raises, thrown_ends, declared_by, then_ends, statement_ends, block_ends}
+use Rattle.resolved.specs.EndFaults.{Undeclared, fault_unless, may_end, block_faults, procedure_faults, end_faults}
 use Rattle.checker.specs.Way.{is_receive, receives, is_sum_of, is_statement_of, is_block_of}
-use Rattle.checker.specs.FirstFault.{first_of}
 
 -- a sum raises nothing
 pub sum-raises : (locals : ℕ) (e : Expression) → is_sum_of locals e ≡ true → raises e ≡ []

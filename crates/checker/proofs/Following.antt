@@ -1,17 +1,16 @@
 -- The demands and the way of a straight-line block, statement by statement.
-use Rattle.std.proofs.Common.{◌≡◌, refl, sym, ap, ◌∙◌, subst, ℕ, zero, suc, ◌+◌, ◌<◌, ◌≤◌, List, [], ◌∷◌, ◌++◌, length, get_or, take, add-one, Bool, true, false, ◌&&◌, arith}
+use Rattle.std.proofs.Common.{◌≡◌, refl, sym, ap, ◌∙◌, subst, ℕ, zero, suc, ◌+◌, ◌<◌, List, [], ◌∷◌, ◌++◌, length, get_or, take, add-one, true, false, arith}
 use Rattle.std.specs.Prelude.{IsTrue, Option, nat_lt}
 use Rattle.std.proofs.lemmas.Bool.Decides.{nat_tests}
 use Rattle.labels.proofs.FlowTests.{flows-itself}
 use Rattle.resolved.specs.declared.expression.Variable.{Variable}
 use Rattle.checker.proofs.Receiving.{stands-behind}
 use Rattle.std.proofs.lemmas.Bool.{and_parts}
-use Rattle.std.proofs.lemmas.List.{take_all}
 use Rattle.principals.specs.ActsFor.{PrincipalHierarchy}
 use Rattle.labels.specs.Label.{Label, flows}
-use Rattle.resolved.specs.declared.statement.Exit.TheVariants.{Normal, Throw}
+use Rattle.resolved.specs.declared.statement.Exit.TheVariants.{Normal}
 use Rattle.resolved.specs.declared.statement.Statement as S
-use Rattle.resolved.specs.Tree.{Expression, Statement, Assign, Clear, Store, Receive, Send, Call, If, While, Leave, ReturnWith, Try, Nested, Block, Empty, Then}
+use Rattle.resolved.specs.Tree.{Statement, Assign, Receive, Send}
 use Rattle.resolved.specs.TreeOf.{statement_of, block_of}
 use Rattle.resolved.specs.Program.{Program, ProcedureEntry}
 use Rattle.resolved.specs.Ends.{thrown_ends}

@@ -1,5 +1,5 @@
 -- The demands on the ends of a procedure.
-use Rattle.std.proofs.Common.{◌≡◌, refl, sym, ap, ◌∙◌, subst, ℕ, zero, suc, ◌+◌, ◌<◌, ◌≤◌, List, [], ◌∷◌, ◌++◌, length, get_or, take, map, flat_map, append-nil, add-one, Bool, true, false, arith}
+use Rattle.std.proofs.Common.{◌≡◌, sym, subst, ℕ, zero, suc, ◌+◌, ◌<◌, ◌≤◌, List, [], ◌∷◌, ◌++◌, length, get_or, take, map, flat_map, add-one, arith}
 use Rattle.std.specs.Prelude.{IsTrue}
 use Rattle.std.proofs.lemmas.List.{take_all}
 use Rattle.principals.specs.ActsFor.{PrincipalHierarchy}
@@ -8,13 +8,13 @@ use Rattle.labels.proofs.FlowTests.{flows-least}
 use Rattle.resolved.specs.declared.statement.Exit.TheVariants.{Normal, Return, Throw}
 use Rattle.resolved.specs.declared.tables.Thrown.{Thrown}
 use Rattle.resolved.specs.Value.{end_exception}
-use Rattle.resolved.specs.Program.{Program, ProcedureEntry, ThrownEntry}
+use Rattle.resolved.specs.Program.{ProcedureEntry, ThrownEntry}
 use Rattle.resolved.specs.ProgramOf.{thrown_entry}
 use Rattle.resolved.specs.Labelled.{Marks, Demand, demand, Fits}
 use Rattle.checker.specs.declared.refusal.LabelRule.TheVariants as rule
 use Rattle.checker.specs.declared.refusal.FlowRefusal.{FlowRefusal}
 use Rattle.checker.specs.FirstDemand.{TellsFirst}
-use Rattle.checker.specs.Way.{TellsPart, StandsFor, StandsForEnds, leaving_demands}
+use Rattle.checker.specs.Way.{TellsPart, StandsForEnds, leaving_demands}
 use Rattle.checker.proofs.Told.{tells-more, tells-demand, fits-demand, fits-both, fits-parts, tells-before, tells-behind, flows-standing}
 
 -- the demands on declared exceptions

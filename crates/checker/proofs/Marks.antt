@@ -1,20 +1,20 @@
 -- The labels of the ends of a straight-line block.
-use Rattle.std.proofs.Common.{◌≡◌, refl, sym, ap, ◌∙◌, subst, ℕ, zero, suc, ◌<◌, List, [], ◌∷◌, ◌++◌, length, map, append-nil, Bool, true, false, not, ◌&&◌, ◌||◌, arith, ⊎_elim}
-use Rattle.std.specs.Prelude.{IsTrue, Contains, ◌==◌, if◌then◌else◌}
-use Rattle.std.specs.List.{list_all, list_any}
+use Rattle.std.proofs.Common.{◌≡◌, refl, sym, ap, ◌∙◌, subst, ℕ, ◌<◌, List, [], ◌∷◌, ◌++◌, length, map, append-nil, Bool, true, false, not, ◌&&◌, ◌||◌, arith, ⊎_elim}
+use Rattle.std.specs.Prelude.{Contains, ◌==◌, if◌then◌else◌}
+use Rattle.std.specs.List.{list_all}
 use Rattle.std.proofs.lemmas.Bool.{and_parts}
 use Rattle.std.proofs.lemmas.Bool.Decides.{nat_tests}
 use Rattle.std.proofs.lemmas.List.Elements.{Contains-append_left, Contains-append_right, Contains-append_cases}
 use Rattle.principals.specs.ActsFor.{PrincipalHierarchy}
-use Rattle.labels.specs.Label.{ReaderPolicy, Label, flows}
+use Rattle.labels.specs.Label.{ReaderPolicy, Label}
 use Rattle.labels.proofs.FlowTests.{flows-through, flows-subset}
 use Rattle.resolved.specs.declared.statement.Exit.{Exit}
-use Rattle.resolved.specs.declared.statement.Exit.TheVariants.{Normal, Return, Break, Continue, Throw}
-use Rattle.resolved.specs.Tree.{Statement, Assign, Clear, Store, Receive, Send, Call, If, While, Leave, ReturnWith, Try, Nested, Block, Empty, Then}
+use Rattle.resolved.specs.declared.statement.Exit.TheVariants.{Normal, Return, Throw}
+use Rattle.resolved.specs.Tree.{Statement, Assign, Receive, Send, Block, Empty, Then}
 use Rattle.resolved.specs.Program.{Program, ProcedureEntry}
 use Rattle.resolved.specs.Value.{end_exception}
-use Rattle.resolved.specs.Ends.{same_exit, has_end, one_end, thrown_ends, statement_ends, block_ends}
-use Rattle.resolved.specs.Labelled.{Labelling, Scope, Marks, Demand, label_if, at_ends, as_one_end, statement_rule, block_rule, statement_marks, block_marks, end_demands}
+use Rattle.resolved.specs.Ends.{same_exit, has_end, one_end, thrown_ends, block_ends}
+use Rattle.resolved.specs.Labelled.{Scope, Marks, Demand, label_if, at_ends, as_one_end, statement_rule, block_rule, statement_marks, block_marks, end_demands}
 use Rattle.checker.specs.Way.{StandsFor, StandsForEnds, leaving_demands, is_receive, receives, way_past, way_through, is_sum_of, is_statement_of, is_block_of}
 use Rattle.checker.proofs.Ending.{sum-raises, ends_of, block-ends}
 use Rattle.checker.proofs.Following.{marks-way}

@@ -1,29 +1,27 @@
 -- What the parts of a straight-line program are.
-use Rattle.std.proofs.Common.{◌≡◌, refl, sym, ap, ◌∙◌, subst, ℕ, zero, suc, ◌<◌, List, [], ◌∷◌, length, Bool, true, false, not, ◌&&◌, ◌||◌, arith, map, nat_lt, get_or}
+use Rattle.std.proofs.Common.{◌≡◌, refl, sym, ap, subst, ℕ, zero, suc, List, [], ◌∷◌, length, Bool, true, false, ◌&&◌, ◌||◌, arith, map, nat_lt, get_or}
 use Rattle.std.proofs.lemmas.List.{length-map}
-use Rattle.std.specs.Prelude.{Option, Some, None, is_none, ◌==◌, slice_get, IsTrue}
+use Rattle.std.specs.Prelude.{Option, Some, None, is_none, ◌==◌, slice_get}
 use Rattle.std.specs.List.{list_all, list_any}
 use Rattle.std.proofs.lemmas.Bool.{and_parts, and_from}
 use Rattle.std.proofs.lemmas.Bool.Decides.{nat_tests}
-use Rattle.std.proofs.lemmas.Option.{slice_get_within}
 use Rattle.resolved.specs.declared.expression.Base.{Base}
-use Rattle.resolved.specs.declared.expression.Base.TheVariants.{Int, Boolean}
+use Rattle.resolved.specs.declared.expression.Base.TheVariants.{Int}
 use Rattle.resolved.specs.declared.expression.Operator.TheVariants.{Add}
-use Rattle.resolved.specs.declared.expression.Variable.{Variable}
-use Rattle.resolved.specs.declared.expression.Variable.TheVariants.{Global, Local}
+use Rattle.resolved.specs.declared.expression.Variable.TheVariants.{Local}
 use Rattle.resolved.specs.declared.tables.Direction.{Direction}
 use Rattle.resolved.specs.declared.statement.Statement as S
 use Rattle.resolved.specs.declared.program.Core.{Core}
 use Rattle.resolved.specs.declared.tables.Procedure.{Procedure}
 use Rattle.resolved.specs.ProgramOf.{channel_entry, slot_entry, procedure_entry}
 use Rattle.resolved.specs.CoreOf.{program_of}
-use Rattle.resolved.specs.Tree.{Expression, Integer, Logical, Read, Element, Unary, Binary, Short, Statement, Assign, Clear, Store, Receive, Send, Call, If, While, Leave, ReturnWith, Try, Nested, Block, Empty, Then}
+use Rattle.resolved.specs.Tree.{Expression, Integer, Read, Binary, Statement, Assign, Receive, Send, Block, Empty, Then}
 use Rattle.resolved.specs.TreeOf.{statement_of, block_of}
 use Rattle.resolved.specs.Program.{Program, ProcedureEntry, SlotEntry, ChannelEntry}
-use Rattle.resolved.specs.WellFormed.{same_base, operand_base, VariableType, slot_type, variable_type, scalar_by, has_base, channel_is, target_by, statement_fits, block_fits, procedure_fits, well_formed}
-use Rattle.resolved.specs.StraightLine.{is_sum, is_local_target, is_straight_statement, is_straight_block, is_labelled_int, is_straight_procedure, is_only_procedure, is_straight_line}
+use Rattle.resolved.specs.WellFormed.{same_base, VariableType, slot_type, scalar_by, has_base, channel_is, target_by, statement_fits, block_fits, procedure_fits, well_formed}
+use Rattle.resolved.specs.StraightLine.{is_sum, is_straight_statement, is_straight_block, is_labelled_int, is_straight_procedure, is_only_procedure, is_straight_line}
 use Rattle.resolved.proofs.Parts.{procedure_parts, program_parts}
-use Rattle.checker.specs.Way.{is_receive, receives, is_sum_of, is_local_of, is_target_of, is_statement_of, is_block_of}
+use Rattle.checker.specs.Way.{is_receive, receives, is_sum_of, is_statement_of, is_block_of}
 
 -- whether there is a receive, by the list of the code
 pub receives-any : (body : List S.Statement) → receives (block_of body) ≡ list_any (λ statement. is_receive (statement_of statement)) body

@@ -1,7 +1,7 @@
 -- Where the faults of a straight-line program's ends and labels stand: at its statements and at its procedure's name.
-use Rattle.std.proofs.Common.{◌≡◌, ◌≢◌, ℕ, List, [], ◌∷◌, ◌++◌, Bool, true, false, Option, Some, None, refl, sym, ap, ◌∙◌, subst, length, not, ◌&&◌, ◌||◌, ◌⊎◌, ⊎_elim, inl, inr, arith}
-use Rattle.std.specs.Prelude.{IsTrue, ◌≤◌, ◌<◌, nat_le, nat_lt, All, map, flat_map, if◌then◌else◌}
-use Rattle.std.specs.List.{find, slice_index}
+use Rattle.std.proofs.Common.{◌≡◌, ℕ, List, [], ◌∷◌, ◌++◌, Bool, true, false, Option, Some, None, refl, sym, ap, ◌∙◌, subst, length, not, ◌&&◌, ◌||◌, arith}
+use Rattle.std.specs.Prelude.{IsTrue, nat_le, nat_lt, All, map, flat_map, if◌then◌else◌}
+use Rattle.std.specs.List.{slice_index}
 use Rattle.std.specs.Str.{IsCharBoundary}
 use Rattle.std.proofs.lemmas.Bool.{and_parts}
 use Rattle.std.proofs.lemmas.Bool.Decides.{nat_tests}
@@ -9,7 +9,6 @@ use Rattle.std.proofs.lemmas.List.Elements.{All-head}
 use Rattle.principals.specs.ActsFor.{PrincipalHierarchy}
 use Rattle.labels.specs.Label.{Label, flows}
 use Rattle.resolved.specs.declared.expression.Variable.{Variable}
-use Rattle.resolved.specs.declared.expression.Variable.TheVariants.{Local}
 use Rattle.resolved.specs.declared.statement.Exit.{Exit}
 use Rattle.resolved.specs.declared.statement.Exit.TheVariants.{Normal, Return, Throw}
 use Rattle.resolved.specs.Tree.{Statement, Assign, Receive, Send, Block, Empty, Then, place_of}
@@ -21,7 +20,7 @@ use Rattle.resolved.specs.Ends.{block_ends, one_end}
 use Rattle.resolved.specs.EndFaults.{EndFault, EndRefusal, Undeclared, end_faults, fault_unless, procedure_faults}
 use Rattle.resolved.specs.Labelled.{Scope, Marks, Demand, Labelling, demand, target_demand, statement_demands, block_demands, end_demands, as_one_end, statement_marks, block_marks, procedure_demands, demands_from, program_demands}
 use Rattle.types.specs.Laws.{PlacesPass}
-use Rattle.checker.specs.FirstDemand.{first_unmet, Tells}
+use Rattle.checker.specs.FirstDemand.{first_unmet}
 use Rattle.checker.specs.FirstFault.{first_of}
 use Rattle.checker.proofs.Parts.{straight_parts, is_only, only-ready}
 use Rattle.checker.proofs.Ending.{procedure-faults}

@@ -1,14 +1,14 @@
 -- The demands of a receive.
-use Rattle.std.proofs.Common.{◌≡◌, refl, sym, ap, subst, ℕ, List, [], ◌∷◌, ◌++◌, Option, Some, None, Result, Ok, Err}
-use Rattle.std.specs.Prelude.{IfErr, OnOk, Contains, IsTrue}
-use Rattle.std.proofs.lemmas.List.Elements.{Contains-append_left, Contains-append_right}
+use Rattle.std.proofs.Common.{◌≡◌, refl, sym, subst, ℕ, [], ◌++◌, Option, Some, None, Result, Ok, Err}
+use Rattle.std.specs.Prelude.{IfErr, IsTrue}
+use Rattle.std.proofs.lemmas.List.Elements.{Contains-append_right}
 use Rattle.principals.specs.ActsFor.{PrincipalHierarchy}
-use Rattle.labels.specs.Label.{ReaderPolicy, Label, flows}
+use Rattle.labels.specs.Label.{Label, flows}
 use Rattle.labels.proofs.FlowTests.{flows-through, flows-itself, flows-join_least}
 use Rattle.resolved.specs.declared.expression.Variable.{Variable}
 use Rattle.resolved.specs.Tree.{Receive}
 use Rattle.resolved.specs.Program.{Program, ProcedureEntry}
-use Rattle.resolved.specs.Labelled.{Labelling, Scope, Demand, demand, target_demand, Fits, channel_label, variable_label, statement_demands}
+use Rattle.resolved.specs.Labelled.{Labelling, Scope, demand, target_demand, Fits, channel_label, variable_label, statement_demands}
 use Rattle.checker.specs.declared.refusal.LabelRule.TheVariants as rule
 use Rattle.checker.specs.declared.refusal.FlowRefusal.{FlowRefusal}
 use Rattle.checker.specs.FirstDemand.{TellsFirst}

@@ -1,5 +1,5 @@
 -- The demands of an assignment and of a send.
-use Rattle.std.proofs.Common.{◌≡◌, refl, sym, ap, ◌∙◌, subst, ℕ, List, [], ◌∷◌, ◌++◌, append-nil, Bool, true, false, ◌&&◌, Result, Ok, Err}
+use Rattle.std.proofs.Common.{◌≡◌, refl, sym, subst, ℕ, [], ◌++◌, append-nil, true, false, Result, Ok, Err}
 use Rattle.std.specs.Prelude.{IfErr, IsTrue}
 use Rattle.std.proofs.lemmas.Bool.{and_parts}
 use Rattle.principals.specs.ActsFor.{PrincipalHierarchy}
@@ -8,7 +8,7 @@ use Rattle.resolved.specs.declared.expression.Expression as E
 use Rattle.resolved.specs.declared.expression.Operator.TheVariants.{Add}
 use Rattle.resolved.specs.declared.expression.Variable.{Variable}
 use Rattle.resolved.specs.declared.statement.Statement as S
-use Rattle.resolved.specs.Tree.{Expression, Integer, Logical, Read, Element, Unary, Binary, Short, Statement, Assign, Send}
+use Rattle.resolved.specs.Tree.{Expression, Integer, Read, Binary}
 use Rattle.resolved.specs.TreeOf.{expression_of, statement_of}
 use Rattle.resolved.specs.Program.{Program, ProcedureEntry}
 use Rattle.resolved.specs.Labelled.{Labelling, Scope, demand, Fits, channel_label, variable_label, value_label, raise_label, statement_demands}

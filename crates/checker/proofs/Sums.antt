@@ -1,5 +1,5 @@
 -- What an answer on a part of a sum's label tells of the whole.
-use Rattle.std.proofs.Common.{◌≡◌, refl, sym, ap, subst, ℕ, ◌++◌, Result, Ok, Err}
+use Rattle.std.proofs.Common.{◌≡◌, sym, subst, ℕ, ◌++◌, Result, Ok, Err}
 use Rattle.std.specs.Prelude.{IfErr, Contains, IsTrue}
 use Rattle.std.proofs.lemmas.List.Elements.{Contains-append_left, Contains-append_right}
 use Rattle.principals.specs.ActsFor.{PrincipalHierarchy}

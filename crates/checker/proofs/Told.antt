@@ -1,21 +1,21 @@
 -- What an answer tells of a part of a left side, of one demand and of many.
-use Rattle.std.proofs.Common.{◌≡◌, refl, sym, ap, ◌∙◌, subst, ℕ, ◌<◌, List, [], ◌∷◌, ◌++◌, length, get_or, take, Bool, true, false, not, ◌&&◌, inl, inr, ⊎_elim, ◌⊎◌, ◌↔◌}
-use Rattle.std.specs.Prelude.{Option, Some, None, IsTrue, Contains}
-use Rattle.std.specs.List.{list_all, find}
+use Rattle.std.proofs.Common.{◌≡◌, refl, sym, ap, ◌∙◌, subst, ℕ, ◌<◌, List, [], ◌∷◌, ◌++◌, length, get_or, Bool, true, false, not, ◌↔◌}
+use Rattle.std.specs.Prelude.{Some, None, IsTrue, Contains}
+use Rattle.std.specs.List.{list_all}
 use Rattle.std.specs.Option.{option_or}
 use Rattle.std.proofs.lemmas.Bool.{and_parts, and_from}
 use Rattle.std.proofs.lemmas.List.Folds.{list_all-append, find-append}
 use Rattle.principals.specs.ActsFor.{PrincipalHierarchy}
-use Rattle.labels.specs.Label.{ReaderPolicy, Label, Covers, FlowsTo, covers, flows}
-use Rattle.labels.proofs.Tests.{covers-decides, flows-decides}
-use Rattle.labels.proofs.FlowTests.{flows-through, flows-join_least, flows-least, flows-itself, flows-subset}
+use Rattle.labels.specs.Label.{ReaderPolicy, Label, Covers, flows}
+use Rattle.labels.proofs.Tests.{flows-decides}
+use Rattle.labels.proofs.FlowTests.{flows-through}
 use Rattle.labels.proofs.Elements.{each_from_All}
 use Rattle.resolved.specs.Labelled.{Demand, demand, Fits}
 use Rattle.checker.specs.declared.refusal.LabelRule.{LabelRule}
 use Rattle.checker.specs.declared.refusal.UnmetDemand.{UnmetDemand}
 use Rattle.checker.specs.declared.refusal.FlowRefusal.{FlowRefusal}
 use Rattle.checker.specs.declared.refusal.FlowRefusal.TheVariants.{NoMemory, Unmet}
-use Rattle.checker.specs.FirstDemand.{rule_number, first_unmet, Tells, TellsFirst}
+use Rattle.checker.specs.FirstDemand.{rule_number, first_unmet, TellsFirst}
 use Rattle.checker.specs.Way.{TellsPart, StandsFor}
 
 -- what is told of a policy in a list

@@ -1,19 +1,17 @@
 -- The answers on a whole program.
 use Rattle.std.proofs.Common.{◌≡◌, refl, sym, ap, ◌∙◌, subst, ℕ, List, [], ◌∷◌, ◌++◌, length, append-nil, Bool, true, false, Result, Ok, Err}
-use Rattle.std.specs.Prelude.{IfErr, OnOk, IsTrue, if◌then◌else◌, Option, Some, None}
-use Rattle.principals.specs.ActsFor.{PrincipalHierarchy}
-use Rattle.labels.specs.Label.{Label, flows}
+use Rattle.std.specs.Prelude.{IfErr, if◌then◌else◌, Some, None}
+use Rattle.labels.specs.Label.{Label}
 use Rattle.resolved.specs.declared.program.Core.{Core}
 use Rattle.resolved.specs.declared.tables.Procedure.{Procedure}
-use Rattle.resolved.specs.Program.{Program, ProcedureEntry}
+use Rattle.resolved.specs.Program.{Program}
 use Rattle.resolved.specs.ProgramOf.{procedure_entry}
 use Rattle.resolved.specs.CoreOf.{program_of}
 use Rattle.resolved.specs.TreeOf.{block_of}
-use Rattle.resolved.specs.Ends.{block_ends}
-use Rattle.resolved.specs.Labelled.{Labelling, Labelled, Marks, Demand, Fits, block_demands, block_marks, end_demands, procedure_demands, demands_from, program_demands}
+use Rattle.resolved.specs.Labelled.{Labelling, Labelled, Marks, Demand, Fits, block_demands, block_marks, procedure_demands, demands_from, program_demands}
 use Rattle.checker.specs.declared.refusal.FlowRefusal.{FlowRefusal}
 use Rattle.checker.specs.declared.refusal.FlowRefusal.TheVariants.{NoMemory, Unmet}
-use Rattle.checker.specs.FirstDemand.{first_unmet, TellsFirst, TellsFirstDemand, RulesOut}
+use Rattle.checker.specs.FirstDemand.{TellsFirst, TellsFirstDemand, RulesOut}
 use Rattle.checker.specs.Way.{StandsFor, StandsForEnds, leaving_demands, scope_of, receives, way_through, is_block_of}
 use Rattle.checker.proofs.Told.{no-first, fits-both, tells-before, tells-behind}
 use Rattle.checker.proofs.Marks.{ends-demanded, stands-ends}

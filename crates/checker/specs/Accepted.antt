@@ -1,6 +1,6 @@
 -- Which sources are accepted under a hierarchy.
 -- Source: our own.
-use Rattle.std.specs.Prelude.{◌≡◌, ℕ, ◌≤◌, List, [], length, Option, None, IsTrue}
+use Rattle.std.specs.Prelude.{◌≡◌, ℕ, ◌≤◌, List, [], length, None, IsTrue}
 use Rattle.std.specs.Str.{is_utf8}
 use Rattle.lexer.specs.Cut.{IsCut}
 use Rattle.lexer.specs.Terminal.{Terminal}

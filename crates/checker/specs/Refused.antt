@@ -1,7 +1,7 @@
 -- Why a source is refused under a hierarchy, and where: the first that is wrong with it, in the order of the phases. Each phase
 -- looks at what the ones before it let pass.
 -- Source: our own.
-use Rattle.std.specs.Prelude.{◌≡◌, ◌⊎◌, ℕ, ◌≤◌, ◌<◌, List, [], length, Option, Some, None}
+use Rattle.std.specs.Prelude.{◌≡◌, ℕ, ◌≤◌, ◌<◌, List, [], length, Some, None}
 use Rattle.lexer.specs.Cut.{IsCut, IsRefused}
 use Rattle.lexer.specs.Position.{line_of, column_of}
 use Rattle.lexer.specs.Terminal.{Terminal}

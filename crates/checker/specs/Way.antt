@@ -1,6 +1,6 @@
 -- The label of the way to a statement of a straight-line procedure, and what may stand for it.
 -- Source: our own.
-use Rattle.std.specs.Prelude.{◌≡◌, ℕ, List, [], ◌∷◌, ◌++◌, Bool, true, false, ◌&&◌, ◌||◌, nat_lt, length, flat_map, Option, Some, None, IsTrue, Contains}
+use Rattle.std.specs.Prelude.{◌≡◌, ℕ, List, [], ◌++◌, Bool, true, false, ◌&&◌, ◌||◌, nat_lt, flat_map, Option, Some, None, IsTrue, Contains}
 use Rattle.principals.specs.ActsFor.{PrincipalHierarchy}
 use Rattle.labels.specs.Label.{ReaderPolicy, Label, Covers, flows}
 use Rattle.resolved.specs.declared.expression.Operator.TheVariants.{Add}

@@ -1,21 +1,17 @@
 -- What the two texts of a compilation owe to each other, and where their faults stand.
-use Rattle.std.proofs.Common.{◌≡◌, ℕ, ◌≤◌, List, [], ◌++◌, length, map, Some, None, refl, sym, ap, ◌∙◌, subst, IsTrue, arith, ◌⊎◌, ⊎_elim, inl, inr}
+use Rattle.std.proofs.Common.{◌≡◌, ℕ, List, length, refl, sym, ap, ◌∙◌, subst, IsTrue, arith, ◌⊎◌, ⊎_elim}
 use Rattle.std.specs.Prelude.{All}
-use Rattle.std.specs.Str.{IsUtf8, is_utf8}
+use Rattle.std.specs.Str.{is_utf8}
 use Rattle.std.proofs.lemmas.Str.{IsUtf8-from_is_utf8, chars-nil}
-use Rattle.principals.specs.ActsFor.{PrincipalHierarchy, IsHierarchy, AllDifferent}
+use Rattle.principals.specs.ActsFor.{PrincipalHierarchy, IsHierarchy}
 use Rattle.principals.specs.HierarchyText.{greatest_text, IsHierarchyOf, IsRefusedText}
 use Rattle.principals.proofs.Called.{names_are_names}
-use Rattle.labels.specs.Canonical.{IsCanonicalLabel}
-use Rattle.syntax.specs.Tree.{ProgramTree}
-use Rattle.syntax.specs.Written.{IsWritten}
 use Rattle.resolved.specs.declared.program.Core.{Core}
 use Rattle.resolved.specs.CoreOf.{program_of}
 use Rattle.resolved.specs.Isolated.{Isolated}
-use Rattle.resolved.specs.Program.{Program, ChannelEntry}
+use Rattle.resolved.specs.Program.{Program}
 use Rattle.resolved.specs.StraightLine.{is_straight_line}
 use Rattle.resolved.specs.WellFormed.{well_formed}
-use Rattle.types.specs.FirstFault.{first_fault}
 use Rattle.types.specs.Resolution.{resolved_of}
 use Rattle.types.proofs.Channels.{channels_named, channel_labels_canonical}
 use Rattle.types.proofs.Meaning.{names_differ}

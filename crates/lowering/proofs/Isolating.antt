@@ -1,5 +1,5 @@
 -- A module that keeps the meaning of an isolated program is isolated.
-use Rattle.std.proofs.Common.{◌≡◌, List, sym, subst}
+use Rattle.std.proofs.Common.{List, sym, subst}
 use Rattle.labels.specs.declared.sent.Pair.{Pair}
 use Rattle.labels.proofs.Begins.{Begins-of-two, seen-begins}
 use Rattle.resolved.specs.Isolated.{Isolated}

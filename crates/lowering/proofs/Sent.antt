@@ -1,8 +1,6 @@
 -- What a machine has sent stays sent: one step of any instruction adds to it at most.
-use Rattle.std.proofs.Common.{ℕ, zero, suc, Bool, true, false, ℤ, List, [], ◌∷◌, ◌++◌, length, append_assoc, nat_lt, ◌+◌, Option, Some, None, refl, sym, ap, ◌∙◌, slice_get}
+use Rattle.std.proofs.Common.{ℕ, zero, suc, Bool, true, false, ℤ, List, [], ◌∷◌, length, nat_lt, ◌+◌, Option, Some, None, refl, slice_get}
 use Rattle.std.specs.Prelude.{if◌then◌else◌, reverse}
-use Rattle.std.proofs.lemmas.List.{append-nil}
-use Rattle.labels.specs.declared.sent.Pair.{Pair}
 use Rattle.labels.specs.Sent.{Begins}
 use Rattle.labels.proofs.Begins.{Begins-itself, Begins-through}
 use Rattle.bytecode.specs.declared.instruction.Arithmetic.{Arithmetic}

@@ -1,4 +1,4 @@
-use Rattle.std.proofs.Common.{◌≡◌, ◌∙◌, sym, List, length, Bool}
+use Rattle.std.proofs.Common.{◌≡◌, ◌∙◌, sym, List, Bool}
 use Rattle.std.proofs.lemmas.Result.{err_from_is_err_and, on_ok_weaker}
 use Rattle.std.specs.List.{list_any}
 use Rattle.resolved.specs.declared.statement.Statement as S

@@ -1,7 +1,5 @@
-use Rattle.std.proofs.Common.{◌≡◌, ap}
+use Rattle.std.proofs.Common.{ap}
 use Rattle.std.proofs.lemmas.Result.{err_from_is_err_and, on_ok_weaker}
-use Rattle.labels.specs.Label.{Label}
-use Rattle.resolved.specs.Labelled.{channel_label}
 use Rattle.resolved.specs.Program.{ChannelEntry}
 use Rattle.resolved.specs.CoreOf.{program_of}
 use Rattle.resolved.specs.ProgramOf.{procedure_entry}

@@ -2,13 +2,11 @@ use Rattle.std.proofs.Common.{ap, length, sym, subst, take, refl, ◌≡◌, Bor
 use Rattle.std.proofs.lemmas.Result.{err_from_is_err_and}
 use Rattle.labels.specs.Label.{Label}
 use Rattle.resolved.specs.Program.{ChannelEntry}
-use Rattle.resolved.specs.declared.statement.Statement as S
 use Rattle.resolved.specs.Labelled.{Labelling, Fits, statement_demands}
 use Rattle.resolved.specs.CoreOf.{program_of}
 use Rattle.resolved.specs.ProgramOf.{procedure_entry}
 use Rattle.resolved.specs.TreeOf.{statement_of, block_of}
-use Rattle.checker.specs.Way.{StandsFor, scope_of, way_past, way_through, is_block_of}
-use Rattle.checker.specs.FirstDemand.{TellsFirst}
+use Rattle.checker.specs.Way.{StandsFor, scope_of, way_past, way_through}
 use Rattle.checker.proofs.Following.{ready-at, way-next, demands-next, demands-tell, past-other, stands-first, stands-past, receive-there, ready-list, tells-list}
 use Rattle.checker.proofs.flows.follow.Goals as goal
 use Rattle.checker.proofs.flows.follow.Goals.{in-Receive, in_default}

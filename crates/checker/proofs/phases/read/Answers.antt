@@ -1,13 +1,10 @@
-use Rattle.std.proofs.Common.{◌≡◌, ℕ, refl, sym, ap, ◌∙◌, subst, inl, inr, arith}
+use Rattle.std.proofs.Common.{◌≡◌, sym, ap, ◌∙◌, subst, inr, arith}
 use Rattle.std.specs.Prelude.{Err}
 use Rattle.lexer.specs.Cut.{IsRefused}
 use Rattle.lexer.specs.Terminal.{terminals_of}
 use Rattle.lexer.specs.declared.fault.LexFault.TheVariants as lexical
-use Rattle.parser.specs.declared.fault.ParseFault.{ParseFault}
 use Rattle.parser.specs.declared.fault.ParseFault.TheVariants as faults
-use Rattle.parser.specs.Refusal.{IsTreeOrNoMemory}
 use Rattle.syntax.specs.Grammar.{Spells}
-use Rattle.syntax.specs.Tree.{ProgramTree}
 use Rattle.std.proofs.lemmas.Str.{IsCharBoundary-start}
 use Rattle.checker.proofs.Reading.{refusal_of, unexpected_boundary, deep_boundary, no_tree}
 use Rattle.checker.proofs.phases.read.Goals as goal

@@ -1,4 +1,4 @@
-use Rattle.std.proofs.Common.{refl, sym, subst}
+use Rattle.std.proofs.Common.{subst}
 use Rattle.checker.specs.Refused as refused
 use Rattle.checker.specs.declared.fault.Fault.TheVariants as check_faults
 use Rattle.compiler.proofs.Joining.{begin_place, source_no_text, source_refused}

@@ -1,4 +1,3 @@
-use Rattle.std.proofs.Common.{refl, sym}
 use Rattle.resolved.specs.CoreOf.{program_of}
 use Rattle.compiler.proofs.Joining.{code_of_module}
 use Rattle.compiler.proofs.compiling.code_of.Goals as goal

@@ -1,4 +1,4 @@
-use Rattle.std.proofs.Common.{refl, sym, subst, ap, ◌∙◌}
+use Rattle.std.proofs.Common.{sym, subst}
 use Rattle.checker.specs.Accepted as checker
 use Rattle.compiler.proofs.Joining.{names_of, straight_of}
 use Rattle.compiler.proofs.compiling.compile.Goals as goal

@@ -1,4 +1,4 @@
-use Rattle.std.proofs.Common.{refl, sym}
+use Rattle.std.proofs.Common.{refl}
 use Rattle.std.proofs.lemmas.Str.{is_utf8-from_IsUtf8}
 use Rattle.principals.specs.declared.fault.HierFault.TheVariants as hier
 use Rattle.compiler.proofs.Joining.{begin_place, refusal_of}

@@ -1,4 +1,4 @@
-use Rattle.std.proofs.Common.{refl, sym, subst}
+use Rattle.std.proofs.Common.{sym, subst}
 use Rattle.principals.specs.HierarchyText.{IsHierarchyOf}
 use Rattle.compiler.specs.Built.{IsRefusal, TellsFault}
 use Rattle.compiler.proofs.Joining.{begin_place, hierarchy_no_text}
