@@ -20,8 +20,9 @@ pub fn sessions_are_isolated()
     host::laws::sessions_are_isolated();
 }
 
-/// The program tells an observer nothing of what it may not read: where compiled bytes are run twice for it, on worlds that
-/// agree for it, one of the two texts on standard output begins the other, and a run that is shown to the end has the status 0.
+/// Standard output tells an observer nothing of what it may not read: where compiled bytes are run twice for it, on worlds that
+/// agree for it, one of the two texts there begins the other, and a run that is shown whole has the status 0. Of standard error
+/// it says nothing.
 pub fn observers_are_told_nothing()
     ensures shown { RunsShowThemselves }
     ensures isolated { ObserversAreToldNothing }
