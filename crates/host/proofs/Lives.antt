@@ -9,18 +9,13 @@ use Rattle.bytecode.specs.Format.{module_file}
 use Rattle.bytecode.specs.Machine.{Machine, Program, exec, step, program_of, sent_of}
 use Rattle.channels.specs.World.{InputNumbers}
 use Rattle.bytecode.specs.Isolated.{seen_of}
+use Rattle.machine.proofs.Told.{exec_more}
 use Rattle.host.specs.Meaning.{SessionContents, HostContents, HostEvent, Open, Turn, View, Close, HostAnswer, Opened, Turned, Viewed, Closed, Refused, Answers, Answered, session_of, with_machine, without, IsOpen, IsNotOpen, first_machine, with_opened}
 use Rattle.host.specs.Laws.{told_of, steps_told}
 
--- ---- steps
-
-exec-more : (p : Program) (j k : ℕ) (machine : Machine) → exec p k (exec p j machine) ≡ exec p (j + k) machine
-exec-more p zero k machine =
-    let e : k ≡ 0 + k = omega arith in
-    ap (λ n. exec p n machine) e
-exec-more p (suc j) k machine =
-    let e : suc (j + k) ≡ suc j + k = omega arith in
-    exec-more p j k (step p machine) ∙ ap (λ n. exec p n machine) e
+-- the steps that a session takes, and then more
+steps_join : (s : SessionContents) (taken more : ℕ) → exec (program_of s.program) more (exec (program_of s.program) taken s.machine) ≡ exec (program_of s.program) (taken + more) s.machine
+steps_join s taken more = exec_more (program_of s.program) taken more (taken + more) s.machine refl
 
 -- ---- the session of an id when another one changes
 
@@ -218,7 +213,7 @@ module _ (places id p : ℕ) (pairs : List Pair) where
       ⊎_elim
       (λ next.
       shown_moved events answers by.0 new (moved s (told_of id event answer)) by.2 next k asked told
-      ∙ ap (λ m. seen_of s.program p (sent_of m)) (exec-more (program_of s.program) (told_of id event answer) (steps_told id (take k events) (take k answers)) s.machine))
+      ∙ ap (λ m. seen_of s.program p (sent_of m)) (steps_join s (told_of id event answer) (steps_told id (take k events) (take k answers))))
       (λ gone. absurd (never_shown events answers by.0 new by.2 gone k asked told))
       (live_event places id s old by.0 event answer by.1 live)
 
@@ -275,7 +270,7 @@ module _ (places id : ℕ) where
   still_moved (event ∷ events) (answer ∷ answers) old new s by live =
       ⊎_elim
       (λ next. ⊎_elim
-      (λ l. inl (subst (λ (m : Machine). IsLive id (record s { machine = m }) new) (exec-more (program_of s.program) (told_of id event answer) (steps_told id events answers) s.machine) l))
+      (λ l. inl (subst (λ (m : Machine). IsLive id (record s { machine = m }) new) (steps_join s (told_of id event answer) (steps_told id events answers)) l))
       (λ g. inr g)
       (still_moved events answers by.0 new (moved s (told_of id event answer)) by.2 next))
       (λ gone. inr (still_gone events answers by.0 new by.2 gone))
