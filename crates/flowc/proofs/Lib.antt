@@ -3,4 +3,5 @@ pub mod Promises
 pub mod Refusals
 pub mod Settled
 pub mod Silence
+pub mod Telling
 pub mod Views
