@@ -179,10 +179,10 @@ module _ (one : (m n : ModuleContents) (bytes : List ℕ) → Spells module_file
         right_observer name line m other principal (one m other code can.spelled spelled) can.observed unknown
 
     pub error_is_fixed : StandardErrorIsFixed
-    error_is_fixed file world observer steps files m principal can status line (inl refused_line) =
+    error_is_fixed file world observer steps files m principal can status out_failed line (inl refused_line) =
         absurd (right_run (string_bytes file) (string_bytes world) (bytes_at files 0) (bytes_at files 1) (string_bytes observer) line m principal can refused_line.1)
-    error_is_fixed file world observer steps files m principal can status line (inr (inl trouble)) = inr trouble
-    error_is_fixed file world observer steps files m principal can status line (inr (inr run)) =
+    error_is_fixed file world observer steps files m principal can status out_failed line (inr (inl trouble)) = inr trouble
+    error_is_fixed file world observer steps files m principal can status out_failed line (inr (inr run)) =
         let h = run.whole.hierarchy in
         inl
         (run.told ∙ no_end_told h (string_bytes observer) run.principal run.end run.can_run.observed,

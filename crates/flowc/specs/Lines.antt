@@ -1,6 +1,6 @@
 -- The lines in which the program tells faults and the ends of runs. Numbers are in decimal.
 -- Source: our own.
-use Rattle.std.specs.Prelude.{ℕ, ◌-◌, ◌==◌, if◌then◌else◌, List, [], ◌++◌, slice_get, unwrap_or, codes}
+use Rattle.std.specs.Prelude.{ℕ, ◌-◌, ◌==◌, if◌then◌else◌, List, [], ◌++◌, slice_get, unwrap_or, codes, Bool, IsTrue}
 use Rattle.std.specs.Fmt.{decimal}
 use Rattle.std.specs.String.{string_bytes}
 use Rattle.bytecode.specs.Contents.{ModuleContents}
@@ -112,11 +112,11 @@ line_of_trouble (Refused line) = string_bytes line
 line_of_trouble CannotWrite = cannot_write
 line_of_trouble OutOfMemory = no_memory
 
--- where a trouble is a refusal, its line is one of these
-abbrev pub IfRefused : (List ℕ → Type 0) → Trouble → Type 0
-IfRefused IsSome (Refused line) = IsSome (string_bytes line)
-IfRefused IsSome CannotWrite = Unit {0}
-IfRefused IsSome OutOfMemory = Unit {0}
+-- why a task was not done: what was read is refused, with one of these lines; or standard output failed; or memory was wanting
+abbrev pub IsTrouble : (IsRefusal : List ℕ → Type 0) → (out_failed : Bool) → Trouble → Type 0
+IsTrouble IsRefusal out_failed (Refused line) = IsRefusal (string_bytes line)
+IsTrouble IsRefusal out_failed CannotWrite = IsTrue out_failed
+IsTrouble IsRefusal out_failed OutOfMemory = Unit {0}
 
 -- ---- ends of runs
 

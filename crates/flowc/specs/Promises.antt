@@ -1,7 +1,7 @@
 -- What the bytes that two texts are compiled to promise: of every session of them that any host opens, and of every run of them
 -- that the program shows. Each joins what is said of compiling with what is said of hosts and of the program.
 -- Source: our own; isolation as noninterference after Volpano, Smith and Irvine 1996.
-use Rattle.std.specs.Prelude.{◌≡◌, ℕ, ◌≤◌, ◌⊎◌, List, [], Option, Some, String}
+use Rattle.std.specs.Prelude.{◌≡◌, ℕ, ◌≤◌, ◌⊎◌, List, [], Bool, Option, Some, String}
 use Rattle.std.specs.String.{string_bytes}
 use Rattle.std.specs.declared.alloc.Global.{Global}
 use Rattle.std.specs.declared.vec.Vec.{Vec}
@@ -93,5 +93,5 @@ abbrev pub StandardErrorIsFixed : Type 0
 StandardErrorIsFixed =
     (file world observer : String Global) (steps : ℕ) (files : List (Vec ℕ Global)) (whole : ModuleContents) (principal : Option ℕ)
     → CanRun (bytes_at files 0) (bytes_at files 1) (Some (string_bytes observer)) whole principal
-    → (status : ℕ) (line : List ℕ) → IsLine (Run file world (Some observer) steps) files status line
-    → ((status ≡ 0) × (line ≡ [])) ⊎ IsTroubleLine status line
+    → (status : ℕ) (out_failed : Bool) (line : List ℕ) → IsLine (Run file world (Some observer) steps) files status out_failed line
+    → ((status ≡ 0) × (line ≡ [])) ⊎ IsTroubleLine status out_failed line

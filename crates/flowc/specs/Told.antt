@@ -1,6 +1,6 @@
 -- What a task tells on standard error: one line, or nothing.
 -- Source: our own.
-use Rattle.std.specs.Prelude.{◌≡◌, ◌≤◌, ◌⊎◌, ℕ, List, [], Bool, IsTrue, Option, Some, None, option_map, IsUtf8}
+use Rattle.std.specs.Prelude.{◌≡◌, ◌≤◌, ◌⊎◌, ℕ, List, [], Bool, false, IsTrue, Option, Some, None, option_map, IsUtf8}
 use Rattle.std.specs.Io.KnownBytes.{Appends}
 use Rattle.std.specs.String.{string_bytes}
 use Rattle.std.specs.declared.alloc.Global.{Global}
@@ -80,8 +80,8 @@ pub data IsRefusedLine (code_path text_path code text : List ℕ) (observer : Op
 -- ---- other lines
 
 -- the line tells that a task was not done: standard output failed, or memory was wanting
-abbrev pub IsTroubleLine : (status : ℕ) → (line : List ℕ) → Type 0
-IsTroubleLine status line = (status ≡ 3) × ((line ≡ cannot_write) ⊎ (line ≡ no_memory))
+abbrev pub IsTroubleLine : (status : ℕ) → (out_failed : Bool) → (line : List ℕ) → Type 0
+IsTroubleLine status out_failed line = (status ≡ 3) × ((IsTrue out_failed × (line ≡ cannot_write)) ⊎ (line ≡ no_memory))
 
 -- the line of the end of a run, which an observer is not told
 abbrev pub line_told : ModuleContents → (principal : Option ℕ) → Status → List ℕ
@@ -103,26 +103,27 @@ pub record IsEndLine (code text : List ℕ) (observer : Option (List ℕ)) (step
 -- ---- tasks
 
 -- the line of a check or a build of two texts: with status 0 none, with status 1 that of the first fault
-abbrev pub IsCompilingLine : (hierarchy_path source_path hierarchy source : List ℕ) → (status : ℕ) → (line : List ℕ) → Type 0
-IsCompilingLine hierarchy_path source_path hierarchy source status line =
+abbrev pub IsCompilingLine : (hierarchy_path source_path hierarchy source : List ℕ) → (status : ℕ) → (out_failed : Bool) → (line : List ℕ) → Type 0
+IsCompilingLine hierarchy_path source_path hierarchy source status out_failed line =
     ((status ≡ 0) × (line ≡ []))
-    ⊎ (((status ≡ 1) × IsTextsLine hierarchy_path source_path hierarchy source line) ⊎ IsTroubleLine status line)
+    ⊎ (((status ≡ 1) × IsTextsLine hierarchy_path source_path hierarchy source line) ⊎ IsTroubleLine status out_failed line)
 
 -- the line of a run: with status 1 that of a refusal, else that of its end or that it was not done
-abbrev pub IsRunLine : (code_path text_path code text : List ℕ) → (observer : Option (List ℕ)) → (steps status : ℕ) → (line : List ℕ) → Type 0
-IsRunLine code_path text_path code text observer steps status line =
+abbrev pub IsRunLine : (code_path text_path code text : List ℕ) → (observer : Option (List ℕ)) → (steps status : ℕ) → (out_failed : Bool) → (line : List ℕ) → Type 0
+IsRunLine code_path text_path code text observer steps status out_failed line =
     ((status ≡ 1) × IsRefusedLine code_path text_path code text observer line)
-    ⊎ (IsTroubleLine status line ⊎ IsEndLine code text observer steps status line)
+    ⊎ (IsTroubleLine status out_failed line ⊎ IsEndLine code text observer steps status line)
 
--- the line with which a task ends with this status
-abbrev pub IsLine : Task → List (Vec ℕ Global) → (status : ℕ) → (line : List ℕ) → Type 0
-IsLine (Check hierarchy source) files status line =
-    IsCompilingLine (string_bytes hierarchy) (string_bytes source) (bytes_at files 0) (bytes_at files 1) status line
-IsLine (Build hierarchy source out) files status line =
-    IsCompilingLine (string_bytes hierarchy) (string_bytes source) (bytes_at files 0) (bytes_at files 1) status line
-IsLine (Run file world observer steps) files status line =
-    IsRunLine (string_bytes file) (string_bytes world) (bytes_at files 0) (bytes_at files 1) (option_map string_bytes observer) steps status line
+-- the line with which a task ends with this status; a build writes nothing to standard output that could fail
+abbrev pub IsLine : Task → List (Vec ℕ Global) → (status : ℕ) → (out_failed : Bool) → (line : List ℕ) → Type 0
+IsLine (Check hierarchy source) files status out_failed line =
+    IsCompilingLine (string_bytes hierarchy) (string_bytes source) (bytes_at files 0) (bytes_at files 1) status out_failed line
+IsLine (Build hierarchy source out) files status out_failed line =
+    IsCompilingLine (string_bytes hierarchy) (string_bytes source) (bytes_at files 0) (bytes_at files 1) status false line
+IsLine (Run file world observer steps) files status out_failed line =
+    IsRunLine (string_bytes file) (string_bytes world) (bytes_at files 0) (bytes_at files 1) (option_map string_bytes observer) steps status out_failed line
 
--- what a task has written to standard error when it ends with this status
-abbrev pub Tells : Task → List (Vec ℕ Global) → (status : ℕ) → (old new : Option (List ℕ)) → (failed : Bool) → Type 0
-Tells task files status old new failed = (line : List ℕ) × IsLine task files status line × WentOut line old new failed
+-- what a task has written to standard error when it ends with this status, and standard output has failed or not
+abbrev pub Tells : Task → List (Vec ℕ Global) → (status : ℕ) → (out_failed : Bool) → (old new : Option (List ℕ)) → (failed : Bool) → Type 0
+Tells task files status out_failed old new failed =
+    (line : List ℕ) × IsLine task files status out_failed line × WentOut line old new failed

@@ -1,12 +1,12 @@
 ghost use Rattle.channels.specs.Sink.{AppendsBeginning};
 ghost use Rattle.compiler.specs.Built.{IsAccepted, IsCompiled};
 ghost use Rattle.flowc.specs.Built.{HoldsProgram, IsBuilt, bytes_at};
-ghost use Rattle.flowc.specs.Lines.{IfRefused, line_of_trouble};
+ghost use Rattle.flowc.specs.Lines.{IsTrouble, line_of_trouble};
 ghost use Rattle.flowc.specs.Shown.{Shows};
 ghost use Rattle.flowc.specs.Task.{files_of, makes_file, may_end, reads_source, status_of_trouble};
 ghost use Rattle.flowc.specs.Told.{IsTextsLine, Tells, WentOut};
 ghost use Rattle.std.specs.Io.KnownBytes.{Appends};
-ghost use Rattle.std.specs.Prelude.{[], ◌≡◌, ◌≤◌, ◌<◌, ◌↔◌, IfErr, IfOk, IfSome, IsSome, IsTrue, MatchResult, None, OnOk, codes, length, option_map};
+ghost use Rattle.std.specs.Prelude.{[], ◌≡◌, ◌≤◌, ◌<◌, ◌↔◌, IfErr, IfOk, IfSome, IsSome, IsTrue, MatchResult, None, OnOk, codes, false, length, option_map};
 ghost use Rattle.std.specs.String.{string_bytes};
 
 use crate::request::Task;
@@ -43,7 +43,7 @@ pub fn perform<O: Sink, E: Sink>(
     ensures accepted { IsTrue (reads_source task.now) → result.status ≡ 0 → HoldsProgram files.now }
     ensures refused { IsTrue (reads_source task.now) → result.status ≡ 1 → ¬ HoldsProgram files.now }
     ensures shown { Shows task.now files.now result.status (O.taken out.old) (O.taken out.new) }
-    ensures told { Tells task.now files.now result.status (E.taken err.old) (E.taken err.new) (E.has_failed err.new) }
+    ensures told { Tells task.now files.now result.status (O.has_failed out.new) (E.taken err.old) (E.taken err.new) (E.has_failed err.new) }
 {
     let (first, second) = (bytes_of(files, 0), bytes_of(files, 1));
     match task {
@@ -110,7 +110,7 @@ fn check<O: Sink>(
     ensures quiet { IfErr result (λ trouble. status_of_trouble trouble ≡ 1 → O.taken out.old ≡ O.taken out.new) }
     ensures some { IfErr result (λ trouble. status_of_trouble trouble ≡ 3 → AppendsBeginning (O.taken out.old) (O.taken out.new) (codes "ok\n")) }
     ensures silent { IfOk result (λ ended. string_bytes ended.line ≡ []) }
-    ensures told { IfErr result (IfRefused (IsTextsLine hierarchy.entry.path.now source.entry.path.now hierarchy.entry.bytes.now source.entry.bytes.now)) }
+    ensures told { IfErr result (IsTrouble (IsTextsLine hierarchy.entry.path.now source.entry.path.now hierarchy.entry.bytes.now source.entry.bytes.now) (O.has_failed out.new)) }
 {
     let _code = build(alloc, hierarchy, source)?;
     write_whole(out, b"ok\n")?;
@@ -125,7 +125,7 @@ fn build(alloc: Global, hierarchy: File<'_>, source: File<'_>) -> Result<Vec<u8>
     ensures accepted { OnOk result (IsAccepted hierarchy.entry.bytes.now source.entry.bytes.now) }
     ensures compiled { IfOk result (λ code. IsCompiled hierarchy.entry.bytes.now source.entry.bytes.now code.items) }
     ensures refused { IfErr result (λ trouble. status_of_trouble trouble ≡ 1 → ¬ IsAccepted hierarchy.entry.bytes.now source.entry.bytes.now) }
-    ensures told { IfErr result (IfRefused (IsTextsLine hierarchy.entry.path.now source.entry.path.now hierarchy.entry.bytes.now source.entry.bytes.now)) }
+    ensures told { IfErr result (IsTrouble (IsTextsLine hierarchy.entry.path.now source.entry.path.now hierarchy.entry.bytes.now source.entry.bytes.now) false) }
 {
     match compile(alloc, hierarchy.bytes, source.bytes) {
         Ok(code) => Ok(code),

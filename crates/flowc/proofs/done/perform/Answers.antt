@@ -40,20 +40,20 @@ returns-in-Build-clause-refused g c = λ source one holds.
 
 pub returns-in-Run-clause-told : goal.returns-in-Run-clause-told
 returns-in-Run-clause-told g c = rw c.in-Run.is
-    (run_told c.run.result _ _ _ _ _ _ _ _ _ _ _ _ _ _ _ c.run.ensures.end c.run.ensures.told c.ended-in-Run.ensures.status c.ended-in-Run.ensures.told
+    (run_told c.run.result _ _ _ _ _ _ _ _ _ _ _ _ _ _ _ _ c.run.ensures.end c.run.ensures.told c.ended-in-Run.ensures.status c.ended-in-Run.ensures.told
     c.named-code.ensures.path c.named-world.ensures.path (c.named-code.ensures.bytes ∙ c.bytes_of-first.ensures)
     (c.named-world.ensures.bytes ∙ c.bytes_of-second.ensures) c.name_of.ensures)
 
 pub returns-in-Check-clause-told : goal.returns-in-Check-clause-told
 returns-in-Check-clause-told g c = rw c.in-Check.is
-    (texts_told (λ (ended : Ended). string_bytes ended.line) (λ (ended : Ended). ended.status) c.check-checked.result _ _ _ _ _ _ _ _ _ _ _ _
+    (texts_told (λ (ended : Ended). string_bytes ended.line) (λ (ended : Ended). ended.status) c.check-checked.result _ _ _ _ _ _ _ _ _ _ _ _ _
     c.check-checked.ensures.silent c.check-checked.ensures.status c.check-checked.ensures.told c.ended.ensures.status c.ended.ensures.told
     c.named.ensures.path c.named-in-Check.ensures.path (c.named.ensures.bytes ∙ c.bytes_of-first.ensures)
     (c.named-in-Check.ensures.bytes ∙ c.bytes_of-second.ensures))
 
 pub returns-in-Build-clause-told : goal.returns-in-Build-clause-told
 returns-in-Build-clause-told g c = rw c.in-Build.is
-    (texts_told (λ code. []) (λ code. 0) c.build-built.result _ _ _ _ _ _ _ _ _ _ _ _
+    (texts_told (λ code. []) (λ code. 0) c.build-built.result _ _ _ _ _ _ _ _ _ _ _ _ _
     (ok_is_silent c.build-built.result) (ok_is_zero c.build-built.result) c.build-built.ensures.told c.left.ensures.status c.left.ensures.told
     c.named-in-Build.ensures.path c.named-in-Build-2.ensures.path (c.named-in-Build.ensures.bytes ∙ c.bytes_of-first.ensures)
     (c.named-in-Build-2.ensures.bytes ∙ c.bytes_of-second.ensures))

@@ -22,11 +22,11 @@ returns-clause-some g c =
 
 pub returns-in_err-machine-clause-told : goal.returns-in_err-machine-clause-told
 returns-in_err-machine-clause-told g c =
-    start_told c.from_residual.result _ _ _ _ _ _ c.from_residual.ensures.1 c.in_err-machine.ensures.told
+    start_told c.from_residual.result _ _ _ _ _ _ _ c.from_residual.ensures.1 c.in_err-machine.ensures.told
 
 pub returns-in_err-principal-clause-told : goal.returns-in_err-principal-clause-told
 returns-in_err-principal-clause-told g c =
-    observer_told c.from_residual-in_err-principal.result c.in_ok-machine.machine.program c.hierarchy.result.now _ _ _ _ _ _
+    observer_told c.from_residual-in_err-principal.result c.in_ok-machine.machine.program c.hierarchy.result.now _ _ _ _ _ _ _
     c.in_ok-machine.ensures.spelled c.in_ok-machine.ensures.faultless c.in_ok-machine.ensures.encoded c.in_ok-machine.ensures.right
     (c.hierarchy.ensures.hierarchy ∙ ap (λ (w : ModuleContents). w.hierarchy) c.module.ensures)
     c.from_residual-in_err-principal.ensures.1 c.in_err-principal.ensures.told
