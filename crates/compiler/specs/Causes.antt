@@ -1,9 +1,10 @@
--- The numbers of the faults of a hierarchy text and of a source.
+-- The numbers and the words of the faults of a hierarchy text and of a source.
 -- Source: our own.
-use Rattle.std.specs.Prelude.{ℕ}
+use Rattle.std.specs.Prelude.{ℕ, List, codes}
 use Rattle.compiler.specs.declared.fault.Cause.{Cause}
 use Rattle.compiler.specs.declared.fault.Cause.TheVariants as cause
 
+-- the number that a fault is told by
 abbrev pub cause_number : Cause → ℕ
 cause_number cause.NotUtf8 = 100
 cause_number cause.NoToken = 101
@@ -28,3 +29,29 @@ cause_number cause.OutsideLoop = 505
 cause_number cause.FlowNotAllowed = 601
 cause_number cause.TextTooLong = 701
 cause_number cause.TooManyCells = 704
+
+-- the words that it is told by
+abbrev pub cause_words : Cause → List ℕ
+cause_words cause.NotUtf8 = codes "not UTF-8"
+cause_words cause.NoToken = codes "no token"
+cause_words cause.LiteralTooLarge = codes "literal too large"
+cause_words cause.OpenComment = codes "open comment"
+cause_words cause.Syntax = codes "syntax"
+cause_words cause.PrincipalTwice = codes "declared twice"
+cause_words cause.UnknownPrincipal = codes "unknown principal"
+cause_words cause.TooManyPrincipals = codes "too many principals"
+cause_words cause.UnexpectedToken = codes "unexpected token"
+cause_words cause.TooDeep = codes "nested too deep"
+cause_words cause.UnknownName = codes "unknown name"
+cause_words cause.DeclaredTwice = codes "declared twice"
+cause_words cause.UnknownPrincipalInLabel = codes "unknown principal"
+cause_words cause.NoProperMain = codes "no proper main"
+cause_words cause.WrongUse = codes "wrong use"
+cause_words cause.Unreachable = codes "unreachable"
+cause_words cause.NoValueReturned = codes "no value returned"
+cause_words cause.ExceptionNotDeclared = codes "exception not declared"
+cause_words cause.NeverRaised = codes "never raised"
+cause_words cause.OutsideLoop = codes "not in a loop"
+cause_words cause.FlowNotAllowed = codes "flow not allowed"
+cause_words cause.TextTooLong = codes "text too long"
+cause_words cause.TooManyCells = codes "too many cells"

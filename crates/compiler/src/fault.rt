@@ -1,10 +1,11 @@
-ghost use Rattle.compiler.specs.Causes.{cause_number};
+ghost use Rattle.compiler.specs.Causes.{cause_number, cause_words};
 ghost use Rattle.compiler.specs.declared.fault.Fault.TheVariants.{NoMemory};
-ghost use Rattle.std.specs.Prelude.{◌≡◌};
+ghost use Rattle.std.specs.Prelude.{◌≡◌, Some};
 
 use lexer::Place;
 use std::alloc::{AllocError, AllocFailed};
-use thiserror::Error;
+use std::error::Error;
+use std::fmt;
 
 /// One of the two texts that a module is compiled from.
 #[derive(Clone, Copy, Debug, PartialEq, Eq)]
@@ -16,76 +17,53 @@ pub enum Text {
 }
 
 /// What is wrong with a text.
-#[derive(Clone, Copy, Debug, PartialEq, Eq, Error)]
+#[derive(Clone, Copy, Debug, PartialEq, Eq)]
 pub enum Cause {
     /// 100: the bytes of the text are not UTF-8.
-    #[error("not UTF-8")]
     NotUtf8,
     /// 101: no token, white space or comment begins here.
-    #[error("no token")]
     NoToken,
     /// 102: an integer above 2147483647.
-    #[error("literal too large")]
     LiteralTooLarge,
     /// 103: a comment that never ends.
-    #[error("open comment")]
     OpenComment,
     /// 151: no text of a hierarchy goes on so.
-    #[error("syntax")]
     Syntax,
     /// 152: a principal that was declared before.
-    #[error("declared twice")]
     PrincipalTwice,
     /// 153: a pair names no principal that was declared before.
-    #[error("unknown principal")]
     UnknownPrincipal,
     /// 154: the 257th principal.
-    #[error("too many principals")]
     TooManyPrincipals,
     /// 201: no program goes on so.
-    #[error("unexpected token")]
     UnexpectedToken,
     /// 202: more than 64 levels are open.
-    #[error("nested too deep")]
     TooDeep,
     /// 301: a name that is not declared, or not here.
-    #[error("unknown name")]
     UnknownName,
     /// 302: a name that is there already.
-    #[error("declared twice")]
     DeclaredTwice,
     /// 303: a label names no principal of the hierarchy.
-    #[error("unknown principal")]
     UnknownPrincipalInLabel,
     /// 304: no procedure `main`, or one that takes or gives a value.
-    #[error("no proper main")]
     NoProperMain,
     /// 403: a name of another kind than its place wants.
-    #[error("wrong use")]
     WrongUse,
     /// 501: a statement that is never reached.
-    #[error("unreachable")]
     Unreachable,
     /// 502: a procedure with a value that can end without one.
-    #[error("no value returned")]
     NoValueReturned,
     /// 503: an exception can leave a procedure that does not declare it.
-    #[error("exception not declared")]
     ExceptionNotDeclared,
     /// 504: a handler of an exception that never comes.
-    #[error("never raised")]
     NeverRaised,
     /// 505: `break` or `continue` outside a loop.
-    #[error("not in a loop")]
     OutsideLoop,
     /// 601: something would flow to where its readers are not kept to.
-    #[error("flow not allowed")]
     FlowNotAllowed,
     /// 701: the text has more than 1,048,576 bytes.
-    #[error("text too long")]
     TextTooLong,
     /// 704: more than 1,048,576 cells in one frame or in the globals.
-    #[error("too many cells")]
     TooManyCells,
 }
 
@@ -120,10 +98,51 @@ impl Cause {
             Cause::TooManyCells => 704,
         }
     }
+
+    /// The words that the fault is told by.
+    pub fn words(&self) -> &'static str
+        ensures { result.now ≡ cause_words self.now }
+    {
+        match self {
+            Cause::NotUtf8 => "not UTF-8",
+            Cause::NoToken => "no token",
+            Cause::LiteralTooLarge => "literal too large",
+            Cause::OpenComment => "open comment",
+            Cause::Syntax => "syntax",
+            Cause::PrincipalTwice => "declared twice",
+            Cause::UnknownPrincipal => "unknown principal",
+            Cause::TooManyPrincipals => "too many principals",
+            Cause::UnexpectedToken => "unexpected token",
+            Cause::TooDeep => "nested too deep",
+            Cause::UnknownName => "unknown name",
+            Cause::DeclaredTwice => "declared twice",
+            Cause::UnknownPrincipalInLabel => "unknown principal",
+            Cause::NoProperMain => "no proper main",
+            Cause::WrongUse => "wrong use",
+            Cause::Unreachable => "unreachable",
+            Cause::NoValueReturned => "no value returned",
+            Cause::ExceptionNotDeclared => "exception not declared",
+            Cause::NeverRaised => "never raised",
+            Cause::OutsideLoop => "not in a loop",
+            Cause::FlowNotAllowed => "flow not allowed",
+            Cause::TextTooLong => "text too long",
+            Cause::TooManyCells => "too many cells",
+        }
+    }
 }
 
+impl fmt::Display for Cause {
+    ghost output = { λ cause. Some (cause_words cause) };
+
+    fn fmt<W: fmt::Write>(&self, f: &mut fmt::Formatter<W>) -> fmt::Result {
+        write!(f, "{}", self.words())
+    }
+}
+
+impl Error for Cause {}
+
 /// Why two texts gave no module.
-#[derive(Clone, Copy, Debug, PartialEq, Eq, Error)]
+#[derive(Clone, Copy, Debug, PartialEq, Eq, thiserror::Error)]
 pub enum Fault {
     /// A growth of memory was refused.
     #[error("no memory")]

@@ -2,5 +2,5 @@ pub mod Cut
 pub mod Promises
 pub mod Refusals
 pub mod Settled
-pub mod Silence
+pub mod Telling
 pub mod Views

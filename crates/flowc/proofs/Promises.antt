@@ -1,5 +1,7 @@
 -- What compiled bytes promise, from what is known of compiling, of hosts and of the program.
 use Rattle.std.proofs.Common.{◌≡◌, ℕ, ◌+◌, ◌-◌, ◌≤◌, List, [], ◌∷◌, ◌++◌, Option, Some, None, refl, sym, ap, ◌∙◌, subst, arith, ◌⊎◌, ⊎_elim, inl, inr}
+use Rattle.std.specs.Str.{IsUtf8}
+use Rattle.std.specs.String.{string_bytes}
 use Rattle.principals.specs.ActsFor.{PrincipalHierarchy, AllDifferent, HasName}
 use Rattle.principals.proofs.Names.{one_number}
 use Rattle.labels.specs.declared.sent.Pair.{Pair}
@@ -8,22 +10,31 @@ use Rattle.labels.proofs.Begins.{Begins-itself, Begins-of-two, Begins-through, s
 use Rattle.resolved.specs.Meaning.{sent_by}
 use Rattle.resolved.specs.State.{World}
 use Rattle.bytecode.specs.Contents.{ModuleContents}
+use Rattle.bytecode.specs.Decoded.{first_refusal}
 use Rattle.bytecode.specs.Form.{Fits, Spells}
 use Rattle.bytecode.specs.Format.{contents, hierarchy, module_file}
 use Rattle.bytecode.specs.Isolated.{Agree, IsIsolated, OneBegins, channel_label, seen_of}
 use Rattle.bytecode.proofs.Facts.{principals-different}
 use Rattle.bytecode.specs.Machine.{Machine, after_steps, program_of, sent_after, sent_of}
-use Rattle.channels.specs.World.{numbers_of_channel}
+use Rattle.channels.specs.World.{input_names, numbers_of_channel}
+use Rattle.channels.specs.WorldText.{IsWorldText, lines_of}
 use Rattle.lowering.proofs.Readers.{seen-module}
 use Rattle.lowering.proofs.Sent.{exec-keeps}
 use Rattle.machine.proofs.Told.{exec_more}
 use Rattle.machine.specs.declared.status.Status.{Status}
+use Rattle.verifier.specs.Faults.{HasNoFault}
 use Rattle.compiler.specs.Built.{IsCompiled}
 use Rattle.host.specs.Laws as sessions
-use Rattle.flowc.specs.Promises.{ObserversAreToldNothing, RunsShowThemselves, SessionsAreIsolated, SessionsShowNoLess, SessionsShowNoMore, module_in, program_in, seen_by}
-use Rattle.flowc.specs.Shown.{numbers_in, text_shown}
+use Rattle.flowc.specs.Built.{bytes_at}
+use Rattle.flowc.specs.Promises.{ObserversAreToldNothing, RunsShowThemselves, SessionsAreIsolated, SessionsShowNoLess, SessionsShowNoMore, StandardErrorIsFixed, module_in, program_in, seen_by}
+use Rattle.flowc.specs.Shown.{CanRun, numbers_in, text_shown}
 use Rattle.flowc.specs.Task.{status_told}
+use Rattle.flowc.specs.Told.{IsModuleLine, IsObserverLine, IsRefusedLine, IsWorldLine, line_told}
+use Rattle.flowc.specs.Told.IsModuleLine.{faulty, refused}
+use Rattle.flowc.specs.Told.IsRefusedLine.{of_module, of_observer, of_world}
+use Rattle.flowc.specs.Told.IsWorldLine.{no_text, wrong}
 use Rattle.flowc.specs.View.{IsObserver, view_text}
+use Rattle.flowc.proofs.Refusals.{told_is_fault, wrong_is_no_world}
 use Rattle.flowc.proofs.Views.{view_text-append}
 
 -- ---- sessions
@@ -80,6 +91,11 @@ no_end_told : (h : PrincipalHierarchy) (name : List ℕ) (principal : Option ℕ
 no_end_told h name None end is = absurd is
 no_end_told h name (Some p) end is = refl
 
+no_line_told : (m : ModuleContents) (name : List ℕ) (principal : Option ℕ) (end : Status) → IsObserver m.hierarchy (Some name) principal
+    → line_told m principal end ≡ []
+no_line_told m name None end is = absurd is
+no_line_told m name (Some p) end is = refl
+
 -- the principals of a module that has a spelling have different names
 names_differ : (m : ModuleContents) → Fits module_file m → AllDifferent m.hierarchy.names
 unfolding module_file contents hierarchy
@@ -126,3 +142,48 @@ module _ (one : (m n : ModuleContents) (bytes : List ℕ) → Spells module_file
       run.begins again.begins
       (texts_begin m compiled.code_of.spelled.0 compiled.code_of.isolated name first second agree run.whole again.whole same same_again
       run.principal again.principal run.can_run.observed again.can_run.observed run.taken again.taken)
+
+  -- ---- standard error
+
+  -- what can be run is not refused
+  module _ (not_refused : (m : ModuleContents) (bytes : List ℕ) → Spells module_file m bytes → first_refusal bytes ≡ None) where
+    right_module : (path code line : List ℕ) (m : ModuleContents) → Spells module_file m code → HasNoFault m → IsModuleLine path code line → ⊥
+    right_module path code line m spelled faultless (refused refusal offset found says) =
+        let none = not_refused m code spelled in
+        cc
+    right_module path code line m spelled faultless (faulty other fault spelled_too told says) =
+        told_is_fault other fault told (subst (λ (w : ModuleContents). HasNoFault w) (one m other code spelled spelled_too) faultless)
+
+    right_world : (path text line : List ℕ) (m other : ModuleContents) → m ≡ other → IsUtf8 text → IsWorldText (input_names m) (lines_of text)
+        → IsWorldLine other path text line → ⊥
+    right_world path text line m other same encoded right (no_text none says) = none encoded
+    right_world path text line m other same encoded right (wrong number defect encoded_too first says) =
+        wrong_is_no_world (input_names other) (lines_of text) number defect first
+        (subst (λ (w : ModuleContents). IsWorldText (input_names w) (lines_of text)) same right)
+
+    right_observer : (name line : List ℕ) (m other : ModuleContents) (principal : Option ℕ) → m ≡ other → IsObserver m.hierarchy (Some name) principal
+        → IsObserverLine other.hierarchy (Some name) line → ⊥
+    right_observer name line m other None same observed unknown = absurd observed
+    right_observer name line m other (Some p) same observed unknown =
+        let called : name ≡ unknown.name = cc unknown.named in
+        unknown.unknown p
+        (subst (λ (text : List ℕ). HasName other.hierarchy p text) called (subst (λ (w : ModuleContents). HasName w.hierarchy p name) same observed))
+
+    right_run : (code_path text_path code text name line : List ℕ) (m : ModuleContents) (principal : Option ℕ) → CanRun code text (Some name) m principal
+        → IsRefusedLine code_path text_path code text (Some name) line → ⊥
+    right_run code_path text_path code text name line m principal can (of_module wrong_module) =
+        right_module code_path code line m can.spelled can.faultless wrong_module
+    right_run code_path text_path code text name line m principal can (of_world other spelled faultless wrong_world) =
+        right_world text_path text line m other (one m other code can.spelled spelled) can.encoded can.right wrong_world
+    right_run code_path text_path code text name line m principal can (of_observer other spelled faultless encoded right unknown) =
+        right_observer name line m other principal (one m other code can.spelled spelled) can.observed unknown
+
+    pub error_is_fixed : StandardErrorIsFixed
+    error_is_fixed file world observer steps files m principal can status out_failed line (inl refused_line) =
+        absurd (right_run (string_bytes file) (string_bytes world) (bytes_at files 0) (bytes_at files 1) (string_bytes observer) line m principal can refused_line.1)
+    error_is_fixed file world observer steps files m principal can status out_failed line (inr (inl trouble)) = inr trouble
+    error_is_fixed file world observer steps files m principal can status out_failed line (inr (inr run)) =
+        let h = run.whole.hierarchy in
+        inl
+        (run.told ∙ no_end_told h (string_bytes observer) run.principal run.end run.can_run.observed,
+        run.says ∙ no_line_told run.whole (string_bytes observer) run.principal run.end run.can_run.observed)

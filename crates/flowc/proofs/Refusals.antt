@@ -21,7 +21,7 @@ told_after m [] fault told fixed flow = flow fault told
 told_after m (first ∷ more) fault told fixed flow = cc
 
 -- a module with a fault that may be told is not without one
-told_is_fault : (m : ModuleContents) (fault : Fault) → IsTold m fault → HasNoFault m → ⊥
+pub told_is_fault : (m : ModuleContents) (fault : Fault) → IsTold m fault → HasNoFault m → ⊥
 told_is_fault m fault told none = told_after m (fixed_faults m) fault told none.fixed none.flow
 
 pub told_of_is_fault : (m : ModuleContents) (answer : VerifyFault) (fault : Fault) → answer ≡ Wrong fault → IsToldOf m answer → HasNoFault m → ⊥

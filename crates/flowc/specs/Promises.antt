@@ -1,7 +1,10 @@
 -- What the bytes that two texts are compiled to promise: of every session of them that any host opens, and of every run of them
 -- that the program shows. Each joins what is said of compiling with what is said of hosts and of the program.
 -- Source: our own; isolation as noninterference after Volpano, Smith and Irvine 1996.
-use Rattle.std.specs.Prelude.{◌≡◌, ℕ, ◌≤◌, List, Option, Some}
+use Rattle.std.specs.Prelude.{◌≡◌, ℕ, ◌≤◌, ◌⊎◌, List, [], Bool, Option, Some, String}
+use Rattle.std.specs.String.{string_bytes}
+use Rattle.std.specs.declared.alloc.Global.{Global}
+use Rattle.std.specs.declared.vec.Vec.{Vec}
 use Rattle.principals.specs.ActsFor.{HasName}
 use Rattle.labels.specs.declared.sent.Pair.{Pair}
 use Rattle.labels.specs.Sent.{Begins, seen}
@@ -15,7 +18,10 @@ use Rattle.bytecode.specs.Isolated.{Agree, OneBegins}
 use Rattle.channels.specs.World.{InputNumbers, numbers_of_channel}
 use Rattle.compiler.specs.Built.{IsCompiled}
 use Rattle.host.specs.Laws as sessions
-use Rattle.flowc.specs.Shown.{IsShown, ShowsRun, numbers_in, text_shown}
+use Rattle.flowc.specs.declared.request.Task.TheVariants.{Run}
+use Rattle.flowc.specs.Built.{bytes_at}
+use Rattle.flowc.specs.Shown.{CanRun, IsShown, ShowsRun, numbers_in, text_shown}
+use Rattle.flowc.specs.Told.{IsLine, IsTroubleLine}
 
 -- what a principal sees of what a program sends on a world with so many turns, by the program's own hierarchy and labels
 abbrev pub seen_by : Program → (p : ℕ) → World → (turns : ℕ) → List Pair
@@ -80,3 +86,12 @@ ObserversAreToldNothing =
     → (steps more : ℕ) (out other : List ℕ)
     → IsShown code first (Some name) steps out → IsShown code second (Some name) more other
     → OneBegins out other
+
+-- nothing can be told on standard error of a run for an observer that can be run: with status 0 it has no line, and with another one
+-- of the two fixed lines of status 3
+abbrev pub StandardErrorIsFixed : Type 0
+StandardErrorIsFixed =
+    (file world observer : String Global) (steps : ℕ) (files : List (Vec ℕ Global)) (whole : ModuleContents) (principal : Option ℕ)
+    → CanRun (bytes_at files 0) (bytes_at files 1) (Some (string_bytes observer)) whole principal
+    → (status : ℕ) (out_failed : Bool) (line : List ℕ) → IsLine (Run file world (Some observer) steps) files status out_failed line
+    → ((status ≡ 0) × (line ≡ [])) ⊎ IsTroubleLine status out_failed line

@@ -35,11 +35,6 @@ abbrev pub reads_source : Task → Bool
 reads_source (Run file world observer steps) = false
 reads_source task = true
 
--- whether nothing is told of how a task ended but its status: only a run that is not for an observer tells its end in words
-abbrev pub tells_no_end : Task → Bool
-tells_no_end (Run file world None steps) = false
-tells_no_end task = true
-
 -- the status that tells how a run ended
 abbrev pub status_of_end : Status → ℕ
 status_of_end Finished = 0

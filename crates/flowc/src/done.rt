@@ -1,10 +1,12 @@
 ghost use Rattle.channels.specs.Sink.{AppendsBeginning};
 ghost use Rattle.compiler.specs.Built.{IsAccepted, IsCompiled};
 ghost use Rattle.flowc.specs.Built.{HoldsProgram, IsBuilt, bytes_at};
+ghost use Rattle.flowc.specs.Lines.{IsTrouble, line_of_trouble};
 ghost use Rattle.flowc.specs.Shown.{Shows};
-ghost use Rattle.flowc.specs.Task.{files_of, makes_file, may_end, reads_source, status_of_trouble, tells_no_end};
+ghost use Rattle.flowc.specs.Task.{files_of, makes_file, may_end, reads_source, status_of_trouble};
+ghost use Rattle.flowc.specs.Told.{IsTextsLine, Tells, WentOut};
 ghost use Rattle.std.specs.Io.KnownBytes.{Appends};
-ghost use Rattle.std.specs.Prelude.{[], ◌≡◌, ◌≤◌, ◌<◌, ◌↔◌, IfErr, IfOk, IfSome, IsSome, IsTrue, MatchResult, None, OnOk, codes, length, option_map};
+ghost use Rattle.std.specs.Prelude.{[], ◌≡◌, ◌≤◌, ◌<◌, ◌↔◌, IfErr, IfOk, IfSome, IsSome, IsTrue, MatchResult, None, OnOk, codes, false, length, option_map};
 ghost use Rattle.std.specs.String.{string_bytes};
 
 use crate::request::Task;
@@ -41,7 +43,7 @@ pub fn perform<O: Sink, E: Sink>(
     ensures accepted { IsTrue (reads_source task.now) → result.status ≡ 0 → HoldsProgram files.now }
     ensures refused { IsTrue (reads_source task.now) → result.status ≡ 1 → ¬ HoldsProgram files.now }
     ensures shown { Shows task.now files.now result.status (O.taken out.old) (O.taken out.new) }
-    ensures untold { IsTrue (tells_no_end task.now) → result.status ≡ 0 → Appends (E.taken err.old) (E.taken err.new) [] }
+    ensures told { Tells task.now files.now result.status (O.has_failed out.new) (E.taken err.old) (E.taken err.new) (E.has_failed err.new) }
 {
     let (first, second) = (bytes_of(files, 0), bytes_of(files, 1));
     match task {
@@ -85,7 +87,8 @@ fn name_of(observer: &Option<String>) -> Option<&str>
 
 // A file that was read, by its path.
 fn named<'a>(path: &'a String, bytes: &'a [u8]) -> File<'a>
-    ensures { result.bytes.now ≡ bytes.now }
+    ensures path { result.path.now ≡ string_bytes path.now }
+    ensures bytes { result.bytes.now ≡ bytes.now }
 {
     File {
         path: path.as_str(),
@@ -106,7 +109,8 @@ fn check<O: Sink>(
     ensures shown { OnOk result (Appends (O.taken out.old) (O.taken out.new) (codes "ok\n")) }
     ensures quiet { IfErr result (λ trouble. status_of_trouble trouble ≡ 1 → O.taken out.old ≡ O.taken out.new) }
     ensures some { IfErr result (λ trouble. status_of_trouble trouble ≡ 3 → AppendsBeginning (O.taken out.old) (O.taken out.new) (codes "ok\n")) }
-    ensures untold { IfOk result (λ ended. string_bytes ended.line ≡ []) }
+    ensures silent { IfOk result (λ ended. string_bytes ended.line ≡ []) }
+    ensures told { IfErr result (IsTrouble (IsTextsLine hierarchy.entry.path.now source.entry.path.now hierarchy.entry.bytes.now source.entry.bytes.now) (O.has_failed out.new)) }
 {
     let _code = build(alloc, hierarchy, source)?;
     write_whole(out, b"ok\n")?;
@@ -121,6 +125,7 @@ fn build(alloc: Global, hierarchy: File<'_>, source: File<'_>) -> Result<Vec<u8>
     ensures accepted { OnOk result (IsAccepted hierarchy.entry.bytes.now source.entry.bytes.now) }
     ensures compiled { IfOk result (λ code. IsCompiled hierarchy.entry.bytes.now source.entry.bytes.now code.items) }
     ensures refused { IfErr result (λ trouble. status_of_trouble trouble ≡ 1 → ¬ IsAccepted hierarchy.entry.bytes.now source.entry.bytes.now) }
+    ensures told { IfErr result (IsTrouble (IsTextsLine hierarchy.entry.path.now source.entry.path.now hierarchy.entry.bytes.now source.entry.bytes.now) false) }
 {
     match compile(alloc, hierarchy.bytes, source.bytes) {
         Ok(code) => Ok(code),
@@ -139,7 +144,7 @@ fn build(alloc: Global, hierarchy: File<'_>, source: File<'_>) -> Result<Vec<u8>
 fn ended<E: Sink>(outcome: Result<Ended, Trouble>, err: &mut E) -> Done
     ensures code { result.code ≡ None }
     ensures status { MatchResult outcome (λ ended. result.status ≡ ended.status) (λ trouble. result.status ≡ status_of_trouble trouble) }
-    ensures said { IfOk outcome (λ ended. AppendsBeginning (E.taken err.old) (E.taken err.new) (string_bytes ended.line)) }
+    ensures told { MatchResult outcome (λ ended. WentOut (string_bytes ended.line) (E.taken err.old) (E.taken err.new) (E.has_failed err.new)) (λ trouble. WentOut (line_of_trouble trouble) (E.taken err.old) (E.taken err.new) (E.has_failed err.new)) }
 {
     let (status, line) = match &outcome {
         Ok(ended) => (ended.status, ended.line.as_str()),
@@ -153,7 +158,7 @@ fn ended<E: Sink>(outcome: Result<Ended, Trouble>, err: &mut E) -> Done
 fn left<E: Sink>(built: Result<Vec<u8>, Trouble>, err: &mut E) -> Done
     ensures code { MatchResult built (λ code. result.code ≡ Some code) (λ _. result.code ≡ None) }
     ensures status { MatchResult built (λ _. result.status ≡ 0) (λ trouble. result.status ≡ status_of_trouble trouble) }
-    ensures said { OnOk built (E.taken err.new ≡ E.taken err.old) }
+    ensures told { MatchResult built (λ _. WentOut [] (E.taken err.old) (E.taken err.new) (E.has_failed err.new)) (λ trouble. WentOut (line_of_trouble trouble) (E.taken err.old) (E.taken err.new) (E.has_failed err.new)) }
 {
     match built {
         Ok(code) => Done {

@@ -6,15 +6,19 @@ ghost use Rattle.bytecode.specs.Format.{module_file};
 ghost use Rattle.bytecode.specs.Machine.{Running, first_state};
 ghost use Rattle.channels.specs.World.{input_names};
 ghost use Rattle.channels.specs.WorldText.{IsWorldText, lines_of, world_of};
+ghost use Rattle.flowc.specs.Lines as lines;
+ghost use Rattle.flowc.specs.Lines.{IsTrouble};
 ghost use Rattle.flowc.specs.Shown.{CannotRun, ShowsRun, ShowsSome, numbers_in};
 ghost use Rattle.flowc.specs.Task.{status_of_trouble, status_told};
+ghost use Rattle.flowc.specs.Told.{IsEndLine, IsModuleLine, IsObserverLine, IsRefusedLine, IsWorldLine, line_told};
 ghost use Rattle.flowc.specs.View.{IsObserver};
+ghost use Rattle.flowc.specs.declared.trouble.Trouble.TheVariants.{OutOfMemory};
 ghost use Rattle.machine.specs.Run.{machine_of};
-ghost use Rattle.std.specs.Prelude.{[], ◌≡◌, IfErr, IfOk, IsSome, IsUtf8, ℕ, OnErr, OnOk, Option, codes, option_map};
+ghost use Rattle.std.specs.Prelude.{◌≡◌, IfErr, IfOk, IsUtf8, List, ℕ, OnErr, OnOk, Option, false, option_map};
 ghost use Rattle.std.specs.String.{string_bytes};
 ghost use Rattle.verifier.specs.Faults.{HasNoFault};
 
-use crate::told::{fault_line, observer_line, refusal_line, world_line};
+use crate::told::{encoding_line, fault_line, observer_line, refusal_line, world_line};
 use crate::trouble::Trouble;
 use crate::view::write_view;
 use bytecode::{FormatFault, Module, decode};
@@ -51,7 +55,8 @@ pub fn run<O: Sink>(
     ensures some { OnErr result (ShowsSome code.entry.bytes.now world.entry.bytes.now (option_map (λ name. name.now) observer.entry) steps (O.taken out.old) (O.taken out.new)) }
     ensures refused { IfErr result (λ trouble. status_of_trouble trouble ≡ 1 → CannotRun code.entry.bytes.now world.entry.bytes.now (option_map (λ name. name.now) observer.entry)) }
     ensures quiet { IfErr result (λ trouble. status_of_trouble trouble ≡ 1 → O.taken out.old ≡ O.taken out.new) }
-    ensures untold { IfOk result (λ ended. IsSome observer.entry → string_bytes ended.line ≡ []) }
+    ensures end { IfOk result (λ ended. IsEndLine code.entry.bytes.now world.entry.bytes.now (option_map (λ name. name.now) observer.entry) steps ended.status (string_bytes ended.line)) }
+    ensures told { IfErr result (IsTrouble (IsRefusedLine code.entry.path.now world.entry.path.now code.entry.bytes.now world.entry.bytes.now (option_map (λ name. name.now) observer.entry)) (O.has_failed out.new)) }
 {
     let mut machine = started(alloc, code, world)?;
     let principal = principal_of(alloc, machine.module().hierarchy(), observer)?;
@@ -68,6 +73,7 @@ fn started(alloc: Global, code: File<'_>, world: File<'_>) -> Result<Machine, Tr
     ensures faultless { IfOk result (λ machine. HasNoFault machine.program) }
     ensures encoded { OnOk result (IsUtf8 world.entry.bytes.now) }
     ensures refused { IfErr result (λ trouble. status_of_trouble trouble ≡ 1 → (whole : ModuleContents) → Spells module_file whole code.entry.bytes.now → HasNoFault whole → IsUtf8 world.entry.bytes.now → ¬ IsWorldText (input_names whole) (lines_of world.entry.bytes.now)) }
+    ensures told { IfErr result (IsTrouble (λ line. (observer : Option (List ℕ)) → IsRefusedLine code.entry.path.now world.entry.path.now code.entry.bytes.now world.entry.bytes.now observer line) false) }
     ensures right { IfOk result (λ machine. IsWorldText (input_names machine.program) (lines_of world.entry.bytes.now)) }
     ensures first { IfOk result (λ machine. machine_of machine ≡ Running (first_state machine.program (numbers_in machine.program world.entry.bytes.now))) }
 {
@@ -89,6 +95,7 @@ fn read_module(alloc: Global, file: File<'_>) -> Result<Verified, Trouble>
     ensures only { IfOk result (λ verified. (whole : ModuleContents) → Spells module_file whole file.entry.bytes.now → verified ≡ whole) }
     ensures faultless { IfOk result (λ verified. HasNoFault verified) }
     ensures refused { IfErr result (λ trouble. status_of_trouble trouble ≡ 1 → (whole : ModuleContents) → Spells module_file whole file.entry.bytes.now → ¬ HasNoFault whole) }
+    ensures told { IfErr result (IsTrouble (IsModuleLine file.entry.path.now file.entry.bytes.now) false) }
 {
     let whole = match decode(alloc, file.bytes) {
         Ok(whole) => whole,
@@ -113,10 +120,11 @@ fn read_world(alloc: Global, whole: &Module, file: File<'_>) -> Result<World, Tr
     ensures right { OnOk result (IsWorldText (input_names whole.now) (lines_of file.entry.bytes.now)) }
     ensures world { IfOk result (λ world. world ≡ world_of (input_names whole.now) (lines_of file.entry.bytes.now)) }
     ensures refused { IfErr result (λ trouble. status_of_trouble trouble ≡ 1 → IsUtf8 file.entry.bytes.now → ¬ IsWorldText (input_names whole.now) (lines_of file.entry.bytes.now)) }
+    ensures told { IfErr result (IsTrouble (IsWorldLine whole.now file.entry.path.now file.entry.bytes.now) false) }
 {
     let path = file.path;
     let Ok(text) = std::str::from_utf8(file.bytes) else {
-        return Err(Trouble::Refused(format!(in alloc; "{path}:1: 100 not UTF-8\n")?));
+        return Err(Trouble::Refused(encoding_line(alloc, path)?));
     };
     match World::read(alloc, whole, text) {
         Ok(world) => Ok(world),
@@ -135,6 +143,7 @@ fn principal_of(
 ) -> Result<Option<u32>, Trouble>
     ensures found { IfOk result (λ principal. IsObserver hierarchy.now (option_map (λ name. name.now) observer.entry) principal) }
     ensures refused { IfErr result (λ trouble. status_of_trouble trouble ≡ 1 → (principal : Option ℕ) → ¬ IsObserver hierarchy.now (option_map (λ name. name.now) observer.entry) principal) }
+    ensures told { IfErr result (IsTrouble (IsObserverLine hierarchy.now (option_map (λ name. name.now) observer.entry)) false) }
 {
     let Some(name) = observer else {
         return Ok(None);
@@ -153,8 +162,8 @@ fn told_end(
     status: Status,
 ) -> Result<Ended, Trouble>
     ensures told { IfOk result (λ ended. ended.status ≡ status_told observer status) }
-    ensures memory { IfErr result (λ trouble. status_of_trouble trouble ≡ 3) }
-    ensures untold { IfOk result (λ ended. IsSome observer → string_bytes ended.line ≡ []) }
+    ensures line { IfOk result (λ ended. string_bytes ended.line ≡ line_told whole.now observer status) }
+    ensures memory { IfErr result (λ trouble. trouble ≡ OutOfMemory) }
 {
     if observer.is_some() {
         return Ok(Ended {
@@ -177,9 +186,7 @@ fn told_end(
 
 // The name of an exception: of one that every program has, or of a declared one.
 fn exception_name(whole: &Module, exception: u32) -> &str
-    ensures arith { exception ≡ 0 → result.now ≡ codes "Arith" }
-    ensures bounds { exception ≡ 1 → result.now ≡ codes "Bounds" }
-    ensures end { exception ≡ 2 → result.now ≡ codes "End" }
+    ensures { result.now ≡ lines.exception_name whole.now exception }
 {
     match exception {
         0 => "Arith",

@@ -1,5 +1,10 @@
 //! The words of faults, as the program prints them.
 
+ghost use Rattle.flowc.specs.Lines as lines;
+ghost use Rattle.flowc.specs.Lines.{defect_number, world_number};
+ghost use Rattle.std.specs.Prelude.{◌≡◌, IfOk};
+ghost use Rattle.std.specs.String.{string_bytes};
+
 use bytecode::Refusal;
 use channels::WorldDefect;
 use compiler::{Cause, Text};
@@ -8,7 +13,9 @@ use std::alloc::{AllocError, Global};
 use verifier::{Defect, Fault};
 
 /// The words of a refusal of a module's bytes.
-pub fn refusal_words(refusal: Refusal) -> &'static str {
+pub fn refusal_words(refusal: Refusal) -> &'static str
+    ensures { result.now ≡ lines.refusal_words refusal }
+{
     match refusal {
         Refusal::Magic => "magic",
         Refusal::Version => "version",
@@ -20,7 +27,10 @@ pub fn refusal_words(refusal: Refusal) -> &'static str {
 }
 
 /// The number and the words of a fault of a module's code.
-pub fn defect_words(defect: Defect) -> (u32, &'static str) {
+pub fn defect_words(defect: Defect) -> (u32, &'static str)
+    ensures number { result.0 ≡ defect_number defect }
+    ensures words { result.1.now ≡ lines.defect_words defect }
+{
     match defect {
         Defect::Jump => (811, "jump"),
         Defect::OperandKind => (812, "operand kind"),
@@ -31,7 +41,10 @@ pub fn defect_words(defect: Defect) -> (u32, &'static str) {
 }
 
 /// The number and the words of what is wrong with a line of a world's text.
-pub fn world_words(defect: WorldDefect) -> (u32, &'static str) {
+pub fn world_words(defect: WorldDefect) -> (u32, &'static str)
+    ensures number { result.0 ≡ world_number defect }
+    ensures words { result.1.now ≡ lines.world_words defect }
+{
     match defect {
         WorldDefect::Syntax => (851, "syntax"),
         WorldDefect::UnknownChannel => (852, "unknown channel"),
@@ -46,14 +59,18 @@ pub fn refusal_line(
     path: &str,
     refusal: Refusal,
     offset: usize,
-) -> Result<String, AllocError> {
+) -> Result<String, AllocError>
+    ensures { IfOk result (λ line. string_bytes line ≡ lines.refusal_line path.now refusal offset) }
+{
     let number = refusal.number();
     let words = refusal_words(refusal);
     format!(in alloc; "{path}:{offset}: {number} {words}\n")
 }
 
 /// The line that tells a fault of a module's code, at a procedure and a byte offset.
-pub fn fault_line(alloc: Global, path: &str, fault: Fault) -> Result<String, AllocError> {
+pub fn fault_line(alloc: Global, path: &str, fault: Fault) -> Result<String, AllocError>
+    ensures { IfOk result (λ line. string_bytes line ≡ lines.fault_line path.now fault) }
+{
     let (number, words) = defect_words(fault.defect);
     let procedure = fault.procedure;
     let offset = fault.offset;
@@ -66,9 +83,21 @@ pub fn world_line(
     path: &str,
     line: usize,
     defect: WorldDefect,
-) -> Result<String, AllocError> {
+) -> Result<String, AllocError>
+    ensures { IfOk result (λ text. string_bytes text ≡ lines.world_line path.now line defect) }
+{
     let (number, words) = world_words(defect);
     format!(in alloc; "{path}:{line}: {number} {words}\n")
+}
+
+/// The line that tells that the bytes of a world are no text.
+pub fn encoding_line(alloc: Global, path: &str) -> Result<String, AllocError>
+    ensures { IfOk result (λ line. string_bytes line ≡ lines.encoding_line path.now) }
+{
+    let line = 1u32;
+    let cause = Cause::NotUtf8;
+    let number = cause.number();
+    format!(in alloc; "{path}:{line}: {number} {cause}\n")
 }
 
 /// The line that tells what is wrong with a text, at a line and a column.
@@ -77,13 +106,19 @@ pub fn cause_line(
     path: &str,
     cause: Cause,
     at: Place,
-) -> Result<String, AllocError> {
+) -> Result<String, AllocError>
+    ensures { IfOk result (λ text. string_bytes text ≡ lines.cause_line path.now cause at) }
+{
     let Place { line, column } = at;
     let number = cause.number();
     format!(in alloc; "{path}:{line}:{column}: {number} {cause}\n")
 }
 
 /// The line that tells that no principal of a module has the name of an observer.
-pub fn observer_line(alloc: Global, name: &str) -> Result<String, AllocError> {
-    format!(in alloc; "{name}: 153 unknown principal\n")
+pub fn observer_line(alloc: Global, name: &str) -> Result<String, AllocError>
+    ensures { IfOk result (λ line. string_bytes line ≡ lines.observer_line name.now) }
+{
+    let cause = Cause::UnknownPrincipal;
+    let number = cause.number();
+    format!(in alloc; "{name}: {number} {cause}\n")
 }

@@ -1,3 +1,4 @@
+ghost use Rattle.flowc.specs.Lines.{line_of_trouble};
 ghost use Rattle.flowc.specs.Task.{status_of_trouble};
 ghost use Rattle.flowc.specs.declared.trouble.Trouble.TheVariants.{CannotWrite, OutOfMemory};
 ghost use Rattle.std.specs.Prelude.{◌≡◌};
@@ -18,7 +19,8 @@ pub enum Trouble {
 impl Trouble {
     /// The exit status that stands for the trouble, and the line that tells it.
     pub fn told(&self) -> (u8, &str)
-        ensures { result.0 ≡ status_of_trouble self.now }
+        ensures status { result.0 ≡ status_of_trouble self.now }
+        ensures line { result.1.now ≡ line_of_trouble self.now }
     {
         match self {
             Trouble::Refused(line) => (1, line.as_str()),

@@ -1,6 +1,7 @@
 //! What of the pairs that were sent is shown, and to whom.
 
 ghost use Rattle.channels.specs.Sink.{AppendsBeginning};
+ghost use Rattle.flowc.specs.Lines.{IsTrouble};
 ghost use Rattle.flowc.specs.Task.{status_of_trouble};
 ghost use Rattle.flowc.specs.View.{is_shown, name_in, pair_line, shown, view_text};
 ghost use Rattle.std.specs.Io.KnownBytes.{Appends};
@@ -54,6 +55,7 @@ pub fn write_view<O: Sink>(
     out: &mut O,
 ) -> Result<(), Trouble>
     ensures failed { IfErr result (λ trouble. status_of_trouble trouble ≡ 3) }
+    ensures told { IfErr result (IsTrouble (λ _. ⊥) (O.has_failed out.new)) }
     ensures beginning { OnErr result (AppendsBeginning (O.taken out.old) (O.taken out.new) (view_text whole.now (shown whole.now observer pairs.now))) }
     ensures view { OnOk result (Appends (O.taken out.old) (O.taken out.new) (view_text whole.now (shown whole.now observer pairs.now))) }
 {

@@ -1,7 +1,7 @@
 use Rattle.std.proofs.Common.{◌∙◌, ap}
 use Rattle.bytecode.specs.Contents.{ModuleContents}
 use Rattle.flowc.proofs.Cut.{appended_whole, can_run, cut_off, on_err}
-use Rattle.flowc.proofs.Silence.{untold_to_named}
+use Rattle.flowc.proofs.Telling.{observer_told, start_told}
 use Rattle.flowc.proofs.running.run.Goals as goal
 
 pub returns-in_err-write_view-clause-some : goal.returns-in_err-write_view-clause-some
@@ -20,5 +20,13 @@ returns-clause-some g c =
     on_err c.told_end.result _ (cut_off _ _ _ c.args.steps _ _ m c.module-whole.result.now c.in_ok-principal.principal c.run-status.result.0 c.pairs.result.now _ _ can c.run-status.ensures.within
     (c.module-whole.ensures ∙ c.run-status.ensures.kept) c.in_ok-machine.ensures.first c.run-status.ensures.after (c.pairs.ensures ∙ c.sent.ensures) (appended_whole _ _ _ c.in_ok-write_view.ensures.view))
 
-pub returns-clause-untold : goal.returns-clause-untold
-returns-clause-untold g c = untold_to_named c.hierarchy.result.now _ _ _ c.told_end.result c.in_ok-principal.ensures.found c.told_end.ensures.untold
+pub returns-in_err-machine-clause-told : goal.returns-in_err-machine-clause-told
+returns-in_err-machine-clause-told g c =
+    start_told c.from_residual.result _ _ _ _ _ _ _ c.from_residual.ensures.1 c.in_err-machine.ensures.told
+
+pub returns-in_err-principal-clause-told : goal.returns-in_err-principal-clause-told
+returns-in_err-principal-clause-told g c =
+    observer_told c.from_residual-in_err-principal.result c.in_ok-machine.machine.program c.hierarchy.result.now _ _ _ _ _ _ _
+    c.in_ok-machine.ensures.spelled c.in_ok-machine.ensures.faultless c.in_ok-machine.ensures.encoded c.in_ok-machine.ensures.right
+    (c.hierarchy.ensures.hierarchy ∙ ap (λ (w : ModuleContents). w.hierarchy) c.module.ensures)
+    c.from_residual-in_err-principal.ensures.1 c.in_err-principal.ensures.told

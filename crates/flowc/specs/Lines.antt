@@ -1,0 +1,137 @@
+-- The lines in which the program tells faults and the ends of runs. Numbers are in decimal.
+-- Source: our own.
+use Rattle.std.specs.Prelude.{ℕ, ◌-◌, ◌==◌, if◌then◌else◌, List, [], ◌++◌, slice_get, unwrap_or, codes, Bool, IsTrue}
+use Rattle.std.specs.Fmt.{decimal}
+use Rattle.std.specs.String.{string_bytes}
+use Rattle.bytecode.specs.Contents.{ModuleContents}
+use Rattle.bytecode.specs.Faults.{refusal_number}
+use Rattle.bytecode.specs.declared.fault.Refusal.{Refusal}
+use Rattle.bytecode.specs.declared.fault.Refusal.TheVariants.{Magic, Version, Short, BadValue, NotCanonical, Trailing}
+use Rattle.channels.specs.declared.defect.WorldDefect.{WorldDefect}
+use Rattle.channels.specs.declared.defect.WorldDefect.TheVariants.{Syntax, UnknownChannel, RepeatedChannel, NumberOutOfRange}
+use Rattle.compiler.specs.Causes.{cause_number, cause_words}
+use Rattle.compiler.specs.declared.fault.Cause.{Cause}
+use Rattle.lexer.specs.declared.token.Place.{Place}
+use Rattle.machine.specs.declared.status.Status.{Status}
+use Rattle.machine.specs.declared.status.Status.TheVariants as status
+use Rattle.verifier.specs.declared.fault.Defect.{Defect}
+use Rattle.verifier.specs.declared.fault.Defect.TheVariants.{Jump, OperandKind, OperandDepth, SlotOrIndex, FallsOffEnd}
+use Rattle.verifier.specs.declared.fault.Fault.{Fault}
+use Rattle.flowc.specs.declared.trouble.Trouble.{Trouble}
+use Rattle.flowc.specs.declared.trouble.Trouble.TheVariants.{Refused, CannotWrite, OutOfMemory}
+
+-- ---- numbers and words
+
+-- the words of a refusal of a module's bytes; its number is `refusal_number`
+abbrev pub refusal_words : Refusal → List ℕ
+refusal_words Magic = codes "magic"
+refusal_words Version = codes "version"
+refusal_words Short = codes "short"
+refusal_words BadValue = codes "bad value"
+refusal_words NotCanonical = codes "not canonical"
+refusal_words Trailing = codes "trailing bytes"
+
+-- the number and the words of what is wrong with a module's code
+abbrev pub defect_number : Defect → ℕ
+defect_number Jump = 811
+defect_number OperandKind = 812
+defect_number OperandDepth = 813
+defect_number SlotOrIndex = 814
+defect_number FallsOffEnd = 815
+
+abbrev pub defect_words : Defect → List ℕ
+defect_words Jump = codes "jump"
+defect_words OperandKind = codes "operand kind"
+defect_words OperandDepth = codes "operand depth"
+defect_words SlotOrIndex = codes "slot or index"
+defect_words FallsOffEnd = codes "falls off the end"
+
+-- the number and the words of what is wrong with a line of a world's text
+abbrev pub world_number : WorldDefect → ℕ
+world_number Syntax = 851
+world_number UnknownChannel = 852
+world_number RepeatedChannel = 853
+world_number NumberOutOfRange = 854
+
+abbrev pub world_words : WorldDefect → List ℕ
+world_words Syntax = codes "syntax"
+world_words UnknownChannel = codes "unknown channel"
+world_words RepeatedChannel = codes "repeated channel"
+world_words NumberOutOfRange = codes "number out of range"
+
+-- ---- lines of faults
+
+-- what a line says behind the place of a fault: a colon, the number, the words, and a line feed
+abbrev pub saying : (number : ℕ) → (words : List ℕ) → List ℕ
+saying number words = codes ": " ++ (decimal number ++ (codes " " ++ (words ++ codes "\n")))
+
+-- PATH:NUMBER and PATH:NUMBER:NUMBER, and what follows
+abbrev pub at_one : (path : List ℕ) → (first : ℕ) → (rest : List ℕ) → List ℕ
+at_one path first rest = path ++ (codes ":" ++ (decimal first ++ rest))
+
+abbrev pub at_two : (path : List ℕ) → (first second : ℕ) → (rest : List ℕ) → List ℕ
+at_two path first second rest = at_one path first (codes ":" ++ (decimal second ++ rest))
+
+-- a refusal of a module's bytes, at a byte offset
+abbrev pub refusal_line : (path : List ℕ) → Refusal → (offset : ℕ) → List ℕ
+refusal_line path refusal offset = at_one path offset (saying (refusal_number refusal) (refusal_words refusal))
+
+-- a fault of a module's code, at a procedure and a byte offset
+abbrev pub fault_line : (path : List ℕ) → Fault → List ℕ
+fault_line path fault =
+    at_two path fault.procedure fault.offset (saying (defect_number fault.defect) (defect_words fault.defect))
+
+-- bytes that are to be the text of a world and are no text
+abbrev pub encoding_line : (path : List ℕ) → List ℕ
+encoding_line path = at_one path 1 (saying 100 (codes "not UTF-8"))
+
+-- what is wrong with the text of a world, at a line
+abbrev pub world_line : (path : List ℕ) → (line : ℕ) → WorldDefect → List ℕ
+world_line path line defect = at_one path line (saying (world_number defect) (world_words defect))
+
+-- what is wrong with a hierarchy text or a source, at a line and a column
+abbrev pub cause_line : (path : List ℕ) → Cause → Place → List ℕ
+cause_line path cause at = at_two path at.line at.column (saying (cause_number cause) (cause_words cause))
+
+-- no principal of a module has the name of an observer
+abbrev pub observer_line : (name : List ℕ) → List ℕ
+observer_line name = name ++ saying 153 (codes "unknown principal")
+
+-- ---- troubles
+
+-- standard output did not take what was written, or memory was wanting
+abbrev pub cannot_write : List ℕ
+cannot_write = codes "flowc: cannot write\n"
+
+abbrev pub no_memory : List ℕ
+no_memory = codes "flowc: no memory\n"
+
+-- the line that tells a trouble
+abbrev pub line_of_trouble : Trouble → List ℕ
+line_of_trouble (Refused line) = string_bytes line
+line_of_trouble CannotWrite = cannot_write
+line_of_trouble OutOfMemory = no_memory
+
+-- why a task was not done: what was read is refused, with one of these lines; or standard output failed; or memory was wanting
+abbrev pub IsTrouble : (IsRefusal : List ℕ → Type 0) → (out_failed : Bool) → Trouble → Type 0
+IsTrouble IsRefusal out_failed (Refused line) = IsRefusal (string_bytes line)
+IsTrouble IsRefusal out_failed CannotWrite = IsTrue out_failed
+IsTrouble IsRefusal out_failed OutOfMemory = Unit {0}
+
+-- ---- ends of runs
+
+-- the name of an exception: of one of the three that every program has, or of a declared one, which are numbered from 3
+abbrev pub exception_name : ModuleContents → ℕ → List ℕ
+exception_name whole exception =
+    if exception == 0 then codes "Arith"
+    else (if exception == 1 then codes "Bounds"
+    else (if exception == 2 then codes "End"
+    else unwrap_or (slice_get whole.exceptions (exception - 3)) []))
+
+-- how a run ended or stands
+abbrev pub end_line : ModuleContents → Status → List ℕ
+end_line whole status.Finished = codes "finished\n"
+end_line whole (status.Threw exception) = codes "threw " ++ (exception_name whole exception ++ codes "\n")
+end_line whole status.Deep = codes "deep\n"
+end_line whole status.Running = codes "running\n"
+end_line whole status.NoMemory = codes "no memory\n"
