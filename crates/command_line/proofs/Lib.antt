@@ -1,0 +1,4 @@
+pub mod Rows
+pub mod Levels
+pub mod Steps
+pub mod Getters
