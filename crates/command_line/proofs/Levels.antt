@@ -112,19 +112,19 @@ module _ (s : Shape) (names : Names) (helps : s.disable_help_subcommand ≡ fals
 
 -- ---- the subcommands, as they are built
 
-abbrev above : Shape
+abbrev pub above : Shape
 above = (on_top with_leaf_noted (on_top marked_built flowc_command)).top
 
-abbrev leaf : Shape → Shape
+abbrev pub leaf : Shape → Shape
 leaf s = built_leaf (inherited above s)
 
-abbrev check_leaf : Shape
+abbrev pub check_leaf : Shape
 check_leaf = leaf check_command.top
 
-abbrev build_leaf : Shape
+abbrev pub build_leaf : Shape
 build_leaf = leaf build_command.top
 
-abbrev run_leaf : Shape
+abbrev pub run_leaf : Shape
 run_leaf = leaf run_command.top
 
 passed_as : (b : Bool) (k : ErrorKind) → cond b [] (k ∷ []) ≡ [] → b ≡ true

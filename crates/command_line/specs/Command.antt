@@ -1,6 +1,6 @@
 -- The command that the program takes, as a value: its subcommands, and the words of each.
 -- Source: our own.
-use Rattle.std.specs.Prelude.{true, Some, codes}
+use Rattle.std.specs.Prelude.{true, List, [], ◌∷◌, Some, codes, fold}
 use Rattle.clap.specs.Words.{App, Rule, Text, new_app, new_rule, with_rule, with_subcommand}
 use Rattle.clap.specs.Simple.{on_top}
 use Rattle.clap.specs.declared.builder.action.ArgAction.TheVariants.{Set}
@@ -25,21 +25,27 @@ observer_rule = option_rule (codes "observer")
 abbrev pub steps_rule : Rule
 steps_rule = record (option_rule (codes "steps")) { parser = Some step_numbers }
 
--- `check HIER SRC`
+-- the subcommand of this name, with its arguments
+abbrev pub command : Text → List Rule → App
+command name rules = fold with_rule (new_app name) rules
+
 abbrev pub check_command : App
-check_command = with_rule (with_rule (new_app (codes "check")) (file_rule (codes "HIER"))) (file_rule (codes "SRC"))
+check_command =
+    command (codes "check") (file_rule (codes "HIER") ∷ file_rule (codes "SRC") ∷ [])
 
--- `build HIER SRC OUT`
 abbrev pub build_command : App
-build_command = with_rule (with_rule (with_rule (new_app (codes "build")) (file_rule (codes "HIER"))) (file_rule (codes "SRC"))) (file_rule (codes "OUT"))
+build_command =
+    command (codes "build")
+    (file_rule (codes "HIER") ∷ file_rule (codes "SRC") ∷ file_rule (codes "OUT") ∷ [])
 
--- `run MODULE WORLD [--observer NAME] [--steps N]`
 abbrev pub run_command : App
-run_command = with_rule (with_rule (with_rule (with_rule (new_app (codes "run")) (file_rule (codes "MODULE"))) (file_rule (codes "WORLD"))) observer_rule) steps_rule
+run_command =
+    command (codes "run")
+    (file_rule (codes "MODULE") ∷ file_rule (codes "WORLD") ∷ observer_rule ∷ steps_rule ∷ [])
 
 -- `flowc`, which wants one of the three
 abbrev pub flowc_command : App
 flowc_command =
-    with_subcommand (with_subcommand (with_subcommand
+    fold (λ above below. with_subcommand above below.top)
     (on_top (λ top. record top { subcommand_required = true }) (new_app (codes "flowc")))
-    check_command.top) build_command.top) run_command.top
+    (check_command ∷ build_command ∷ run_command ∷ [])

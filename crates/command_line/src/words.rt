@@ -1,11 +1,13 @@
-ghost use Rattle.clap.specs.Words.{App, Kinds, Row, Text, app_of, fault_of, first_of, found_of, kind_of, rule_of, subcommand_of, subcommand_rows_of};
+ghost use Rattle.clap.specs.Words.{app_of, fault_of, first_of, kind_of, rule_of, subcommand_of, subcommand_rows_of};
+ghost use Rattle.clap.specs.Walk.{texts};
 ghost use Rattle.clap.specs.declared.builder.command.Command.TheViews.{out-Command};
 ghost use Rattle.command_line.specs.Command.{build_command, check_command, file_rule, flowc_command, observer_rule, run_command, steps_rule};
 ghost use Rattle.command_line.specs.Matched.{Enters, HasBuildWords, HasCheckWords, HasRunWords, HasStepsInRange, IsGiven, rows_in};
 ghost use Rattle.command_line.specs.Task.{AsksFor, IsTaskOf, IsWordOf, steps_in, steps_of};
+ghost use Rattle.command_line.specs.Wish.{Grants, IsPlainWish, Wish, spelled};
 ghost use Rattle.command_line.specs.declared.request.TaskFault.TheVariants.{OutOfMemory};
 ghost use Rattle.std.specs.String.{string_bytes};
-ghost use Rattle.std.specs.Prelude.{◌≡◌, ◌≤◌, IfErr, IfOk, [], codes, false, map, option_map};
+ghost use Rattle.std.specs.Prelude.{◌≡◌, ◌≤◌, ◌∷◌, ℕ, IfErr, IfOk, List, MatchResult, [], codes, false, option_map};
 
 use crate::request::{MOST_STEPS, Task, TaskFault, USUAL_STEPS};
 use clap::error::ErrorKind;
@@ -19,10 +21,11 @@ use std::alloc::{AllocError, Global};
 /// The text of the parser of command lines where the words are wrong or ask for help, or want of
 /// memory.
 pub fn task<'a>(alloc: Global, words: &'a [&'a str]) -> Result<Task, TaskFault>
-    ensures matched { IfOk result (IsTaskOf (subcommand_of flowc_command (map (λ word. word.now) words.now))) }
+    ensures matched { IfOk result (IsTaskOf (subcommand_of flowc_command (texts words.now))) }
     ensures steps { IfOk result (λ task. steps_of task ≤ MOST_STEPS) }
-    ensures refused { IfOk result (λ _. fault_of flowc_command (map (λ word. word.now) words.now) ≡ []) }
-    ensures taken { IfErr result (λ fault. fault_of flowc_command (map (λ word. word.now) words.now) ≡ [] → fault ≡ OutOfMemory) }
+    ensures refused { IfOk result (λ _. fault_of flowc_command (texts words.now) ≡ []) }
+    ensures taken { IfErr result (λ fault. fault_of flowc_command (texts words.now) ≡ [] → fault ≡ OutOfMemory) }
+    ensures plain { (program : List ℕ) (wish : Wish) → IsPlainWish wish → texts words.now ≡ program ∷ spelled wish → MatchResult result (Grants wish) (λ fault. fault ≡ OutOfMemory) }
 {
     let command = whole_command(alloc)?;
     match command.try_get_matches_from(words) {
@@ -282,6 +285,27 @@ mod tests {
         for words in wrong {
             let refused = task(rt.alloc(), words);
             assert!(rt; matches!(&refused, Err(TaskFault::Words(text)) if !text.is_empty()));
+        }
+    }
+
+    #[test]
+    fn helps_where_help_is_asked_for(rt: HostRuntime) {
+        let wishes: [(&[&str], &str); 5] = [
+            (&["flowc", "--help"], "Usage: flowc <COMMAND>"),
+            (&["flowc", "help"], "Usage: flowc <COMMAND>"),
+            (&["flowc", "check", "-h"], "Usage: flowc check <HIER> <SRC>"),
+            (
+                &["flowc", "help", "build"],
+                "Usage: flowc build <HIER> <SRC> <OUT>",
+            ),
+            (
+                &["flowc", "run", "--help"],
+                "Usage: flowc run [OPTIONS] <MODULE> <WORLD>",
+            ),
+        ];
+        for (words, usage) in wishes {
+            let help = task(rt.alloc(), words);
+            assert!(rt; matches!(&help, Err(TaskFault::Words(text)) if text.contains(usage)));
         }
     }
 }
