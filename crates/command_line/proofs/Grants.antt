@@ -1,0 +1,59 @@
+-- The task that a plain wish is taken for is the one that is wished for.
+use Rattle.std.proofs.Common.{◌≡◌, ◌∙◌, ◌++◌, ◌≤◌, ℕ, List, [], ◌∷◌, Option, Some, None, Result, Ok, Err, IfErr, IfOk, codes, refl, sym, ap, subst, false, true≢false}
+use Rattle.std.specs.Prelude.{IfSome, MatchResult, option_map, unwrap_or}
+use Rattle.std.specs.Str.{bytes_eq}
+use Rattle.std.proofs.lemmas.Slice.Eq.{bytes_eq-Decides}
+use Rattle.std.specs.String.{string_bytes}
+use Rattle.clap.specs.Words.{Row, Text, fault_of, first_of, subcommand_of}
+use Rattle.command_line.specs.Command.{flowc_command}
+use Rattle.command_line.specs.Task.{AsksFor, IsTaskOf, steps_in}
+use Rattle.command_line.specs.Wish.{Grants, IsPlainWish, Wish, observer_words, spelled, steps_words, to_build, to_check, to_run}
+use Rattle.command_line.specs.declared.request.Task.{Task}
+use Rattle.command_line.specs.declared.request.Task.TheVariants.{Check, Build, Run}
+use Rattle.command_line.specs.declared.request.TaskFault.{TaskFault}
+use Rattle.command_line.specs.declared.request.TaskFault.TheVariants.{OutOfMemory}
+use Rattle.command_line.proofs.Plain.{decimal_read, met_by, observer_rows, row, steps_rows, wish_taken}
+
+same_word : {x y : Text} → Some x ≡ Some y → y ≡ x
+same_word e = cc
+
+abbrev run_rows : Text → Text → Option Text → Option ℕ → List Row
+run_rows file world observer steps = row (codes "MODULE") file ∷ row (codes "WORLD") world ∷ (observer_rows observer ++ steps_rows steps)
+
+observer_found : (file world : Text) (observer : Option Text) (steps : Option ℕ) → first_of (codes "observer") (run_rows file world observer steps) ≡ observer
+observer_found file world None None = refl
+observer_found file world None (Some steps) = refl
+observer_found file world (Some name) None = refl
+observer_found file world (Some name) (Some steps) = refl
+
+steps_found : (file world : Text) (observer : Option Text) (steps : Option ℕ) → IfSome steps (λ n. n ≤ 1000000000000)
+    → steps_in (run_rows file world observer steps) ≡ unwrap_or steps 1000000
+steps_found file world None None most = refl
+steps_found file world None (Some steps) most = decimal_read steps most
+steps_found file world (Some name) None most = refl
+steps_found file world (Some name) (Some steps) most = decimal_read steps most
+
+-- two names that are not the same
+other_name : {X : Type 0} (a b : Text) → bytes_eq a b ≡ false → a ≡ b → X
+other_name a b differ same = absurd (true≢false (sym ((bytes_eq-Decides a b).1 same) ∙ differ))
+
+grants : (wish : Wish) (task : Task) → IsPlainWish wish → AsksFor (met_by wish).0 (met_by wish).1 task → Grants wish task
+grants (to_check hierarchy source) (Check h s) plain asks = (same_word asks.1, same_word asks.2)
+grants (to_check hierarchy source) (Build h s o) plain asks = other_name _ _ refl asks.0
+grants (to_check hierarchy source) (Run f w o n) plain asks = other_name _ _ refl asks.0
+grants (to_build hierarchy source out) (Check h s) plain asks = other_name _ _ refl asks.0
+grants (to_build hierarchy source out) (Build h s o) plain asks = (same_word asks.1, same_word asks.2, same_word asks.3)
+grants (to_build hierarchy source out) (Run f w o n) plain asks = other_name _ _ refl asks.0
+grants (to_run file world observer steps) (Check h s) plain asks = other_name _ _ refl asks.0
+grants (to_run file world observer steps) (Build h s o) plain asks = other_name _ _ refl asks.0
+grants (to_run file world observer steps) (Run f w o n) plain asks =
+    (same_word asks.1, same_word asks.2, asks.3 ∙ observer_found file world observer steps, asks.4 ∙ steps_found file world observer steps plain.3)
+
+-- what is answered to the words of a plain wish
+pub wish_granted : (r : Result Task TaskFault) (words : List Text) → IfOk r (IsTaskOf (subcommand_of flowc_command words))
+    → IfErr r (λ fault. fault_of flowc_command words ≡ [] → fault ≡ OutOfMemory)
+    → (program : Text) (wish : Wish) → IsPlainWish wish → words ≡ program ∷ spelled wish → MatchResult r (Grants wish) (λ fault. fault ≡ OutOfMemory)
+wish_granted (Ok task) words matched taken program wish plain is =
+    let meets = ap (subcommand_of flowc_command) is ∙ (wish_taken program wish plain).meets in
+    grants wish task plain (subst (λ met. IsTaskOf met task) meets matched)
+wish_granted (Err fault) words matched taken program wish plain is = taken (ap (fault_of flowc_command) is ∙ (wish_taken program wish plain).passes)

@@ -1,0 +1,48 @@
+use Rattle.std.proofs.Common.{◌≡◌, ◌∙◌, IfOk, [], ap, refl, subst, sym, true}
+use Rattle.clap.specs.Walk.{texts}
+use Rattle.clap.specs.Words.{fault_of, is_simple, is_simple_and_free, subcommand_of, subcommand_rows_of}
+use Rattle.command_line.specs.Command.{flowc_command}
+use Rattle.command_line.specs.Matched.{Enters}
+use Rattle.std.proofs.lemmas.Result.{IfErr-weaker}
+use Rattle.command_line.specs.Task.{IsTaskOf}
+use Rattle.command_line.proofs.Grants.{wish_granted}
+use Rattle.command_line.proofs.Plain.{wish_taken}
+use Rattle.command_line.proofs.Levels.{enters}
+use Rattle.command_line.proofs.Getters.{always_ok, memory_only}
+use Rattle.command_line.proofs.words.task.Goals as goal
+
+is_simple_here : is_simple_and_free flowc_command ≡ true
+is_simple_here = refl
+
+pub asked-requires : goal.asked-requires
+asked-requires c =
+    let words = texts c.args.words.now in
+    let is = c.in_ok-command.ensures.shape in
+    let passed : fault_of flowc_command words ≡ [] = sym (ap (λ a. fault_of a words) is) ∙ c.in-Ok.ensures.kinds (ap is_simple_and_free is ∙ is_simple_here) in
+    let met : subcommand_rows_of c.in-Ok.matches ≡ subcommand_of flowc_command words = (c.in-Ok.ensures.matches (ap is_simple is)).1 ∙ ap (λ a. subcommand_of a words) is in
+    record { met = subst Enters (sym met) (enters words passed) }
+
+pub returns-in-Ok-clause-refused : goal.returns-in-Ok-clause-refused
+returns-in-Ok-clause-refused c =
+    let words = texts c.args.words.now in
+    let is = c.in_ok-command.ensures.shape in
+    always_ok c.asked.result _ (sym (ap (λ a. fault_of a words) is) ∙ c.in-Ok.ensures.kinds (ap is_simple_and_free is ∙ is_simple_here))
+
+pub returns-in-Err-clause-taken : goal.returns-in-Err-clause-taken
+returns-in-Err-clause-taken c = λ none.
+    let words = texts c.args.words.now in
+    let is = c.in_ok-command.ensures.shape in
+    c.words_fault.ensures.memory
+    (memory_only _ c.in-Err.error (c.in-Err.ensures.kinds (ap is_simple_and_free is ∙ is_simple_here)) (ap (λ a. fault_of a words) is ∙ none))
+
+pub returns-in-Ok-clause-plain : goal.returns-in-Ok-clause-plain
+returns-in-Ok-clause-plain c =
+    let words = texts c.args.words.now in
+    let is = c.in_ok-command.ensures.shape in
+    let met : subcommand_rows_of c.in-Ok.matches ≡ subcommand_of flowc_command words = (c.in-Ok.ensures.matches (ap is_simple is)).1 ∙ ap (λ a. subcommand_of a words) is in
+    wish_granted c.asked.result words (subst (λ m. IfOk c.asked.result (IsTaskOf m)) met c.asked.ensures.matched)
+    (IfErr-weaker c.asked.result _ _ (λ fault memory none. memory) c.asked.ensures.taken)
+
+pub returns-in-Err-clause-plain : goal.returns-in-Err-clause-plain
+returns-in-Err-clause-plain c = λ program wish plain is.
+    returns-in-Err-clause-taken c (ap (fault_of flowc_command) is ∙ (wish_taken program wish plain).passes)

@@ -1,0 +1,8 @@
+//! What the words of a command line ask for.
+#![tactic(auto)]
+
+mod request;
+mod words;
+
+pub use request::{MOST_STEPS, Task, TaskFault, USUAL_STEPS};
+pub use words::task;

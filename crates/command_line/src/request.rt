@@ -1,0 +1,78 @@
+ghost use Rattle.std.specs.Prelude.{◌≡◌};
+ghost use Rattle.command_line.specs.declared.request.TaskFault.TheVariants.{OutOfMemory};
+
+use std::alloc::{AllocError, AllocFailed};
+use thiserror::Error;
+
+/// The most steps that `--steps` takes.
+pub const MOST_STEPS: u64 = 1_000_000_000_000;
+
+/// The steps that a run takes at most where `--steps` is not given.
+pub const USUAL_STEPS: u64 = 1_000_000;
+
+/// What a command line asks for. Files are named by their paths.
+#[derive(Debug, PartialEq, Eq, Drop)]
+pub enum Task {
+    /// Check a source under a hierarchy.
+    Check {
+        hier: String,
+        src: String,
+    },
+    /// Compile a source under a hierarchy, and write the module to the file `out`.
+    Build {
+        hier: String,
+        src: String,
+        out: String,
+    },
+    /// Run a module on a world for at most so many steps, and show what this principal may read, or all of it where none is
+    /// named.
+    Run {
+        file: String,
+        world: String,
+        observer: Option<String>,
+        steps: u64,
+    },
+}
+
+impl Task {
+    ghost use Rattle.command_line.specs.Task.{paths_of};
+    ghost use Rattle.std.specs.Prelude.{map, ◌≡◌};
+
+    /// The paths of the two files that the task reads, in the order in which it names them.
+    pub fn paths(&self) -> [&str; 2]
+        ensures { map (λ path. path.now) result ≡ paths_of self.now }
+    {
+        match self {
+            Task::Check { hier, src } | Task::Build { hier, src, .. } => {
+                [hier.as_str(), src.as_str()]
+            }
+            Task::Run { file, world, .. } => [file.as_str(), world.as_str()],
+        }
+    }
+}
+
+/// Why a command line is no task.
+#[derive(Debug, Drop, Error)]
+pub enum TaskFault {
+    /// Wrong words, or a wish for help: the text for standard error.
+    #[error("{0}")]
+    Words(String),
+    #[error("no memory")]
+    OutOfMemory,
+}
+
+impl From<AllocError> for TaskFault {
+    ghost from_gives = { λ _ fault. fault ≡ OutOfMemory };
+
+    fn from(_error: AllocError) -> TaskFault {
+        TaskFault::OutOfMemory
+    }
+}
+
+impl<T: Drop> From<AllocFailed<T>> for TaskFault {
+    ghost from_gives = { λ _ fault. fault ≡ OutOfMemory };
+
+    fn from(_error: AllocFailed<T>) -> TaskFault {
+        TaskFault::OutOfMemory
+    }
+}

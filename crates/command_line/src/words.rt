@@ -1,0 +1,311 @@
+ghost use Rattle.clap.specs.Words.{app_of, fault_of, first_of, kind_of, rule_of, subcommand_of, subcommand_rows_of};
+ghost use Rattle.clap.specs.Walk.{texts};
+ghost use Rattle.clap.specs.declared.builder.command.Command.TheViews.{out-Command};
+ghost use Rattle.command_line.specs.Command.{build_command, check_command, file_rule, flowc_command, observer_rule, run_command, steps_rule};
+ghost use Rattle.command_line.specs.Matched.{Enters, HasBuildWords, HasCheckWords, HasRunWords, HasStepsInRange, IsGiven, rows_in};
+ghost use Rattle.command_line.specs.Task.{AsksFor, IsTaskOf, IsWordOf, steps_in, steps_of};
+ghost use Rattle.command_line.specs.Wish.{Grants, IsPlainWish, Wish, spelled};
+ghost use Rattle.command_line.specs.declared.request.TaskFault.TheVariants.{OutOfMemory};
+ghost use Rattle.std.specs.String.{string_bytes};
+ghost use Rattle.std.specs.Prelude.{◌≡◌, ◌≤◌, ◌∷◌, ℕ, IfErr, IfOk, List, MatchResult, [], codes, false, option_map};
+
+use crate::request::{MOST_STEPS, Task, TaskFault, USUAL_STEPS};
+use clap::error::ErrorKind;
+use clap::{Arg, ArgAction, ArgMatches, Command, value_parser};
+use std::alloc::{AllocError, Global};
+
+/// The task that the words of a command line ask for. The first word is the program's name.
+///
+/// # Errors
+///
+/// The text of the parser of command lines where the words are wrong or ask for help, or want of
+/// memory.
+pub fn task<'a>(alloc: Global, words: &'a [&'a str]) -> Result<Task, TaskFault>
+    ensures matched { IfOk result (IsTaskOf (subcommand_of flowc_command (texts words.now))) }
+    ensures steps { IfOk result (λ task. steps_of task ≤ MOST_STEPS) }
+    ensures refused { IfOk result (λ _. fault_of flowc_command (texts words.now) ≡ []) }
+    ensures taken { IfErr result (λ fault. fault_of flowc_command (texts words.now) ≡ [] → fault ≡ OutOfMemory) }
+    ensures plain { (program : List ℕ) (wish : Wish) → IsPlainWish wish → texts words.now ≡ program ∷ spelled wish → MatchResult result (Grants wish) (λ fault. fault ≡ OutOfMemory) }
+{
+    let command = whole_command(alloc)?;
+    match command.try_get_matches_from(words) {
+        Ok(matches) => asked(alloc, &matches),
+        Err(error) => Err(words_fault(alloc, &error)),
+    }
+}
+
+// The task that the subcommand asks for, under which the parser left each word that it needs.
+fn asked(alloc: Global, matches: &ArgMatches<'_>) -> Result<Task, TaskFault>
+    requires met { Enters (subcommand_rows_of matches.now) }
+    ensures matched { IfOk result (IsTaskOf (subcommand_rows_of matches.now)) }
+    ensures steps { IfOk result (λ task. steps_of task ≤ MOST_STEPS) }
+    ensures taken { IfErr result (λ fault. fault ≡ OutOfMemory) }
+{
+    match matches.subcommand() {
+        Some(("check", inner)) => check_task(alloc, inner),
+        Some(("build", inner)) => build_task(alloc, inner),
+        Some((_, inner)) => run_task(alloc, inner),
+        None => unreachable!(),
+    }
+}
+
+// What the program takes: each subcommand with its words.
+fn whole_command<'a>(alloc: Global) -> Result<Command<'a>, AllocError>
+    ensures shape { IfOk result (λ command. app_of command ≡ flowc_command) }
+{
+    Command::new(alloc, "flowc")
+        .about("Checks, compiles and runs programs with confidentiality labels")
+        .subcommand_required(true)
+        .subcommand(check_command(alloc)?)?
+        .subcommand(build_command(alloc)?)?
+        .subcommand(run_command(alloc)?)
+}
+
+fn check_command<'a>(alloc: Global) -> Result<Command<'a>, AllocError>
+    ensures shape { IfOk result (λ command. app_of command ≡ check_command) }
+    ensures local { IfOk result (λ command. (out-Command command).has_globals ≡ false) }
+{
+    Command::new(alloc, "check")
+        .about("Checks a source under a hierarchy, and prints ok")
+        .arg(hierarchy(alloc))?
+        .arg(source(alloc))
+}
+
+fn build_command<'a>(alloc: Global) -> Result<Command<'a>, AllocError>
+    ensures shape { IfOk result (λ command. app_of command ≡ build_command) }
+    ensures local { IfOk result (λ command. (out-Command command).has_globals ≡ false) }
+{
+    Command::new(alloc, "build")
+        .about("Compiles a source under a hierarchy, and writes the module")
+        .arg(hierarchy(alloc))?
+        .arg(source(alloc))?
+        .arg(file(alloc, "OUT", "the file that the module is written to"))
+}
+
+fn run_command<'a>(alloc: Global) -> Result<Command<'a>, AllocError>
+    ensures shape { IfOk result (λ command. app_of command ≡ run_command) }
+    ensures local { IfOk result (λ command. (out-Command command).has_globals ≡ false) }
+{
+    Command::new(alloc, "run")
+        .about("Runs a module on a world, and prints what it sent")
+        .arg(file(alloc, "MODULE", "the file of the module"))?
+        .arg(file(alloc, "WORLD", "the file with the numbers of each input"))?
+        .arg(observer(alloc))?
+        .arg(steps(alloc))
+}
+
+fn hierarchy<'a>(alloc: Global) -> Arg<'a>
+    ensures rule { rule_of result ≡ file_rule (codes "HIER") }
+    ensures local { result.global ≡ false }
+{
+    file(alloc, "HIER", "the file of the hierarchy of principals")
+}
+
+fn source<'a>(alloc: Global) -> Arg<'a>
+    ensures rule { rule_of result ≡ file_rule (codes "SRC") }
+    ensures local { result.global ≡ false }
+{
+    file(alloc, "SRC", "the file of the source")
+}
+
+fn file<'a>(alloc: Global, name: &'a str, help: &'a str) -> Arg<'a>
+    ensures rule { rule_of result ≡ file_rule name.now }
+    ensures local { result.global ≡ false }
+{
+    Arg::new(alloc, name)
+        .required(true)
+        .action(ArgAction::Set)
+        .help(help)
+}
+
+fn observer<'a>(alloc: Global) -> Arg<'a>
+    ensures rule { rule_of result ≡ observer_rule }
+    ensures local { result.global ≡ false }
+{
+    Arg::new(alloc, "observer")
+        .long("observer")
+        .value_name("NAME")
+        .action(ArgAction::Set)
+        .help("print only what this principal may read, and not how the run ended")
+}
+
+fn steps<'a>(alloc: Global) -> Arg<'a>
+    ensures rule { rule_of result ≡ steps_rule }
+    ensures local { result.global ≡ false }
+{
+    Arg::new(alloc, "steps")
+        .long("steps")
+        .value_name("N")
+        .action(ArgAction::Set)
+        .value_parser(value_parser!(u64).range(0..=1_000_000_000_000))
+        .help("at most so many steps, 1000000 if not given")
+}
+
+// The text of an error of the parser, which is want of memory where the parser had none.
+fn words_fault(alloc: Global, error: &clap::Error) -> TaskFault
+    ensures memory { kind_of error.now ≡ ErrorKind.OutOfMemory → result ≡ OutOfMemory }
+{
+    if error.kind() == ErrorKind::OutOfMemory {
+        return TaskFault::OutOfMemory;
+    }
+    match format!(in alloc; "{error}") {
+        Ok(text) => TaskFault::Words(text),
+        Err(_) => TaskFault::OutOfMemory,
+    }
+}
+
+fn check_task(alloc: Global, matches: &ArgMatches<'_>) -> Result<Task, TaskFault>
+    requires given { HasCheckWords (rows_in matches.now) }
+    ensures matched { IfOk result (AsksFor (codes "check") (rows_in matches.now)) }
+    ensures steps { IfOk result (λ task. steps_of task ≤ MOST_STEPS) }
+    ensures taken { IfErr result (λ fault. fault ≡ OutOfMemory) }
+{
+    Ok(Task::Check {
+        hier: word(alloc, matches, "HIER")?,
+        src: word(alloc, matches, "SRC")?,
+    })
+}
+
+fn build_task(alloc: Global, matches: &ArgMatches<'_>) -> Result<Task, TaskFault>
+    requires given { HasBuildWords (rows_in matches.now) }
+    ensures matched { IfOk result (AsksFor (codes "build") (rows_in matches.now)) }
+    ensures steps { IfOk result (λ task. steps_of task ≤ MOST_STEPS) }
+    ensures taken { IfErr result (λ fault. fault ≡ OutOfMemory) }
+{
+    Ok(Task::Build {
+        hier: word(alloc, matches, "HIER")?,
+        src: word(alloc, matches, "SRC")?,
+        out: word(alloc, matches, "OUT")?,
+    })
+}
+
+fn run_task(alloc: Global, matches: &ArgMatches<'_>) -> Result<Task, TaskFault>
+    requires given { HasRunWords (rows_in matches.now) }
+    ensures matched { IfOk result (AsksFor (codes "run") (rows_in matches.now)) }
+    ensures steps { IfOk result (λ task. steps_of task ≤ MOST_STEPS) }
+    ensures taken { IfErr result (λ fault. fault ≡ OutOfMemory) }
+{
+    Ok(Task::Run {
+        file: word(alloc, matches, "MODULE")?,
+        world: word(alloc, matches, "WORLD")?,
+        observer: observer_word(alloc, matches)?,
+        steps: steps_number(matches),
+    })
+}
+
+// The word that the parser matched for a required argument.
+fn word(alloc: Global, matches: &ArgMatches<'_>, id: &str) -> Result<String, AllocError>
+    requires given { IsGiven id.now (rows_in matches.now) }
+    ensures { IfOk result (λ word. IsWordOf (rows_in matches.now) id.now (string_bytes word)) }
+{
+    String::from_str(alloc, matches.get_str(id).unwrap())
+}
+
+// The word of `--observer`, where it was given.
+fn observer_word(alloc: Global, matches: &ArgMatches<'_>) -> Result<Option<String>, AllocError>
+    ensures { IfOk result (λ observer. option_map string_bytes observer ≡ first_of (codes "observer") (rows_in matches.now)) }
+{
+    match matches.get_str("observer") {
+        Some(name) => Ok(Some(String::from_str(alloc, name)?)),
+        None => Ok(None),
+    }
+}
+
+// The number of `--steps`, or the usual one where it was not given.
+fn steps_number(matches: &ArgMatches<'_>) -> u64
+    requires in_range { HasStepsInRange (rows_in matches.now) }
+    ensures number { result ≡ steps_in (rows_in matches.now) }
+    ensures most { result ≤ MOST_STEPS }
+{
+    matches.get_one::<u64>("steps").unwrap_or(USUAL_STEPS)
+}
+
+#[cfg(test)]
+mod tests {
+    use super::*;
+    use std::test::Fail;
+
+    #[test]
+    fn asks_for_tasks(rt: HostRuntime) -> Result<(), Fail> {
+        let alloc = rt.alloc();
+        let text = |text: &str| String::from_str(alloc, text);
+        let check = Task::Check {
+            hier: text("h.txt")?,
+            src: text("s.flow")?,
+        };
+        assert_eq!(rt; task(alloc, &["flowc", "check", "h.txt", "s.flow"])?, check);
+        let build = Task::Build {
+            hier: text("h.txt")?,
+            src: text("s.flow")?,
+            out: text("m.flob")?,
+        };
+        let words = ["flowc", "build", "h.txt", "s.flow", "m.flob"];
+        assert_eq!(rt; task(alloc, &words)?, build);
+        assert_eq!(rt; build.paths(), ["h.txt", "s.flow"]);
+        let run = Task::Run {
+            file: text("m.flob")?,
+            world: text("w.txt")?,
+            observer: None,
+            steps: 1_000_000,
+        };
+        assert_eq!(rt; task(alloc, &["flowc", "run", "m.flob", "w.txt"])?, run);
+        let seen = Task::Run {
+            file: text("m.flob")?,
+            world: text("w.txt")?,
+            observer: Some(text("Alice")?),
+            steps: 1_000_000_000_000,
+        };
+        let words = [
+            "flowc",
+            "run",
+            "m.flob",
+            "w.txt",
+            "--observer",
+            "Alice",
+            "--steps",
+            "1000000000000",
+        ];
+        assert_eq!(rt; task(alloc, &words)?, seen);
+        Ok(())
+    }
+
+    #[test]
+    fn refuses_wrong_words(rt: HostRuntime) {
+        let wrong: [&[&str]; 9] = [
+            &["flowc"],
+            &["flowc", "run", "m"],
+            &["flowc", "walk", "m", "w"],
+            &["flowc", "run", "m", "w", "--steps", "1000000000001"],
+            &["flowc", "run", "m", "w", "--observer"],
+            &["flowc", "run", "--help"],
+            &["flowc", "check", "h"],
+            &["flowc", "check", "h", "s", "o"],
+            &["flowc", "build", "h", "s"],
+        ];
+        for words in wrong {
+            let refused = task(rt.alloc(), words);
+            assert!(rt; matches!(&refused, Err(TaskFault::Words(text)) if !text.is_empty()));
+        }
+    }
+
+    #[test]
+    fn helps_where_help_is_asked_for(rt: HostRuntime) {
+        let wishes: [(&[&str], &str); 5] = [
+            (&["flowc", "--help"], "Usage: flowc <COMMAND>"),
+            (&["flowc", "help"], "Usage: flowc <COMMAND>"),
+            (&["flowc", "check", "-h"], "Usage: flowc check <HIER> <SRC>"),
+            (
+                &["flowc", "help", "build"],
+                "Usage: flowc build <HIER> <SRC> <OUT>",
+            ),
+            (
+                &["flowc", "run", "--help"],
+                "Usage: flowc run [OPTIONS] <MODULE> <WORLD>",
+            ),
+        ];
+        for (words, usage) in wishes {
+            let help = task(rt.alloc(), words);
+            assert!(rt; matches!(&help, Err(TaskFault::Words(text)) if text.contains(usage)));
+        }
+    }
+}
