@@ -17,7 +17,6 @@ use Rattle.types.proofs.Channels.{channels_named, channel_labels_canonical}
 use Rattle.types.proofs.Meaning.{names_differ}
 use Rattle.types.proofs.Straight.{straight_line}
 use Rattle.checker.specs.Accepted as checker
-use Rattle.checker.specs.Accepted.{IsTreeOf}
 use Rattle.checker.specs.Refused.{IsPlaceOf, IsRefusedAt}
 use Rattle.checker.specs.declared.fault.Cause.{Cause as CheckCause}
 use Rattle.checker.specs.declared.fault.Cause.TheVariants as checks

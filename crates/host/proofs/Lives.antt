@@ -6,7 +6,7 @@ use Rattle.labels.specs.declared.sent.Pair.{Pair}
 use Rattle.bytecode.specs.Contents.{ModuleContents}
 use Rattle.bytecode.specs.Form.{Spells}
 use Rattle.bytecode.specs.Format.{module_file}
-use Rattle.bytecode.specs.Machine.{Machine, Program, exec, step, program_of, sent_of}
+use Rattle.bytecode.specs.Machine.{Machine, exec, program_of, sent_of}
 use Rattle.channels.specs.World.{InputNumbers}
 use Rattle.bytecode.specs.Isolated.{seen_of}
 use Rattle.machine.proofs.Told.{exec_more}

@@ -3,7 +3,6 @@ use Rattle.std.specs.Prelude.{bytes_eq, string_bytes}
 use Rattle.principals.specs.ActsFor.{AllDifferent, number_of}
 use Rattle.principals.proofs.Names.{position-map, number_of_iff, no_number_iff}
 use Rattle.principals.proofs.Hierarchy.find.Goals as goal
-use Rattle.principals.proofs.Hierarchy.find.Goals.{In-Some, In-None}
 
 pub returns-in-Some-clause-value : goal.returns-in-Some-clause-value
 returns-in-Some-clause-value c =
