@@ -184,6 +184,7 @@ module _ (one : (m n : ModuleContents) (bytes : List ℕ) → Spells module_file
     error_is_fixed file world observer steps files m principal can status out_failed line (inr (inl trouble)) = inr trouble
     error_is_fixed file world observer steps files m principal can status out_failed line (inr (inr run)) =
         let h = run.whole.hierarchy in
-        inl
-        (run.told ∙ no_end_told h (string_bytes observer) run.principal run.end run.can_run.observed,
-        run.says ∙ no_line_told run.whole (string_bytes observer) run.principal run.end run.can_run.observed)
+        inl (
+          run.told ∙ no_end_told h (string_bytes observer) run.principal run.end run.can_run.observed,
+          run.says ∙ no_line_told run.whole (string_bytes observer) run.principal run.end run.can_run.observed,
+        )

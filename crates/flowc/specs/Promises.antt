@@ -18,7 +18,7 @@ use Rattle.bytecode.specs.Isolated.{Agree, OneBegins}
 use Rattle.channels.specs.World.{InputNumbers, numbers_of_channel}
 use Rattle.compiler.specs.Built.{IsCompiled}
 use Rattle.host.specs.Laws as sessions
-use Rattle.flowc.specs.declared.request.Task.TheVariants.{Run}
+use Rattle.command_line.specs.declared.request.Task.TheVariants.{Run}
 use Rattle.flowc.specs.Built.{bytes_at}
 use Rattle.flowc.specs.Shown.{CanRun, IsShown, ShowsRun, numbers_in, text_shown}
 use Rattle.flowc.specs.Told.{IsLine, IsTroubleLine}

@@ -16,8 +16,8 @@ use Rattle.channels.specs.WorldText.{IsWorldText, lines_of, world_of}
 use Rattle.verifier.specs.Faults.{HasNoFault}
 use Rattle.machine.specs.Run.{IsTold}
 use Rattle.machine.specs.declared.status.Status.{Status}
-use Rattle.flowc.specs.declared.request.Task.{Task}
-use Rattle.flowc.specs.declared.request.Task.TheVariants.{Check, Build, Run}
+use Rattle.command_line.specs.declared.request.Task.{Task}
+use Rattle.command_line.specs.declared.request.Task.TheVariants.{Check, Build, Run}
 use Rattle.flowc.specs.Built.{bytes_at}
 use Rattle.flowc.specs.Task.{status_told}
 use Rattle.flowc.specs.View.{IsObserver, shown, view_text}

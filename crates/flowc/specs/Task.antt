@@ -2,24 +2,13 @@
 -- Source: our own.
 use Rattle.std.specs.Prelude.{ℕ, List, [], ◌∷◌, ◌==◌, ◌||◌, length, Bool, true, false, Option, Some, None}
 use Rattle.std.specs.String.{string_bytes}
-use Rattle.flowc.specs.declared.request.Task.{Task}
-use Rattle.flowc.specs.declared.request.Task.TheVariants.{Check, Build, Run}
+use Rattle.command_line.specs.Task.{paths_of}
+use Rattle.command_line.specs.declared.request.Task.{Task}
+use Rattle.command_line.specs.declared.request.Task.TheVariants.{Check, Build, Run}
 use Rattle.flowc.specs.declared.trouble.Trouble.{Trouble}
 use Rattle.flowc.specs.declared.trouble.Trouble.TheVariants.{Refused, CannotWrite, OutOfMemory}
 use Rattle.machine.specs.declared.status.Status.{Status}
 use Rattle.machine.specs.declared.status.Status.TheVariants.{Running, Finished, Threw, Deep, NoMemory}
-
--- at most so many steps; a task that runs nothing takes none
-abbrev pub steps_of : Task → ℕ
-steps_of (Check hierarchy source) = 0
-steps_of (Build hierarchy source out) = 0
-steps_of (Run file world observer steps) = steps
-
--- the files that a task reads, in the order in which it names them
-abbrev pub paths_of : Task → List (List ℕ)
-paths_of (Check hierarchy source) = string_bytes hierarchy ∷ string_bytes source ∷ []
-paths_of (Build hierarchy source out) = string_bytes hierarchy ∷ string_bytes source ∷ []
-paths_of (Run file world observer steps) = string_bytes file ∷ string_bytes world ∷ []
 
 -- how many files a task reads
 abbrev pub files_of : Task → ℕ

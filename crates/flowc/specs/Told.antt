@@ -27,8 +27,8 @@ use Rattle.machine.specs.declared.status.Status.{Status}
 use Rattle.verifier.specs.Faults as faults
 use Rattle.verifier.specs.Faults.{HasNoFault}
 use Rattle.verifier.specs.declared.fault.Fault.{Fault}
-use Rattle.flowc.specs.declared.request.Task.{Task}
-use Rattle.flowc.specs.declared.request.Task.TheVariants.{Check, Build, Run}
+use Rattle.command_line.specs.declared.request.Task.{Task}
+use Rattle.command_line.specs.declared.request.Task.TheVariants.{Check, Build, Run}
 use Rattle.flowc.specs.Built.{bytes_at}
 use Rattle.flowc.specs.Lines.{cannot_write, cause_line, encoding_line, end_line, fault_line, no_memory, observer_line, refusal_line, world_line}
 use Rattle.flowc.specs.Shown.{CanRun, numbers_in}

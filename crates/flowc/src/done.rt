@@ -9,11 +9,11 @@ ghost use Rattle.std.specs.Io.KnownBytes.{Appends};
 ghost use Rattle.std.specs.Prelude.{[], ◌≡◌, ◌≤◌, ◌<◌, ◌↔◌, IfErr, IfOk, IfSome, IsSome, IsTrue, MatchResult, None, OnOk, codes, false, length, option_map};
 ghost use Rattle.std.specs.String.{string_bytes};
 
-use crate::request::Task;
 use crate::running::{Ended, File, run};
 use crate::told::cause_line;
 use crate::trouble::Trouble;
 use channels::{Sink, write_whole};
+use command_line::Task;
 use compiler::{Fault, Text, compile};
 use std::alloc::Global;
 

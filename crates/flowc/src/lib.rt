@@ -3,7 +3,6 @@
 
 mod done;
 pub mod laws;
-mod request;
 mod running;
 #[cfg(test)]
 mod tests;
@@ -12,10 +11,8 @@ mod tests_compile;
 mod told;
 mod trouble;
 mod view;
-mod words;
 
+pub use command_line::{MOST_STEPS, Task, TaskFault, USUAL_STEPS, task};
 pub use compiler::{Cause, Fault, Text, compile};
 pub use done::{Done, perform};
 pub use host::{Answer, Event, Host, HostFault, Id, PLACES};
-pub use request::{MOST_STEPS, Task, TaskFault, USUAL_STEPS};
-pub use words::task;
