@@ -1,5 +1,5 @@
 -- What compiled bytes promise, from what is known of compiling, of hosts and of the program.
-use Rattle.std.proofs.Common.{◌≡◌, ℕ, ◌+◌, ◌-◌, ◌≤◌, List, [], ◌∷◌, ◌++◌, Option, Some, None, refl, sym, ap, ◌∙◌, subst, arith, ◌⊎◌, ⊎_elim, inl, inr}
+use Rattle.std.proofs.Common.{◌≡◌, ℕ, ◌+◌, ◌-◌, ◌≤◌, List, [], Option, Some, None, refl, sym, ap, ◌∙◌, subst, arith, ⊎_elim, inl, inr}
 use Rattle.std.specs.Str.{IsUtf8}
 use Rattle.std.specs.String.{string_bytes}
 use Rattle.principals.specs.ActsFor.{PrincipalHierarchy, AllDifferent, HasName}
@@ -23,7 +23,6 @@ use Rattle.lowering.proofs.Sent.{exec-keeps}
 use Rattle.machine.proofs.Told.{exec_more}
 use Rattle.machine.specs.declared.status.Status.{Status}
 use Rattle.verifier.specs.Faults.{HasNoFault}
-use Rattle.compiler.specs.Built.{IsCompiled}
 use Rattle.host.specs.Laws as sessions
 use Rattle.flowc.specs.Built.{bytes_at}
 use Rattle.flowc.specs.Promises.{ObserversAreToldNothing, RunsShowThemselves, SessionsAreIsolated, SessionsShowNoLess, SessionsShowNoMore, StandardErrorIsFixed, module_in, program_in, seen_by}
@@ -184,6 +183,7 @@ module _ (one : (m n : ModuleContents) (bytes : List ℕ) → Spells module_file
     error_is_fixed file world observer steps files m principal can status out_failed line (inr (inl trouble)) = inr trouble
     error_is_fixed file world observer steps files m principal can status out_failed line (inr (inr run)) =
         let h = run.whole.hierarchy in
-        inl
-        (run.told ∙ no_end_told h (string_bytes observer) run.principal run.end run.can_run.observed,
-        run.says ∙ no_line_told run.whole (string_bytes observer) run.principal run.end run.can_run.observed)
+        inl (
+          run.told ∙ no_end_told h (string_bytes observer) run.principal run.end run.can_run.observed,
+          run.says ∙ no_line_told run.whole (string_bytes observer) run.principal run.end run.can_run.observed,
+        )

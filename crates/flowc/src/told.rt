@@ -101,12 +101,7 @@ pub fn encoding_line(alloc: Global, path: &str) -> Result<String, AllocError>
 }
 
 /// The line that tells what is wrong with a text, at a line and a column.
-pub fn cause_line(
-    alloc: Global,
-    path: &str,
-    cause: Cause,
-    at: Place,
-) -> Result<String, AllocError>
+pub fn cause_line(alloc: Global, path: &str, cause: Cause, at: Place) -> Result<String, AllocError>
     ensures { IfOk result (λ text. string_bytes text ≡ lines.cause_line path.now cause at) }
 {
     let Place { line, column } = at;
