@@ -1,5 +1,5 @@
 -- What compiled bytes promise, from what is known of compiling, of hosts and of the program.
-use Rattle.std.proofs.Common.{◌≡◌, ℕ, ◌+◌, ◌-◌, ◌≤◌, List, [], ◌∷◌, ◌++◌, Option, Some, None, refl, sym, ap, ◌∙◌, subst, arith, ◌⊎◌, ⊎_elim, inl, inr}
+use Rattle.std.proofs.Common.{◌≡◌, ℕ, ◌+◌, ◌-◌, ◌≤◌, List, [], Option, Some, None, refl, sym, ap, ◌∙◌, subst, arith, ⊎_elim, inl, inr}
 use Rattle.std.specs.Str.{IsUtf8}
 use Rattle.std.specs.String.{string_bytes}
 use Rattle.principals.specs.ActsFor.{PrincipalHierarchy, AllDifferent, HasName}
@@ -23,7 +23,6 @@ use Rattle.lowering.proofs.Sent.{exec-keeps}
 use Rattle.machine.proofs.Told.{exec_more}
 use Rattle.machine.specs.declared.status.Status.{Status}
 use Rattle.verifier.specs.Faults.{HasNoFault}
-use Rattle.compiler.specs.Built.{IsCompiled}
 use Rattle.host.specs.Laws as sessions
 use Rattle.flowc.specs.Built.{bytes_at}
 use Rattle.flowc.specs.Promises.{ObserversAreToldNothing, RunsShowThemselves, SessionsAreIsolated, SessionsShowNoLess, SessionsShowNoMore, StandardErrorIsFixed, module_in, program_in, seen_by}

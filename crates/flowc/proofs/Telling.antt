@@ -1,5 +1,5 @@
 -- What is told on standard error, from what the parts of a task tell.
-use Rattle.std.proofs.Common.{◌≡◌, ◌∙◌, sym, subst, refl, arith, ℕ, List, [], Bool, true, false, inl, inr, Option, Some, None, Result, Ok, Err, OnOk, OnErr, IfOk, IfErr, MatchResult}
+use Rattle.std.proofs.Common.{◌≡◌, ◌∙◌, sym, subst, refl, ℕ, List, [], Bool, true, false, inl, inr, Option, Result, Ok, Err, OnOk, OnErr, IfOk, IfErr, MatchResult}
 use Rattle.std.specs.Prelude.{IsTrue}
 use Rattle.std.specs.Io.KnownBytes.{Appends}
 use Rattle.std.specs.String.{string_bytes}

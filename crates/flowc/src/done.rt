@@ -27,6 +27,8 @@ pub struct Done {
 /// Does a task: all of the program but for its files. What goes to standard output and to standard error is written to the
 /// two sinks. The caller owes the bytes of each file that the task reads, in the order in which the task names them.
 ///
+/// On standard error one line tells how the task ended, or nothing does where all is well or an observer looks on.
+///
 /// There are bytes for the output file exactly where a task builds a module and ends with status 0.
 pub fn perform<O: Sink, E: Sink>(
     alloc: Global,

@@ -292,6 +292,7 @@ fn has_a_number_and_words_for_each_cause(rt: HostRuntime) -> Result<(), Fail> {
     ];
     for (cause, number, words) in causes {
         assert_eq!(rt; cause.number(), number);
+        assert_eq!(rt; cause.words(), words);
         assert_eq!(rt; format!(in rt.alloc(); "{cause}")?.as_str(), words);
     }
     Ok(())

@@ -1,4 +1,4 @@
-use Rattle.std.proofs.Common.{◌≡◌, ◌∙◌, [], sym}
+use Rattle.std.proofs.Common.{◌∙◌, [], sym}
 use Rattle.flowc.specs.declared.running.Ended.{Ended}
 use Rattle.flowc.proofs.Refusals.{run_shows}
 use Rattle.std.specs.String.{string_bytes}
