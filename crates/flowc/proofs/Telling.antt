@@ -1,7 +1,5 @@
 -- What is told on standard error, from what the parts of a task tell.
-use Rattle.std.proofs.Common.{◌≡◌, ◌∙◌, sym, subst, refl, ℕ, List, [], Bool, true, false, inl, inr, Option, Result, Ok, Err, OnOk, OnErr, IfOk, IfErr, MatchResult}
-use Rattle.std.specs.Prelude.{IsTrue}
-use Rattle.std.specs.Io.KnownBytes.{Appends}
+use Rattle.std.proofs.Common.{◌≡◌, ◌∙◌, sym, subst, refl, ℕ, List, [], Bool, true, false, inl, inr, Option, Result, Ok, Err, IfOk, IfErr, MatchResult}
 use Rattle.std.specs.String.{string_bytes}
 use Rattle.std.specs.Str.{IsUtf8}
 use Rattle.std.proofs.lemmas.Result.{err_from_is_err_and}
@@ -14,7 +12,6 @@ use Rattle.bytecode.specs.Format.{module_file}
 use Rattle.bytecode.specs.declared.fault.FormatFault.{FormatFault}
 use Rattle.bytecode.specs.declared.fault.FormatFault.TheVariants as format
 use Rattle.bytecode.specs.declared.fault.Refusal.{Refusal}
-use Rattle.channels.specs.Sink.{AppendsBeginning}
 use Rattle.channels.specs.World.{input_names}
 use Rattle.channels.specs.WorldText.{IsFirstDefect, IsTextFault, IsWorldText, lines_of}
 use Rattle.channels.specs.declared.defect.WorldDefect.{WorldDefect}
@@ -102,12 +99,7 @@ wrong_line m path text bytes line fault number defect is told same encoded says 
     (subst (λ (f : WorldFault). IsTextFault (input_names m) (lines_of text) f) is told))
     says
 
--- what is written whole, or to a stream that fails, went out
-pub went_out : {X Y : Type 0} (written : Result X Y) (line : List ℕ) (old new : Option (List ℕ)) (failed : Bool)
-    → OnOk written (Appends old new line) → OnErr written (AppendsBeginning old new line) → OnErr written (IsTrue failed)
-    → WentOut line old new failed
-went_out (Ok x) line old new failed whole beginning stuck = inl whole
-went_out (Err y) line old new failed whole beginning stuck = inr (stuck, beginning)
+-- ---- tasks
 
 -- what a check or a build tells
 pub texts_told : {X : Type 0} (line_of : X → List ℕ) (status_of : X → ℕ) (outcome : Result X Trouble)
