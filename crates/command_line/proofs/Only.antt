@@ -43,10 +43,10 @@ AllPlain words = list_any starts_with_minus words ≡ false
 
 -- ---- how many words a subcommand takes
 
--- what is left after one plain word is checked
-checked_after : (s : Shape) (word : Text) (words : List Text) (after : Walk) → Goes s (walk_from nothing_held) words after → check_fault s (rows_after s.rules [] words) false ≡ []
+-- the last check reads where the walk ends
+checked_after : (s : Shape) (words : List Text) (after : Walk) → Goes s (walk_from nothing_held) words after → check_fault s (rows_after s.rules [] words) false ≡ []
     → check_fault s (finished s.rules after.held) false ≡ []
-checked_after s word words after goes e = subst (λ (w : Walk). check_fault s (finished s.rules w.held) false ≡ []) goes.ends e
+checked_after s words after goes e = subst (λ (w : Walk). check_fault s (finished s.rules w.held) false ≡ []) goes.ends e
 
 check_two : (rest : List Text) → AllPlain rest → level_fault check_leaf [] nothing_held rest false [] ≡ []
     → (hierarchy : Text) × (source : Text) × IsPlain hierarchy × IsPlain source × (rest ≡ hierarchy ∷ source ∷ [])
@@ -54,7 +54,7 @@ unfolding clap_on_literals
 check_two [] plain e = absurd (some_kind _ _ (level_parts check_leaf [] [] false [] e).2)
 check_two (h ∷ []) plain e =
     let p = or_parts _ _ plain in
-    absurd (some_kind _ _ (checked_after check_leaf h (h ∷ []) _ (goes_plain check_leaf _ _ _ h _ _ p.0 refl (stays check_leaf _)) (level_parts check_leaf [] (h ∷ []) false [] e).2))
+    absurd (some_kind _ _ (checked_after check_leaf (h ∷ []) _ (goes_plain check_leaf _ _ _ h _ _ p.0 refl (stays check_leaf _)) (level_parts check_leaf [] (h ∷ []) false [] e).2))
 check_two (h ∷ s ∷ []) plain e =
     let p = or_parts _ _ plain in
     let q = or_parts _ _ p.1 in
@@ -76,7 +76,7 @@ unfolding clap_on_literals
 run_two [] plain e = absurd (some_kind _ _ (level_parts run_leaf [] [] false [] e).2)
 run_two (h ∷ []) plain e =
     let p = or_parts _ _ plain in
-    absurd (some_kind _ _ (checked_after run_leaf h (h ∷ []) _ (goes_plain run_leaf _ _ _ h _ _ p.0 refl (stays run_leaf _)) (level_parts run_leaf [] (h ∷ []) false [] e).2))
+    absurd (some_kind _ _ (checked_after run_leaf (h ∷ []) _ (goes_plain run_leaf _ _ _ h _ _ p.0 refl (stays run_leaf _)) (level_parts run_leaf [] (h ∷ []) false [] e).2))
 run_two (h ∷ s ∷ []) plain e =
     let p = or_parts _ _ plain in
     let q = or_parts _ _ p.1 in
@@ -98,11 +98,11 @@ unfolding clap_on_literals
 build_three [] plain e = absurd (some_kind _ _ (level_parts build_leaf [] [] false [] e).2)
 build_three (h ∷ []) plain e =
     let p = or_parts _ _ plain in
-    absurd (some_kind _ _ (checked_after build_leaf h (h ∷ []) _ (goes_plain build_leaf _ _ _ h _ _ p.0 refl (stays build_leaf _)) (level_parts build_leaf [] (h ∷ []) false [] e).2))
+    absurd (some_kind _ _ (checked_after build_leaf (h ∷ []) _ (goes_plain build_leaf _ _ _ h _ _ p.0 refl (stays build_leaf _)) (level_parts build_leaf [] (h ∷ []) false [] e).2))
 build_three (h ∷ s ∷ []) plain e =
     let p = or_parts _ _ plain in
     let q = or_parts _ _ p.1 in
-    absurd (some_kind _ _ (checked_after build_leaf h (h ∷ s ∷ []) _
+    absurd (some_kind _ _ (checked_after build_leaf (h ∷ s ∷ []) _
     (goes_plain build_leaf _ _ _ h _ _ p.0 refl (goes_plain build_leaf _ _ _ s _ _ q.0 refl (stays build_leaf _))) (level_parts build_leaf [] (h ∷ s ∷ []) false [] e).2))
 build_three (h ∷ s ∷ o ∷ []) plain e =
     let p = or_parts _ _ plain in
