@@ -1,17 +1,17 @@
 -- The task that a plain wish is taken for is the one that is wished for.
 use Rattle.std.proofs.Common.{◌≡◌, ◌∙◌, ◌++◌, ◌≤◌, ℕ, List, [], ◌∷◌, Option, Some, None, Result, Ok, Err, IfErr, IfOk, codes, refl, sym, ap, subst, false, true≢false}
-use Rattle.std.specs.Prelude.{IfSome, MatchResult, option_map, unwrap_or}
+use Rattle.std.specs.Prelude.{IfSome, MatchResult, unwrap_or}
 use Rattle.std.specs.Str.{bytes_eq}
 use Rattle.std.proofs.lemmas.Slice.Eq.{bytes_eq-Decides}
-use Rattle.std.specs.String.{string_bytes}
 use Rattle.clap.specs.Words.{Row, Text, fault_of, first_of, subcommand_of}
 use Rattle.command_line.specs.Command.{flowc_command}
 use Rattle.command_line.specs.Task.{AsksFor, IsTaskOf, steps_in}
-use Rattle.command_line.specs.Wish.{Grants, IsPlainWish, Wish, observer_words, spelled, steps_words, to_build, to_check, to_run}
+use Rattle.command_line.specs.Wish.{Grants, HasNoOption, IsPlainWish, IsSpelling, Wish, spelled, to_build, to_check, to_run}
 use Rattle.command_line.specs.declared.request.Task.{Task}
 use Rattle.command_line.specs.declared.request.Task.TheVariants.{Check, Build, Run}
 use Rattle.command_line.specs.declared.request.TaskFault.{TaskFault}
 use Rattle.command_line.specs.declared.request.TaskFault.TheVariants.{OutOfMemory}
+use Rattle.command_line.proofs.Only.{spelled_so}
 use Rattle.command_line.proofs.Plain.{decimal_read, met_by, observer_rows, row, steps_rows, wish_taken}
 
 same_word : {x y : Text} → Some x ≡ Some y → y ≡ x
@@ -57,3 +57,12 @@ wish_granted (Ok task) words matched taken program wish plain is =
     let meets = ap (subcommand_of flowc_command) is ∙ (wish_taken program wish plain).meets in
     grants wish task plain (subst (λ met. IsTaskOf met task) meets matched)
 wish_granted (Err fault) words matched taken program wish plain is = taken (ap (fault_of flowc_command) is ∙ (wish_taken program wish plain).passes)
+
+-- what is taken of the words, where none looks like an option
+pub only_granted : (r : Result Task TaskFault) (words : List Text) → IfOk r (IsTaskOf (subcommand_of flowc_command words)) → IfOk r (λ _. fault_of flowc_command words ≡ [])
+    → HasNoOption words → IfOk r (IsSpelling words)
+only_granted (Err fault) words matched passed plain = tt
+only_granted (Ok task) words matched passed plain =
+    let so = spelled_so words plain passed in
+    let meets = ap (subcommand_of flowc_command) so.3 ∙ (wish_taken so.0 so.1 so.2).meets in
+    (so.0, so.1, so.3, grants so.1 task so.2 (subst (λ met. IsTaskOf met task) meets matched))

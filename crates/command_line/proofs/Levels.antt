@@ -216,7 +216,7 @@ entered_words None own e there = absurd (true≢false (sym there))
 entered_words (Some p) own e there = leaf_words _ _ _ _ p.1 (named_help p.0 own) e there
 
 -- the steps of a level that passed
-level_parts : (s : Shape) (names : Names) (words : List Text) (has : Bool) (below : Kinds) → level_fault s names nothing_held words has below ≡ []
+pub level_parts : (s : Shape) (names : Names) (words : List Text) (has : Bool) (below : Kinds) → level_fault s names nothing_held words has below ≡ []
     → (walk_fault s names (walk_from nothing_held) words ≡ []) × (below ≡ []) × (check_fault s (rows_after s.rules names words) has ≡ [])
 level_parts s names words has below e =
     let walked = both_none _ _ e in

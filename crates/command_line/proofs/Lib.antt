@@ -4,3 +4,4 @@ pub mod Steps
 pub mod Getters
 pub mod Plain
 pub mod Grants
+pub mod Only

@@ -1,8 +1,8 @@
 -- The walk over words that are written plainly passes, and what it finds.
-use Rattle.std.proofs.Common.{◌≡◌, ◌∙◌, ◌++◌, ◌≤◌, ◌<◌, ◌^◌, ◌&&◌, ◌==◌, ℕ, Bool, cond, true, false, refl, sym, ap, ap₂, subst, arith, drop, List, [], ◌∷◌, length, Option, Some, None, codes, true≢false, append_assoc, append-nil}
+use Rattle.std.proofs.Common.{◌≡◌, ◌∙◌, ◌++◌, ◌≤◌, ◌==◌, ℕ, Bool, cond, true, false, refl, sym, ap, ap₂, subst, arith, drop, List, [], ◌∷◌, Option, Some, None, codes, true≢false, append_assoc, append-nil}
 use Rattle.std.specs.Prelude.{IfSome, option_and_then, option_map}
 use Rattle.std.specs.Fmt.{decimal}
-use Rattle.std.specs.List.{find, fold, list_any}
+use Rattle.std.specs.List.{find, fold}
 use Rattle.std.specs.Option.{option_map_or, is_some}
 use Rattle.std.specs.Str.{bytes_eq}
 use Rattle.std.specs.Str.Parse.{IsNumeral, digits_value, starts_with_minus, without_leading_plus}
@@ -12,13 +12,12 @@ use Rattle.std.proofs.lemmas.Slice.Eq.{bytes_eq-Decides}
 use Rattle.std.proofs.lemmas.Str.Parse.{digit_from_value}
 use Rattle.clap.specs.Lexer.{long_of, long_of_rest, short_of, short_of_rest, strip_byte}
 use Rattle.clap.specs.ValueTests.{accepts}
-use Rattle.clap.specs.Values.{Accepts}
-use Rattle.clap.specs.Walk.{Held, Names, Row, Rule, Step, Text, Waiting, Walk, after_step, answers_to, finished, first_of, idle, long_or_other, nothing_held, option, plain_word, positional, rows_after, settled, short_or_plain, trailing, walk, walk_from, walked, word_met}
+use Rattle.clap.specs.Walk.{Held, Names, Row, Rule, Step, Text, Waiting, Walk, after_step, answers_to, finished, idle, long_or_other, nothing_held, option, plain_word, positional, rows_after, settled, short_or_plain, subcommand_or_other, trailing, walk, walk_from, walked, word_met}
 use Rattle.clap.specs.declared.builder.value_parser.Reading.TheVariants.{AsWritten}
 use Rattle.clap.specs.declared.parser.matches.ValueSource.TheVariants.{CommandLine}
 use Rattle.clap.specs.Simple.{Shape, built, entered, label_of, names_of, rows_at, subcommand_of}
 use Rattle.clap.specs.Kinds.{Kinds, or_else}
-use Rattle.clap.specs.Faults.{bundle_fault, check_fault, defaults_fault, entered_fault, fault_of, flag_word_fault, level_fault, settle_fault, step_fault, turn_fault, use_fault, walk_fault, word_fault}
+use Rattle.clap.specs.Faults.{bundle_fault, check_fault, defaults_fault, entered_fault, fault_of, flag_word_fault, level_fault, settle_fault, step_fault, turn_fault, walk_fault, word_fault}
 use Rattle.clap.proofs.FaultLemmas.{stopped_fault}
 use Rattle.clap.proofs.OnLiterals.{clap_on_literals}
 use Rattle.clap.proofs.ValueTestLemmas.{Accepts-accepts}
@@ -47,25 +46,24 @@ not_dashes word plain = go (bytes_eq word (45 ∷ 45 ∷ [])) refl
         let same : word ≡ 45 ∷ 45 ∷ [] = (bytes_eq-Decides word (45 ∷ 45 ∷ [])).0 e in
         absurd (true≢false (sym (ap starts_with_minus same) ∙ plain))
 
-plain_met : (c : List Rule) (waiting : Waiting) (position : ℕ) (word : Text) (h : Held) → IsPlain word → word_met c [] false waiting position word h ≡ plain_word c waiting word h
-plain_met c idle position word h plain =
-    ap (λ b. cond b (h, trailing position) (long_or_other c idle word (long_of word) h)) (not_dashes word plain)
-    ∙ ap (λ o. long_or_other c idle word o h) (not_long word plain) ∙ ap (λ o. short_or_plain c idle word o h) (not_short word plain)
-plain_met c (option id) position word h plain =
-    ap (λ b. cond b (h, trailing position) (long_or_other c (option id) word (long_of word) h)) (not_dashes word plain)
-    ∙ ap (λ o. long_or_other c (option id) word o h) (not_long word plain) ∙ ap (λ o. short_or_plain c (option id) word o h) (not_short word plain)
-plain_met c positional position word h plain =
-    ap (λ b. cond b (h, trailing position) (long_or_other c positional word (long_of word) h)) (not_dashes word plain)
-    ∙ ap (λ o. long_or_other c positional word o h) (not_long word plain) ∙ ap (λ o. short_or_plain c positional word o h) (not_short word plain)
+pub plain_or : (c : List Rule) (waiting : Waiting) (position : ℕ) (word : Text) (h : Held) → IsPlain word → subcommand_or_other c None waiting position word h ≡ plain_word c waiting word h
+plain_or c waiting position word h plain =
+    ap (λ b. cond b (h, trailing position) (long_or_other c waiting word (long_of word) h)) (not_dashes word plain)
+    ∙ ap (λ o. long_or_other c waiting word o h) (not_long word plain) ∙ ap (λ o. short_or_plain c waiting word o h) (not_short word plain)
 
-plain_other : (s : Shape) (word : Text) (h : Held) → IsPlain word
+pub plain_met : (c : List Rule) (waiting : Waiting) (position : ℕ) (word : Text) (h : Held) → IsPlain word → word_met c [] false waiting position word h ≡ plain_word c waiting word h
+plain_met c idle position word h plain = plain_or c idle position word h plain
+plain_met c (option id) position word h plain = plain_or c (option id) position word h plain
+plain_met c positional position word h plain = plain_or c positional position word h plain
+
+pub plain_other : (s : Shape) (word : Text) (h : Held) → IsPlain word
     → cond (bytes_eq word (45 ∷ 45 ∷ [])) [] (flag_word_fault s.rules s.args_override_self (long_of word) word h) ≡ []
 plain_other s word h plain =
     ap (λ b. cond b [] (flag_word_fault s.rules s.args_override_self (long_of word) word h)) (not_dashes word plain)
     ∙ ap (λ o. flag_word_fault s.rules s.args_override_self o word h) (not_long word plain)
     ∙ ap (λ o. option_map_or (λ flags. bundle_fault s.rules s.args_override_self flags h) o []) (not_short word plain)
 
-plain_passes : (s : Shape) (waiting : Waiting) (word : Text) (h : Held) → IsPlain word → word_fault s [] false waiting word h ≡ []
+pub plain_passes : (s : Shape) (waiting : Waiting) (word : Text) (h : Held) → IsPlain word → word_fault s [] false waiting word h ≡ []
 plain_passes s idle word h plain = plain_other s word h plain
 plain_passes s (option id) word h plain = plain_other s word h plain
 plain_passes s positional word h plain = plain_other s word h plain
@@ -92,7 +90,7 @@ goes_on s w next word rest after is passed later = record {
 abbrev pub stepped : List Rule → Walk → Text → Walk
 stepped c w word = after_step c word w (plain_word c w.waiting word w.held).0 (plain_word c w.waiting word w.held).1
 
-plain_walked : (c : List Rule) (held : Held) (waiting : Waiting) (position : ℕ) (word : Text) → IsPlain word
+pub plain_walked : (c : List Rule) (held : Held) (waiting : Waiting) (position : ℕ) (word : Text) → IsPlain word
     → walked c [] (record { held = held; waiting = waiting; position = position; is_trailing = false; stopped = None }) word
     ≡ stepped c (record { held = held; waiting = waiting; position = position; is_trailing = false; stopped = None }) word
 unfolding walked
@@ -100,18 +98,18 @@ plain_walked c held waiting position word plain =
     let w : Walk = record { held = held; waiting = waiting; position = position; is_trailing = false; stopped = None } in
     ap (λ (met : Held × Step). after_step c word w met.0 met.1) (plain_met c waiting position word held plain)
 
-plain_turn : (s : Shape) (held : Held) (waiting : Waiting) (position : ℕ) (word : Text) → IsPlain word
-    → step_fault s position (plain_word s.rules waiting word held).0 (plain_word s.rules waiting word held).1 ≡ []
-    → turn_fault s [] (record { held = held; waiting = waiting; position = position; is_trailing = false; stopped = None }) word ≡ []
-plain_turn s held waiting position word plain placed =
-    ap₂ (λ a (met : Held × Step). or_else a (step_fault s position met.0 met.1)) (plain_passes s waiting word held plain) (plain_met s.rules waiting position word held plain) ∙ placed
+pub plain_turn_is : (s : Shape) (held : Held) (waiting : Waiting) (position : ℕ) (word : Text) → IsPlain word
+    → turn_fault s [] (record { held = held; waiting = waiting; position = position; is_trailing = false; stopped = None }) word
+    ≡ step_fault s position (plain_word s.rules waiting word held).0 (plain_word s.rules waiting word held).1
+plain_turn_is s held waiting position word plain =
+    ap₂ (λ a (met : Held × Step). or_else a (step_fault s position met.0 met.1)) (plain_passes s waiting word held plain) (plain_met s.rules waiting position word held plain)
 
 pub goes_plain : (s : Shape) (held : Held) (waiting : Waiting) (position : ℕ) (word : Text) (rest : List Text) (after : Walk) → IsPlain word
     → step_fault s position (plain_word s.rules waiting word held).0 (plain_word s.rules waiting word held).1 ≡ []
     → Goes s (stepped s.rules (record { held = held; waiting = waiting; position = position; is_trailing = false; stopped = None }) word) rest after
     → Goes s (record { held = held; waiting = waiting; position = position; is_trailing = false; stopped = None }) (word ∷ rest) after
 goes_plain s held waiting position word rest after plain placed later =
-    goes_on s _ _ word rest after (plain_walked s.rules held waiting position word plain) (plain_turn s held waiting position word plain placed) later
+    goes_on s _ _ word rest after (plain_walked s.rules held waiting position word plain) (plain_turn_is s held waiting position word plain ∙ placed) later
 
 -- ---- a level
 
@@ -226,17 +224,17 @@ met_walk c names w name before [] = ap (λ words. record w { stopped = Some (nam
 met_walk c names w name before (x ∷ xs) =
     met_walk c names w name (before ++ x ∷ []) xs ∙ ap (λ words. record w { stopped = Some (name, words) }) (append_assoc before (x ∷ []) xs)
 
-abbrev top : Shape
+abbrev pub top : Shape
 top = (built flowc_command).top
 
-abbrev names : Names
+abbrev pub names : Names
 names = names_of (built flowc_command)
 
-abbrev at_name : Text → List Text → Walk
+abbrev pub at_name : Text → List Text → Walk
 at_name name rest = record (walk_from nothing_held) { stopped = Some (name, rest) }
 
 -- the walk over a subcommand's name, and the words after it
-named_walk : (name : Text) (rest : List Text) → walked top.rules names (walk_from nothing_held) name ≡ at_name name []
+pub named_walk : (name : Text) (rest : List Text) → walked top.rules names (walk_from nothing_held) name ≡ at_name name []
     → walk top.rules names nothing_held (name ∷ rest) ≡ at_name name rest
 named_walk name rest met =
     ap (λ w. fold (walked top.rules names) w rest) met ∙ met_walk top.rules names (walk_from nothing_held) name [] rest

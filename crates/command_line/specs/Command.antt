@@ -19,9 +19,11 @@ option_rule name = record (new_rule name) { long = Some name; action = Some Set;
 abbrev pub step_numbers : ValueParser
 step_numbers = Unsigned 0 1000000000000
 
+-- `--observer NAME`
 abbrev pub observer_rule : Rule
 observer_rule = option_rule (codes "observer")
 
+-- `--steps N`
 abbrev pub steps_rule : Rule
 steps_rule = record (option_rule (codes "steps")) { parser = Some step_numbers }
 
@@ -29,15 +31,18 @@ steps_rule = record (option_rule (codes "steps")) { parser = Some step_numbers }
 abbrev pub command : Text → List Rule → App
 command name rules = fold with_rule (new_app name) rules
 
+-- `check HIER SRC`
 abbrev pub check_command : App
 check_command =
     command (codes "check") (file_rule (codes "HIER") ∷ file_rule (codes "SRC") ∷ [])
 
+-- `build HIER SRC OUT`
 abbrev pub build_command : App
 build_command =
     command (codes "build")
     (file_rule (codes "HIER") ∷ file_rule (codes "SRC") ∷ file_rule (codes "OUT") ∷ [])
 
+-- `run MODULE WORLD`, with the options anywhere
 abbrev pub run_command : App
 run_command =
     command (codes "run")

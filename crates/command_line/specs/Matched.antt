@@ -18,13 +18,16 @@ abbrev pub HasStepsInRange : List Row → Type 0
 HasStepsInRange rows = IfSome (first_of (codes "steps") rows) (Accepts false step_numbers)
     × (one_of (codes "steps") rows ≡ first_of (codes "steps") rows)
 
+-- the words that `check` needs
 abbrev pub HasCheckWords : List Row → Type 0
 HasCheckWords rows = IsGiven (codes "HIER") rows × IsGiven (codes "SRC") rows
 
+-- the words that `build` needs
 abbrev pub HasBuildWords : List Row → Type 0
 HasBuildWords rows =
     IsGiven (codes "HIER") rows × IsGiven (codes "SRC") rows × IsGiven (codes "OUT") rows
 
+-- the words that `run` needs
 abbrev pub HasRunWords : List Row → Type 0
 HasRunWords rows =
     IsGiven (codes "MODULE") rows × IsGiven (codes "WORLD") rows × HasStepsInRange rows

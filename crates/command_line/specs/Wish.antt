@@ -1,6 +1,7 @@
 -- What a command line may ask for, and how that is written plainly.
 -- Source: our own.
-use Rattle.std.specs.Prelude.{◌≡◌, ◌≤◌, ◌++◌, ℕ, false, List, [], ◌∷◌, Option, Some, None, IfSome, codes, option_map, unwrap_or}
+use Rattle.std.specs.Prelude.{◌≡◌, ◌≤◌, ◌++◌, ℕ, false, List, [], ◌∷◌, Option, Some, None, IfSome, codes, drop, option_map, unwrap_or}
+use Rattle.std.specs.List.{list_any}
 use Rattle.std.specs.Fmt.{decimal}
 use Rattle.std.specs.String.{string_bytes}
 use Rattle.std.specs.Str.Parse.{starts_with_minus}
@@ -53,3 +54,12 @@ Grants (to_run file world observer steps) (Run f w o n) =
     (string_bytes f ≡ file) × (string_bytes w ≡ world) × (option_map string_bytes o ≡ observer)
     × (n ≡ unwrap_or steps 1000000)
 Grants wish task = ⊥
+
+-- no word after the program's name looks like an option
+abbrev pub HasNoOption : List Text → Type 0
+HasNoOption words = list_any starts_with_minus (drop 1 words) ≡ false
+
+-- the words are the program's name and the spelling of a wish, which the task grants
+abbrev pub IsSpelling : List Text → Task → Type 0
+IsSpelling words task =
+    (program : Text) × (wish : Wish) × (words ≡ program ∷ spelled wish) × Grants wish task

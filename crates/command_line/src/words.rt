@@ -4,7 +4,7 @@ ghost use Rattle.clap.specs.declared.builder.command.Command.TheViews.{out-Comma
 ghost use Rattle.command_line.specs.Command.{build_command, check_command, file_rule, flowc_command, observer_rule, run_command, steps_rule};
 ghost use Rattle.command_line.specs.Matched.{Enters, HasBuildWords, HasCheckWords, HasRunWords, HasStepsInRange, IsGiven, rows_in};
 ghost use Rattle.command_line.specs.Task.{AsksFor, IsTaskOf, IsWordOf, steps_in, steps_of};
-ghost use Rattle.command_line.specs.Wish.{Grants, IsPlainWish, Wish, spelled};
+ghost use Rattle.command_line.specs.Wish.{Grants, HasNoOption, IsPlainWish, IsSpelling, Wish, spelled};
 ghost use Rattle.command_line.specs.declared.request.TaskFault.TheVariants.{OutOfMemory};
 ghost use Rattle.std.specs.String.{string_bytes};
 ghost use Rattle.std.specs.Prelude.{◌≡◌, ◌≤◌, ◌∷◌, ℕ, IfErr, IfOk, List, MatchResult, [], codes, false, option_map};
@@ -26,6 +26,7 @@ pub fn task<'a>(alloc: Global, words: &'a [&'a str]) -> Result<Task, TaskFault>
     ensures refused { IfOk result (λ _. fault_of flowc_command (texts words.now) ≡ []) }
     ensures taken { IfErr result (λ fault. fault_of flowc_command (texts words.now) ≡ [] → fault ≡ OutOfMemory) }
     ensures plain { (program : List ℕ) (wish : Wish) → IsPlainWish wish → texts words.now ≡ program ∷ spelled wish → MatchResult result (Grants wish) (λ fault. fault ≡ OutOfMemory) }
+    ensures only { HasNoOption (texts words.now) → IfOk result (IsSpelling (texts words.now)) }
 {
     let command = whole_command(alloc)?;
     match command.try_get_matches_from(words) {
