@@ -1,6 +1,6 @@
--- The numbers of the refusals of bytes.
+-- The numbers and the words of the refusals of bytes.
 -- Source: our own.
-use Rattle.std.specs.Prelude.{ℕ}
+use Rattle.std.specs.Prelude.{ℕ, List, codes}
 use Rattle.bytecode.specs.declared.fault.Refusal.{Refusal}
 use Rattle.bytecode.specs.declared.fault.Refusal.TheVariants.{Magic, Version, Short, BadValue, NotCanonical, Trailing}
 
@@ -11,3 +11,11 @@ refusal_number Short = 803
 refusal_number BadValue = 804
 refusal_number NotCanonical = 805
 refusal_number Trailing = 806
+
+abbrev pub refusal_words : Refusal → List ℕ
+refusal_words Magic = codes "magic"
+refusal_words Version = codes "version"
+refusal_words Short = codes "short"
+refusal_words BadValue = codes "bad value"
+refusal_words NotCanonical = codes "not canonical"
+refusal_words Trailing = codes "trailing bytes"

@@ -1,4 +1,4 @@
-ghost use Rattle.bytecode.specs.Faults.{refusal_number};
+ghost use Rattle.bytecode.specs.Faults.{refusal_number, refusal_words};
 ghost use Rattle.bytecode.specs.declared.fault.FormatFault.TheVariants.{NoMemory};
 ghost use Rattle.std.specs.Prelude.{◌≡◌};
 
@@ -33,6 +33,20 @@ impl Refusal {
             Refusal::BadValue => 804,
             Refusal::NotCanonical => 805,
             Refusal::Trailing => 806,
+        }
+    }
+
+    /// The words that faults are told by.
+    pub fn words(self) -> &'static str
+        ensures { result.now ≡ refusal_words self }
+    {
+        match self {
+            Refusal::Magic => "magic",
+            Refusal::Version => "version",
+            Refusal::Short => "short",
+            Refusal::BadValue => "bad value",
+            Refusal::NotCanonical => "not canonical",
+            Refusal::Trailing => "trailing bytes",
         }
     }
 }

@@ -124,15 +124,16 @@ fn refuses_beginnings_and_more(rt: HostRuntime) -> Result<(), Fail> {
         decode(rt.alloc(), &longer).err(),
         Some(FormatFault::Refused(Refusal::Trailing, 76))
     );
-    for (refusal, number) in [
-        (Refusal::Magic, 801),
-        (Refusal::Version, 802),
-        (Refusal::Short, 803),
-        (Refusal::BadValue, 804),
-        (Refusal::NotCanonical, 805),
-        (Refusal::Trailing, 806),
+    for (refusal, number, words) in [
+        (Refusal::Magic, 801, "magic"),
+        (Refusal::Version, 802, "version"),
+        (Refusal::Short, 803, "short"),
+        (Refusal::BadValue, 804, "bad value"),
+        (Refusal::NotCanonical, 805, "not canonical"),
+        (Refusal::Trailing, 806, "trailing bytes"),
     ] {
         assert_eq!(rt; refusal.number(), number);
+        assert_eq!(rt; refusal.words(), words);
     }
     Ok(())
 }

@@ -2,3 +2,4 @@ pub mod Sink
 pub mod World
 pub mod WorldText
 pub mod Table
+pub mod Words

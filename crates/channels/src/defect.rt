@@ -1,3 +1,6 @@
+ghost use Rattle.channels.specs.Words.{world_number, world_words};
+ghost use Rattle.std.specs.Prelude.{◌≡◌};
+
 use thiserror::Error;
 
 /// What is wrong with a line of a world's text.
@@ -11,6 +14,32 @@ pub enum WorldDefect {
     RepeatedChannel,
     /// 854: a number outside 32 bits.
     NumberOutOfRange,
+}
+
+impl WorldDefect {
+    /// The number that faults are told by, 851 to 854.
+    pub fn number(self) -> u32
+        ensures { result ≡ world_number self }
+    {
+        match self {
+            WorldDefect::Syntax => 851,
+            WorldDefect::UnknownChannel => 852,
+            WorldDefect::RepeatedChannel => 853,
+            WorldDefect::NumberOutOfRange => 854,
+        }
+    }
+
+    /// The words that faults are told by.
+    pub fn words(self) -> &'static str
+        ensures { result.now ≡ world_words self }
+    {
+        match self {
+            WorldDefect::Syntax => "syntax",
+            WorldDefect::UnknownChannel => "unknown channel",
+            WorldDefect::RepeatedChannel => "repeated channel",
+            WorldDefect::NumberOutOfRange => "number out of range",
+        }
+    }
 }
 
 /// A world was not read.

@@ -111,3 +111,17 @@ fn a_device_asks_for_nothing_after_a_failure(rt: HostRuntime) {
     assert_eq!(rt; device.write(b"c"), Err(SinkFault));
     assert_eq!(rt; device.write(b""), Err(SinkFault));
 }
+
+#[test]
+fn has_a_number_and_words_for_each_defect(rt: HostRuntime) {
+    let defects = [
+        (WorldDefect::Syntax, 851, "syntax"),
+        (WorldDefect::UnknownChannel, 852, "unknown channel"),
+        (WorldDefect::RepeatedChannel, 853, "repeated channel"),
+        (WorldDefect::NumberOutOfRange, 854, "number out of range"),
+    ];
+    for (defect, number, words) in defects {
+        assert_eq!(rt; defect.number(), number);
+        assert_eq!(rt; defect.words(), words);
+    }
+}

@@ -4,60 +4,19 @@ use Rattle.std.specs.Prelude.{ℕ, ◌-◌, ◌==◌, if◌then◌else◌, List,
 use Rattle.std.specs.Fmt.{decimal}
 use Rattle.std.specs.String.{string_bytes}
 use Rattle.bytecode.specs.Contents.{ModuleContents}
-use Rattle.bytecode.specs.Faults.{refusal_number}
+use Rattle.bytecode.specs.Faults.{refusal_number, refusal_words}
 use Rattle.bytecode.specs.declared.fault.Refusal.{Refusal}
-use Rattle.bytecode.specs.declared.fault.Refusal.TheVariants.{Magic, Version, Short, BadValue, NotCanonical, Trailing}
 use Rattle.channels.specs.declared.defect.WorldDefect.{WorldDefect}
-use Rattle.channels.specs.declared.defect.WorldDefect.TheVariants.{Syntax, UnknownChannel, RepeatedChannel, NumberOutOfRange}
+use Rattle.channels.specs.Words.{world_number, world_words}
 use Rattle.compiler.specs.Causes.{cause_number, cause_words}
 use Rattle.compiler.specs.declared.fault.Cause.{Cause}
 use Rattle.lexer.specs.declared.token.Place.{Place}
 use Rattle.machine.specs.declared.status.Status.{Status}
 use Rattle.machine.specs.declared.status.Status.TheVariants as status
-use Rattle.verifier.specs.declared.fault.Defect.{Defect}
-use Rattle.verifier.specs.declared.fault.Defect.TheVariants.{Jump, OperandKind, OperandDepth, SlotOrIndex, FallsOffEnd}
+use Rattle.verifier.specs.Words.{defect_number, defect_words}
 use Rattle.verifier.specs.declared.fault.Fault.{Fault}
 use Rattle.flowc.specs.declared.trouble.Trouble.{Trouble}
 use Rattle.flowc.specs.declared.trouble.Trouble.TheVariants.{Refused, CannotWrite, OutOfMemory}
-
--- ---- numbers and words
-
--- the words of a refusal of a module's bytes; its number is `refusal_number`
-abbrev pub refusal_words : Refusal → List ℕ
-refusal_words Magic = codes "magic"
-refusal_words Version = codes "version"
-refusal_words Short = codes "short"
-refusal_words BadValue = codes "bad value"
-refusal_words NotCanonical = codes "not canonical"
-refusal_words Trailing = codes "trailing bytes"
-
--- the number and the words of what is wrong with a module's code
-abbrev pub defect_number : Defect → ℕ
-defect_number Jump = 811
-defect_number OperandKind = 812
-defect_number OperandDepth = 813
-defect_number SlotOrIndex = 814
-defect_number FallsOffEnd = 815
-
-abbrev pub defect_words : Defect → List ℕ
-defect_words Jump = codes "jump"
-defect_words OperandKind = codes "operand kind"
-defect_words OperandDepth = codes "operand depth"
-defect_words SlotOrIndex = codes "slot or index"
-defect_words FallsOffEnd = codes "falls off the end"
-
--- the number and the words of what is wrong with a line of a world's text
-abbrev pub world_number : WorldDefect → ℕ
-world_number Syntax = 851
-world_number UnknownChannel = 852
-world_number RepeatedChannel = 853
-world_number NumberOutOfRange = 854
-
-abbrev pub world_words : WorldDefect → List ℕ
-world_words Syntax = codes "syntax"
-world_words UnknownChannel = codes "unknown channel"
-world_words RepeatedChannel = codes "repeated channel"
-world_words NumberOutOfRange = codes "number out of range"
 
 -- ---- lines of faults
 

@@ -1,12 +1,9 @@
 ghost use Rattle.std.specs.Prelude.{true};
 
 use super::*;
-use crate::told::{defect_words, refusal_words};
-use bytecode::Refusal;
 use channels::{Device, Sink, SinkFault};
 use std::alloc::Global;
 use std::test::Fail;
-use verifier::Defect;
 
 // The module that sends 7 on its only channel, the output `pub`, and ends.
 const SEVEN: [u8; 76] = [
@@ -296,30 +293,4 @@ fn has_a_number_and_words_for_each_cause(rt: HostRuntime) -> Result<(), Fail> {
         assert_eq!(rt; format!(in rt.alloc(); "{cause}")?.as_str(), words);
     }
     Ok(())
-}
-
-#[test]
-fn has_a_number_and_words_for_each_defect_of_a_module(rt: HostRuntime) {
-    let refusals = [
-        (Refusal::Magic, 801, "magic"),
-        (Refusal::Version, 802, "version"),
-        (Refusal::Short, 803, "short"),
-        (Refusal::BadValue, 804, "bad value"),
-        (Refusal::NotCanonical, 805, "not canonical"),
-        (Refusal::Trailing, 806, "trailing bytes"),
-    ];
-    for (refusal, number, words) in refusals {
-        assert_eq!(rt; refusal.number(), number);
-        assert_eq!(rt; refusal_words(refusal), words);
-    }
-    let defects = [
-        (Defect::Jump, (811, "jump")),
-        (Defect::OperandKind, (812, "operand kind")),
-        (Defect::OperandDepth, (813, "operand depth")),
-        (Defect::SlotOrIndex, (814, "slot or index")),
-        (Defect::FallsOffEnd, (815, "falls off the end")),
-    ];
-    for (defect, told) in defects {
-        assert_eq!(rt; defect_words(defect), told);
-    }
 }

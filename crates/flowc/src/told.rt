@@ -1,7 +1,6 @@
-//! The words of faults, as the program prints them.
+//! The lines of faults, as the program prints them.
 
 ghost use Rattle.flowc.specs.Lines as lines;
-ghost use Rattle.flowc.specs.Lines.{defect_number, world_number};
 ghost use Rattle.std.specs.Prelude.{◌≡◌, IfOk};
 ghost use Rattle.std.specs.String.{string_bytes};
 
@@ -10,48 +9,7 @@ use channels::WorldDefect;
 use compiler::{Cause, Text};
 use lexer::Place;
 use std::alloc::{AllocError, Global};
-use verifier::{Defect, Fault};
-
-/// The words of a refusal of a module's bytes.
-pub fn refusal_words(refusal: Refusal) -> &'static str
-    ensures { result.now ≡ lines.refusal_words refusal }
-{
-    match refusal {
-        Refusal::Magic => "magic",
-        Refusal::Version => "version",
-        Refusal::Short => "short",
-        Refusal::BadValue => "bad value",
-        Refusal::NotCanonical => "not canonical",
-        Refusal::Trailing => "trailing bytes",
-    }
-}
-
-/// The number and the words of a fault of a module's code.
-pub fn defect_words(defect: Defect) -> (u32, &'static str)
-    ensures number { result.0 ≡ defect_number defect }
-    ensures words { result.1.now ≡ lines.defect_words defect }
-{
-    match defect {
-        Defect::Jump => (811, "jump"),
-        Defect::OperandKind => (812, "operand kind"),
-        Defect::OperandDepth => (813, "operand depth"),
-        Defect::SlotOrIndex => (814, "slot or index"),
-        Defect::FallsOffEnd => (815, "falls off the end"),
-    }
-}
-
-/// The number and the words of what is wrong with a line of a world's text.
-pub fn world_words(defect: WorldDefect) -> (u32, &'static str)
-    ensures number { result.0 ≡ world_number defect }
-    ensures words { result.1.now ≡ lines.world_words defect }
-{
-    match defect {
-        WorldDefect::Syntax => (851, "syntax"),
-        WorldDefect::UnknownChannel => (852, "unknown channel"),
-        WorldDefect::RepeatedChannel => (853, "repeated channel"),
-        WorldDefect::NumberOutOfRange => (854, "number out of range"),
-    }
-}
+use verifier::Fault;
 
 /// The line that tells a refusal of a module's bytes, at a byte offset.
 pub fn refusal_line(
@@ -63,7 +21,7 @@ pub fn refusal_line(
     ensures { IfOk result (λ line. string_bytes line ≡ lines.refusal_line path.now refusal offset) }
 {
     let number = refusal.number();
-    let words = refusal_words(refusal);
+    let words = refusal.words();
     format!(in alloc; "{path}:{offset}: {number} {words}\n")
 }
 
@@ -71,7 +29,7 @@ pub fn refusal_line(
 pub fn fault_line(alloc: Global, path: &str, fault: Fault) -> Result<String, AllocError>
     ensures { IfOk result (λ line. string_bytes line ≡ lines.fault_line path.now fault) }
 {
-    let (number, words) = defect_words(fault.defect);
+    let (number, words) = (fault.defect.number(), fault.defect.words());
     let procedure = fault.procedure;
     let offset = fault.offset;
     format!(in alloc; "{path}:{procedure}:{offset}: {number} {words}\n")
@@ -86,7 +44,7 @@ pub fn world_line(
 ) -> Result<String, AllocError>
     ensures { IfOk result (λ text. string_bytes text ≡ lines.world_line path.now line defect) }
 {
-    let (number, words) = world_words(defect);
+    let (number, words) = (defect.number(), defect.words());
     format!(in alloc; "{path}:{line}: {number} {words}\n")
 }
 

@@ -1,50 +1,68 @@
+ghost use Rattle.host.specs.Words.{fault_number, fault_words};
+ghost use Rattle.std.specs.Prelude.{◌≡◌, Some};
+
 use bytecode::Refusal;
-use thiserror::Error;
-use verifier::{Defect, Fault};
+use std::error::Error;
+use std::fmt;
+use verifier::Fault;
 
 /// An event was refused, and no session has changed.
-#[derive(Clone, Copy, Debug, PartialEq, Eq, Error)]
+#[derive(Clone, Copy, Debug, PartialEq, Eq)]
 pub enum HostFault {
     /// A growth of memory was refused.
-    #[error("no memory")]
     NoMemory,
     /// 901: every place has an open session, or every id was given.
-    #[error("full")]
     Full,
     /// 902: no open session has this id.
-    #[error("unknown id")]
     UnknownId,
     /// 153: no principal of the session's module has this number.
-    #[error("unknown principal")]
     UnknownPrincipal,
     /// 852: the names of the world's inputs are not those of the module's inputs, in order.
-    #[error("unknown channel")]
     UnknownChannel,
     /// 801 to 806: the bytes spell no module. The first refusal, and its offset in the bytes.
-    #[error("{}", refusal_words(*.0))]
     Bytes(Refusal, usize),
     /// 811 to 815: the module has this fault in its code.
-    #[error("{}", defect_words(.0.defect))]
     Code(Fault),
 }
 
-fn refusal_words(refusal: Refusal) -> &'static str {
-    match refusal {
-        Refusal::Magic => "magic",
-        Refusal::Version => "version",
-        Refusal::Short => "short",
-        Refusal::BadValue => "bad value",
-        Refusal::NotCanonical => "not canonical",
-        Refusal::Trailing => "trailing bytes",
+impl HostFault {
+    /// The number that the fault is told by; want of memory has none.
+    pub fn number(&self) -> Option<u32>
+        ensures { result ≡ fault_number self.now }
+    {
+        match self {
+            HostFault::NoMemory => None,
+            HostFault::Full => Some(901),
+            HostFault::UnknownId => Some(902),
+            HostFault::UnknownPrincipal => Some(153),
+            HostFault::UnknownChannel => Some(852),
+            HostFault::Bytes(refusal, _) => Some(refusal.number()),
+            HostFault::Code(fault) => Some(fault.defect.number()),
+        }
+    }
+
+    /// The words that the fault is told by.
+    pub fn words(&self) -> &'static str
+        ensures { result.now ≡ fault_words self.now }
+    {
+        match self {
+            HostFault::NoMemory => "no memory",
+            HostFault::Full => "full",
+            HostFault::UnknownId => "unknown id",
+            HostFault::UnknownPrincipal => "unknown principal",
+            HostFault::UnknownChannel => "unknown channel",
+            HostFault::Bytes(refusal, _) => refusal.words(),
+            HostFault::Code(fault) => fault.defect.words(),
+        }
     }
 }
 
-fn defect_words(defect: Defect) -> &'static str {
-    match defect {
-        Defect::Jump => "jump",
-        Defect::OperandKind => "operand kind",
-        Defect::OperandDepth => "operand depth",
-        Defect::SlotOrIndex => "slot or index",
-        Defect::FallsOffEnd => "falls off the end",
+impl fmt::Display for HostFault {
+    ghost output = { λ fault. Some (fault_words fault) };
+
+    fn fmt<W: fmt::Write>(&self, f: &mut fmt::Formatter<W>) -> fmt::Result {
+        write!(f, "{}", self.words())
     }
 }
+
+impl Error for HostFault {}

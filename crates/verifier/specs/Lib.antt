@@ -1,3 +1,4 @@
 pub mod Faults
 pub mod Safety
 pub mod Straight
+pub mod Words

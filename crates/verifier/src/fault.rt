@@ -1,3 +1,6 @@
+ghost use Rattle.std.specs.Prelude.{◌≡◌};
+ghost use Rattle.verifier.specs.Words.{defect_number, defect_words};
+
 use thiserror::Error;
 
 /// What is wrong in a module's code.
@@ -13,6 +16,34 @@ pub enum Defect {
     SlotOrIndex,
     /// 815: control comes to the end of the code.
     FallsOffEnd,
+}
+
+impl Defect {
+    /// The number that faults are told by, 811 to 815.
+    pub fn number(self) -> u32
+        ensures { result ≡ defect_number self }
+    {
+        match self {
+            Defect::Jump => 811,
+            Defect::OperandKind => 812,
+            Defect::OperandDepth => 813,
+            Defect::SlotOrIndex => 814,
+            Defect::FallsOffEnd => 815,
+        }
+    }
+
+    /// The words that faults are told by.
+    pub fn words(self) -> &'static str
+        ensures { result.now ≡ defect_words self }
+    {
+        match self {
+            Defect::Jump => "jump",
+            Defect::OperandKind => "operand kind",
+            Defect::OperandDepth => "operand depth",
+            Defect::SlotOrIndex => "slot or index",
+            Defect::FallsOffEnd => "falls off the end",
+        }
+    }
 }
 
 /// A fault of a module's code: what is wrong, and the procedure and the byte offset where.

@@ -71,3 +71,18 @@ fn tells_the_fault(rt: HostRuntime) -> Result<(), Fail> {
     }
     Ok(())
 }
+
+#[test]
+fn has_a_number_and_words_for_each_defect(rt: HostRuntime) {
+    let defects = [
+        (Defect::Jump, 811, "jump"),
+        (Defect::OperandKind, 812, "operand kind"),
+        (Defect::OperandDepth, 813, "operand depth"),
+        (Defect::SlotOrIndex, 814, "slot or index"),
+        (Defect::FallsOffEnd, 815, "falls off the end"),
+    ];
+    for (defect, number, words) in defects {
+        assert_eq!(rt; defect.number(), number);
+        assert_eq!(rt; defect.words(), words);
+    }
+}
