@@ -4,7 +4,7 @@ ghost use Rattle.bytecode.specs.Form.{Counted, each_at, read};
 ghost use Rattle.bytecode.specs.Format.{any, channel_after, declared, direction};
 ghost use Rattle.bytecode.specs.Reading.{Gives, texts};
 ghost use Rattle.std.specs.BTreeSet.{contains_text};
-ghost use Rattle.std.specs.Prelude.{[], length, ◌≡◌};
+ghost use Rattle.std.specs.Prelude.{[], length};
 
 use crate::channel::Channel;
 use crate::fault::Refusal;

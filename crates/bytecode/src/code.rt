@@ -4,7 +4,7 @@ ghost use Rattle.bytecode.specs.Code.{width_of};
 ghost use Rattle.bytecode.specs.Form.{Code, code_at, instruction_in, read};
 ghost use Rattle.bytecode.specs.Opcodes.{instructions};
 ghost use Rattle.bytecode.specs.Reading.{Gives};
-ghost use Rattle.std.specs.Prelude.{[], IfOk, ◌≡◌, ◌≤◌};
+ghost use Rattle.std.specs.Prelude.{[], IfOk, ◌≤◌};
 
 use crate::fault::Refusal;
 use crate::instruction::Instruction;

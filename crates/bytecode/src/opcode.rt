@@ -1,4 +1,4 @@
-ghost use Rattle.bytecode.specs.Opcodes.{instruction_of, is_admitted, numbered, opcode_of, operand_of, plain, width_after, with_opcode};
+ghost use Rattle.bytecode.specs.Opcodes.{instruction_of, is_admitted, numbered, opcode_of, plain, width_after, with_opcode};
 ghost use Rattle.bytecode.specs.Opcodes.{flagged};
 ghost use Rattle.std.specs.Prelude.{IfSome, if◌then◌else◌, length, None, ◌<◌, ◌≡◌, ◌≤◌};
 

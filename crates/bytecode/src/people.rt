@@ -3,7 +3,6 @@
 ghost use Rattle.bytecode.specs.Form.{Counted, read};
 ghost use Rattle.bytecode.specs.Format.{any, hierarchy, label, number_below, pair_after, policy_after, principals, reader_after};
 ghost use Rattle.bytecode.specs.Reading.{Gives, texts};
-ghost use Rattle.std.specs.Prelude.{◌≡◌};
 
 use crate::fault::Refusal;
 use crate::names::first_names;

@@ -3,7 +3,7 @@
 ghost use Rattle.bytecode.specs.Form.{read};
 ghost use Rattle.bytecode.specs.Format.{handler, handlers, most_cells, parameters, procedure, procedures, returned, slot_after, slot_cells, slot_kind, slot_of, slots};
 ghost use Rattle.bytecode.specs.Reading.{Gives};
-ghost use Rattle.std.specs.Prelude.{[], ◌≡◌, ◌≤◌};
+ghost use Rattle.std.specs.Prelude.{◌≡◌, ◌≤◌};
 
 use crate::code::code;
 use crate::fault::Refusal;

@@ -3,7 +3,6 @@ ghost use Rattle.std.specs.Io.KnownBytes.{Appends, WriteAppends};
 ghost use Rattle.std.specs.Io.{WritesAtMost};
 ghost use Rattle.std.specs.Prelude.{◌≡◌, ◌||◌, ℕ, Bool, IsErr, IsTrue, List, None, OnErr, OnOk, Option, false};
 
-use std::io;
 use std::io::Write;
 use thiserror::Error;
 

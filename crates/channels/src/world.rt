@@ -1,6 +1,6 @@
 ghost use Rattle.channels.specs.World.{input_names};
 ghost use Rattle.channels.specs.WorldText.{IsTextFault, IsWorldText, lines_of, world_of};
-ghost use Rattle.std.specs.Prelude.{◌≡◌, IfErr, IfOk, OnOk, map};
+ghost use Rattle.std.specs.Prelude.{◌≡◌, IfErr, IfOk, OnOk};
 ghost use Rattle.std.specs.String.{string_bytes};
 
 use crate::defect::WorldFault;

@@ -1,5 +1,5 @@
 ghost use Rattle.channels.specs.Table.{table_of};
-ghost use Rattle.channels.specs.World.{InputNumbers, is_input};
+ghost use Rattle.channels.specs.World.{is_input};
 ghost use Rattle.channels.specs.WorldText as spec;
 ghost use Rattle.channels.specs.WorldText.{IsWorldText, input_of, numbers_in, table_after, texts_of};
 ghost use Rattle.std.specs.Prelude.{[], ◌≡◌, ℕ, List, IfErr, IfOk, OnOk, filter, map};

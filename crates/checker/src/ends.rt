@@ -2,8 +2,6 @@
 ghost use Rattle.checker.specs.FirstFault.{fault_of, first_of};
 ghost use Rattle.resolved.specs.CoreOf.{program_of};
 ghost use Rattle.resolved.specs.EndFaults.{end_faults};
-ghost use Rattle.resolved.specs.Ends.{declared_by};
-ghost use Rattle.resolved.specs.ProgramOf.{thrown_entry};
 ghost use Rattle.resolved.specs.StraightLine.{is_straight_line};
 ghost use Rattle.resolved.specs.Value.{end_exception};
 ghost use Rattle.std.specs.List.{list_any};

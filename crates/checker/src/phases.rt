@@ -1,19 +1,12 @@
 //! All phases of checking, from a source to a program that may be compiled.
 ghost use Rattle.checker.specs.Accepted.{IsAccepted, IsSound, IsTreeOf, greatest_source};
 ghost use Rattle.checker.specs.Refused.{IsRefusedAt, TellsFault};
-ghost use Rattle.lexer.specs.Cut.{IsCut};
-ghost use Rattle.parser.specs.Refusal.{IsUnexpectedAt, IsTooDeepAt};
 ghost use Rattle.resolved.specs.CoreOf.{program_of};
-ghost use Rattle.resolved.specs.EndFaults.{end_faults};
 ghost use Rattle.resolved.specs.Isolated.{Isolated};
-ghost use Rattle.resolved.specs.Labelled.{Labelled};
-ghost use Rattle.resolved.specs.StraightLine.{is_straight_line};
-ghost use Rattle.std.specs.Prelude.{IfErr, IfOk, IsTrue, OnOk, [], length, ◌≡◌, ◌≢◌, ◌≤◌, ◌+◌, ◌⊎◌};
+ghost use Rattle.std.specs.Prelude.{IfErr, IfOk, OnOk, length, ◌≡◌, ◌≢◌, ◌≤◌, ◌⊎◌};
 ghost use Rattle.principals.specs.ActsFor.{PrincipalHierarchy};
 ghost use Rattle.std.specs.Str.{IsCharBoundary};
-ghost use Rattle.syntax.specs.Nodes.{program_nodes};
 ghost use Rattle.syntax.specs.Tree.{ProgramTree, program_tree};
-ghost use Rattle.syntax.specs.Written.{IsWritten};
 ghost use Rattle.types.specs.Resolution.{resolved_of};
 ghost use Rattle.checker.specs.declared.fault.Fault.TheVariants.{NoMemory};
 

@@ -2,7 +2,7 @@
 
 ghost use Rattle.checker.specs.Accepted as checker;
 ghost use Rattle.checker.specs.Accepted.{IsTreeOf};
-ghost use Rattle.compiler.specs.Built.{IsAccepted, IsCompiled, IsHierarchyRefused, IsNoText, IsRefusal, IsSourceRefused, TellsFault, cause_of};
+ghost use Rattle.compiler.specs.Built.{IsAccepted, IsCompiled, IsHierarchyRefused, IsNoText, IsRefusal, TellsFault, cause_of};
 ghost use Rattle.compiler.specs.Compiled.{IsCodeOf};
 ghost use Rattle.compiler.specs.declared.fault.Fault.TheVariants.{NoMemory};
 ghost use Rattle.principals.specs.ActsFor.{PrincipalHierarchy};

@@ -1,10 +1,9 @@
 -- What a task asks for, and with which status it may end.
 -- Source: our own.
-use Rattle.std.specs.Prelude.{ℕ, List, [], ◌∷◌, ◌==◌, ◌||◌, length, Bool, true, false, Option, Some, None}
-use Rattle.std.specs.String.{string_bytes}
+use Rattle.std.specs.Prelude.{ℕ, ◌==◌, ◌||◌, length, Bool, true, false, Option, Some, None}
 use Rattle.command_line.specs.Task.{paths_of}
 use Rattle.command_line.specs.declared.request.Task.{Task}
-use Rattle.command_line.specs.declared.request.Task.TheVariants.{Check, Build, Run}
+use Rattle.command_line.specs.declared.request.Task.TheVariants.{Build, Run}
 use Rattle.flowc.specs.declared.trouble.Trouble.{Trouble}
 use Rattle.flowc.specs.declared.trouble.Trouble.TheVariants.{Refused, CannotWrite, OutOfMemory}
 use Rattle.machine.specs.declared.status.Status.{Status}

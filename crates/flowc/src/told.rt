@@ -6,7 +6,7 @@ ghost use Rattle.std.specs.String.{string_bytes};
 
 use bytecode::Refusal;
 use channels::WorldDefect;
-use compiler::{Cause, Text};
+use compiler::Cause;
 use lexer::Place;
 use std::alloc::{AllocError, Global};
 use verifier::Fault;

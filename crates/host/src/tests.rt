@@ -1,8 +1,8 @@
 use super::*;
 use bytecode::{Refusal, decode};
-use channels::{InputList, Pair, World};
+use channels::{Pair, World};
 use machine::Status;
-use std::alloc::{AllocError, Global};
+use std::alloc::Global;
 use std::test::Fail;
 use verifier::{Defect, Fault};
 

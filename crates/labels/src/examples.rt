@@ -1,6 +1,6 @@
 //! What the clauses do not say: that they mean what the rules of the model mean, on worked examples, and that the calls succeed.
 ghost use Rattle.labels.specs.Canonical.{IsCanonicalPolicy};
-ghost use Rattle.std.specs.Prelude.{All, IfOk};
+ghost use Rattle.std.specs.Prelude.{IfOk};
 
 use super::*;
 use principals::Hierarchy;

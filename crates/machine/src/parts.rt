@@ -1,4 +1,3 @@
-ghost use Rattle.bytecode.specs.Machine.{Ending};
 ghost use Rattle.machine.specs.Parts.{StaysFine, standing_after, stepped, added, acted, going, grows, onward};
 ghost use Rattle.machine.specs.Standing.{IsStatus, IsStatusOf, WasGoing, option_ending, standing_of};
 ghost use Rattle.std.specs.Prelude.{◌≡◌, ◌≤◌, ◌∷◌, slice_get, ◌<◌, ◌+◌, IfOk, IsSome, OnErr, OnOk, Some};
@@ -7,7 +6,7 @@ use crate::input::Input;
 use crate::status::Status;
 use bytecode::Instruction;
 use channels::{Pair, Sent};
-use std::alloc::{AllocError, AllocFailed};
+use std::alloc::AllocError;
 use std::marker::Model;
 
 /// How a run of straight-line code ends.

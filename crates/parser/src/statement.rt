@@ -1,4 +1,3 @@
-ghost use Rattle.std.specs.Prelude.{pred};
 ghost use Rattle.lexer.specs.Terminal.{terminals_of};
 ghost use Rattle.syntax.specs.Tree.{right_tree, statement_tree, block_tree};
 ghost use Rattle.parser.specs.Readers.{Gives, statement_trees, right_at, declare_at, assign_at, receive_at, send_at, statement_at, statements_at, block_at};

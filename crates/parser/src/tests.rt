@@ -2,7 +2,7 @@ use super::*;
 use lexer::{LexFault, lex};
 use std::alloc::{AllocError, Global};
 use std::test::Fail;
-use syntax::{Expression, Item, Program, Statement};
+use syntax::{Item, Program};
 
 /// Why a text is refused, or `None` where it is not.
 fn fault_of(alloc: Global, text: &str) -> Result<Option<ParseFault>, LexFault> {

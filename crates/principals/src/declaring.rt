@@ -6,7 +6,7 @@ ghost use Rattle.principals.specs.HierarchyText.{Declares, IsSaid, Relates};
 ghost use Rattle.principals.specs.Reading.{entries_of, IsBuildFault, IsStatementsFault};
 ghost use Rattle.principals.specs.Table.{names_of};
 ghost use Rattle.principals.specs.declared.fault.HierFault.TheVariants.{UnknownPrincipal};
-ghost use Rattle.std.specs.Prelude.{Contains, IfErr, IfOk, OnOk, Some, [], ◌∷◌, ◌++◌, length, slice_get, ℕ, ◌<◌, ◌≡◌, ◌≤◌};
+ghost use Rattle.std.specs.Prelude.{Contains, IfErr, IfOk, OnOk, Some, [], ◌∷◌, ◌++◌, length, slice_get, ◌<◌, ◌≡◌, ◌≤◌};
 
 use crate::Hierarchy;
 use crate::fault::HierFault;

@@ -1,7 +1,7 @@
 //! The table of bits that answers who acts for whom.
 
 ghost use Rattle.principals.specs.ActsFor.{acts_for};
-ghost use Rattle.principals.specs.Table.{by_way_below, is_written, related};
+ghost use Rattle.principals.specs.Table.{is_written, related};
 ghost use Rattle.std.specs.Prelude.{All, IfOk, [], length, ℕ, ◌&&◌, ◌<◌, ◌||◌, ◌≡◌, ◌≤◌};
 
 use crate::row::Row;

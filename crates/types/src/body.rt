@@ -1,9 +1,9 @@
 //! The bodies of procedures.
 
-ghost use Rattle.std.specs.Prelude.{OnOk, length, map, ◌+◌, ◌<◌, ◌≡◌, ◌≤◌, [], None, Option, ℕ};
+ghost use Rattle.std.specs.Prelude.{OnOk, length, map, ◌+◌, ◌<◌, ◌≡◌, ◌≤◌, [], None, Option};
 ghost use Rattle.resolved.specs.TreeOf.{expression_of, statement_of};
 ghost use Rattle.syntax.specs.Tree.{expression_tree, label_tree, name_tree, right_tree, statement_tree};
-ghost use Rattle.types.specs.Checks.{Gives, assign_checked, assigned_checked, body_state, declare_checked, declared_behind, expression_checked, found_in, give, itself, receive_checked, send_checked, statement_checked, statements_checked, statements_list};
+ghost use Rattle.types.specs.Checks.{Gives, assign_checked, assigned_checked, body_state, declare_checked, declared_behind, expression_checked, found_in, give, receive_checked, send_checked, statement_checked, statements_checked, statements_list};
 
 use crate::fault::TypeFault;
 use crate::label::label;

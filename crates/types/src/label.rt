@@ -1,6 +1,6 @@
 //! Labels as they are kept, from labels as they are written.
 
-ghost use Rattle.std.specs.Prelude.{All, IfOk, map, ◌≡◌};
+ghost use Rattle.std.specs.Prelude.{All, IfOk, map};
 ghost use Rattle.labels.specs.Canonical.{IsCanonicalPolicy};
 ghost use Rattle.syntax.specs.Tree.{label_tree, name_tree, policy_tree};
 ghost use Rattle.types.specs.Checks.{Gives, itself, label_checked, policies_checked, policy_checked, principal_checked, readers_checked};

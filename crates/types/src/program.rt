@@ -1,6 +1,6 @@
 //! Whole programs.
 
-ghost use Rattle.std.specs.Prelude.{[], IfErr, IfOk, None, Some, length, map, sum_by, ◌≡◌, ◌≤◌, List, ℕ};
+ghost use Rattle.std.specs.Prelude.{[], IfErr, IfOk, None, Some, map, sum_by, ◌≡◌, ◌≤◌, List, ℕ};
 ghost use Rattle.resolved.specs.CoreOf.{program_of};
 ghost use Rattle.resolved.specs.ProgramOf.{channel_entry, procedure_entry, program_from};
 ghost use Rattle.syntax.specs.Nodes.{item_nodes, program_nodes};

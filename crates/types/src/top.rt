@@ -9,7 +9,7 @@ use crate::fault::TypeFault;
 use crate::scope::{Meaning, find, fresh, insert};
 use indexmap::IndexMap;
 use std::alloc::Global;
-use syntax::{Direction, Item, Name};
+use syntax::{Direction, Item};
 
 /// What the names of the top level stand for, and how many channels and procedures there are.
 #[derive(Drop)]

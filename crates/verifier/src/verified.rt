@@ -1,4 +1,4 @@
-ghost use Rattle.bytecode.specs.Code.{code_length, width_of};
+ghost use Rattle.bytecode.specs.Code.{code_length};
 ghost use Rattle.bytecode.specs.StraightLine.{is_straight, is_straight_line};
 ghost use Rattle.std.specs.List.{list_all};
 ghost use Rattle.std.specs.Prelude.{◌≡◌, ◌<◌, ◌^◌, IfErr, IfNone, IfOk, IfSome, IsTrue, OnOk, map, slice_get};
