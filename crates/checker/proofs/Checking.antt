@@ -8,7 +8,8 @@ use Rattle.syntax.specs.Tree.{ProgramTree}
 use Rattle.syntax.specs.Written.{IsWritten}
 use Rattle.resolved.specs.Program.{Program}
 use Rattle.resolved.specs.EndFaults.{EndFault, end_faults}
-use Rattle.resolved.specs.Labelled.{Labelling, Labelled}
+use Rattle.resolved.specs.Before.{Labelling}
+use Rattle.resolved.specs.Labelled.{Labelled}
 use Rattle.resolved.specs.StraightLine.{is_straight_line}
 use Rattle.resolved.specs.WellFormed.{well_formed}
 use Rattle.types.specs.FirstFault.{first_fault, IsTold}

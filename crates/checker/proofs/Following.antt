@@ -14,7 +14,7 @@ use Rattle.resolved.specs.Tree.{Statement, Assign, Receive, Send}
 use Rattle.resolved.specs.TreeOf.{statement_of, block_of}
 use Rattle.resolved.specs.Program.{Program, ProcedureEntry}
 use Rattle.resolved.specs.Ends.{thrown_ends}
-use Rattle.resolved.specs.Labelled.{Labelling, Scope, Fits, demand, target_demand, channel_label, at_ends, statement_rule, statement_marks, statement_demands, block_demands}
+use Rattle.resolved.specs.Before.{Labelling, Scope, Fits, demand, target_demand, channel_label, at_ends, statement_rule, statement_marks, statement_demands, block_demands}
 use Rattle.checker.specs.declared.refusal.FlowRefusal.{FlowRefusal}
 use Rattle.checker.specs.FirstDemand.{TellsFirst}
 use Rattle.checker.specs.Way.{StandsFor, scope_of, is_target_of, way_past, way_through, is_sum_of, is_statement_of, is_block_of}

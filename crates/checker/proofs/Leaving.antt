@@ -10,7 +10,7 @@ use Rattle.resolved.specs.declared.tables.Thrown.{Thrown}
 use Rattle.resolved.specs.Value.{end_exception}
 use Rattle.resolved.specs.Program.{ProcedureEntry, ThrownEntry}
 use Rattle.resolved.specs.ProgramOf.{thrown_entry}
-use Rattle.resolved.specs.Labelled.{Marks, Demand, demand, Fits}
+use Rattle.resolved.specs.Before.{Marks, Demand, demand, Fits}
 use Rattle.checker.specs.declared.refusal.LabelRule.TheVariants as rule
 use Rattle.checker.specs.declared.refusal.FlowRefusal.{FlowRefusal}
 use Rattle.checker.specs.FirstDemand.{TellsFirst}

@@ -11,3 +11,4 @@ pub mod PlacesTold
 pub mod Marks
 pub mod Whole
 pub mod Checking
+pub mod Bridge

@@ -14,7 +14,7 @@ use Rattle.resolved.specs.Tree.{Statement, Assign, Receive, Send, Block, Empty, 
 use Rattle.resolved.specs.Program.{Program, ProcedureEntry}
 use Rattle.resolved.specs.Value.{end_exception}
 use Rattle.resolved.specs.Ends.{same_exit, has_end, one_end, thrown_ends, block_ends}
-use Rattle.resolved.specs.Labelled.{Scope, Marks, Demand, label_if, at_ends, as_one_end, statement_rule, block_rule, statement_marks, block_marks, end_demands}
+use Rattle.resolved.specs.Before.{Scope, Marks, Demand, label_if, at_ends, as_one_end, statement_rule, block_rule, statement_marks, block_marks, end_demands}
 use Rattle.checker.specs.Way.{StandsFor, StandsForEnds, leaving_demands, is_receive, receives, way_past, way_through, is_sum_of, is_statement_of, is_block_of}
 use Rattle.checker.proofs.Ending.{sum-raises, ends_of, block-ends}
 use Rattle.checker.proofs.Following.{marks-way}

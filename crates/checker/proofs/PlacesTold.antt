@@ -18,7 +18,7 @@ use Rattle.std.proofs.lemmas.List.{append-nil}
 use Rattle.resolved.specs.StraightLine.{is_straight_statement, is_straight_block, is_straight_procedure, is_straight_line, is_only_procedure}
 use Rattle.resolved.specs.Ends.{block_ends, one_end}
 use Rattle.resolved.specs.EndFaults.{EndFault, EndRefusal, Undeclared, end_faults, fault_unless, procedure_faults}
-use Rattle.resolved.specs.Labelled.{Scope, Marks, Demand, Labelling, demand, target_demand, statement_demands, block_demands, end_demands, as_one_end, statement_marks, block_marks, procedure_demands, demands_from, program_demands}
+use Rattle.resolved.specs.Before.{Scope, Marks, Demand, Labelling, demand, target_demand, statement_demands, block_demands, end_demands, as_one_end, statement_marks, block_marks, procedure_demands, demands_from, program_demands}
 use Rattle.types.specs.Laws.{PlacesPass}
 use Rattle.checker.specs.FirstDemand.{first_unmet}
 use Rattle.checker.specs.FirstFault.{first_of}

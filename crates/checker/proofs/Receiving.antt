@@ -8,7 +8,7 @@ use Rattle.labels.proofs.FlowTests.{flows-through, flows-itself, flows-join_leas
 use Rattle.resolved.specs.declared.expression.Variable.{Variable}
 use Rattle.resolved.specs.Tree.{Receive}
 use Rattle.resolved.specs.Program.{Program, ProcedureEntry}
-use Rattle.resolved.specs.Labelled.{Labelling, Scope, demand, target_demand, Fits, channel_label, variable_label, statement_demands}
+use Rattle.resolved.specs.Before.{Labelling, Scope, demand, target_demand, Fits, channel_label, variable_label, statement_demands}
 use Rattle.checker.specs.declared.refusal.LabelRule.TheVariants as rule
 use Rattle.checker.specs.declared.refusal.FlowRefusal.{FlowRefusal}
 use Rattle.checker.specs.FirstDemand.{TellsFirst}

@@ -11,7 +11,7 @@ use Rattle.resolved.specs.declared.statement.Statement as S
 use Rattle.resolved.specs.Tree.{Expression, Integer, Read, Binary}
 use Rattle.resolved.specs.TreeOf.{expression_of, statement_of}
 use Rattle.resolved.specs.Program.{Program, ProcedureEntry}
-use Rattle.resolved.specs.Labelled.{Labelling, Scope, demand, Fits, channel_label, variable_label, value_label, raise_label, statement_demands}
+use Rattle.resolved.specs.Before.{Labelling, Scope, demand, Fits, channel_label, variable_label, value_label, raise_label, statement_demands}
 use Rattle.checker.specs.declared.refusal.LabelRule.{LabelRule}
 use Rattle.checker.specs.declared.refusal.LabelRule.TheVariants as rule
 use Rattle.checker.specs.declared.refusal.FlowRefusal.{FlowRefusal}

@@ -5,7 +5,7 @@ use Rattle.std.proofs.lemmas.List.Elements.{Contains-append_left, Contains-appen
 use Rattle.principals.specs.ActsFor.{PrincipalHierarchy}
 use Rattle.labels.specs.Label.{ReaderPolicy, Label, flows}
 use Rattle.resolved.specs.Program.{Program}
-use Rattle.resolved.specs.Labelled.{Labelling}
+use Rattle.resolved.specs.Before.{Labelling}
 use Rattle.checker.specs.declared.refusal.LabelRule.{LabelRule}
 use Rattle.checker.specs.declared.refusal.FlowRefusal.{FlowRefusal}
 use Rattle.checker.specs.Way.{TellsPart, StandsFor}

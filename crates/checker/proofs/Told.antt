@@ -10,7 +10,7 @@ use Rattle.labels.specs.Label.{ReaderPolicy, Label, Covers, flows}
 use Rattle.labels.proofs.Tests.{flows-decides}
 use Rattle.labels.proofs.FlowTests.{flows-through}
 use Rattle.labels.proofs.Elements.{each_from_All}
-use Rattle.resolved.specs.Labelled.{Demand, demand, Fits}
+use Rattle.resolved.specs.Before.{Demand, demand, Fits}
 use Rattle.checker.specs.declared.refusal.LabelRule.{LabelRule}
 use Rattle.checker.specs.declared.refusal.UnmetDemand.{UnmetDemand}
 use Rattle.checker.specs.declared.refusal.FlowRefusal.{FlowRefusal}

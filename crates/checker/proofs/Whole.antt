@@ -8,7 +8,7 @@ use Rattle.resolved.specs.Program.{Program}
 use Rattle.resolved.specs.ProgramOf.{procedure_entry}
 use Rattle.resolved.specs.CoreOf.{program_of}
 use Rattle.resolved.specs.TreeOf.{block_of}
-use Rattle.resolved.specs.Labelled.{Labelling, Labelled, Marks, Demand, Fits, block_demands, block_marks, procedure_demands, demands_from, program_demands}
+use Rattle.resolved.specs.Before.{Labelling, Labelled, Marks, Demand, Fits, block_demands, block_marks, procedure_demands, demands_from, program_demands}
 use Rattle.checker.specs.declared.refusal.FlowRefusal.{FlowRefusal}
 use Rattle.checker.specs.declared.refusal.FlowRefusal.TheVariants.{NoMemory, Unmet}
 use Rattle.checker.specs.FirstDemand.{TellsFirst, TellsFirstDemand, RulesOut}

@@ -5,7 +5,10 @@ use Rattle.std.specs.List.{find}
 use Rattle.principals.specs.ActsFor.{PrincipalHierarchy}
 use Rattle.labels.specs.Label.{Covers, flows}
 use Rattle.resolved.specs.Program.{Program}
-use Rattle.resolved.specs.Labelled.{Demand, Labelling, Labelled, program_demands}
+use Rattle.resolved.specs.Labelled as new
+use Rattle.resolved.specs.Flow.{IsRefused}
+use Rattle.labels.specs.Constraints.{Written}
+use Rattle.resolved.specs.Before.{Demand, Labelling, Labelled, program_demands}
 use Rattle.checker.specs.declared.refusal.LabelRule.{LabelRule}
 use Rattle.checker.specs.declared.refusal.LabelRule.TheVariants as rule
 use Rattle.checker.specs.declared.refusal.UnmetDemand.{UnmetDemand}
@@ -50,3 +53,10 @@ TellsFirstDemand program refusal =
 abbrev pub RulesOut : Program → FlowRefusal → Type 0
 RulesOut program NoMemory = Unit {0}
 RulesOut program (Unmet unmet) = ¬ Labelled program
+
+-- what is told of a program that is refused: the place, rule and right side of the first demand with a written right side that does
+-- not hold under the least labelling, and a policy that a flow chain leads there from, so that no labelling fits
+abbrev pub TellsRefusal : Program → UnmetDemand → Type 0
+TellsRefusal program unmet =
+    (chain : List new.Demand) × (last : new.Demand) × IsRefused program unmet.policy chain last
+    × (unmet.at ≡ last.at) × (rule_number unmet.rule ≡ last.rule) × (last.right ≡ Written unmet.right)

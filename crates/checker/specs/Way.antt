@@ -10,7 +10,7 @@ use Rattle.resolved.specs.Tree.{Expression, Integer, Read, Binary, Statement, As
 use Rattle.resolved.specs.declared.statement.Exit.TheVariants.{Normal, Return, Throw}
 use Rattle.resolved.specs.Program.{Program, ProcedureEntry, ThrownEntry}
 use Rattle.resolved.specs.Value.{end_exception}
-use Rattle.resolved.specs.Labelled.{Labelling, Scope, Marks, Demand, demand, channel_label}
+use Rattle.resolved.specs.Before.{Labelling, Scope, Marks, Demand, demand, channel_label}
 use Rattle.checker.specs.declared.refusal.LabelRule.{LabelRule}
 use Rattle.checker.specs.declared.refusal.FlowRefusal.{FlowRefusal}
 use Rattle.checker.specs.declared.refusal.FlowRefusal.TheVariants.{NoMemory, Unmet}

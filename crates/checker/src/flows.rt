@@ -3,7 +3,7 @@ ghost use Rattle.checker.specs.FirstDemand.{RulesOut, TellsFirst, TellsFirstDema
 ghost use Rattle.checker.specs.Way.{StandsFor, StandsForEnds, TellsPart, leaving_demands, is_block_of, is_local_of, is_statement_of, is_sum_of, is_target_of, scope_of, way_through};
 ghost use Rattle.labels.specs.Label.{flows};
 ghost use Rattle.resolved.specs.CoreOf.{program_of};
-ghost use Rattle.resolved.specs.Labelled.{Fits, Labelled, Labelling, Marks, block_demands, statement_demands, value_label, variable_label};
+ghost use Rattle.resolved.specs.Before.{Fits, Labelled, Labelling, Marks, block_demands, statement_demands, value_label, variable_label};
 ghost use Rattle.resolved.specs.Program.{Program};
 ghost use Rattle.resolved.specs.ProgramOf.{procedure_entry};
 ghost use Rattle.resolved.specs.StraightLine.{is_labelled_int, is_straight_line};

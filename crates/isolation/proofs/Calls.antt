@@ -11,15 +11,15 @@ use Rattle.resolved.specs.declared.expression.Variable.TheVariants.{Global, Loca
 use Rattle.resolved.specs.declared.expression.Value.{Value}
 use Rattle.resolved.specs.declared.statement.Exit.{Exit}
 use Rattle.resolved.specs.declared.statement.Exit.TheVariants.{Normal, Return, Break, Continue, Throw}
-use Rattle.resolved.specs.Program.{Program, ProcedureEntry, ThrownEntry}
+use Rattle.resolved.specs.Program.{Program, ProcedureEntry, ThrownEntry, procedure_at}
 use Rattle.resolved.specs.State.{State, assigned, cells}
 use Rattle.resolved.specs.Meaning.{Stop, Outcome, Ended, Stopped, leaving, returned_to, state_after}
 use Rattle.resolved.specs.Ends.{same_exit, has_end, one_end, thrown_ends, declared_by}
 use Rattle.resolved.specs.EndFaults.{may_end}
-use Rattle.resolved.specs.Labelled.{Labelling, Marks, Demand, demand, Fits, label_if, any_of, thrown_label, as_one_end, end_demands}
+use Rattle.resolved.specs.Labelled.{Labelling, Marks, Demand, demand, Fits, label_if, any_of, ToEnd, ToThrown, one, label_of, join_under, Scope, here, as_one_end, end_demands, one}
 use Rattle.isolation.proofs.Grows.{Grows, grows-itself, grows-returned_to}
 use Rattle.isolation.proofs.Among.{Among, same-exit, same_exit-itself, all-has, raised_in, thrown-is}
-use Rattle.isolation.proofs.Observer.{Reader, View, view_of, shown, AgreeFor, agree-back, agree-through, agree-unread, agree-with_cells, unread-left, unread-right}
+use Rattle.isolation.proofs.Observer.{LabelReader, under, Reader, View, view_of, shown, AgreeFor, agree-back, agree-through, agree-unread, agree-with_cells, unread-left, unread-right}
 use Rattle.isolation.proofs.Kept.{Hidden, hidden_end, hidden_return, hidden_stop, Kept}
 use Rattle.isolation.proofs.Related.{Related, same_end, same_return, apart, first_stops, second_stops, both-kept, stopped-begins, agree-begins}
 use Rattle.isolation.proofs.Closed.{read_marks, one-same}
@@ -91,24 +91,55 @@ related-returned_to view result value marks more (Some x) o p (second_call_stops
     second_stops (returned_to (Some x) o) stop t (stopped-begins view t o (returned_to (Some x) o) h (grown-returned_to (Some x) o))
 
 -- what a procedure declares of its ends, for its callers
-abbrev pub declared_label : ProcedureEntry → Marks
-declared_label callee Normal = label_if (any_of callee.throws) callee.end_label
-declared_label callee (Throw exception) = thrown_label callee.throws exception
-declared_label callee _ = []
+abbrev pub declared_label : Program → (callee : ℕ) → Marks
+declared_label program f Normal = label_if (any_of (procedure_at program f).throws) (one (label_of program (ToEnd f)))
+declared_label program f (Throw exception) = one (label_of program (ToThrown f exception))
+declared_label program f Return = []
+declared_label program f Break = []
+declared_label program f Continue = []
+
+-- these are the same under every labelling
+pub declared-under : {h : PrincipalHierarchy} (base : LabelReader h) (labels inner : Labelling) (program : Program) (f : ℕ) (exit : Exit) →
+    read_marks (under base inner) (declared_label program f) exit ≡ false → read_marks (under base labels) (declared_label program f) exit ≡ false
+declared-under base labels inner program f Normal m = go (any_of (procedure_at program f).throws) m
+  where
+    go : (b : Bool) → base.reads (join_under inner (label_if b (one (label_of program (ToEnd f))))) ≡ false →
+        base.reads (join_under labels (label_if b (one (label_of program (ToEnd f))))) ≡ false
+    go true m = m
+    go false m = m
+declared-under base labels inner program f Return m = m
+declared-under base labels inner program f Break m = m
+declared-under base labels inner program f Continue m = m
+declared-under base labels inner program f (Throw x) m = m
+
+hidden_call-weaker : (value : Bool) (marks more : Exit → Bool) (o : Outcome) → ((exit : Exit) → marks exit ≡ false → more exit ≡ false) →
+    HiddenCall value marks o → HiddenCall value more o
+hidden_call-weaker value marks more o weaker (call_end r t m none) = call_end r t (weaker Normal m) none
+hidden_call-weaker value marks more o weaker (call_thrown x t m) = call_thrown x t (weaker (Throw x) m)
+hidden_call-weaker value marks more o weaker (call_stop stop t) = call_stop stop t
+
+pub related_call-weaker : (view : View) (value : Bool) (marks more : Exit → Bool) (o p : Outcome) →
+    ((exit : Exit) → marks exit ≡ false → more exit ≡ false) → RelatedCall view value marks o p → RelatedCall view value more o p
+related_call-weaker view value marks more o p weaker (same_call r q s t h i) = same_call r q s t h i
+related_call-weaker view value marks more o p weaker (same_thrown x s t h) = same_thrown x s t h
+related_call-weaker view value marks more o p weaker (apart_calls _ _ h i j) =
+    apart_calls o p (hidden_call-weaker value marks more o weaker h) (hidden_call-weaker value marks more p weaker i) j
+related_call-weaker view value marks more o p weaker (first_call_stops stop s _ h) = first_call_stops stop s p h
+related_call-weaker view value marks more o p weaker (second_call_stops _ stop t h) = second_call_stops o stop t h
 
 -- the state of a caller that has its frame again
 abbrev pub home : State → State → State
 home s t = record t { locals = s.locals }
 
 -- the same for the observer in the callee is the same in the caller
-pub agree-home : {h : PrincipalHierarchy} (reader : Reader h) (program : Program) (caller callee : ProcedureEntry) (labels inner : Labelling) (s t s' t' : State) → AgreeFor (view_of reader (record { program = program; procedure = caller; labelling = labels })) s t → AgreeFor (view_of reader (record { program = program; procedure = callee; labelling = inner })) s' t' → AgreeFor (view_of reader (record { program = program; procedure = caller; labelling = labels })) (home s s') (home t t')
-agree-home reader program caller callee labels inner s t s' t' outer within = record {
+pub agree-home : {h : PrincipalHierarchy} (base : LabelReader h) (program : Program) (caller callee : ℕ) (labels inner : Labelling) (s t s' t' : State) → AgreeFor (view_of (under base labels) (record { program = program; number = caller })) s t → AgreeFor (view_of (under base inner) (record { program = program; number = callee })) s' t' → AgreeFor (view_of (under base labels) (record { program = program; number = caller })) (home s s') (home t t')
+agree-home base program caller callee labels inner s t s' t' outer within = record {
   variables = variables;
   inputs = within.inputs;
   sent = within.sent;
 }
   where
-    variables : (x : Variable) → (view_of reader (record { program = program; procedure = caller; labelling = labels })).variable x ≡ true →
+    variables : (x : Variable) → (view_of (under base labels) (record { program = program; number = caller })).variable x ≡ true →
         cells (home s s') x ≡ cells (home t t') x
     variables (Global n) e = within.variables (Global n) e
     variables (Local n) e = outer.variables (Local n) e
@@ -211,65 +242,66 @@ some-throws callee (first ∷ rest) exit declared h several = go (any_of callee.
         let i : true ≡ false = sym single ∙ several in absurd (cc)
 
 -- the label that is declared of an exception which is not read
-unread-thrown : {h : PrincipalHierarchy} (reader : Reader h) (at : ℕ) (x : Marks) (throws : List ThrownEntry) (y : ℕ) →
-    Fits h (flat_map (λ (entry : ThrownEntry). demand at 13 (x (Throw entry.exception)) entry.label) throws) →
-    raised_in (declared_by throws) y ≡ true → reader.reads (x (Throw y)) ≡ false → reader.reads (thrown_label throws y) ≡ false
-unread-thrown reader at x [] y fits declared unread = let i : true ≡ false = sym declared in absurd (cc)
-unread-thrown {h} reader at x (entry ∷ rest) y fits declared unread = go (y == entry.exception) refl
-    (unread-thrown reader at x rest y (fits-right h first others fits))
+unread-thrown : {h : PrincipalHierarchy} {labelling : Labelling} (reader : Reader h labelling) (program : Program) (f at : ℕ) (x : Marks) (throws : List ThrownEntry) (y : ℕ) →
+    Fits h labelling (flat_map (λ (entry : ThrownEntry). demand program at 13 (x (Throw entry.exception)) (ToThrown f entry.exception)) throws) →
+    raised_in (declared_by throws) y ≡ true → reader.reads (x (Throw y)) ≡ false → reader.reads (one (label_of program (ToThrown f y))) ≡ false
+unread-thrown reader program f at x [] y fits declared unread = let i : true ≡ false = sym declared in absurd (cc)
+unread-thrown {h} {labelling} reader program f at x (entry ∷ rest) y fits declared unread = go (y == entry.exception) refl
+    (unread-thrown reader program f at x rest y (fits-right h labelling first others fits))
   where
     first : List Demand
-    first = demand at 13 (x (Throw entry.exception)) entry.label
+    first = demand program at 13 (x (Throw entry.exception)) (ToThrown f entry.exception)
 
     others : List Demand
-    others = flat_map (λ (entry : ThrownEntry). demand at 13 (x (Throw entry.exception)) entry.label) rest
+    others = flat_map (λ (entry : ThrownEntry). demand program at 13 (x (Throw entry.exception)) (ToThrown f entry.exception)) rest
 
     go : (b : Bool) → (y == entry.exception) ≡ b → (raised_in (declared_by rest) y ≡ true → reader.reads (x (Throw y)) ≡ false →
-        reader.reads (thrown_label rest y) ≡ false) → reader.reads (thrown_label (entry ∷ rest) y) ≡ false
+        reader.reads (one (label_of program (ToThrown f y))) ≡ false) → reader.reads (one (label_of program (ToThrown f y))) ≡ false
     go true e later =
         let same : y ≡ entry.exception = grind (arith, e) in
-        rw e (unread-demand reader at 13 (x (Throw entry.exception)) entry.label (fits-left h first others fits)
+        rw same (unread-demand reader program at 13 (x (Throw entry.exception)) (ToThrown f entry.exception) (fits-left h labelling first others fits)
         (ap (λ z. reader.reads (x (Throw z))) (sym same) ∙ unread))
-    go false e later = rw e (later (rw e at declared) unread)
+    go false e later = later (rw e at declared) unread
 
 -- the demands on the ends of a procedure that has several
-several-demands : (h : PrincipalHierarchy) (callee : ProcedureEntry) (ends : List Exit) (x : Marks) →
-    one_end (map as_one_end ends) ≡ false → Fits h (end_demands callee ends x) →
-    Fits h (demand callee.at 13 (x Normal ++ x Return) callee.end_label ++ flat_map
-    (λ (entry : ThrownEntry). demand callee.at 13 (x (Throw entry.exception)) entry.label) callee.throws)
-several-demands h callee ends x several fits = rw several at fits
+abbrev several : Scope → Marks → List Demand
+several scope x = demand scope.program (here scope).at 13 (x Normal ++ x Return) (ToEnd scope.number)
 
-module _ {h : PrincipalHierarchy} (reader : Reader h) (callee : ProcedureEntry) (ends : List Exit)
-    (declared : list_all (may_end callee) ends ≡ true) (x : Marks) (fits : Fits h (end_demands callee ends x)) (back : State → State)
+abbrev on_thrown : Scope → Marks → List Demand
+on_thrown scope x = flat_map (λ (entry : ThrownEntry). demand scope.program (here scope).at 13 (x (Throw entry.exception)) (ToThrown scope.number entry.exception)) (here scope).throws
+
+several-demands : (h : PrincipalHierarchy) (labelling : Labelling) (scope : Scope) (ends : List Exit) (x : Marks) →
+    one_end (map as_one_end ends) ≡ false → Fits h labelling (end_demands scope ends x) →
+    Fits h labelling (several scope x ++ on_thrown scope x)
+several-demands h labelling scope ends x more fits = rw more at fits
+
+module _ {h : PrincipalHierarchy} {labelling : Labelling} (reader : Reader h labelling) (scope : Scope) (ends : List Exit)
+    (declared : list_all (may_end (here scope)) ends ≡ true) (x : Marks) (fits : Fits h labelling (end_demands scope ends x)) (back : State → State)
     (value : Bool) where
   normal-unread : one_end (map as_one_end ends) ≡ false → (exit : Exit) → has_end ends exit ≡ true →
-      reader.reads (x Normal ++ x Return) ≡ false → reader.reads (declared_label callee Normal) ≡ false
-  normal-unread several exit among unread =
-      let front = fits-left h (demand callee.at 13 (x Normal ++ x Return) callee.end_label)
-      (flat_map (λ (entry : ThrownEntry). demand callee.at 13 (x (Throw entry.exception)) entry.label) callee.throws)
-      (several-demands h callee ends x several fits) in
-      unread-label_if reader (any_of callee.throws) callee.end_label (some-throws callee ends exit declared among several)
-      (unread-demand reader callee.at 13 (x Normal ++ x Return) callee.end_label front unread)
+      reader.reads (x Normal ++ x Return) ≡ false → reader.reads (declared_label scope.program scope.number Normal) ≡ false
+  normal-unread more exit among unread =
+      let front = fits-left h labelling (several scope x) (on_thrown scope x) (several-demands h labelling scope ends x more fits) in
+      unread-label_if reader (any_of (here scope).throws) (one (label_of scope.program (ToEnd scope.number))) (some-throws (here scope) ends exit declared among more)
+      (unread-demand reader scope.program (here scope).at 13 (x Normal ++ x Return) (ToEnd scope.number) front unread)
 
   hidden-leaving : (o : Outcome) → one_end (map as_one_end ends) ≡ false → Among ends o → Hidden value (read_marks reader x) o →
-      HiddenCall value (read_marks reader (declared_label callee)) (leaving back o)
-  hidden-leaving o several among (hidden_end Normal t m) =
-      call_end None (back t) (normal-unread several Normal among.among (unread-left reader (x Normal) (x Return) m)) (λ e. refl)
-  hidden-leaving o several among (hidden_end Return t m) =
-      call_end None (back t) (normal-unread several Return among.among (unread-right reader (x Normal) (x Return) m)) (λ e. refl)
-  hidden-leaving o several among (hidden_end Break t m) = absurd
-      (thrown-not_break (declared_by callee.throws) (all-has (may_end callee) ends Break declared among.among))
-  hidden-leaving o several among (hidden_end Continue t m) = absurd
-      (thrown-not_continue (declared_by callee.throws) (all-has (may_end callee) ends Continue declared among.among))
-  hidden-leaving o several among (hidden_end (Throw y) t m) =
-      call_thrown y (back t) (unread-thrown reader callee.at x callee.throws y
-      (fits-right h (demand callee.at 13 (x Normal ++ x Return) callee.end_label)
-      (flat_map (λ (entry : ThrownEntry). demand callee.at 13 (x (Throw entry.exception)) entry.label) callee.throws)
-      (several-demands h callee ends x several fits))
-      (sym (thrown-is (declared_by callee.throws) y) ∙ all-has (may_end callee) ends (Throw y) declared among.among) m)
-  hidden-leaving o several among (hidden_return r t m none) =
-      call_end r (back t) (normal-unread several Return among.among (unread-right reader (x Normal) (x Return) m)) none
-  hidden-leaving o several among (hidden_stop stop t) = call_stop stop (back t)
+      HiddenCall value (read_marks reader (declared_label scope.program scope.number)) (leaving back o)
+  hidden-leaving o more among (hidden_end Normal t m) =
+      call_end None (back t) (normal-unread more Normal among.among (unread-left reader (x Normal) (x Return) m)) (λ e. refl)
+  hidden-leaving o more among (hidden_end Return t m) =
+      call_end None (back t) (normal-unread more Return among.among (unread-right reader (x Normal) (x Return) m)) (λ e. refl)
+  hidden-leaving o more among (hidden_end Break t m) = absurd
+      (thrown-not_break (declared_by (here scope).throws) (all-has (may_end (here scope)) ends Break declared among.among))
+  hidden-leaving o more among (hidden_end Continue t m) = absurd
+      (thrown-not_continue (declared_by (here scope).throws) (all-has (may_end (here scope)) ends Continue declared among.among))
+  hidden-leaving o more among (hidden_end (Throw y) t m) =
+      call_thrown y (back t) (unread-thrown reader scope.program scope.number (here scope).at x (here scope).throws y
+      (fits-right h labelling (several scope x) (on_thrown scope x) (several-demands h labelling scope ends x more fits))
+      (sym (thrown-is (declared_by (here scope).throws) y) ∙ all-has (may_end (here scope)) ends (Throw y) declared among.among) m)
+  hidden-leaving o more among (hidden_return r t m none) =
+      call_end r (back t) (normal-unread more Return among.among (unread-right reader (x Normal) (x Return) m)) none
+  hidden-leaving o more among (hidden_stop stop t) = call_stop stop (back t)
 
 after-leaving : (back : State → State) (o : Outcome) → state_after (leaving back o) ≡ back (state_after o)
 after-leaving back (Ended Normal r s) = refl
@@ -294,38 +326,38 @@ kept-leaving callee ends inner outer value marks s u o declared back among h = r
 }
 
 -- two runs of a body, seen by the caller
-pub related-leaving : {h : PrincipalHierarchy} (reader : Reader h) (callee : ProcedureEntry) (ends : List Exit) (x : Marks) (inner outer : View) (value : Bool) (s t : State) (o p : Outcome) → list_all (may_end callee) ends ≡ true → Fits h (end_demands callee ends x) → ((s' t' : State) → AgreeFor inner s' t' → AgreeFor outer (home s s') (home t t')) → ((xs : List Pair) → shown inner xs ≡ shown outer xs) → Among ends o → Among ends p → Related inner value (read_marks reader x) o p → RelatedCall outer value (read_marks reader (declared_label callee)) (leaving (home s) o) (leaving (home t) p)
-related-leaving reader callee ends x inner outer value s t o p declared fits back same_shown among among' (same_end Normal u w h) =
+pub related-leaving : {h : PrincipalHierarchy} {labelling : Labelling} (reader : Reader h labelling) (scope : Scope) (ends : List Exit) (x : Marks) (inner outer : View) (value : Bool) (s t : State) (o p : Outcome) → list_all (may_end (here scope)) ends ≡ true → Fits h labelling (end_demands scope ends x) → ((s' t' : State) → AgreeFor inner s' t' → AgreeFor outer (home s s') (home t t')) → ((xs : List Pair) → shown inner xs ≡ shown outer xs) → Among ends o → Among ends p → Related inner value (read_marks reader x) o p → RelatedCall outer value (read_marks reader (declared_label scope.program scope.number)) (leaving (home s) o) (leaving (home t) p)
+related-leaving reader scope ends x inner outer value s t o p declared fits back same_shown among among' (same_end Normal u w h) =
     same_call None None (home s u) (home t w) (back u w h) (λ e. refl)
-related-leaving reader callee ends x inner outer value s t o p declared fits back same_shown among among' (same_end Return u w h) =
+related-leaving reader scope ends x inner outer value s t o p declared fits back same_shown among among' (same_end Return u w h) =
     same_call None None (home s u) (home t w) (back u w h) (λ e. refl)
-related-leaving reader callee ends x inner outer value s t o p declared fits back same_shown among among' (same_end Break u w h) =
-    absurd (thrown-not_break (declared_by callee.throws) (all-has (may_end callee) ends Break declared among.among))
-related-leaving reader callee ends x inner outer value s t o p declared fits back same_shown among among' (same_end Continue u w h) =
-    absurd (thrown-not_continue (declared_by callee.throws) (all-has (may_end callee) ends Continue declared among.among))
-related-leaving reader callee ends x inner outer value s t o p declared fits back same_shown among among' (same_end (Throw y) u w h) =
+related-leaving reader scope ends x inner outer value s t o p declared fits back same_shown among among' (same_end Break u w h) =
+    absurd (thrown-not_break (declared_by (here scope).throws) (all-has (may_end (here scope)) ends Break declared among.among))
+related-leaving reader scope ends x inner outer value s t o p declared fits back same_shown among among' (same_end Continue u w h) =
+    absurd (thrown-not_continue (declared_by (here scope).throws) (all-has (may_end (here scope)) ends Continue declared among.among))
+related-leaving reader scope ends x inner outer value s t o p declared fits back same_shown among among' (same_end (Throw y) u w h) =
     same_thrown y (home s u) (home t w) (back u w h)
-related-leaving reader callee ends x inner outer value s t o p declared fits back same_shown among among' (same_return r q u w h i) =
+related-leaving reader scope ends x inner outer value s t o p declared fits back same_shown among among' (same_return r q u w h i) =
     same_call r q (home s u) (home t w) (back u w h) i
-related-leaving reader callee ends x inner outer value s t o p declared fits back same_shown among among' (apart _ _ h i j) = go
+related-leaving reader scope ends x inner outer value s t o p declared fits back same_shown among among' (apart _ _ h i j) = go
     (one_end (map as_one_end ends)) refl
   where
     agree : AgreeFor outer (state_after (leaving (home s) o)) (state_after (leaving (home t) p))
     agree = rw (after-leaving (home s) o, after-leaving (home t) p) (back (state_after o) (state_after p) j)
 
     go : (b : Bool) → one_end (map as_one_end ends) ≡ b →
-        RelatedCall outer value (read_marks reader (declared_label callee)) (leaving (home s) o) (leaving (home t) p)
-    go true e = calls-one outer value unread_marks (read_marks reader (declared_label callee)) (map as_one_end ends) (leaving (home s) o)
+        RelatedCall outer value (read_marks reader (declared_label scope.program scope.number)) (leaving (home s) o) (leaving (home t) p)
+    go true e = calls-one outer value unread_marks (read_marks reader (declared_label scope.program scope.number)) (map as_one_end ends) (leaving (home s) o)
         (leaving (home t) p) e
         (among-as_one ends (home s) o among) (among-as_one ends (home t) p among')
-        (hidden-shape callee ends declared (home s) value (read_marks reader x) o among h)
-        (hidden-shape callee ends declared (home t) value (read_marks reader x) p among' i) agree
+        (hidden-shape (here scope) ends declared (home s) value (read_marks reader x) o among h)
+        (hidden-shape (here scope) ends declared (home t) value (read_marks reader x) p among' i) agree
     go false e = apart_calls (leaving (home s) o) (leaving (home t) p)
-        (hidden-leaving reader callee ends declared x fits (home s) value o e among h)
-        (hidden-leaving reader callee ends declared x fits (home t) value p e among' i) agree
-related-leaving reader callee ends x inner outer value s t o p declared fits back same_shown among among' (first_stops stop u _ h) =
+        (hidden-leaving reader scope ends declared x fits (home s) value o e among h)
+        (hidden-leaving reader scope ends declared x fits (home t) value p e among' i) agree
+related-leaving reader scope ends x inner outer value s t o p declared fits back same_shown among among' (first_stops stop u _ h) =
     first_call_stops stop (home s u) (leaving (home t) p) (rw (after-leaving (home t) p)
     (begins-outside inner outer u.sent (state_after p).sent same_shown h))
-related-leaving reader callee ends x inner outer value s t o p declared fits back same_shown among among' (second_stops _ stop u h) =
+related-leaving reader scope ends x inner outer value s t o p declared fits back same_shown among among' (second_stops _ stop u h) =
     second_call_stops (leaving (home s) o) stop (home t u) (rw (after-leaving (home s) o)
     (begins-outside inner outer u.sent (state_after o).sent same_shown h))

@@ -3,20 +3,19 @@ use Rattle.std.proofs.Common.{◌≡◌, refl, sym, ◌∙◌, Bool, true, false
 use Rattle.std.specs.Prelude.{None}
 use Rattle.std.proofs.lemmas.Bool.{or_cases}
 use Rattle.principals.specs.ActsFor.{PrincipalHierarchy}
-use Rattle.labels.specs.Label.{Label}
 use Rattle.resolved.specs.declared.statement.Exit.{Exit}
 use Rattle.resolved.specs.declared.statement.Exit.TheVariants.{Return}
 use Rattle.resolved.specs.State.{State}
 use Rattle.resolved.specs.Meaning.{Outcome, state_after}
 use Rattle.resolved.specs.Ends.{same_exit, has_end, one_end}
-use Rattle.resolved.specs.Labelled.{Marks, at_ends}
+use Rattle.resolved.specs.Labelled.{Marks, at_ends, Labelling, Join, one}
 use Rattle.isolation.proofs.Among.{Among, same-exit, all-has}
 use Rattle.isolation.proofs.Observer.{Reader, View, AgreeFor, agree-back}
 use Rattle.isolation.proofs.Kept.{Hidden, hidden_end, hidden_return, hidden_stop, Kept}
 use Rattle.isolation.proofs.Related.{Related, same_end, same_return, apart, first_stops, second_stops, agree-begins}
 
 -- which labels an observer reads
-abbrev pub read_marks : {h : PrincipalHierarchy} → Reader h → Marks → Exit → Bool
+abbrev pub read_marks : {h : PrincipalHierarchy} {labelling : Labelling} → Reader h labelling → Marks → Exit → Bool
 read_marks reader marks exit = reader.reads (marks exit)
 
 -- two ends of a list of one are the same
@@ -28,7 +27,7 @@ one-same (first ∷ rest) a b one h i = sym (each a h) ∙ each b i
     each e f = ⊎_elim (λ g. sym (same-exit e first g)) (λ g. same-exit first e (all-has (same_exit first) rest e one g))
         (or_cases (same_exit e first) (has_end rest e) f)
 
-pub closed-unread : {h : PrincipalHierarchy} (reader : Reader h) (ends : List Exit) (pc : Label) (marks : Marks) (exit : Exit) →
+pub closed-unread : {h : PrincipalHierarchy} {labelling : Labelling} (reader : Reader h labelling) (ends : List Exit) (pc : Join) (marks : Marks) (exit : Exit) →
     (one_end ends ≡ true → reader.reads pc ≡ false) → has_end ends exit ≡ true → reader.reads (marks exit) ≡ false →
     reader.reads (at_ends ends pc marks exit) ≡ false
 closed-unread reader ends pc marks exit single among unread = go (one_end ends) refl
@@ -37,7 +36,7 @@ closed-unread reader ends pc marks exit single among unread = go (one_end ends) 
     go true e = rw (among, e) (single e)
     go false e = rw (among, e) unread
 
-hidden-closed : {h : PrincipalHierarchy} (reader : Reader h) (value : Bool) (ends : List Exit) (pc : Label) (marks : Marks) (o : Outcome) →
+hidden-closed : {h : PrincipalHierarchy} {labelling : Labelling} (reader : Reader h labelling) (value : Bool) (ends : List Exit) (pc : Join) (marks : Marks) (o : Outcome) →
     (one_end ends ≡ true → reader.reads pc ≡ false) → Among ends o → Hidden value (read_marks reader marks) o →
     Hidden value (read_marks reader (at_ends ends pc marks)) o
 hidden-closed reader value ends pc marks o single among (hidden_end exit t m) =
@@ -46,7 +45,7 @@ hidden-closed reader value ends pc marks o single among (hidden_return r t m non
     hidden_return r t (closed-unread reader ends pc marks Return single among.among m) none
 hidden-closed reader value ends pc marks o single among (hidden_stop stop t) = hidden_stop stop t
 
-pub kept-closed : {h : PrincipalHierarchy} (reader : Reader h) (view : View) (value : Bool) (ends : List Exit) (pc : Label) (marks : Marks) (s : State) (o : Outcome) → reader.reads pc ≡ false → Among ends o → Kept view value (read_marks reader marks) s o → Kept view value (read_marks reader (at_ends ends pc marks)) s o
+pub kept-closed : {h : PrincipalHierarchy} {labelling : Labelling} (reader : Reader h labelling) (view : View) (value : Bool) (ends : List Exit) (pc : Join) (marks : Marks) (s : State) (o : Outcome) → reader.reads pc ≡ false → Among ends o → Kept view value (read_marks reader marks) s o → Kept view value (read_marks reader (at_ends ends pc marks)) s o
 kept-closed reader view value ends pc marks s o unread among h =
     record { agree = h.agree; hidden = hidden-closed reader value ends pc marks o (λ one. unread) among h.hidden }
 
@@ -67,7 +66,7 @@ related-one view value marks more ends o p one among among' (hidden_stop stop s)
 related-one view value marks more ends o p one among among' h (hidden_stop stop t) agree =
     second_stops o stop t (agree-begins view t (state_after o) (agree-back view (state_after o) t agree))
 
-pub related-closed : {h : PrincipalHierarchy} (reader : Reader h) (view : View) (value : Bool) (ends : List Exit) (pc : Label) (marks : Marks) (o p : Outcome) → Among ends o → Among ends p → Related view value (read_marks reader marks) o p → Related view value (read_marks reader (at_ends ends pc marks)) o p
+pub related-closed : {h : PrincipalHierarchy} {labelling : Labelling} (reader : Reader h labelling) (view : View) (value : Bool) (ends : List Exit) (pc : Join) (marks : Marks) (o p : Outcome) → Among ends o → Among ends p → Related view value (read_marks reader marks) o p → Related view value (read_marks reader (at_ends ends pc marks)) o p
 related-closed reader view value ends pc marks o p among among' (same_end exit s t h) = same_end exit s t h
 related-closed reader view value ends pc marks o p among among' (same_return r q s t h i) = same_return r q s t h i
 related-closed reader view value ends pc marks o p among among' (apart _ _ h i j) = go (one_end ends) refl

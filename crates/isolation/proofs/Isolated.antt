@@ -1,6 +1,6 @@
 -- Isolation, by recursion on the frames: what the calls of a labelled program do, and what an observer sees of two of its runs.
-use Rattle.std.proofs.Common.{arith, ◌≡◌, refl, ap, ℕ, zero, suc, ◌+◌, ◌<◌, Bool, true, List, [], ◌∷◌, ◌⊎◌, inl, inr, length, ℤ}
-use Rattle.std.specs.Prelude.{Option, Some, None, slice_get, slice_index_or}
+use Rattle.std.proofs.Common.{arith, ◌≡◌, refl, ap, ℕ, zero, suc, ◌+◌, ◌<◌, ◌≤◌, Bool, true, false, List, [], ◌∷◌, ◌⊎◌, inl, inr, length, ℤ}
+use Rattle.std.specs.Prelude.{Option, Some, None, slice_get, slice_index_or, nat_lt}
 use Rattle.principals.specs.ActsFor.{PrincipalHierarchy}
 use Rattle.labels.specs.Label.{Label}
 use Rattle.labels.specs.Sent.{Begins}
@@ -13,108 +13,124 @@ use Rattle.resolved.specs.declared.tables.Direction.TheVariants.{Input, Output}
 use Rattle.resolved.specs.Tree.{Empty}
 use Rattle.resolved.specs.Program.{Program, ChannelEntry, ProcedureEntry, procedure_at, channel_at, slot_at}
 use Rattle.resolved.specs.State.{State, World, cells}
-use Rattle.resolved.specs.Meaning.{Deep, Outcome, Stopped, entering, slot_cells, block_meaning, calls_with, first_state, channel_numbers, numbers_by, run_within, state_after}
+use Rattle.resolved.specs.Meaning.{Deep, Outcome, leaving, Stopped, entering, slot_cells, block_meaning, calls_with, first_state, channel_numbers, numbers_by, run_within, state_after}
 use Rattle.resolved.specs.Ends.{block_ends}
-use Rattle.resolved.specs.Labelled.{Scope, Labelling, Fits, label_or, channel_label, block_rule, block_marks, block_demands, end_demands, procedure_demands, demands_from, program_demands}
+use Rattle.resolved.specs.Labelled.{parameter_label, Scope, OfLocal, Join, one, written_or, label_of, ToBegin, join_under, Labelling, Fits, channel_label, block_rule, block_marks, block_demands, end_demands, procedure_demands, demands_from, program_demands}
+use Rattle.labels.specs.Constraints.{Written}
 use Rattle.isolation.proofs.Grows.{calls-grow}
 use Rattle.isolation.proofs.Among.{EndsAsDeclared, calls-among, block-among}
-use Rattle.isolation.proofs.Observer.{Reader, View, view_of, shown, AgreeFor, agree-itself}
+use Rattle.isolation.proofs.Observer.{LabelReader, under, View, view_of, shown, AgreeFor, agree-itself}
 use Rattle.isolation.proofs.Related.{agree-begins}
 use Rattle.isolation.proofs.Closed.{read_marks, related-closed}
 use Rattle.isolation.proofs.Confined.{Confines, call_stop, reads_result, fits-left, fits-right, block-kept}
-use Rattle.isolation.proofs.Calls.{RelatedCall, same_call, same_thrown, apart_calls, first_call_stops, second_call_stops, declared_label, home, agree-home, kept-leaving, related-leaving}
+use Rattle.isolation.proofs.Calls.{RelatedCall, same_call, same_thrown, apart_calls, first_call_stops, second_call_stops, declared_label, home, agree-home, declared-under, related_call-weaker, kept-leaving, related-leaving}
 use Rattle.isolation.proofs.Secure.{Secures, ParametersAlike, block-secure}
 
 -- a program with these labels, of which each procedure ends as it declares and meets its demands
-pub record Accepted (program : Program) (labelling : ℕ → Labelling) : Type 0 where
+pub record Accepted (program : Program) (labelling : Labelling) : Type 0 where
   pub declared : EndsAsDeclared program
-  pub fits : (f : ℕ) → Fits program.hierarchy (procedure_demands program (labelling f) (procedure_at program f))
+  pub fits : (f : ℕ) → Fits program.hierarchy labelling (procedure_demands (record { program = program; number = f }))
 
--- the demands of one procedure among those of all
-demands-at : (program : Program) (labelling : ℕ → Labelling) (none : ProcedureEntry) →
-    ((n : ℕ) → Fits program.hierarchy (procedure_demands program (labelling n) none)) →
-    (procedures : List ProcedureEntry) (i f n : ℕ) → n ≡ i + f →
-    Fits program.hierarchy (demands_from program labelling i procedures) →
-    Fits program.hierarchy (procedure_demands program (labelling n) (slice_index_or procedures f none))
-demands-at program labelling none absent [] i f n e fits = absent n
-demands-at program labelling none absent (procedure ∷ rest) i zero n e fits =
-    let here : n ≡ i = omega arith in
-    rw here (fits-left program.hierarchy (procedure_demands program (labelling i) procedure) (demands_from program labelling (suc i) rest) fits)
-demands-at program labelling none absent (procedure ∷ rest) i (suc f) n e fits =
-    demands-at program labelling none absent rest (suc i) f n (omega arith)
-    (fits-right program.hierarchy (procedure_demands program (labelling i) procedure) (demands_from program labelling (suc i) rest) fits)
+-- the demands of one procedure among those of all; a number that is none has none
+demands-at : (program : Program) (labelling : Labelling) →
+    (procedures : List ProcedureEntry) (i f n : ℕ) → n ≡ i + f → f < length procedures →
+    Fits program.hierarchy labelling (demands_from program i procedures) →
+    Fits program.hierarchy labelling (procedure_demands (record { program = program; number = n }))
+demands-at program labelling [] i f n e within fits = absurd (omega (arith, within))
+demands-at program labelling (procedure ∷ rest) i zero n e within fits =
+    let same : n ≡ i = omega arith in
+    rw same (fits-left program.hierarchy labelling (procedure_demands (record { program = program; number = i })) (demands_from program (suc i) rest) fits)
+demands-at program labelling (procedure ∷ rest) i (suc f) n e within fits =
+    demands-at program labelling rest (suc i) f n (omega arith) (omega (arith, within))
+    (fits-right program.hierarchy labelling (procedure_demands (record { program = program; number = i })) (demands_from program (suc i) rest) fits)
 
-pub procedure-fits : (program : Program) (labelling : ℕ → Labelling) → Fits program.hierarchy (program_demands program labelling) →
-    (f : ℕ) → Fits program.hierarchy (procedure_demands program (labelling f) (procedure_at program f))
-procedure-fits program labelling fits f = demands-at program labelling (record {
-  at = 0;
-  name = [];
-  result = None;
-  begin_label = [];
-  end_label = [];
-  throws = [];
-  parameters = 0;
-  slots = [];
-  loops = 0;
-  body = Empty;
-}) (λ n. refl) program.procedures 0 f f (omega arith) fits
+pub procedure-fits : (program : Program) (labelling : Labelling) → Fits program.hierarchy labelling (program_demands program) →
+    (f : ℕ) → Fits program.hierarchy labelling (procedure_demands (record { program = program; number = f }))
+procedure-fits program labelling fits f = go (nat_lt f (length program.procedures)) refl
+  where
+    absent : (procedures : List ProcedureEntry) (i : ℕ) (none : ProcedureEntry) → length procedures ≤ i →
+        slice_index_or procedures i none ≡ none
+    absent [] i none h = refl
+    absent (procedure ∷ rest) zero none h = absurd (omega (arith, h))
+    absent (procedure ∷ rest) (suc i) none h = absent rest i none (omega (arith, h))
+
+    go : (b : Bool) → nat_lt f (length program.procedures) ≡ b →
+        Fits program.hierarchy labelling (procedure_demands (record { program = program; number = f }))
+    go true e = demands-at program labelling program.procedures 0 f f (omega arith) (grind (arith, e)) fits
+    go false e =
+        let none : procedure_at program f ≡ record {
+          at = 0;
+          name = [];
+          result = None;
+          begin_label = [];
+          end_label = [];
+          throws = [];
+          parameters = 0;
+          slots = [];
+          loops = 0;
+          body = Empty;
+        } = absent program.procedures f _ (grind (arith, e)) in rw none refl
 
 -- the cells of new frames, of which those are the same that the observer reads
-agree-entering : {h : PrincipalHierarchy} (reader : Reader h) (program : Program) (caller callee : ProcedureEntry) (labels inner : Labelling) (vs ws : List Value) (s t : State) → AgreeFor (view_of reader (record { program = program; procedure = caller; labelling = labels })) s t → ParametersAlike reader callee vs ws → AgreeFor (view_of reader (record { program = program; procedure = callee; labelling = inner })) (entering callee vs s) (entering callee ws t)
+agree-entering : {h : PrincipalHierarchy} (reader : LabelReader h) (program : Program) (caller callee : ℕ) (labels inner : Labelling) (vs ws : List Value) (s t : State) → AgreeFor (view_of (under reader labels) (record { program = program; number = caller })) s t → ParametersAlike (under reader labels) program callee vs ws → AgreeFor (view_of (under reader inner) (record { program = program; number = callee })) (entering (procedure_at program callee) vs s) (entering (procedure_at program callee) ws t)
 agree-entering reader program caller callee labels inner vs ws s t agree same = record {
   variables = variables;
   inputs = agree.inputs;
   sent = agree.sent;
 }
   where
-    parameter : (written : Option Label) (n : ℕ) → reader.reads (label_or written (inner.local_label n)) ≡ true →
-        reader.reads (label_or written []) ≡ true
+    parameter : (written : Option Label) (n : ℕ) → reader.reads (join_under inner (one (written_or written (OfLocal callee n)))) ≡ true →
+        reader.reads (join_under labels (one (Written (parameter_label written)))) ≡ true
     parameter (Some label) n e = e
     parameter None n e = reader.nothing
 
-    variables : (x : Variable) → (view_of reader (record { program = program; procedure = callee; labelling = inner })).variable x ≡ true →
-        cells (entering callee vs s) x ≡ cells (entering callee ws t) x
+    variables : (x : Variable) → (view_of (under reader inner) (record { program = program; number = callee })).variable x ≡ true →
+        cells (entering (procedure_at program callee) vs s) x ≡ cells (entering (procedure_at program callee) ws t) x
     variables (Global n) e = agree.variables (Global n) e
-    variables (Local n) e = ap (λ v. slot_cells (slice_get callee.slots n) v) (same n (parameter (slot_at callee n).written n e))
+    variables (Local n) e = ap (λ v. slot_cells (slice_get (procedure_at program callee).slots n) v)
+        (same n (parameter (slot_at (procedure_at program callee) n).written n e))
 
 -- what is the same for the observer after the body of a procedure is the same for the caller
-agree-kept_home : {h : PrincipalHierarchy} (reader : Reader h) (program : Program) (caller callee : ProcedureEntry) (labels inner : Labelling) (vs : List Value) (s t : State) → AgreeFor (view_of reader (record { program = program; procedure = callee; labelling = inner })) (entering callee vs s) t → AgreeFor (view_of reader (record { program = program; procedure = caller; labelling = labels })) s (home s t)
+agree-kept_home : {h : PrincipalHierarchy} (reader : LabelReader h) (program : Program) (caller callee : ℕ) (labels inner : Labelling) (vs : List Value) (s t : State) → AgreeFor (view_of (under reader inner) (record { program = program; number = callee })) (entering (procedure_at program callee) vs s) t → AgreeFor (view_of (under reader labels) (record { program = program; number = caller })) s (home s t)
 agree-kept_home reader program caller callee labels inner vs s t within = record {
   variables = variables;
   inputs = within.inputs;
   sent = within.sent;
 }
   where
-    variables : (x : Variable) → (view_of reader (record { program = program; procedure = caller; labelling = labels })).variable x ≡ true →
+    variables : (x : Variable) → (view_of (under reader labels) (record { program = program; number = caller })).variable x ≡ true →
         cells s x ≡ cells (home s t) x
     variables (Global n) e = within.variables (Global n) e
     variables (Local n) e = refl
 
-module _ (program : Program) (labelling : ℕ → Labelling) (accepted : Accepted program labelling) (reader : Reader program.hierarchy) where
+module _ (program : Program) (labelling : Labelling) (accepted : Accepted program labelling) (reader : LabelReader program.hierarchy) where
   -- a procedure of the program, with its own labels
   abbrev inside : ℕ → Scope
-  inside f = record { program = program; procedure = procedure_at program f; labelling = labelling f }
+  inside f = record { program = program; number = f }
 
-  body-fits : (f : ℕ) → Fits program.hierarchy (block_demands (inside f) (procedure_at program f).begin_label (procedure_at program f).body)
+  abbrev begin : ℕ → Join
+  begin f = one (label_of program (ToBegin f))
+
+  body-fits : (f : ℕ) → Fits program.hierarchy labelling (block_demands (inside f) (begin f) (procedure_at program f).body)
   body-fits f =
-      fits-left program.hierarchy (block_demands (inside f) (procedure_at program f).begin_label (procedure_at program f).body)
-      (end_demands (procedure_at program f) (block_ends program (procedure_at program f).body)
-      (block_marks (inside f) (procedure_at program f).begin_label (procedure_at program f).body)) (accepted.fits f)
+      fits-left program.hierarchy labelling (block_demands (inside f) (begin f) (procedure_at program f).body)
+      (end_demands (inside f) (block_ends program (procedure_at program f).body)
+      (block_marks (inside f) (begin f) (procedure_at program f).body)) (accepted.fits f)
 
-  ends-fit : (f : ℕ) → Fits program.hierarchy (end_demands (procedure_at program f) (block_ends program (procedure_at program f).body) (block_marks (inside f) (procedure_at program f).begin_label (procedure_at program f).body))
+  ends-fit : (f : ℕ) → Fits program.hierarchy labelling (end_demands (inside f) (block_ends program (procedure_at program f).body) (block_marks (inside f) (begin f) (procedure_at program f).body))
   ends-fit f =
-      fits-right program.hierarchy (block_demands (inside f) (procedure_at program f).begin_label (procedure_at program f).body)
-      (end_demands (procedure_at program f) (block_ends program (procedure_at program f).body)
-      (block_marks (inside f) (procedure_at program f).begin_label (procedure_at program f).body)) (accepted.fits f)
+      fits-right program.hierarchy labelling (block_demands (inside f) (begin f) (procedure_at program f).body)
+      (end_demands (inside f) (block_ends program (procedure_at program f).body)
+      (block_marks (inside f) (begin f) (procedure_at program f).body)) (accepted.fits f)
 
   -- calls at a begin label that the observer does not read
-  pub calls-confine : (k frames : ℕ) (caller : ProcedureEntry) (labels : Labelling) →
-      Confines reader (record { program = program; procedure = caller; labelling = labels }) (calls_with program k frames)
+  pub calls-confine : (k frames : ℕ) (caller : ℕ) (labels : Labelling) →
+      Confines (under reader labels) (record { program = program; number = caller }) (calls_with program k frames)
   calls-confine k zero caller labels = record {
     among = calls-among program k zero accepted.declared;
     kept = λ f vs s unread. record {
-      agree = agree-itself (view_of reader
-          (record { program = program; procedure = caller; labelling = labels })) s;
+      agree = agree-itself (view_of (under reader labels)
+          (record { program = program; number = caller })) s;
       hidden = call_stop Deep s;
     };
   }
@@ -124,18 +140,18 @@ module _ (program : Program) (labelling : ℕ → Labelling) (accepted : Accepte
         let callee : ProcedureEntry = procedure_at program f in
         let calls = calls_with program k frames in
         let u : State = entering callee vs s in
-        kept-leaving callee (block_ends program callee.body) (view_of reader (inside f))
-        (view_of reader (record { program = program; procedure = caller; labelling = labels })) (reads_result reader callee)
-        (read_marks reader (block_rule (inside f) callee.begin_label callee.body)) s u (block_meaning calls k callee.body u) (accepted.declared f)
-        (λ t. agree-kept_home reader program caller callee labels (labelling f) vs s t)
+        kept-leaving callee (block_ends program callee.body) (view_of (under reader labelling) (inside f))
+        (view_of (under reader labels) (record { program = program; number = caller })) (reads_result (under reader labelling) callee)
+        (read_marks (under reader labelling) (block_rule (inside f) (begin f) callee.body)) s u (block_meaning calls k callee.body u) (accepted.declared f)
+        (λ t. agree-kept_home reader program caller f labels labelling vs s t)
         (block-among callee.body program calls k (calls-among program k frames accepted.declared) u)
-        (block-kept program.hierarchy reader (inside f) calls k (calls-confine k frames callee (labelling f)) callee.body callee.begin_label
+        (block-kept program.hierarchy labelling (under reader labelling) (inside f) calls k (calls-confine k frames f labelling) callee.body (begin f)
         (body-fits f) unread u);
   }
 
   -- two calls, with any numbers of turns and as many frames
-  pub calls-secure : (k m frames : ℕ) (caller : ProcedureEntry) (labels : Labelling) →
-      Secures reader (record { program = program; procedure = caller; labelling = labels }) (calls_with program k frames)
+  pub calls-secure : (k m frames : ℕ) (caller : ℕ) (labels : Labelling) →
+      Secures (under reader labels) (record { program = program; number = caller }) (calls_with program k frames)
       (calls_with program m frames)
   calls-secure k m zero caller labels = record {
     first = calls-confine k zero caller labels;
@@ -143,7 +159,7 @@ module _ (program : Program) (labelling : ℕ → Labelling) (accepted : Accepte
     grows_first = calls-grow program k zero;
     grows_second = calls-grow program m zero;
     related = λ f vs ws s t agree same. first_call_stops Deep s (Stopped Deep t)
-        (agree-begins (view_of reader (record { program = program; procedure = caller; labelling = labels })) s t agree);
+        (agree-begins (view_of (under reader labels) (record { program = program; number = caller })) s t agree);
   }
   calls-secure k m (suc frames) caller labels = record {
     first = calls-confine k (suc frames) caller labels;
@@ -155,23 +171,26 @@ module _ (program : Program) (labelling : ℕ → Labelling) (accepted : Accepte
         let calls = calls_with program k frames in
         let further = calls_with program m frames in
         let ends = block_ends program callee.body in
-        let inner = view_of reader (inside f) in
-        let outer = view_of reader (record { program = program; procedure = caller; labelling = labels }) in
-        let value = reads_result reader callee in
+        let inner = view_of (under reader labelling) (inside f) in
+        let outer = view_of (under reader labels) (record { program = program; number = caller }) in
+        let value = reads_result (under reader labelling) callee in
         let u : State = entering callee vs s in
         let w : State = entering callee ws t in
         let o : Outcome = block_meaning calls k callee.body u in
         let p : Outcome = block_meaning further m callee.body w in
         let among = block-among callee.body program calls k (calls-among program k frames accepted.declared) u in
         let among' = block-among callee.body program further m (calls-among program m frames accepted.declared) w in
-        related-leaving reader callee ends (block_marks (inside f) callee.begin_label callee.body) inner outer value s t o p
+        related_call-weaker outer value (read_marks (under reader labelling) (declared_label program f))
+        (read_marks (under reader labels) (declared_label program f)) (leaving (home s) o) (leaving (home t) p)
+        (declared-under reader labels labelling program f)
+        (related-leaving (under reader labelling) (inside f) ends (block_marks (inside f) (begin f) callee.body) inner outer value s t o p
         (accepted.declared f) (ends-fit f)
-        (λ s' t' within. agree-home reader program caller callee labels (labelling f) s t s' t' agree within)
+        (λ s' t' within. agree-home reader program caller f labels labelling s t s' t' agree within)
         (λ xs. refl) among among'
-        (related-closed reader inner value ends callee.begin_label (block_rule (inside f) callee.begin_label callee.body) o p among among'
-        (block-secure program.hierarchy reader (inside f) calls further k m
-        (calls-secure k m frames callee (labelling f)) callee.body callee.begin_label (body-fits f) u w
-        (agree-entering reader program caller callee labels (labelling f) vs ws s t agree same)));
+        (related-closed (under reader labelling) inner value ends (begin f) (block_rule (inside f) (begin f) callee.body) o p among among'
+        (block-secure program.hierarchy labelling (under reader labelling) (inside f) calls further k m
+        (calls-secure k m frames f labelling) callee.body (begin f) (body-fits f) u w
+        (agree-entering reader program caller f labels labelling vs ws s t agree same))));
   }
 
 -- the numbers of a channel at first, which are those of the world where the channel is an input
@@ -197,10 +216,10 @@ related_call-begins view value marks o p (apart_calls _ _ h i j) = inl (agree-be
 related_call-begins view value marks o p (first_call_stops stop s _ h) = inl h
 related_call-begins view value marks o p (second_call_stops _ stop t h) = inr h
 
-module _ (program : Program) (labelling : ℕ → Labelling) (accepted : Accepted program labelling) (reader : Reader program.hierarchy) where
+module _ (program : Program) (labelling : Labelling) (accepted : Accepted program labelling) (reader : LabelReader program.hierarchy) where
   -- what it reads, whatever the procedure
   abbrev outside : View
-  outside = view_of reader (record { program = program; procedure = procedure_at program program.main; labelling = labelling program.main })
+  outside = view_of (under reader labelling) (record { program = program; number = program.main })
 
   first-alike : (first second : World) → ((n : ℕ) → n < length program.channels → (channel_at program n).direction ≡ Input →
       reader.reads (channel_label program n) ≡ true → first n ≡ second n) →
@@ -226,8 +245,8 @@ module _ (program : Program) (labelling : ℕ → Labelling) (accepted : Accepte
       (shown outside (state_after (run_within frames program first k)).sent)
   runs-begin first second same frames k m =
       let callee : ProcedureEntry = procedure_at program program.main in
-      related_call-begins outside (reads_result reader callee) (read_marks reader (declared_label callee))
+      related_call-begins outside (reads_result (under reader labelling) callee) (read_marks (under reader labelling) (declared_label program program.main))
       (run_within frames program first k) (run_within frames program second m)
-      ((calls-secure program labelling accepted reader k m frames callee (labelling program.main)).related program.main [] []
+      ((calls-secure program labelling accepted reader k m frames program.main labelling).related program.main [] []
       (first_state program first) (first_state program second)
       (first-alike first second same) (λ n e. refl))

@@ -3,6 +3,7 @@ use Rattle.std.proofs.Common.{◌≡◌, refl, sym, ap, ◌∙◌, ℕ, Bool, tr
 use Rattle.std.specs.Prelude.{IsTrue, ◌==◌, ℤ}
 use Rattle.std.proofs.lemmas.Bool.{and_parts}
 use Rattle.std.proofs.lemmas.List.{append-nil}
+use Rattle.labels.proofs.Constraints.{total-append}
 use Rattle.std.proofs.lemmas.List.Elements.{filter-append}
 use Rattle.principals.specs.ActsFor.{PrincipalHierarchy}
 use Rattle.labels.specs.declared.sent.Pair.{Pair}
@@ -13,15 +14,43 @@ use Rattle.resolved.specs.declared.expression.Value.{Value}
 use Rattle.resolved.specs.State.{State, cells, with_cells, updated}
 use Rattle.resolved.specs.Value.{number_in}
 use Rattle.resolved.specs.Meaning.{sending}
-use Rattle.resolved.specs.Labelled.{Scope, variable_label, channel_label}
+use Rattle.resolved.specs.Labelled.{chosen, Scope, Join, one, Labelling, label_under, join_under, variable_label, channel_label, LabelAtom}
+use Rattle.labels.specs.Constraints.{Written}
 
 -- who reads labels: a test that the empty label passes, and a join where both its sides do. Where a label flows to another one,
 -- a reader of the other one reads it
-pub record Reader (h : PrincipalHierarchy) : Type 0 where
+pub record LabelReader (h : PrincipalHierarchy) : Type 0 where
   pub reads : Label → Bool
   pub nothing : reads [] ≡ true
   pub joined : (a b : Label) → reads (a ++ b) ≡ (reads a && reads b)
   pub flowing : (a b : Label) → IsTrue (flows h a b) → reads b ≡ true → reads a ≡ true
+
+-- the same for joins under a labelling
+pub record Reader (h : PrincipalHierarchy) (labelling : Labelling) : Type 0 where
+  pub reads : Join → Bool
+  pub label : Label → Bool
+  pub written : (label_ : Label) → reads (one (Written label_)) ≡ label label_
+  pub nothing : reads [] ≡ true
+  pub joined : (a b : Join) → reads (a ++ b) ≡ (reads a && reads b)
+  pub flowing : (a : Join) (b : LabelAtom) → IsTrue (flows h (join_under labelling a) (label_under labelling b)) →
+      reads (one b) ≡ true → reads a ≡ true
+
+and-true : (a b : Bool) → b ≡ true → (a && b) ≡ a
+and-true true b e = e
+and-true false b e = refl
+
+pub reads-one : {h : PrincipalHierarchy} (base : LabelReader h) (label : Label) → base.reads (label ++ []) ≡ base.reads label
+reads-one base label = base.joined label [] ∙ and-true (base.reads label) (base.reads []) base.nothing
+
+abbrev pub under : {h : PrincipalHierarchy} → LabelReader h → (labelling : Labelling) → Reader h labelling
+under {h} base labelling = record {
+  reads = λ join. base.reads (join_under labelling join);
+  label = base.reads;
+  written = λ label. reads-one base label;
+  nothing = base.nothing;
+  joined = λ a b. ap base.reads (total-append (chosen labelling) a b) ∙ base.joined (join_under labelling a) (join_under labelling b);
+  flowing = λ a b flow e. base.flowing (join_under labelling a) (label_under labelling b) flow (sym (reads-one base (label_under labelling b)) ∙ e);
+}
 
 and-left_false : (a b : Bool) → a ≡ false → (a && b) ≡ false
 and-left_false false b h = refl
@@ -32,7 +61,7 @@ and-right_false false b h = refl
 and-right_false true b h = h
 
 -- what follows from reading a join, and from not reading a side of it
-module _ {h : PrincipalHierarchy} (reader : Reader h) (a b : Label) where
+module _ {h : PrincipalHierarchy} {labelling : Labelling} (reader : Reader h labelling) (a b : Join) where
   pub read-left : reader.reads (a ++ b) ≡ true → reader.reads a ≡ true
   read-left e = (and_parts (reader.reads a) (reader.reads b) (sym (reader.joined a b) ∙ e)).0
 
@@ -49,11 +78,13 @@ module _ {h : PrincipalHierarchy} (reader : Reader h) (a b : Label) where
   pub unread-other : reader.reads a ≡ true → reader.reads (a ++ b) ≡ false → reader.reads b ≡ false
   unread-other e f = sym (reader.joined a b ∙ ap (λ x. x && reader.reads b) e) ∙ f
 
-  -- where a label flows to another one, who does not read it does not read the other one
-  pub unread-flowing : IsTrue (flows h a b) → reader.reads a ≡ false → reader.reads b ≡ false
-  unread-flowing e f = go (reader.reads b) refl
+-- where a join flows to a label, who does not read it does not read the label
+module _ {h : PrincipalHierarchy} {labelling : Labelling} (reader : Reader h labelling) (a : Join) (b : LabelAtom) where
+  pub unread-flowing : IsTrue (flows h (join_under labelling a) (label_under labelling b)) → reader.reads a ≡ false →
+      reader.reads (one b) ≡ false
+  unread-flowing e f = go (reader.reads (one b)) refl
     where
-      go : (x : Bool) → reader.reads b ≡ x → reader.reads b ≡ false
+      go : (x : Bool) → reader.reads (one b) ≡ x → reader.reads (one b) ≡ false
       go false g = g
       go true g = let i : true ≡ false = sym (reader.flowing a b e g) ∙ f in absurd (cc)
 
@@ -62,10 +93,10 @@ pub record View : Type 0 where
   pub variable : Variable → Bool
   pub channel : ℕ → Bool
 
-abbrev pub view_of : {h : PrincipalHierarchy} → Reader h → Scope → View
+abbrev pub view_of : {h : PrincipalHierarchy} {labelling : Labelling} → Reader h labelling → Scope → View
 view_of reader scope = record {
   variable = λ x. reader.reads (variable_label scope x);
-  channel = λ n. reader.reads (channel_label scope.program n);
+  channel = λ n. reader.label (channel_label scope.program n);
 }
 
 -- what it sees of what was sent

@@ -12,10 +12,10 @@ use Rattle.labels.proofs.Flow.{FlowsTo-elim}
 use Rattle.labels.proofs.Tests.{flows-decides}
 use Rattle.labels.proofs.FlowTests.{may_read-flowing, may_read-join, may_read-least}
 use Rattle.isolation.specs.Larger.{KeepsActsFor, carried_policy, carried_label, number_by_name, FlowsAreKept, NamesKeepActsFor}
-use Rattle.isolation.proofs.Observer.{Reader}
+use Rattle.isolation.proofs.Observer.{LabelReader}
 
 -- a principal
-abbrev pub principal-reader : (h : PrincipalHierarchy) (p : ℕ) → Reader h
+abbrev pub principal-reader : (h : PrincipalHierarchy) (p : ℕ) → LabelReader h
 principal-reader h p = record {
   reads = λ label. may_read h p label;
   nothing = may_read-least h p;
@@ -59,7 +59,7 @@ carried-flow part whole carry keeps from to flow =
 
 -- a principal of another hierarchy, to which labels are carried over
 abbrev pub carried-reader : (part whole : PrincipalHierarchy) (carry : ℕ → ℕ) → KeepsActsFor part whole carry → (p : ℕ) →
-    Reader part
+    LabelReader part
 carried-reader part whole carry keeps p = record {
   reads = λ label. may_read whole p (carried_label carry label);
   nothing = may_read-least whole p;

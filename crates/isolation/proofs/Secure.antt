@@ -2,7 +2,6 @@
 use Rattle.std.proofs.Common.{arith, ◌≡◌, refl, sym, ap, ◌∙◌, ℕ, zero, suc, ◌+◌, Bool, true, false, not, List, [], ◌∷◌, ◌++◌, ℤ}
 use Rattle.std.specs.Prelude.{Option, Some, None, if◌then◌else◌, ◌==◌, slice_get, slice_set, map}
 use Rattle.principals.specs.ActsFor.{PrincipalHierarchy}
-use Rattle.labels.specs.Label.{Label}
 use Rattle.resolved.specs.declared.expression.Variable.{Variable}
 use Rattle.resolved.specs.declared.expression.Variable.TheVariants.{Local}
 use Rattle.resolved.specs.declared.expression.Value.{Value}
@@ -10,12 +9,12 @@ use Rattle.resolved.specs.declared.expression.Value.TheVariants.{Number}
 use Rattle.resolved.specs.declared.statement.Exit.{Exit}
 use Rattle.resolved.specs.declared.statement.Exit.TheVariants.{Normal, Return, Break, Continue, Throw}
 use Rattle.resolved.specs.Tree.{Expression, Statement, Assign, Clear, Store, Receive, Send, Call, If, While, Leave, ReturnWith, Try, Nested, Block, Empty, Then, Handlers, NoMore, Catch}
-use Rattle.resolved.specs.Program.{ProcedureEntry, procedure_at}
+use Rattle.resolved.specs.Program.{Program, procedure_at}
 use Rattle.resolved.specs.Value.{truth_in, checked_index, end_exception, zero_value, base_of}
 use Rattle.resolved.specs.State.{State, assigned, stored, cleared, cells, value_of, values_of}
 use Rattle.resolved.specs.Meaning.{Ended, normally, kept_in, received, sending, returned_to, Calls, statement_meaning, block_meaning, handlers_meaning}
 use Rattle.resolved.specs.Ends.{same_exit, passes, statement_ends, block_ends, index_can_raise}
-use Rattle.resolved.specs.Labelled.{Scope, Marks, demand, Fits, variable_label, channel_label, parameter_label, result_label, value_label, raise_label, raise_labels, label_if, at_ends, own_label, raised_marks, call_marks, statement_rule, block_rule, handlers_rule, target_demand, argument_demands, statement_demands, block_demands, handlers_demands}
+use Rattle.resolved.specs.Labelled.{Target, ToParameter, ToValue, Scope, Marks, demand, Fits, variable_label, value_label, raise_label, raise_labels, label_if, at_ends, own_label, raised_marks, call_marks, statement_rule, block_rule, handlers_rule, target_demand, argument_demands, statement_demands, block_demands, handlers_demands, Labelling, Join, one, label_of, here, ToVariable, ToChannel, ToBegin, ToValue, ToLoop}
 use Rattle.isolation.proofs.Grows.{CallsGrow, block-grows, handlers-grow}
 use Rattle.isolation.proofs.Among.{statement-among, block-among}
 use Rattle.isolation.proofs.Observer.{Reader, View, view_of, AgreeFor, agree-with_cells, agree-with_input, agree-sending, with_input, read-left, read-right, unread-left, unread-right}
@@ -27,58 +26,58 @@ use Rattle.isolation.proofs.Confined.{Confines, reads_result, fits-left, fits-ri
 use Rattle.isolation.proofs.Calls.{RelatedCall, related-returned_to, declared_label}
 
 -- what flows to a label that is read is read
-pub read-demand : {h : PrincipalHierarchy} (reader : Reader h) (at rule : ℕ) (left right : Label) →
-    Fits h (demand at rule left right) → reader.reads right ≡ true → reader.reads left ≡ true
-read-demand {h} reader at rule left right fits e = reader.flowing left right (fits-one h at rule left right fits) e
+pub read-demand : {h : PrincipalHierarchy} {labelling : Labelling} (reader : Reader h labelling) (program : Program) (at rule : ℕ) (left : Join) (target : Target) →
+    Fits h labelling (demand program at rule left target) → reader.reads (one (label_of program target)) ≡ true → reader.reads left ≡ true
+read-demand {h} {labelling} reader program at rule left target fits e = reader.flowing left (label_of program target) (fits-one h labelling program at rule left target fits) e
 
 -- arguments that are the same where the label of their parameter is read
-abbrev pub ParametersAlike : {h : PrincipalHierarchy} → Reader h → ProcedureEntry → List Value → List Value → Type 0
-ParametersAlike reader callee vs ws = (n : ℕ) → reader.reads (parameter_label callee n) ≡ true → slice_get vs n ≡ slice_get ws n
+abbrev pub ParametersAlike : {h : PrincipalHierarchy} {labelling : Labelling} → Reader h labelling → Program → (callee : ℕ) → List Value → List Value → Type 0
+ParametersAlike reader program callee vs ws = (n : ℕ) → reader.reads (one (label_of program (ToParameter callee n))) ≡ true → slice_get vs n ≡ slice_get ws n
 
-parameters-from : {h : PrincipalHierarchy} (reader : Reader h) (scope : Scope) (at : ℕ) (q : Label) (callee : ProcedureEntry) (i : ℕ) (es : List Expression) (vs ws : List Value) → Fits h (argument_demands scope at q callee i es) → ArgumentsAlike reader scope es vs ws → (j n : ℕ) → n ≡ i + j → reader.reads (parameter_label callee n) ≡ true → slice_get vs j ≡ slice_get ws j
+parameters-from : {h : PrincipalHierarchy} {labelling : Labelling} (reader : Reader h labelling) (scope : Scope) (at : ℕ) (q : Join) (callee i : ℕ) (es : List Expression) (vs ws : List Value) → Fits h labelling (argument_demands scope at q callee i es) → ArgumentsAlike reader scope es vs ws → (j n : ℕ) → n ≡ i + j → reader.reads (one (label_of scope.program (ToParameter callee n))) ≡ true → slice_get vs j ≡ slice_get ws j
 parameters-from reader scope at q callee i es vs ws fits no_arguments j n e reads = refl
-parameters-from {h} reader scope at q callee i es vs ws fits (one_more e rest v w vs' ws' same more) zero n f reads =
+parameters-from {h} {labelling} reader scope at q callee i es vs ws fits (one_more e rest v w vs' ws' same more) zero n f reads =
     let here : n ≡ i = omega arith in
-    let front = fits-left h (demand at 6 (q ++ value_label scope e) (parameter_label callee i))
+    let front = fits-left h labelling (demand scope.program at 6 (q ++ value_label scope e) (ToParameter callee i))
     (argument_demands scope at q callee (suc i) rest) fits in
-    let both = read-demand reader at 6 (q ++ value_label scope e) (parameter_label callee i) front (rw here at reads) in
+    let both = read-demand reader scope.program at 6 (q ++ value_label scope e) (ToParameter callee i) front (rw here at reads) in
     ap (λ x. Some x) (same (read-right reader q (value_label scope e) both))
-parameters-from {h} reader scope at q callee i es vs ws fits (one_more e rest v w vs' ws' same more) (suc j) n f reads =
+parameters-from {h} {labelling} reader scope at q callee i es vs ws fits (one_more e rest v w vs' ws' same more) (suc j) n f reads =
     parameters-from reader scope at q callee (suc i) rest vs' ws'
-    (fits-right h (demand at 6 (q ++ value_label scope e) (parameter_label callee i))
+    (fits-right h labelling (demand scope.program at 6 (q ++ value_label scope e) (ToParameter callee i))
     (argument_demands scope at q callee (suc i) rest) fits) more j n (omega arith) reads
 
 -- what the calls of a program do in two runs
-pub record Secures {h : PrincipalHierarchy} (reader : Reader h) (scope : Scope) (calls further : Calls) : Type 0 where
+pub record Secures {h : PrincipalHierarchy} {labelling : Labelling} (reader : Reader h labelling) (scope : Scope) (calls further : Calls) : Type 0 where
   pub first : Confines reader scope calls
   pub second : Confines reader scope further
   pub grows_first : CallsGrow calls
   pub grows_second : CallsGrow further
   pub related : (f : ℕ) (vs ws : List Value) (s t : State) → AgreeFor (view_of reader scope) s t →
-      ParametersAlike reader (procedure_at scope.program f) vs ws →
+      ParametersAlike reader scope.program f vs ws →
       RelatedCall (view_of reader scope) (reads_result reader (procedure_at scope.program f))
-      (read_marks reader (declared_label (procedure_at scope.program f))) (calls f vs s) (further f ws t)
+      (read_marks reader (declared_label scope.program f)) (calls f vs s) (further f ws t)
 
 by-reading : {P : Type 0} (b : Bool) → (b ≡ false → P) → (b ≡ true → P) → P
 by-reading true unread read = read refl
 by-reading false unread read = unread refl
 
 -- the marks that a callee declares are among those of the call
-unread-declared : {h : PrincipalHierarchy} (reader : Reader h) (callee : ProcedureEntry) (q : Label) (exit : Exit) →
-    reader.reads (declared_label callee exit) ≡ false → reader.reads (call_marks callee q exit) ≡ false
-unread-declared reader callee q Normal m = unread-right reader q (declared_label callee Normal) m
-unread-declared reader callee q Return m = let i : true ≡ false = sym reader.nothing ∙ m in absurd (cc)
-unread-declared reader callee q Break m = let i : true ≡ false = sym reader.nothing ∙ m in absurd (cc)
-unread-declared reader callee q Continue m = let i : true ≡ false = sym reader.nothing ∙ m in absurd (cc)
-unread-declared reader callee q (Throw x) m = unread-right reader q (declared_label callee (Throw x)) m
+unread-declared : {h : PrincipalHierarchy} {labelling : Labelling} (reader : Reader h labelling) (program : Program) (callee : ℕ) (q : Join) (exit : Exit) →
+    reader.reads (declared_label program callee exit) ≡ false → reader.reads (call_marks program callee q exit) ≡ false
+unread-declared reader program callee q Normal m = unread-right reader q (declared_label program callee Normal) m
+unread-declared reader program callee q Return m = let i : true ≡ false = sym reader.nothing ∙ m in absurd (cc)
+unread-declared reader program callee q Break m = let i : true ≡ false = sym reader.nothing ∙ m in absurd (cc)
+unread-declared reader program callee q Continue m = let i : true ≡ false = sym reader.nothing ∙ m in absurd (cc)
+unread-declared reader program callee q (Throw x) m = unread-right reader q (declared_label program callee (Throw x)) m
 
 -- a target that is read has a read label demanded of what goes to it
-target-read : {h : PrincipalHierarchy} (reader : Reader h) (scope : Scope) (at rule : ℕ) (left : Label) (target : Option Variable) →
-    Fits h (target_demand scope at rule left target) → (x : Variable) → target ≡ Some x →
+target-read : {h : PrincipalHierarchy} {labelling : Labelling} (reader : Reader h labelling) (scope : Scope) (at rule : ℕ) (left : Join) (target : Option Variable) →
+    Fits h labelling (target_demand scope at rule left target) → (x : Variable) → target ≡ Some x →
     reader.reads (variable_label scope x) ≡ true → reader.reads left ≡ true
 target-read reader scope at rule left None fits x e reads = absurd (cc)
 target-read reader scope at rule left (Some y) fits x e reads =
-    let same : y ≡ x = cc in read-demand reader at rule left (variable_label scope y) fits (rw same reads)
+    let same : y ≡ x = cc in read-demand reader scope.program at rule left (ToVariable scope.number y) fits (rw same reads)
 
 agree-kept_in : (view : View) (target : Option Variable) (v : Value) (s t : State) → AgreeFor view s t →
     AgreeFor view (kept_in target v s) (kept_in target v t)
@@ -93,28 +92,28 @@ related-received view value marks channel target s t numbers (z ∷ rest) e agre
     rw e (same_end Normal (kept_in target (Number z) (with_input s channel rest)) (kept_in target (Number z) (with_input t channel rest))
     (agree-kept_in view target (Number z) (with_input s channel rest) (with_input t channel rest) (agree-with_input view s t channel rest agree)))
 
-module _ (h : PrincipalHierarchy) (reader : Reader h) (scope : Scope) (calls further : Calls) (k m : ℕ)
+module _ (h : PrincipalHierarchy) (labelling : Labelling) (reader : Reader h labelling) (scope : Scope) (calls further : Calls) (k m : ℕ)
     (secures : Secures reader scope calls further) where
   -- where the own label of a statement is not read nothing is seen of either run
-  both-hidden : (statement : Statement) (pc : Label) → Fits h (statement_demands scope pc statement) → (s t : State) →
+  both-hidden : (statement : Statement) (pc : Join) → Fits h labelling (statement_demands scope pc statement) → (s t : State) →
       AgreeFor (view_of reader scope) s t → reader.reads (own_label scope pc statement) ≡ false →
-      Related (view_of reader scope) (reads_result reader scope.procedure) (read_marks reader (statement_rule scope pc statement))
+      Related (view_of reader scope) (reads_result reader (here scope)) (read_marks reader (statement_rule scope pc statement))
       (statement_meaning calls k statement s) (statement_meaning further m statement t)
   both-hidden statement pc fits s t agree unread =
-      both-kept (view_of reader scope) (reads_result reader scope.procedure) (read_marks reader (statement_rule scope pc statement)) s t
+      both-kept (view_of reader scope) (reads_result reader (here scope)) (read_marks reader (statement_rule scope pc statement)) s t
       (statement_meaning calls k statement s) (statement_meaning further m statement t) agree
-      (statement-kept h reader scope calls k secures.first statement pc fits unread s)
-      (statement-kept h reader scope further m secures.second statement pc fits unread t)
+      (statement-kept h labelling reader scope calls k secures.first statement pc fits unread s)
+      (statement-kept h labelling reader scope further m secures.second statement pc fits unread t)
 
   mutual
-    pub statement-secure : (statement : Statement) (pc : Label) → Fits h (statement_demands scope pc statement) → (s t : State) →
+    pub statement-secure : (statement : Statement) (pc : Join) → Fits h labelling (statement_demands scope pc statement) → (s t : State) →
         AgreeFor (view_of reader scope) s t →
-        Related (view_of reader scope) (reads_result reader scope.procedure) (read_marks reader (statement_rule scope pc statement))
+        Related (view_of reader scope) (reads_result reader (here scope)) (read_marks reader (statement_rule scope pc statement))
         (statement_meaning calls k statement s) (statement_meaning further m statement t)
     statement-secure (Assign at x e) pc fits s t agree =
         let view = view_of reader scope in
-        let value = reads_result reader scope.procedure in
-        let q : Label = own_label scope pc (Assign at x e) in
+        let value = reads_result reader (here scope) in
+        let q : Join = own_label scope pc (Assign at x e) in
         let marks = read_marks reader (statement_rule scope pc (Assign at x e)) in
         by-reading (reader.reads q) (both-hidden (Assign at x e) pc fits s t agree) (λ read.
         related-evaluated (SameIf (reader.reads (value_label scope e))) view value marks s t (value_of s e) (value_of t e)
@@ -122,19 +121,19 @@ module _ (h : PrincipalHierarchy) (reader : Reader h) (scope : Scope) (calls fur
         (expression-alike reader scope s t agree e (read-right reader pc (raise_label scope e) read)) (λ v w f g same.
         same_end Normal (assigned s x v) (assigned t x w) (agree-with_cells view s t x (v ∷ []) (w ∷ []) agree (λ reads.
         ap (λ u. u ∷ []) (same (read-right reader q (value_label scope e)
-        (read-demand reader at 1 (q ++ value_label scope e) (variable_label scope x) fits reads)))))))
+        (read-demand reader scope.program at 1 (q ++ value_label scope e) (ToVariable scope.number x) fits reads)))))))
     statement-secure (Clear at slot) pc fits s t agree =
         same_end Normal (cleared s slot) (cleared t slot) (agree-with_cells (view_of reader scope) s t (Local slot) _ _ agree
         (λ reads. ap (λ l. map (λ v. zero_value (base_of v)) l) (agree.variables (Local slot) reads)))
     statement-secure (Store at array len index e) pc fits s t agree =
         let view = view_of reader scope in
-        let value = reads_result reader scope.procedure in
-        let ri : Label = raise_label scope index in
-        let re : Label = raise_label scope e in
-        let vi : Label = value_label scope index in
-        let ve : Label = value_label scope e in
+        let value = reads_result reader (here scope) in
+        let ri : Join = raise_label scope index in
+        let re : Join = raise_label scope e in
+        let vi : Join = value_label scope index in
+        let ve : Join = value_label scope e in
         let test : Bool = index_can_raise index len in
-        let q : Label = own_label scope pc (Store at array len index e) in
+        let q : Join = own_label scope pc (Store at array len index e) in
         let marks = read_marks reader (statement_rule scope pc (Store at array len index e)) in
         by-reading (reader.reads q) (both-hidden (Store at array len index e) pc fits s t agree) (λ read.
         let front = read-left reader (pc ++ ri ++ re) (label_if test vi) read in
@@ -149,64 +148,64 @@ module _ (h : PrincipalHierarchy) (reader : Reader h) (scope : Scope) (calls fur
         (index-alike s t index len (reader.reads vi) v v' covered f f' same_index) (λ i j d d' same_place.
         same_end Normal (stored s array i w) (stored t array j w')
         (agree-with_cells view s t array (slice_set (cells s array) i w) (slice_set (cells t array) j w') agree (λ reads.
-        let all = read-demand reader at 3 (q ++ vi ++ ve) (variable_label scope array) fits reads in
+        let all = read-demand reader scope.program at 3 (q ++ vi ++ ve) (ToVariable scope.number array) fits reads in
         let left = read-left reader (q ++ vi) ve all in
         rw (agree.variables array reads, same_place (read-right reader q vi left), same (read-right reader (q ++ vi) ve all)) refl))))))
     statement-secure (Receive at channel target) pc fits s t agree =
         let view = view_of reader scope in
-        let value = reads_result reader scope.procedure in
+        let value = reads_result reader (here scope) in
         let marks = read_marks reader (statement_rule scope pc (Receive at channel target)) in
-        by-reading (reader.reads (pc ++ channel_label scope.program channel)) (both-hidden (Receive at channel target) pc fits s t agree) (λ read.
+        by-reading (reader.reads (own_label scope pc (Receive at channel target))) (both-hidden (Receive at channel target) pc fits s t agree) (λ read.
         related-received view value marks channel target s t (s.inputs channel) (t.inputs channel)
-        (agree.inputs channel (read-right reader pc (channel_label scope.program channel) read)) agree)
+        (agree.inputs channel (sym (reader.written _) ∙ read-right reader pc (one (label_of scope.program (ToChannel channel))) read)) agree)
     statement-secure (Send at channel e) pc fits s t agree =
         let view = view_of reader scope in
-        let value = reads_result reader scope.procedure in
-        let q : Label = own_label scope pc (Send at channel e) in
+        let value = reads_result reader (here scope) in
+        let q : Join = own_label scope pc (Send at channel e) in
         let marks = read_marks reader (statement_rule scope pc (Send at channel e)) in
         by-reading (reader.reads q) (both-hidden (Send at channel e) pc fits s t agree) (λ read.
         related-evaluated (SameIf (reader.reads (value_label scope e))) view value marks s t (value_of s e) (value_of t e)
         (λ v. normally (sending channel v s)) (λ v. normally (sending channel v t)) agree
         (expression-alike reader scope s t agree e (read-right reader pc (raise_label scope e) read)) (λ v w f g same.
         same_end Normal (sending channel v s) (sending channel w t) (agree-sending view s t channel v w agree (λ reads.
-        same (read-right reader q (value_label scope e) (read-demand reader at 5 (q ++ value_label scope e)
-        (channel_label scope.program channel) fits reads))))))
+        same (read-right reader q (value_label scope e) (read-demand reader scope.program at 5 (q ++ value_label scope e)
+        (ToChannel channel) fits (reader.written _ ∙ reads)))))))
     statement-secure (Call at f arguments target) pc fits s t agree =
         let view = view_of reader scope in
-        let value = reads_result reader scope.procedure in
-        let q : Label = own_label scope pc (Call at f arguments target) in
+        let value = reads_result reader (here scope) in
+        let q : Join = own_label scope pc (Call at f arguments target) in
         let callee = procedure_at scope.program f in
         let marks = read_marks reader (statement_rule scope pc (Call at f arguments target)) in
-        let ds = argument_demands scope at q callee 0 arguments in
-        let left : Label = call_marks callee q Normal ++ result_label callee.result in
+        let ds = argument_demands scope at q f 0 arguments in
+        let left : Join = call_marks scope.program f q Normal ++ one (label_of scope.program (ToValue f)) in
         let ts = target_demand scope at 6 left target in
-        let front = fits-left h (demand at 6 q callee.begin_label ++ ds) ts fits in
-        let last = fits-right h (demand at 6 q callee.begin_label ++ ds) ts fits in
+        let front = fits-left h labelling (demand scope.program at 6 q (ToBegin f) ++ ds) ts fits in
+        let last = fits-right h labelling (demand scope.program at 6 q (ToBegin f) ++ ds) ts fits in
         by-reading (reader.reads q) (both-hidden (Call at f arguments target) pc fits s t agree) (λ read.
         related-evaluated (ArgumentsAlike reader scope arguments) view value marks s t (values_of s arguments) (values_of t arguments)
         (λ vs. returned_to target (calls f vs s)) (λ vs. returned_to target (further f vs t)) agree
         (arguments-alike reader scope s t agree arguments (read-right reader pc (raise_labels scope arguments) read)) (λ vs ws g g' same.
-        related-returned_to view (reads_result reader callee) value (read_marks reader (declared_label callee)) marks target (calls f vs s)
+        related-returned_to view (reads_result reader callee) value (read_marks reader (declared_label scope.program f)) marks target (calls f vs s)
         (further f ws t)
-        (secures.related f vs ws s t agree (λ n reads. parameters-from reader scope at q callee 0 arguments vs ws
-        (fits-right h (demand at 6 q callee.begin_label) ds front) same n n (omega arith) reads))
-        (λ exit u. unread-declared reader callee q exit u)
-        (λ u. unread-target reader scope at 6 left target last (unread-left reader (call_marks callee q Normal) (result_label callee.result)
-        (unread-declared reader callee q Normal u)))
-        (λ x e reads. read-right reader (call_marks callee q Normal) (result_label callee.result)
+        (secures.related f vs ws s t agree (λ n reads. parameters-from reader scope at q f 0 arguments vs ws
+        (fits-right h labelling (demand scope.program at 6 q (ToBegin f)) ds front) same n n (omega arith) reads))
+        (λ exit u. unread-declared reader scope.program f q exit u)
+        (λ u. unread-target reader scope at 6 left target last (unread-left reader (call_marks scope.program f q Normal) (one (label_of scope.program (ToValue f)))
+        (unread-declared reader scope.program f q Normal u)))
+        (λ x e reads. sym (reader.written _) ∙ read-right reader (call_marks scope.program f q Normal) (one (label_of scope.program (ToValue f)))
         (target-read reader scope at 6 left target last x e reads))))
     statement-secure (If at e yes_block no_block) pc fits s t agree =
         let view = view_of reader scope in
-        let value = reads_result reader scope.procedure in
-        let q : Label = own_label scope pc (If at e yes_block no_block) in
-        let b : Label = q ++ value_label scope e in
+        let value = reads_result reader (here scope) in
+        let q : Join = own_label scope pc (If at e yes_block no_block) in
+        let b : Join = q ++ value_label scope e in
         let marks = read_marks reader (statement_rule scope pc (If at e yes_block no_block)) in
         let yes_ends = block_ends scope.program yes_block in
         let no_ends = block_ends scope.program no_block in
         let yes_marks : Marks = at_ends yes_ends b (block_rule scope b yes_block) in
         let no_marks : Marks = at_ends no_ends b (block_rule scope b no_block) in
-        let yes_fits = fits-left h (block_demands scope b yes_block) (block_demands scope b no_block) fits in
-        let no_fits = fits-right h (block_demands scope b yes_block) (block_demands scope b no_block) fits in
+        let yes_fits = fits-left h labelling (block_demands scope b yes_block) (block_demands scope b no_block) fits in
+        let no_fits = fits-right h labelling (block_demands scope b yes_block) (block_demands scope b no_block) fits in
         let yes_more : (exit : Exit) → reader.reads (yes_marks exit) ≡ false → marks exit ≡ false = λ exit u. unread-left reader
         (raised_marks e q exit ++ yes_marks exit) (no_marks exit) (unread-right reader (raised_marks e q exit) (yes_marks exit) u) in
         let no_more : (exit : Exit) → reader.reads (no_marks exit) ≡ false → marks exit ≡ false = λ exit u. unread-right reader
@@ -225,20 +224,20 @@ module _ (h : PrincipalHierarchy) (reader : Reader h) (scope : Scope) (calls fur
         (kept-weaker view value (read_marks reader yes_marks) marks s (block_meaning calls k yes_block s)
         (kept-closed reader view value yes_ends b (block_rule scope b yes_block) s (block_meaning calls k yes_block s) unread_b
         (block-among yes_block scope.program calls k secures.first.among s)
-        (block-kept h reader scope calls k secures.first yes_block b yes_fits unread_b s)) yes_more)
+        (block-kept h labelling reader scope calls k secures.first yes_block b yes_fits unread_b s)) yes_more)
         (kept-weaker view value (read_marks reader no_marks) marks s (block_meaning calls k no_block s)
         (kept-closed reader view value no_ends b (block_rule scope b no_block) s (block_meaning calls k no_block s) unread_b
         (block-among no_block scope.program calls k secures.first.among s)
-        (block-kept h reader scope calls k secures.first no_block b no_fits unread_b s)) no_more))
+        (block-kept h labelling reader scope calls k secures.first no_block b no_fits unread_b s)) no_more))
         (kept-if view value marks t (truth_in w) (block_meaning further m yes_block t) (block_meaning further m no_block t)
         (kept-weaker view value (read_marks reader yes_marks) marks t (block_meaning further m yes_block t)
         (kept-closed reader view value yes_ends b (block_rule scope b yes_block) t (block_meaning further m yes_block t) unread_b
         (block-among yes_block scope.program further m secures.second.among t)
-        (block-kept h reader scope further m secures.second yes_block b yes_fits unread_b t)) yes_more)
+        (block-kept h labelling reader scope further m secures.second yes_block b yes_fits unread_b t)) yes_more)
         (kept-weaker view value (read_marks reader no_marks) marks t (block_meaning further m no_block t)
         (kept-closed reader view value no_ends b (block_rule scope b no_block) t (block_meaning further m no_block t) unread_b
         (block-among no_block scope.program further m secures.second.among t)
-        (block-kept h reader scope further m secures.second no_block b no_fits unread_b t)) no_more)))
+        (block-kept h labelling reader scope further m secures.second no_block b no_fits unread_b t)) no_more)))
         (λ seen.
         related-if view value marks (truth_in v) (truth_in w) (block_meaning calls k yes_block s) (block_meaning calls k no_block s)
         (block_meaning further m yes_block t) (block_meaning further m no_block t) (ap (λ x. truth_in x) (same seen))
@@ -252,21 +251,21 @@ module _ (h : PrincipalHierarchy) (reader : Reader h) (scope : Scope) (calls fur
         (block-among no_block scope.program further m secures.second.among t) (block-secure no_block b no_fits s t agree)) no_more))))
     statement-secure (While at loop e body) pc fits s t agree =
         let view = view_of reader scope in
-        let value = reads_result reader scope.procedure in
-        let l : Label = scope.labelling.loop_label loop in
-        let q : Label = own_label scope pc (While at loop e body) in
-        let b : Label = q ++ value_label scope e in
+        let value = reads_result reader (here scope) in
+        let l : Join = one (label_of scope.program (ToLoop scope.number loop)) in
+        let q : Join = own_label scope pc (While at loop e body) in
+        let b : Join = q ++ value_label scope e in
         let ends = block_ends scope.program body in
         let x : Marks = at_ends ends b (block_rule scope b body) in
         let marks = read_marks reader (statement_rule scope pc (While at loop e body)) in
-        let front = fits-left h (demand at 8 pc l ++ block_demands scope b body) (demand at 8 (x Normal ++ x Continue) l) fits in
-        let body_fits = fits-right h (demand at 8 pc l) (block_demands scope b body) front in
-        let back = fits-right h (demand at 8 pc l ++ block_demands scope b body) (demand at 8 (x Normal ++ x Continue) l) fits in
+        let front = fits-left h labelling (demand scope.program at 8 pc (ToLoop scope.number loop) ++ block_demands scope b body) (demand scope.program at 8 (x Normal ++ x Continue) (ToLoop scope.number loop)) fits in
+        let body_fits = fits-right h labelling (demand scope.program at 8 pc (ToLoop scope.number loop)) (block_demands scope b body) front in
+        let back = fits-right h labelling (demand scope.program at 8 pc (ToLoop scope.number loop) ++ block_demands scope b body) (demand scope.program at 8 (x Normal ++ x Continue) (ToLoop scope.number loop)) fits in
         let loop_marks_read = loop-read reader (raised_marks e q) b x in
         by-reading (reader.reads q) (both-hidden (While at loop e body) pc fits s t agree) (λ read.
         let read_l : reader.reads l ≡ true = read-left reader l (raise_label scope e) read in
         let read_r : reader.reads (raise_label scope e) ≡ true = read-right reader l (raise_label scope e) read in
-        let comes_back : reader.reads (x Normal ++ x Continue) ≡ true = read-demand reader at 8 (x Normal ++ x Continue) l back read_l in
+        let comes_back : reader.reads (x Normal ++ x Continue) ≡ true = read-demand reader scope.program at 8 (x Normal ++ x Continue) (ToLoop scope.number loop) back read_l in
         let normal : reader.reads (x Normal) ≡ false → ⊥ = λ u. let i : true ≡ false = sym
         (read-left reader (x Normal) (x Continue) comes_back) ∙ u in cc in
         let continued : reader.reads (x Continue) ≡ false → ⊥ = λ u. let i : true ≡ false = sym
@@ -285,7 +284,7 @@ module _ (h : PrincipalHierarchy) (reader : Reader h) (scope : Scope) (calls fur
           each =
               λ u. kept-closed reader view value ends b (block_rule scope b body) u (block_meaning calls k body u) unread_b
               (block-among body scope.program calls k secures.first.among u)
-              (block-kept h reader scope calls k secures.first body b body_fits unread_b u);
+              (block-kept h labelling reader scope calls k secures.first body b body_fits unread_b u);
         })
         (record {
           loop = loop_marks_read;
@@ -295,7 +294,7 @@ module _ (h : PrincipalHierarchy) (reader : Reader h) (scope : Scope) (calls fur
           each =
               λ u. kept-closed reader view value ends b (block_rule scope b body) u (block_meaning further m body u) unread_b
               (block-among body scope.program further m secures.second.among u)
-              (block-kept h reader scope further m secures.second body b body_fits unread_b u);
+              (block-kept h labelling reader scope further m secures.second body b body_fits unread_b u);
         })
         k m s t agree (expression-alike reader scope s t agree e read_r))
         (λ seen.
@@ -318,8 +317,8 @@ module _ (h : PrincipalHierarchy) (reader : Reader h) (scope : Scope) (calls fur
     statement-secure (ReturnWith at None) pc fits s t agree = same_end Return s t agree
     statement-secure (ReturnWith at (Some e)) pc fits s t agree =
         let view = view_of reader scope in
-        let value = reads_result reader scope.procedure in
-        let q : Label = own_label scope pc (ReturnWith at (Some e)) in
+        let value = reads_result reader (here scope) in
+        let q : Join = own_label scope pc (ReturnWith at (Some e)) in
         let marks = read_marks reader (statement_rule scope pc (ReturnWith at (Some e))) in
         by-reading (reader.reads q) (both-hidden (ReturnWith at (Some e)) pc fits s t agree) (λ read.
         related-evaluated (SameIf (reader.reads (value_label scope e))) view value marks s t (value_of s e) (value_of t e)
@@ -327,15 +326,15 @@ module _ (h : PrincipalHierarchy) (reader : Reader h) (scope : Scope) (calls fur
         (expression-alike reader scope s t agree e (read-right reader pc (raise_label scope e) read)) (λ v w f g same.
         same_return (Some v) (Some w) s t agree (λ reads.
         ap (λ u. Some u) (same (read-right reader q (value_label scope e)
-        (read-demand reader at 10 (q ++ value_label scope e) (result_label scope.procedure.result) fits reads))))))
+        (read-demand reader scope.program at 10 (q ++ value_label scope e) (ToValue scope.number) fits (reader.written _ ∙ reads)))))))
     statement-secure (Try at block handlers) pc fits s t agree =
         let view = view_of reader scope in
-        let value = reads_result reader scope.procedure in
+        let value = reads_result reader (here scope) in
         let ends = block_ends scope.program block in
         let x : Marks = at_ends ends pc (block_rule scope pc block) in
         let marks = read_marks reader (statement_rule scope pc (Try at block handlers)) in
-        let block_fits = fits-left h (block_demands scope pc block) (handlers_demands scope x handlers) fits in
-        let handlers_fit = fits-right h (block_demands scope pc block) (handlers_demands scope x handlers) fits in
+        let block_fits = fits-left h labelling (block_demands scope pc block) (handlers_demands scope x handlers) fits in
+        let handlers_fit = fits-right h labelling (block_demands scope pc block) (handlers_demands scope x handlers) fits in
         let others : (exit : Exit) → passes handlers exit ≡ true → reader.reads (x exit) ≡ false → marks exit ≡ false =
         λ exit passing u. unread-left reader (label_if (passes handlers exit) (x exit)) (handlers_rule scope x handlers exit)
         (unread-label_if reader (passes handlers exit) (x exit) passing u) in
@@ -347,9 +346,9 @@ module _ (h : PrincipalHierarchy) (reader : Reader h) (scope : Scope) (calls fur
         (block_meaning further m block t) (block-among block scope.program calls k secures.first.among s)
         (block-among block scope.program further m secures.second.among t) (block-secure block pc block_fits s t agree))
         others
-        (λ y u unread. handlers-kept h reader scope calls k secures.first handlers x handlers_fit y u unread marks more
+        (λ y u unread. handlers-kept h labelling reader scope calls k secures.first handlers x handlers_fit y u unread marks more
         (λ none. others (Throw y) (rw none refl) unread))
-        (λ y u unread. handlers-kept h reader scope further m secures.second handlers x handlers_fit y u unread marks more
+        (λ y u unread. handlers-kept h labelling reader scope further m secures.second handlers x handlers_fit y u unread marks more
         (λ none. others (Throw y) (rw none refl) unread))
         (record {
           related = λ y u u' same. handlers-secure handlers x handlers_fit y u u' same marks more;
@@ -357,24 +356,24 @@ module _ (h : PrincipalHierarchy) (reader : Reader h) (scope : Scope) (calls fur
           grows_second = handlers-grow handlers further m secures.grows_second;
         })
     statement-secure (Nested at block) pc fits s t agree =
-        related-closed reader (view_of reader scope) (reads_result reader scope.procedure) (block_ends scope.program block) pc
+        related-closed reader (view_of reader scope) (reads_result reader (here scope)) (block_ends scope.program block) pc
         (block_rule scope pc block) (block_meaning calls k block s) (block_meaning further m block t)
         (block-among block scope.program calls k secures.first.among s) (block-among block scope.program further m secures.second.among t)
         (block-secure block pc fits s t agree)
 
-    pub block-secure : (block : Block) (pc : Label) → Fits h (block_demands scope pc block) → (s t : State) →
+    pub block-secure : (block : Block) (pc : Join) → Fits h labelling (block_demands scope pc block) → (s t : State) →
         AgreeFor (view_of reader scope) s t →
-        Related (view_of reader scope) (reads_result reader scope.procedure) (read_marks reader (block_rule scope pc block))
+        Related (view_of reader scope) (reads_result reader (here scope)) (read_marks reader (block_rule scope pc block))
         (block_meaning calls k block s) (block_meaning further m block t)
     block-secure Empty pc fits s t agree = same_end Normal s t agree
     block-secure (Then statement rest) pc fits s t agree =
         let view = view_of reader scope in
-        let value = reads_result reader scope.procedure in
+        let value = reads_result reader (here scope) in
         let ends = statement_ends scope.program statement in
         let x : Marks = at_ends ends pc (statement_rule scope pc statement) in
         let marks = read_marks reader (block_rule scope pc (Then statement rest)) in
-        let here = fits-left h (statement_demands scope pc statement) (block_demands scope (x Normal) rest) fits in
-        let later = fits-right h (statement_demands scope pc statement) (block_demands scope (x Normal) rest) fits in
+        let here = fits-left h labelling (statement_demands scope pc statement) (block_demands scope (x Normal) rest) fits in
+        let later = fits-right h labelling (statement_demands scope pc statement) (block_demands scope (x Normal) rest) fits in
         let more : (exit : Exit) → reader.reads (block_rule scope (x Normal) rest exit) ≡ false → marks exit ≡ false =
         λ exit u. unread-right reader (label_if (not (same_exit Normal exit)) (x exit)) (block_rule scope (x Normal) rest exit) u in
         related-after view value (read_marks reader x) marks (statement_meaning calls k statement s)
@@ -385,9 +384,9 @@ module _ (h : PrincipalHierarchy) (reader : Reader h) (scope : Scope) (calls fur
         (λ exit other u. unread-left reader (label_if (not (same_exit Normal exit)) (x exit)) (block_rule scope (x Normal) rest exit)
         (unread-label_if reader (not (same_exit Normal exit)) (x exit) (ap not other) u))
         (λ unread u. kept-weaker view value (read_marks reader (block_rule scope (x Normal) rest)) marks u (block_meaning calls k rest u)
-        (block-kept h reader scope calls k secures.first rest (x Normal) later unread u) more)
+        (block-kept h labelling reader scope calls k secures.first rest (x Normal) later unread u) more)
         (λ unread u. kept-weaker view value (read_marks reader (block_rule scope (x Normal) rest)) marks u (block_meaning further m rest u)
-        (block-kept h reader scope further m secures.second rest (x Normal) later unread u) more)
+        (block-kept h labelling reader scope further m secures.second rest (x Normal) later unread u) more)
         (record {
           related = λ u u' same. related-weaker view value (read_marks reader (block_rule scope (x Normal) rest)) marks
               (block_meaning calls k rest u) (block_meaning further m rest u') (block-secure rest (x Normal) later u u' same) more;
@@ -395,24 +394,24 @@ module _ (h : PrincipalHierarchy) (reader : Reader h) (scope : Scope) (calls fur
           grows_second = block-grows rest further m secures.grows_second;
         })
 
-    pub handlers-secure : (handlers : Handlers) (x : Marks) → Fits h (handlers_demands scope x handlers) →
+    pub handlers-secure : (handlers : Handlers) (x : Marks) → Fits h labelling (handlers_demands scope x handlers) →
         (exception : ℕ) (s t : State) → AgreeFor (view_of reader scope) s t → (marks : Exit → Bool) →
         ((exit : Exit) → reader.reads (handlers_rule scope x handlers exit) ≡ false → marks exit ≡ false) →
-        Related (view_of reader scope) (reads_result reader scope.procedure) marks (handlers_meaning calls k handlers exception s)
+        Related (view_of reader scope) (reads_result reader (here scope)) marks (handlers_meaning calls k handlers exception s)
         (handlers_meaning further m handlers exception t)
     handlers-secure NoMore x fits exception s t agree marks more = same_end (Throw exception) s t agree
     handlers-secure (Catch at handled body rest) x fits exception s t agree marks more =
         let view = view_of reader scope in
-        let value = reads_result reader scope.procedure in
+        let value = reads_result reader (here scope) in
         let ends = block_ends scope.program body in
-        let pc : Label = x (Throw handled) in
+        let pc : Join = x (Throw handled) in
         let body_marks : Marks = at_ends ends pc (block_rule scope pc body) in
         related-if view value marks (exception == handled) (exception == handled) (block_meaning calls k body s)
         (handlers_meaning calls k rest exception s) (block_meaning further m body t) (handlers_meaning further m rest exception t) refl
         (related-weaker view value (read_marks reader body_marks) marks (block_meaning calls k body s) (block_meaning further m body t)
         (related-closed reader view value ends pc (block_rule scope pc body) (block_meaning calls k body s) (block_meaning further m body t)
         (block-among body scope.program calls k secures.first.among s) (block-among body scope.program further m secures.second.among t)
-        (block-secure body pc (fits-left h (block_demands scope pc body) (handlers_demands scope x rest) fits) s t agree))
+        (block-secure body pc (fits-left h labelling (block_demands scope pc body) (handlers_demands scope x rest) fits) s t agree))
         (λ exit u. more exit (unread-left reader (body_marks exit) (handlers_rule scope x rest exit) u)))
-        (handlers-secure rest x (fits-right h (block_demands scope pc body) (handlers_demands scope x rest) fits) exception s t agree marks
+        (handlers-secure rest x (fits-right h labelling (block_demands scope pc body) (handlers_demands scope x rest) fits) exception s t agree marks
         (λ exit u. more exit (unread-right reader (body_marks exit) (handlers_rule scope x rest exit) u)))

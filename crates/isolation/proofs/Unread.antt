@@ -5,14 +5,12 @@ use Rattle.std.specs.Prelude.{Some, None, filter}
 use Rattle.std.proofs.lemmas.Bool.{or_cases, and_parts}
 use Rattle.std.proofs.lemmas.List.Folds.{list_any-append}
 use Rattle.principals.specs.ActsFor.{PrincipalHierarchy}
-use Rattle.labels.specs.Label.{Label}
 use Rattle.resolved.specs.declared.statement.Exit.{Exit}
 use Rattle.resolved.specs.declared.statement.Exit.TheVariants.{Normal, Return, Break, Continue, Throw}
 use Rattle.resolved.specs.Tree.{Statement, Call, If, While, ReturnWith, Try, Nested, Block, Empty, Then, Handlers, NoMore, Catch, place_of}
-use Rattle.resolved.specs.Program.{procedure_at}
 use Rattle.resolved.specs.Ends.{same_exit, has_end, raises, thrown_ends, leaves_loop, passes, then_ends, statement_ends, block_ends, handlers_ends}
 use Rattle.resolved.specs.EndFaults.{OutsideLoop, Unreachable, NeverRaised, fault_unless, may_stand, inner_faults, block_faults, handlers_faults}
-use Rattle.resolved.specs.Labelled.{Scope, Marks, demand, Fits, value_label, label_if, at_ends, own_label, raised_marks, loop_marks, statement_rule, block_rule, handlers_rule, statement_demands, block_demands, handlers_demands}
+use Rattle.resolved.specs.Labelled.{Scope, Marks, demand, Fits, value_label, label_if, at_ends, own_label, raised_marks, loop_marks, statement_rule, block_rule, handlers_rule, statement_demands, block_demands, handlers_demands, Labelling, Join, one, label_of, ToLoop}
 use Rattle.isolation.proofs.Among.{same-exit, end-filter}
 use Rattle.isolation.proofs.Declared.{append-empty, no_fault-test}
 use Rattle.isolation.proofs.Observer.{Reader, unread-left, unread-right}
@@ -48,13 +46,13 @@ then-cases first rest exit h = go (has_end first Normal) refl
         (either-end (filter (λ x. not (same_exit Normal x)) first) rest exit (rw e at h))
     go false e = let f : has_end first exit ≡ true = rw e at h in inl (other (same_exit Normal exit) refl e f, f)
 
-module _ (h : PrincipalHierarchy) (reader : Reader h) (scope : Scope) where
+module _ (h : PrincipalHierarchy) (labelling : Labelling) (reader : Reader h labelling) (scope : Scope) where
   -- what is raised, and what leaves a loop
-  raised-end : (xs : List ℕ) (q : Label) (exit : Exit) → reader.reads q ≡ false → has_end (thrown_ends xs) exit ≡ true →
+  raised-end : (xs : List ℕ) (q : Join) (exit : Exit) → reader.reads q ≡ false → has_end (thrown_ends xs) exit ≡ true →
       reader.reads (label_if (has_end (thrown_ends xs) exit) q) ≡ false
   raised-end xs q exit unread e = unread-label_if reader (has_end (thrown_ends xs) exit) q e unread
 
-  loop-end : (b : Label) (x : Marks) (exit : Exit) → leaves_loop exit ≡ true → reader.reads (x exit) ≡ false →
+  loop-end : (b : Join) (x : Marks) (exit : Exit) → leaves_loop exit ≡ true → reader.reads (x exit) ≡ false →
       reader.reads (loop_marks b x exit) ≡ false
   loop-end b x Normal e unread = let i : true ≡ false = sym e in absurd (cc)
   loop-end b x Return e unread = unread
@@ -63,16 +61,16 @@ module _ (h : PrincipalHierarchy) (reader : Reader h) (scope : Scope) where
   loop-end b x (Throw y) e unread = unread
 
   mutual
-    pub statement-ends-unread : (statement : Statement) (pc : Label) (in_loop : Bool) →
-        inner_faults scope.program in_loop statement ≡ [] → Fits h (statement_demands scope pc statement) →
+    pub statement-ends-unread : (statement : Statement) (pc : Join) (in_loop : Bool) →
+        inner_faults scope.program in_loop statement ≡ [] → Fits h labelling (statement_demands scope pc statement) →
         reader.reads pc ≡ false → (exit : Exit) → has_end (statement_ends scope.program statement) exit ≡ true →
         reader.reads (statement_rule scope pc statement exit) ≡ false
     statement-ends-unread (Call at f arguments target) pc in_loop faults fits unread exit among =
-        unread-call reader (procedure_at scope.program f) (own_label scope pc (Call at f arguments target))
+        unread-call reader scope.program f (own_label scope pc (Call at f arguments target))
         (own-unread reader scope pc (Call at f arguments target) fits unread) exit
     statement-ends-unread (If at e yes_block no_block) pc in_loop faults fits unread exit among =
-        let q : Label = own_label scope pc (If at e yes_block no_block) in
-        let b : Label = q ++ value_label scope e in
+        let q : Join = own_label scope pc (If at e yes_block no_block) in
+        let b : Join = q ++ value_label scope e in
         let unread_q = own-unread reader scope pc (If at e yes_block no_block) fits unread in
         let unread_b = unread-left reader q (value_label scope e) unread_q in
         let yes_ends = block_ends scope.program yes_block in
@@ -87,24 +85,24 @@ module _ (h : PrincipalHierarchy) (reader : Reader h) (scope : Scope) where
         (λ yes. unread-left reader (raised_marks e q exit ++ yes_marks exit) (no_marks exit)
         (unread-right reader (raised_marks e q exit) (yes_marks exit)
         (closed-unread reader yes_ends b (block_rule scope b yes_block) exit (λ one. unread_b) yes
-        (block-ends-unread yes_block b in_loop true parts.0 (fits-left h (block_demands scope b yes_block)
+        (block-ends-unread yes_block b in_loop true parts.0 (fits-left h labelling (block_demands scope b yes_block)
         (block_demands scope b no_block) fits) unread_b exit yes))))
         (either-end (thrown_ends (raises e)) yes_ends exit front))
         (λ no. unread-right reader (raised_marks e q exit ++ yes_marks exit) (no_marks exit)
         (closed-unread reader no_ends b (block_rule scope b no_block) exit (λ one. unread_b) no
-        (block-ends-unread no_block b in_loop true parts.1 (fits-right h (block_demands scope b yes_block)
+        (block-ends-unread no_block b in_loop true parts.1 (fits-right h labelling (block_demands scope b yes_block)
         (block_demands scope b no_block) fits) unread_b exit no)))
         (either-end (thrown_ends (raises e) ++ yes_ends) no_ends exit among)
     statement-ends-unread (While at loop e body) pc in_loop faults fits unread exit among =
-        let l : Label = scope.labelling.loop_label loop in
-        let q : Label = own_label scope pc (While at loop e body) in
-        let b : Label = q ++ value_label scope e in
+        let l : Join = one (label_of scope.program (ToLoop scope.number loop)) in
+        let q : Join = own_label scope pc (While at loop e body) in
+        let b : Join = q ++ value_label scope e in
         let unread_q = own-unread reader scope pc (While at loop e body) fits unread in
         let unread_b = unread-left reader q (value_label scope e) unread_q in
         let ends = block_ends scope.program body in
         let x : Marks = at_ends ends b (block_rule scope b body) in
-        let body_fits = fits-right h (demand at 8 pc l) (block_demands scope b body)
-        (fits-left h (demand at 8 pc l ++ block_demands scope b body) (demand at 8 (x Normal ++ x Continue) l) fits) in
+        let body_fits = fits-right h labelling (demand scope.program at 8 pc (ToLoop scope.number loop)) (block_demands scope b body)
+        (fits-left h labelling (demand scope.program at 8 pc (ToLoop scope.number loop) ++ block_demands scope b body) (demand scope.program at 8 (x Normal ++ x Continue) (ToLoop scope.number loop)) fits) in
         ⊎_elim
         (λ normal. rw (same-exit exit Normal normal) (unread-right reader (raised_marks e q Normal) (b ++ x Break)
         (unread-left reader b (x Break) unread_b)))
@@ -120,7 +118,7 @@ module _ (h : PrincipalHierarchy) (reader : Reader h) (scope : Scope) where
         let ends = block_ends scope.program block in
         let x : Marks = at_ends ends pc (block_rule scope pc block) in
         let parts = append-empty (block_faults scope.program in_loop true block) (handlers_faults scope.program in_loop ends handlers) faults in
-        let block_fits = fits-left h (block_demands scope pc block) (handlers_demands scope x handlers) fits in
+        let block_fits = fits-left h labelling (block_demands scope pc block) (handlers_demands scope x handlers) fits in
         let inner : (e : Exit) → has_end ends e ≡ true → reader.reads (x e) ≡ false = λ e found. closed-unread reader ends pc
         (block_rule scope pc block) e (λ one. unread) found
         (block-ends-unread block pc in_loop true parts.0 block_fits unread e found) in
@@ -129,7 +127,7 @@ module _ (h : PrincipalHierarchy) (reader : Reader h) (scope : Scope) where
         unread-left reader (label_if (passes handlers exit) (x exit)) (handlers_rule scope x handlers exit)
         (unread-label_if reader (passes handlers exit) (x exit) found.0 (inner exit found.1)))
         (λ handled. unread-right reader (label_if (passes handlers exit) (x exit)) (handlers_rule scope x handlers exit)
-        (handlers-ends-unread handlers x in_loop ends parts.1 (fits-right h (block_demands scope pc block)
+        (handlers-ends-unread handlers x in_loop ends parts.1 (fits-right h labelling (block_demands scope pc block)
         (handlers_demands scope x handlers) fits) (λ y found. inner (Throw y) found) exit handled))
         (either-end (filter (passes handlers) ends) (handlers_ends scope.program handlers) exit among)
     statement-ends-unread (Nested at block) pc in_loop faults fits unread exit among =
@@ -140,8 +138,8 @@ module _ (h : PrincipalHierarchy) (reader : Reader h) (scope : Scope) where
         (ReturnWith at (Some e)) fits unread
     statement-ends-unread other pc in_loop faults fits unread exit among = own-unread reader scope pc other fits unread
 
-    pub block-ends-unread : (block : Block) (pc : Label) (in_loop reached : Bool) →
-        block_faults scope.program in_loop reached block ≡ [] → Fits h (block_demands scope pc block) → reader.reads pc ≡ false →
+    pub block-ends-unread : (block : Block) (pc : Join) (in_loop reached : Bool) →
+        block_faults scope.program in_loop reached block ≡ [] → Fits h labelling (block_demands scope pc block) → reader.reads pc ≡ false →
         (exit : Exit) → has_end (block_ends scope.program block) exit ≡ true → reader.reads (block_rule scope pc block exit) ≡ false
     block-ends-unread Empty pc in_loop reached faults fits unread exit among =
         ⊎_elim
@@ -156,7 +154,7 @@ module _ (h : PrincipalHierarchy) (reader : Reader h) (scope : Scope) where
         let later = block_faults scope.program in_loop (has_end ends Normal) rest in
         let both = append-empty (first ++ inner_faults scope.program in_loop statement) later faults in
         let here = append-empty first (inner_faults scope.program in_loop statement) both.0 in
-        let statement_fits = fits-left h (statement_demands scope pc statement) (block_demands scope (x Normal) rest) fits in
+        let statement_fits = fits-left h labelling (statement_demands scope pc statement) (block_demands scope (x Normal) rest) fits in
         let inner : (e : Exit) → has_end ends e ≡ true → reader.reads (x e) ≡ false = λ e found. closed-unread reader ends pc
         (statement_rule scope pc statement) e (λ one. unread) found
         (statement-ends-unread statement pc in_loop here.1 statement_fits unread e found) in
@@ -165,18 +163,18 @@ module _ (h : PrincipalHierarchy) (reader : Reader h) (scope : Scope) where
         (unread-label_if reader (not (same_exit Normal exit)) (x exit) other.0 (inner exit other.1)))
         (λ after. unread-right reader (label_if (not (same_exit Normal exit)) (x exit)) (block_rule scope (x Normal) rest exit)
         (block-ends-unread rest (x Normal) in_loop (has_end ends Normal) both.1
-        (fits-right h (statement_demands scope pc statement) (block_demands scope (x Normal) rest) fits)
+        (fits-right h labelling (statement_demands scope pc statement) (block_demands scope (x Normal) rest) fits)
         (inner Normal after.0) exit after.1))
         (then-cases ends (block_ends scope.program rest) exit among)
 
     pub handlers-ends-unread : (handlers : Handlers) (x : Marks) (in_loop : Bool) (ends : List Exit) →
-        handlers_faults scope.program in_loop ends handlers ≡ [] → Fits h (handlers_demands scope x handlers) →
+        handlers_faults scope.program in_loop ends handlers ≡ [] → Fits h labelling (handlers_demands scope x handlers) →
         ((y : ℕ) → has_end ends (Throw y) ≡ true → reader.reads (x (Throw y)) ≡ false) → (exit : Exit) →
         has_end (handlers_ends scope.program handlers) exit ≡ true → reader.reads (handlers_rule scope x handlers exit) ≡ false
     handlers-ends-unread NoMore x in_loop ends faults fits unread exit among = let i : true ≡ false = sym among in absurd (cc)
     handlers-ends-unread (Catch at handled body rest) x in_loop ends faults fits unread exit among =
         let body_ends = block_ends scope.program body in
-        let pc : Label = x (Throw handled) in
+        let pc : Join = x (Throw handled) in
         let marks : Marks = at_ends body_ends pc (block_rule scope pc body) in
         let others = filter (λ e. not (same_exit (Throw handled) e)) ends in
         let raised = fault_unless (has_end ends (Throw handled)) NeverRaised at in
@@ -186,9 +184,9 @@ module _ (h : PrincipalHierarchy) (reader : Reader h) (scope : Scope) where
         ⊎_elim
         (λ found. unread-left reader (marks exit) (handlers_rule scope x rest exit)
         (closed-unread reader body_ends pc (block_rule scope pc body) exit (λ one. unread_pc) found
-        (block-ends-unread body pc in_loop true here.1 (fits-left h (block_demands scope pc body)
+        (block-ends-unread body pc in_loop true here.1 (fits-left h labelling (block_demands scope pc body)
         (handlers_demands scope x rest) fits) unread_pc exit found)))
         (λ later. unread-right reader (marks exit) (handlers_rule scope x rest exit)
-        (handlers-ends-unread rest x in_loop others both.1 (fits-right h (block_demands scope pc body) (handlers_demands scope x rest) fits)
+        (handlers-ends-unread rest x in_loop others both.1 (fits-right h labelling (block_demands scope pc body) (handlers_demands scope x rest) fits)
         (λ y found. unread y (filtered-end (λ e. not (same_exit (Throw handled) e)) ends (Throw y) found).1) exit later))
         (either-end body_ends (handlers_ends scope.program rest) exit among)

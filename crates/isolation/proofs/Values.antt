@@ -3,7 +3,6 @@
 use Rattle.std.proofs.Common.{◌≡◌, refl, sym, ap, ◌∙◌, ℕ, Bool, true, false, ◌&&◌, List, [], ◌∷◌, ◌++◌, ℤ}
 use Rattle.std.specs.Prelude.{if◌then◌else◌}
 use Rattle.principals.specs.ActsFor.{PrincipalHierarchy}
-use Rattle.labels.specs.Label.{Label}
 use Rattle.resolved.specs.declared.expression.Value.{Value}
 use Rattle.resolved.specs.declared.expression.Value.TheVariants.{Number, Truth}
 use Rattle.resolved.specs.declared.expression.Operator.{Operator}
@@ -13,7 +12,7 @@ use Rattle.resolved.specs.Tree.{Expression, Integer, Logical, Read, Element, Una
 use Rattle.resolved.specs.Value.{Evaluated, Gives, Raises, then_with, number_in, literal_number, wrapped, is_zero, unless_zero, prefix_value, operator_value, decides, in_range, position_of, checked_index, arith_exception, bounds_exception}
 use Rattle.resolved.specs.State.{State, cells, cell_at, value_of, values_of}
 use Rattle.resolved.specs.Ends.{index_can_raise, divisor_can_raise, is_division, raises}
-use Rattle.resolved.specs.Labelled.{Scope, variable_label, value_label, raise_label, raise_labels, label_if, any_of}
+use Rattle.resolved.specs.Labelled.{Scope, variable_label, value_label, raise_label, raise_labels, label_if, any_of, Labelling, Join}
 use Rattle.isolation.proofs.Among.{RaisesAmong, expression-raises, index-in_range, divisor-not_zero}
 use Rattle.isolation.proofs.Observer.{Reader, view_of, AgreeFor, read-left, read-right}
 
@@ -37,7 +36,7 @@ alike-weaker P Q o p weaker (both_give v w h) = both_give v w (weaker v w h)
 alike-weaker P Q o p weaker (both_raise x) = both_raise x
 
 -- a label under a test that holds
-pub read-label_if : {h : PrincipalHierarchy} (reader : Reader h) (test : Bool) (label : Label) →
+pub read-label_if : {h : PrincipalHierarchy} {labelling : Labelling} (reader : Reader h labelling) (test : Bool) (label : Join) →
     reader.reads (label_if test label) ≡ true → test ≡ true → reader.reads label ≡ true
 read-label_if reader test label h e = rw e at h
 
@@ -129,7 +128,7 @@ short-alike connective false c xs v w o p same covered more h i alike =
     none true e = let k : false ≡ true = covered e in absurd (cc)
     none false e = e
 
-pub expression-alike : {h : PrincipalHierarchy} (reader : Reader h) (scope : Scope) (s t : State) →
+pub expression-alike : {h : PrincipalHierarchy} {labelling : Labelling} (reader : Reader h labelling) (scope : Scope) (s t : State) →
     AgreeFor (view_of reader scope) s t → (e : Expression) → reader.reads (raise_label scope e) ≡ true →
     Alike (SameIf (reader.reads (value_label scope e))) (value_of s e) (value_of t e)
 expression-alike reader scope s t agree (Integer n) reads = both_give (Number (literal_number n)) (Number (literal_number n)) (λ i. refl)
@@ -137,8 +136,8 @@ expression-alike reader scope s t agree (Logical b) reads = both_give (Truth b) 
 expression-alike reader scope s t agree (Read x) reads =
     both_give (cell_at (cells s x) 0) (cell_at (cells t x) 0) (λ i. ap (λ l. cell_at l 0) (agree.variables x i))
 expression-alike reader scope s t agree (Element array len index) reads =
-    let c : Label = variable_label scope array in
-    let l : Label = value_label scope index in
+    let c : Join = variable_label scope array in
+    let l : Join = value_label scope index in
     let test : Bool = index_can_raise index len in
     let covered : test ≡ true → reader.reads l ≡ true = read-label_if reader test l
     (read-right reader (raise_label scope index) (label_if test l) reads) in
@@ -156,10 +155,10 @@ expression-alike reader scope s t agree (Unary prefix e) reads =
     (λ v. Gives (prefix_value prefix v)) (λ v. Gives (prefix_value prefix v)) (expression-alike reader scope s t agree e reads) (λ v w f g same.
     both_give (prefix_value prefix v) (prefix_value prefix w) (λ i. ap (λ x. prefix_value prefix x) (same i)))
 expression-alike reader scope s t agree (Binary operator d e) reads =
-    let rd : Label = raise_label scope d in
-    let re : Label = raise_label scope e in
-    let vd : Label = value_label scope d in
-    let ve : Label = value_label scope e in
+    let rd : Join = raise_label scope d in
+    let re : Join = raise_label scope e in
+    let vd : Join = value_label scope d in
+    let ve : Join = value_label scope e in
     let test : Bool = is_division operator && divisor_can_raise e in
     let both : reader.reads (rd ++ re) ≡ true = read-left reader (rd ++ re) (label_if test ve) reads in
     let covered : test ≡ true → reader.reads ve ≡ true = read-label_if reader test ve (read-right reader (rd ++ re) (label_if test ve) reads) in
@@ -173,10 +172,10 @@ expression-alike reader scope s t agree (Binary operator d e) reads =
     (λ division. divisor-alike s t e (reader.reads ve) w w' (λ can. covered (rw (division, can) refl)) g g' same_right)
     (λ all. same (read-left reader vd ve all)) (λ all. same_right (read-right reader vd ve all))))
 expression-alike reader scope s t agree (Short connective d e) reads =
-    let rd : Label = raise_label scope d in
-    let re : Label = raise_label scope e in
-    let vd : Label = value_label scope d in
-    let ve : Label = value_label scope e in
+    let rd : Join = raise_label scope d in
+    let re : Join = raise_label scope e in
+    let vd : Join = value_label scope d in
+    let ve : Join = value_label scope e in
     let test : Bool = any_of (raises e) in
     let both : reader.reads (rd ++ re) ≡ true = read-left reader (rd ++ re) (label_if test vd) reads in
     let covered : test ≡ true → reader.reads vd ≡ true = read-label_if reader test vd (read-right reader (rd ++ re) (label_if test vd) reads) in
@@ -191,13 +190,13 @@ expression-alike reader scope s t agree (Short connective d e) reads =
     (expression-alike reader scope s t agree e (read-right reader rd re both))))
 
 -- the values of arguments, each the same where its label is read
-pub data ArgumentsAlike {h : PrincipalHierarchy} (reader : Reader h) (scope : Scope) : List Expression → List Value → List Value → Type 0 where
+pub data ArgumentsAlike {h : PrincipalHierarchy} {labelling : Labelling} (reader : Reader h labelling) (scope : Scope) : List Expression → List Value → List Value → Type 0 where
   no_arguments : ArgumentsAlike reader scope [] [] []
   one_more : (e : Expression) (rest : List Expression) (v w : Value) (vs ws : List Value) →
       SameIf (reader.reads (value_label scope e)) v w → ArgumentsAlike reader scope rest vs ws →
       ArgumentsAlike reader scope (e ∷ rest) (v ∷ vs) (w ∷ ws)
 
-pub arguments-alike : {h : PrincipalHierarchy} (reader : Reader h) (scope : Scope) (s t : State) →
+pub arguments-alike : {h : PrincipalHierarchy} {labelling : Labelling} (reader : Reader h labelling) (scope : Scope) (s t : State) →
     AgreeFor (view_of reader scope) s t → (es : List Expression) → reader.reads (raise_labels scope es) ≡ true →
     Alike (ArgumentsAlike reader scope es) (values_of s es) (values_of t es)
 arguments-alike reader scope s t agree [] reads = both_give [] [] no_arguments

@@ -11,7 +11,7 @@ use Rattle.resolved.specs.State.{State, cells}
 use Rattle.resolved.specs.Meaning.{Outcome, Ended, Stopped, state_after, statement_meaning, calls_with}
 use Rattle.resolved.specs.Ends.{has_end, statement_ends}
 use Rattle.resolved.specs.EndFaults.{end_faults, inner_faults}
-use Rattle.resolved.specs.Labelled.{Scope, Marks, Fits, Labelled, variable_label, channel_label, statement_demands, statement_marks}
+use Rattle.resolved.specs.Labelled.{Scope, Labelling, Join, Marks, Fits, Labelled, join_under, variable_label, channel_label, statement_demands, statement_marks}
 
 -- whether a principal may read a label, and what it sees in a state of what was sent, under the program's own hierarchy
 abbrev pub reads : Scope → (p : ℕ) → Label → Bool
@@ -20,34 +20,38 @@ reads scope p label = may_read scope.program.hierarchy p label
 abbrev pub sees : Scope → (p : ℕ) → State → List Pair
 sees scope p s = seen scope.program.hierarchy (channel_label scope.program) p s.sent
 
+-- the same of a join under a labelling
+abbrev pub reads_under : Scope → Labelling → (p : ℕ) → Join → Bool
+reads_under scope labelling p join = reads scope p (join_under labelling join)
+
 -- two states are the same for a principal: each variable and each input that it may read, and what it sees of what was sent
-pub record SameFor (scope : Scope) (p : ℕ) (before after : State) : Type 0 where
-  pub variables : (x : Variable) → IsTrue (reads scope p (variable_label scope x)) → cells before x ≡ cells after x
+pub record SameFor (scope : Scope) (labelling : Labelling) (p : ℕ) (before after : State) : Type 0 where
+  pub variables : (x : Variable) → IsTrue (reads_under scope labelling p (variable_label scope x)) → cells before x ≡ cells after x
   pub inputs : (channel : ℕ) → IsTrue (reads scope p (channel_label scope.program channel)) → before.inputs channel ≡ after.inputs channel
   pub sent : sees scope p before ≡ sees scope p after
 
 -- the label of the end that was reached, if one was, is one that the principal may not read
-abbrev pub UnreadEnd : Scope → (p : ℕ) → Marks → Outcome → Type 0
-UnreadEnd scope p marks (Ended exit returned s) = IsFalse (reads scope p (marks exit))
-UnreadEnd scope p marks (Stopped stop s) = Unit {0}
+abbrev pub UnreadEnd : Scope → Labelling → (p : ℕ) → Marks → Outcome → Type 0
+UnreadEnd scope labelling p marks (Ended exit returned s) = IsFalse (reads_under scope labelling p (marks exit))
+UnreadEnd scope labelling p marks (Stopped stop s) = Unit {0}
 
 -- in a labelled program without a fault of its ends, a labelled statement at a label that a principal may not read changes nothing
 -- that the principal may read, and ends at a label that it may not read; also where it is stopped
-abbrev pub StatementsAreConfined : Scope → Type 0
-StatementsAreConfined scope =
+abbrev pub StatementsAreConfined : Scope → Labelling → Type 0
+StatementsAreConfined scope labelling =
     end_faults scope.program ≡ [] → Labelled scope.program
-    → (p : ℕ) (pc : Label) → IsFalse (reads scope p pc)
-    → (statement : Statement) → Fits scope.program.hierarchy (statement_demands scope pc statement)
+    → (p : ℕ) (pc : Join) → IsFalse (reads_under scope labelling p pc)
+    → (statement : Statement) → Fits scope.program.hierarchy labelling (statement_demands scope pc statement)
     → (frames k : ℕ) (s : State)
-    → SameFor scope p s (state_after (statement_meaning (calls_with scope.program k frames) k statement s))
-    × UnreadEnd scope p (statement_marks scope pc statement)
+    → SameFor scope labelling p s (state_after (statement_meaning (calls_with scope.program k frames) k statement s))
+    × UnreadEnd scope labelling p (statement_marks scope pc statement)
     (statement_meaning (calls_with scope.program k frames) k statement s)
 
 -- each possible end of such a statement, if that has no fault of its ends, has a label that the principal may not read
-abbrev pub PossibleEndsAreUnread : Scope → Type 0
-PossibleEndsAreUnread scope =
-    (p : ℕ) (pc : Label) → IsFalse (reads scope p pc)
+abbrev pub PossibleEndsAreUnread : Scope → Labelling → Type 0
+PossibleEndsAreUnread scope labelling =
+    (p : ℕ) (pc : Join) → IsFalse (reads_under scope labelling p pc)
     → (in_loop : Bool) (statement : Statement) → inner_faults scope.program in_loop statement ≡ []
-    → Fits scope.program.hierarchy (statement_demands scope pc statement)
+    → Fits scope.program.hierarchy labelling (statement_demands scope pc statement)
     → (exit : Exit) → IsTrue (has_end (statement_ends scope.program statement) exit)
-    → IsFalse (reads scope p (statement_marks scope pc statement exit))
+    → IsFalse (reads_under scope labelling p (statement_marks scope pc statement exit))

@@ -1,14 +1,13 @@
 -- Two runs of a labelled statement from states that are the same for a principal.
 -- Source: noninterference after Volpano, Smith and Irvine 1996, for statements with several ways out and for runs that are stopped.
 use Rattle.std.specs.Prelude.{◌≡◌, ℕ, [], ◌⊎◌, IsTrue}
-use Rattle.labels.specs.Label.{Label}
 use Rattle.labels.specs.Sent.{Begins}
 use Rattle.resolved.specs.Tree.{Statement}
 use Rattle.resolved.specs.State.{State}
 use Rattle.resolved.specs.Meaning.{Outcome, Ended, Stopped, statement_meaning, calls_with}
 use Rattle.resolved.specs.EndFaults.{end_faults}
-use Rattle.resolved.specs.Labelled.{Scope, Marks, Fits, Labelled, result_label, statement_demands, statement_marks}
-use Rattle.isolation.specs.Confinement.{reads, sees, SameFor}
+use Rattle.resolved.specs.Labelled.{Scope, here, Labelling, Join, Marks, Fits, Labelled, result_label, statement_demands, statement_marks}
+use Rattle.isolation.specs.Confinement.{reads, reads_under, sees, SameFor}
 
 -- what the principal sees in one state begins what it sees in another
 abbrev pub SeesBeginning : Scope → (p : ℕ) → State → State → Type 0
@@ -17,23 +16,23 @@ SeesBeginning scope p s t = Begins (sees scope p s) (sees scope p t)
 -- two outcomes agree for a principal. Where both runs have ended, their states are the same for it, they ended in the same way if
 -- it may read the label of either end, and returned the same if it may read the label of the procedure's value. Where one was
 -- stopped, what the principal sees of it begins what it sees of the other
-abbrev pub OutcomesAgree : Scope → (p : ℕ) → Marks → Outcome → Outcome → Type 0
-OutcomesAgree scope p marks (Ended exit returned s) (Ended other given t) =
-    SameFor scope p s t
-    × (IsTrue (reads scope p (marks exit)) → exit ≡ other)
-    × (IsTrue (reads scope p (marks other)) → exit ≡ other)
-    × (IsTrue (reads scope p (result_label scope.procedure.result)) → returned ≡ given)
-OutcomesAgree scope p marks (Stopped stop s) (Ended other given t) = SeesBeginning scope p s t
-OutcomesAgree scope p marks (Ended exit returned s) (Stopped stop t) = SeesBeginning scope p t s
-OutcomesAgree scope p marks (Stopped stop s) (Stopped other t) = SeesBeginning scope p s t ⊎ SeesBeginning scope p t s
+abbrev pub OutcomesAgree : Scope → Labelling → (p : ℕ) → Marks → Outcome → Outcome → Type 0
+OutcomesAgree scope labelling p marks (Ended exit returned s) (Ended other given t) =
+    SameFor scope labelling p s t
+    × (IsTrue (reads_under scope labelling p (marks exit)) → exit ≡ other)
+    × (IsTrue (reads_under scope labelling p (marks other)) → exit ≡ other)
+    × (IsTrue (reads scope p (result_label (here scope).result)) → returned ≡ given)
+OutcomesAgree scope labelling p marks (Stopped stop s) (Ended other given t) = SeesBeginning scope p s t
+OutcomesAgree scope labelling p marks (Ended exit returned s) (Stopped stop t) = SeesBeginning scope p t s
+OutcomesAgree scope labelling p marks (Stopped stop s) (Stopped other t) = SeesBeginning scope p s t ⊎ SeesBeginning scope p t s
 
 -- in a labelled program without a fault of its ends, two runs of a labelled statement from states that are the same for a principal
 -- agree for it, each with any number of turns and both with the same frames left
-abbrev pub StatementsAgree : Scope → Type 0
-StatementsAgree scope =
+abbrev pub StatementsAgree : Scope → Labelling → Type 0
+StatementsAgree scope labelling =
     end_faults scope.program ≡ [] → Labelled scope.program
-    → (p : ℕ) (pc : Label) (statement : Statement) → Fits scope.program.hierarchy (statement_demands scope pc statement)
-    → (frames k m : ℕ) (s t : State) → SameFor scope p s t
-    → OutcomesAgree scope p (statement_marks scope pc statement)
+    → (p : ℕ) (pc : Join) (statement : Statement) → Fits scope.program.hierarchy labelling (statement_demands scope pc statement)
+    → (frames k m : ℕ) (s t : State) → SameFor scope labelling p s t
+    → OutcomesAgree scope labelling p (statement_marks scope pc statement)
     (statement_meaning (calls_with scope.program k frames) k statement s)
     (statement_meaning (calls_with scope.program m frames) m statement t)

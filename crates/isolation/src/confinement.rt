@@ -1,17 +1,17 @@
 //! Confinement: what a statement does where an observer may not know that it is reached.
 
 ghost use Rattle.isolation.specs.Confinement.{PossibleEndsAreUnread, StatementsAreConfined};
-ghost use Rattle.resolved.specs.Labelled.{Scope};
+ghost use Rattle.resolved.specs.Labelled.{Labelling, Scope};
 
 /// At a label that a principal may not read, a labelled statement changes no variable, no input and no seen pair that the principal
 /// may read, and the label of the end that it comes to is one that the principal may not read: in every procedure of a labelled
 /// program without a fault of its ends, from every state, with every number of turns and frames, and also where the run is stopped.
 pub fn statements_are_confined()
-    ensures { (scope : Scope) → StatementsAreConfined scope }
+    ensures { (scope : Scope) (labelling : Labelling) → StatementsAreConfined scope labelling }
 {}
 
 /// At a label that a principal may not read, every possible end of a labelled statement without a fault of its ends has a label that
 /// the principal may not read.
 pub fn possible_ends_are_unread()
-    ensures { (scope : Scope) → PossibleEndsAreUnread scope }
+    ensures { (scope : Scope) (labelling : Labelling) → PossibleEndsAreUnread scope labelling }
 {}

@@ -5,7 +5,7 @@ ghost use Rattle.isolation.specs.Larger.{FlowsAreKept, FlowsStayByName, Isolated
 ghost use Rattle.principals.specs.ActsFor.{ContainsHierarchy, IsHierarchy, PrincipalHierarchy};
 ghost use Rattle.resolved.specs.EndFaults.{end_faults};
 ghost use Rattle.resolved.specs.Isolated.{Isolated};
-ghost use Rattle.resolved.specs.Labelled.{Labelled, Scope};
+ghost use Rattle.resolved.specs.Labelled.{Labelled, Labelling, Scope};
 ghost use Rattle.resolved.specs.Program.{Program};
 ghost use Rattle.std.specs.Prelude.{[], ℕ, ◌≡◌};
 
@@ -13,7 +13,7 @@ ghost use Rattle.std.specs.Prelude.{[], ℕ, ◌≡◌};
 /// reached and with whatever turns: where both end, their states are the same for it, and where it may read the label of either
 /// end, both ended so; where one is stopped, what the principal sees of it begins what it sees of the other.
 pub fn two_runs_agree()
-    ensures { (scope : Scope) → StatementsAgree scope }
+    ensures { (scope : Scope) (labelling : Labelling) → StatementsAgree scope labelling }
 {}
 
 /// Every labelled program without a fault of its ends is isolated: for every principal, all worlds that agree for it and all two

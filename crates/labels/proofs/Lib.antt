@@ -9,3 +9,5 @@ pub mod Order
 pub mod Begins
 pub mod Tests
 pub mod Written
+pub mod Constraints
+pub mod Gathered

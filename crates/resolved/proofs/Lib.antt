@@ -3,3 +3,6 @@ pub mod Views
 pub mod Sound
 pub mod Parts
 pub mod Growing
+pub mod Faithful
+pub mod Flow
+pub mod Gathering

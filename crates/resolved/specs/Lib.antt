@@ -13,3 +13,5 @@ pub mod CoreOf
 pub mod WellFormed
 pub mod StraightLine
 pub mod Kinds
+pub mod Before
+pub mod Flow

@@ -4,7 +4,8 @@ use Rattle.std.proofs.Common.{ℕ, List, [], ◌∷◌, ◌++◌, Bool, ◌==◌
 use Rattle.std.specs.Prelude.{ℤ, Some, None, slice_index_or, if◌then◌else◌}
 use Rattle.std.specs.List.{list_all}
 use Rattle.principals.specs.ActsFor.{PrincipalHierarchy}
-use Rattle.labels.specs.Label.{Label, flows}
+use Rattle.labels.specs.Label.{Label}
+use Rattle.labels.specs.Constraints.{holds, label_lattice}
 use Rattle.labels.specs.declared.sent.Pair.{Pair}
 use Rattle.resolved.specs.declared.expression.Base.TheVariants.{Int}
 use Rattle.resolved.specs.declared.expression.Variable.TheVariants.{Local}
@@ -16,7 +17,7 @@ use Rattle.resolved.specs.Tree.{Expression, Integer, Read, Unary, Binary, Statem
 use Rattle.resolved.specs.Program.{Program, ProcedureEntry, ThrownEntry, GlobalEntry, SlotEntry}
 use Rattle.resolved.specs.State.{World}
 use Rattle.resolved.specs.Meaning.{Outcome, Ended, Stopped, Stop, run_within, state_after}
-use Rattle.resolved.specs.Labelled.{Labelling, Demand, program_demands}
+use Rattle.resolved.specs.Labelled.{Demand, Labelling, chosen, program_demands}
 
 abbrev pub people : PrincipalHierarchy
 people = record { names = (65 ∷ []) ∷ (66 ∷ []) ∷ (67 ∷ []) ∷ []; pairs = (2, 1) ∷ [] }
@@ -176,21 +177,21 @@ run frames k p world =
     (numbers_of (state_after (run_within frames p world k)).sent, end_of (run_within frames p world k))
 
 -- a labelling in which the locals and the loops of each procedure have these labels
-abbrev pub labels_are : List Label → List Label → ℕ → Labelling
-labels_are locals loops f = record { local_label = λ n. slice_index_or locals n []; loop_label = λ n. slice_index_or loops n [] }
+abbrev pub labels_are : List Label → List Label → Labelling
+labels_are locals loops = record { locals = λ f n. slice_index_or locals n []; loops = λ f n. slice_index_or loops n [] }
 
 -- nothing is left to choose
-abbrev pub all_written : ℕ → Labelling
-all_written f = record { local_label = λ n. []; loop_label = λ n. [] }
+abbrev pub all_written : Labelling
+all_written = record { locals = λ f n. []; loops = λ f n. [] }
 
 -- a loop's label to choose
-abbrev pub loop_is : Label → ℕ → Labelling
-loop_is label f = record { local_label = λ n. []; loop_label = λ n. label }
+abbrev pub loop_is : Label → Labelling
+loop_is label = record { locals = λ f n. []; loops = λ f n. label }
 
 -- a local's label to choose
-abbrev pub locals_are : Label → ℕ → Labelling
-locals_are label f = record { local_label = λ n. label; loop_label = λ n. [] }
+abbrev pub locals_are : Label → Labelling
+locals_are label = record { locals = λ f n. label; loops = λ f n. [] }
 
 -- whether a program fits a labelling
-abbrev pub fits : Program → (ℕ → Labelling) → Bool
-fits p labelling = list_all (λ (d : Demand). flows p.hierarchy d.left d.right) (program_demands p labelling)
+abbrev pub fits : Program → Labelling → Bool
+fits p labelling = list_all (λ (d : Demand). holds (label_lattice p.hierarchy) (chosen labelling) d) (program_demands p)

@@ -1,6 +1,6 @@
 -- Each rule of labels, once where a program fits it and once where none of its labellings does. Each program but those of calls
 -- begins with `int{Alice:} x = 0; try { x = receive s; } catch (End) { }`.
-use Rattle.std.proofs.Common.{◌≡◌, refl, ℕ, List, [], ◌∷◌, ◌++◌, Bool, true, false, ◌&&◌}
+use Rattle.std.proofs.Common.{◌≡◌, refl, List, [], ◌∷◌, ◌++◌, Bool, true, false, ◌&&◌}
 use Rattle.std.specs.Prelude.{Some, None}
 use Rattle.std.specs.Int.{int_wrap}
 use Rattle.labels.specs.Label.{Label}
@@ -26,7 +26,7 @@ unfolding int_wrap
 assign_fits = refl
 
 -- `int{Alice:} z = 0; int{Alice: Bob} y = z;`
-assign_refused : (labelling : ℕ → Labelling)
+assign_refused : (labelling : Labelling)
     → fits (main_program (int_slot alice ∷ int_slot alice_to_bob ∷ []) (set_to 0 (int 0) ∷ set_to 1 (var 0) ∷ [])) labelling ≡ false
 unfolding int_wrap
 assign_refused labelling = refl
@@ -44,7 +44,7 @@ array_fits : fits (secret_program (array_slot 2 alice ∷ []) (if_then (positive
 unfolding int_wrap
 array_fits = refl
 
-array_refused : (labelling : ℕ → Labelling)
+array_refused : (labelling : Labelling)
     → fits (secret_program (array_slot 2 [] ∷ []) (if_then (positive (var 0)) (Clear 0 1 ∷ []) ∷ [])) labelling ≡ false
 unfolding int_wrap
 array_refused labelling = refl
@@ -57,13 +57,13 @@ unfolding int_wrap
 store_fits = refl
 
 -- the same with `int{} a[2];`
-store_refused : (labelling : ℕ → Labelling) → fits (secret_program (array_slot 2 [] ∷ []) (
+store_refused : (labelling : Labelling) → fits (secret_program (array_slot 2 [] ∷ []) (
     Clear 0 1 ∷ try_to (Store 0 (Local 1) 2 (var 0) (int 1) ∷ []) (on bounds []) ∷ [])) labelling ≡ false
 unfolding int_wrap
 store_refused labelling = refl
 
 -- `try { a[x] = 1; send pub, 1; } catch (Bounds) { }`: that the index was in range would be told
-store_range_refused : (labelling : ℕ → Labelling) → fits (secret_program (array_slot 2 alice ∷ []) (
+store_range_refused : (labelling : Labelling) → fits (secret_program (array_slot 2 alice ∷ []) (
     Clear 0 1 ∷ try_to (Store 0 (Local 1) 2 (var 0) (int 1) ∷ send_public (int 1) ∷ []) (on bounds []) ∷ [])) labelling ≡ false
 unfolding int_wrap
 store_range_refused labelling = refl
@@ -75,13 +75,13 @@ receive_fits : fits (secret_program [] (
 unfolding int_wrap
 receive_fits = refl
 
-receive_refused : (labelling : ℕ → Labelling) → fits (secret_program [] (
+receive_refused : (labelling : Labelling) → fits (secret_program [] (
     if_then (positive (var 0)) (try_to (Receive 0 q_channel None ∷ []) (on end []) ∷ []) ∷ [])) labelling ≡ false
 unfolding int_wrap
 receive_refused labelling = refl
 
 -- `int{} y = 0; try { y = receive s; } catch (End) { }`
-target_refused : (labelling : ℕ → Labelling)
+target_refused : (labelling : Labelling)
     → fits (main_program (int_slot [] ∷ []) (try_to (Receive 0 s_channel (Some (Local 0)) ∷ []) (on end []) ∷ [])) labelling ≡ false
 unfolding int_wrap
 target_refused labelling = refl
@@ -99,7 +99,7 @@ send_fits : fits (secret_program [] (send_public (int 7) ∷ [])) all_written �
 unfolding int_wrap
 send_fits = refl
 
-send_refused : (labelling : ℕ → Labelling) → fits (secret_program [] (send_public (var 0) ∷ [])) labelling ≡ false
+send_refused : (labelling : Labelling) → fits (secret_program [] (send_public (var 0) ∷ [])) labelling ≡ false
 unfolding int_wrap
 send_refused labelling = refl
 
@@ -109,13 +109,13 @@ if_fits : fits (secret_program [] (if_then (positive (var 0)) (set_to 0 (int 1) 
 unfolding int_wrap
 if_fits = refl
 
-if_refused : (labelling : ℕ → Labelling)
+if_refused : (labelling : Labelling)
     → fits (secret_program [] (if_then (positive (var 0)) (send_public (int 1) ∷ []) ∷ [])) labelling ≡ false
 unfolding int_wrap
 if_refused labelling = refl
 
 -- `if (x > 0) { return; } send pub, 1;`: two ends are possible, so the second statement is not reached at the first one's label
-if_return_refused : (labelling : ℕ → Labelling)
+if_return_refused : (labelling : Labelling)
     → fits (secret_program [] (if_then (positive (var 0)) (ReturnWith 0 None ∷ []) ∷ send_public (int 1) ∷ [])) labelling ≡ false
 unfolding int_wrap
 if_return_refused labelling = refl
@@ -165,7 +165,7 @@ unfolding int_wrap
 break_fits = refl
 
 -- `throw` in a secret branch: `try { if (x > 0) { throw Oops; } send pub, 1; } catch (Oops) { }`
-throw_refused : (labelling : ℕ → Labelling) → fits (secret_program [] (
+throw_refused : (labelling : Labelling) → fits (secret_program [] (
     try_to (if_then (positive (var 0)) (Leave 0 (Throw oops) ∷ []) ∷ send_public (int 1) ∷ []) (on oops []) ∷ [])) labelling ≡ false
 unfolding int_wrap
 throw_refused labelling = refl
@@ -177,7 +177,7 @@ try_fits : fits (secret_program (int_slot alice ∷ []) (
 unfolding int_wrap
 try_fits = refl
 
-try_refused : (labelling : ℕ → Labelling) → fits (secret_program (int_slot alice ∷ []) (
+try_refused : (labelling : Labelling) → fits (secret_program (int_slot alice ∷ []) (
     try_to (set_to 1 (Binary Divide (int 1) (var 0)) ∷ []) (on arith (send_public (int 1) ∷ [])) ∷ [])) labelling ≡ false
 unfolding int_wrap
 try_refused labelling = refl
@@ -190,7 +190,7 @@ unfolding int_wrap
 safe_division_fits = refl
 
 -- the right operand of `&&` is evaluated or not by the left one: `try { y = x > 0 && 1 / z == 1; send pub, 1; } catch (Arith) { }`
-short_refused : (labelling : ℕ → Labelling) → fits (secret_program (int_slot alice ∷ int_slot [] ∷ []) (
+short_refused : (labelling : Labelling) → fits (secret_program (int_slot alice ∷ int_slot [] ∷ []) (
     try_to (set_to 1 (Short And (positive (var 0)) (Binary Equal (Binary Divide (int 1) (var 2)) (int 1))) ∷ send_public (int 1) ∷ [])
     (on arith []) ∷ [])) labelling ≡ false
 unfolding int_wrap
@@ -205,7 +205,7 @@ unfolding int_wrap
 block_fits = refl
 
 -- `void main() throws (Arith{Alice:}) { .. int{Alice:} y = 1 / x; send pub, 1; }`: what follows is reached or not by x
-block_refused : (labelling : ℕ → Labelling) → fits (program (record (procedure (int_slot alice ∷ int_slot alice ∷ [])
+block_refused : (labelling : Labelling) → fits (program (record (procedure (int_slot alice ∷ int_slot alice ∷ [])
     (receive_secret ++ (set_to 1 (Binary Divide (int 1) (var 0)) ∷ send_public (int 1) ∷ []))) { throws = thrown arith alice } ∷ [])) labelling
     ≡ false
 unfolding int_wrap
@@ -213,7 +213,7 @@ block_refused labelling = refl
 
 -- `try { if (x > 0) { throw Oops; } x = 1; send pub, 1; } catch (Oops) { }`: the `if` has two ends, and all that follows in the block
 -- is reached at the label of its normal end
-rest_refused : (labelling : ℕ → Labelling) → fits (secret_program [] (
+rest_refused : (labelling : Labelling) → fits (secret_program [] (
     try_to (if_then (positive (var 0)) (Leave 0 (Throw oops) ∷ []) ∷ set_to 0 (int 1) ∷ send_public (int 1) ∷ []) (on oops []) ∷ []))
     labelling ≡ false
 unfolding int_wrap
@@ -221,7 +221,7 @@ rest_refused labelling = refl
 
 -- with a public y, `try { if (y > 0) { return; } if (x > 0) { throw Oops; } throw Oops; } catch (Oops) { send pub, 1; }`: the rest of the
 -- block, which has one end, is no statement of its own and so no single path
-no_single_path : (labelling : ℕ → Labelling) → fits (secret_program (int_slot [] ∷ []) (
+no_single_path : (labelling : Labelling) → fits (secret_program (int_slot [] ∷ []) (
     try_to (
     if_then (positive (var 1)) (ReturnWith 0 None ∷ []) ∷ if_then (positive (var 0)) (Leave 0 (Throw oops) ∷ []) ∷ Leave 0 (Throw oops) ∷ [])
     (on oops (send_public (int 1) ∷ [])) ∷ [])) labelling ≡ false
@@ -247,11 +247,11 @@ call_fits : fits (calling alice []) all_written ≡ true
 unfolding int_wrap calling
 call_fits = refl
 
-call_refused : (labelling : ℕ → Labelling) → fits (calling [] (send_public (int 1) ∷ [])) labelling ≡ false
+call_refused : (labelling : Labelling) → fits (calling [] (send_public (int 1) ∷ [])) labelling ≡ false
 unfolding int_wrap calling
 call_refused labelling = refl
 
-call_body_refused : (labelling : ℕ → Labelling) → fits (calling alice (send_public (int 1) ∷ [])) labelling ≡ false
+call_body_refused : (labelling : Labelling) → fits (calling alice (send_public (int 1) ∷ [])) labelling ≡ false
 unfolding int_wrap calling
 call_body_refused labelling = refl
 
@@ -267,25 +267,25 @@ argument_fits : fits (calling_k alice alice alice (
 unfolding int_wrap calling_k
 argument_fits = refl
 
-argument_refused : (labelling : ℕ → Labelling) → fits (calling_k [] alice alice (
+argument_refused : (labelling : Labelling) → fits (calling_k [] alice alice (
     try_to (Call 0 1 (var 0 ∷ []) None ∷ []) (on arith []) ∷ send_public (int 1) ∷ [])) labelling ≡ false
 unfolding int_wrap calling_k
 argument_refused labelling = refl
 
 -- the end label: `try { k(1); send pub, 1; } catch (Arith) { }`, where k may have an end label by which it ends normally or not
-end_label_refused : (labelling : ℕ → Labelling) → fits (calling_k alice alice alice (
+end_label_refused : (labelling : Labelling) → fits (calling_k alice alice alice (
     try_to (Call 0 1 (int 1 ∷ []) None ∷ send_public (int 1) ∷ []) (on arith []) ∷ [])) labelling ≡ false
 unfolding int_wrap calling_k
 end_label_refused labelling = refl
 
 -- ---- the ends of a procedure
 -- k with `throws (Arith{})`: that it throws would tell of n
-procedure_refused : (labelling : ℕ → Labelling) → fits (calling_k alice alice [] []) labelling ≡ false
+procedure_refused : (labelling : Labelling) → fits (calling_k alice alice [] []) labelling ≡ false
 unfolding int_wrap calling_k
 procedure_refused labelling = refl
 
 -- k with the end label {}: that it ends normally would tell of n
-normal_end_refused : (labelling : ℕ → Labelling) → fits (calling_k alice [] alice []) labelling ≡ false
+normal_end_refused : (labelling : Labelling) → fits (calling_k alice [] alice []) labelling ≡ false
 unfolding int_wrap calling_k
 normal_end_refused labelling = refl
 
@@ -305,11 +305,11 @@ return_fits : fits (returning alice alice) all_written ≡ true
 unfolding int_wrap returning
 return_fits = refl
 
-return_refused : (labelling : ℕ → Labelling) → fits (returning [] alice) labelling ≡ false
+return_refused : (labelling : Labelling) → fits (returning [] alice) labelling ≡ false
 unfolding int_wrap returning
 return_refused labelling = refl
 
 -- the value has its label where it goes
-value_refused : (labelling : ℕ → Labelling) → fits (returning alice []) labelling ≡ false
+value_refused : (labelling : Labelling) → fits (returning alice []) labelling ≡ false
 unfolding int_wrap returning
 value_refused labelling = refl

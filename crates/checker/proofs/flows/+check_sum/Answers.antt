@@ -4,7 +4,7 @@ use Rattle.labels.specs.Label.{Label}
 use Rattle.resolved.specs.declared.expression.Expression as E
 use Rattle.resolved.specs.declared.tables.Procedure.{Procedure}
 use Rattle.resolved.specs.Program.{Program}
-use Rattle.resolved.specs.Labelled.{Labelling, value_label}
+use Rattle.resolved.specs.Before.{Labelling, value_label}
 use Rattle.resolved.specs.ProgramOf.{procedure_entry}
 use Rattle.resolved.specs.TreeOf.{expression_of}
 use Rattle.checker.specs.Way.{scope_of}

@@ -1,5 +1,5 @@
 use Rattle.std.proofs.Common.{take, map}
-use Rattle.resolved.specs.Labelled.{Marks, Fits}
+use Rattle.resolved.specs.Before.{Marks, Fits}
 use Rattle.resolved.specs.ProgramOf.{thrown_entry}
 use Rattle.checker.specs.Way.{StandsForEnds}
 use Rattle.checker.proofs.Leaving.{thrown_demands}

@@ -1,5 +1,5 @@
 use Rattle.std.proofs.lemmas.Result.{err_from_is_err_and, on_ok_weaker}
-use Rattle.resolved.specs.Labelled.{value_label}
+use Rattle.resolved.specs.Before.{value_label}
 use Rattle.resolved.specs.ProgramOf.{procedure_entry}
 use Rattle.resolved.specs.TreeOf.{expression_of}
 use Rattle.checker.specs.Way.{scope_of}

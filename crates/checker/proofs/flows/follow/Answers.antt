@@ -2,7 +2,7 @@ use Rattle.std.proofs.Common.{ap, length, sym, subst, take, refl, ◌≡◌, Bor
 use Rattle.std.proofs.lemmas.Result.{err_from_is_err_and}
 use Rattle.labels.specs.Label.{Label}
 use Rattle.resolved.specs.Program.{ChannelEntry}
-use Rattle.resolved.specs.Labelled.{Labelling, Fits, statement_demands}
+use Rattle.resolved.specs.Before.{Labelling, Fits, statement_demands}
 use Rattle.resolved.specs.CoreOf.{program_of}
 use Rattle.resolved.specs.ProgramOf.{procedure_entry}
 use Rattle.resolved.specs.TreeOf.{statement_of, block_of}

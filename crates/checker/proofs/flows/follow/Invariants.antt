@@ -1,5 +1,5 @@
 use Rattle.std.proofs.Common.{take}
-use Rattle.resolved.specs.Labelled.{Labelling, Fits, block_demands}
+use Rattle.resolved.specs.Before.{Labelling, Fits, block_demands}
 use Rattle.resolved.specs.CoreOf.{program_of}
 use Rattle.resolved.specs.ProgramOf.{procedure_entry}
 use Rattle.resolved.specs.TreeOf.{block_of}

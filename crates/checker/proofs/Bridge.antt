@@ -1,0 +1,76 @@
+-- From what the walk tells, whatever the labels that are not written, to what is told of a refused program.
+use Rattle.std.proofs.Common.{◌≡◌, refl, sym, ap, ◌∙◌, subst, ℕ, Bool, true, false, not, List, [], ◌∷◌, ◌++◌, map}
+use Rattle.std.specs.Prelude.{Some, None, find, Contains, IsTrue, ◌||◌, if◌then◌else◌}
+use Rattle.std.specs.List.{list_all}
+use Rattle.principals.specs.ActsFor.{PrincipalHierarchy}
+use Rattle.labels.specs.Label.{Label, Covers, flows}
+use Rattle.labels.specs.Constraints.{Atom, Written, Unknown, is_written, value, total, holds, first_unmet, label_lattice}
+use Rattle.resolved.specs.Program.{Program}
+use Rattle.resolved.specs.Labelled.{Unwritten, OfLocal, OfLoop, Demand, Labelling, chosen, program_demands}
+use Rattle.resolved.specs.Before as old
+use Rattle.resolved.specs.Flow.{IsRefused}
+use Rattle.resolved.proofs.Faithful.{ev, Are, OwnLabelsOf, of_number, program-are}
+use Rattle.resolved.proofs.Flow.{least_labels, labels-least, refused-by, first-is_written}
+use Rattle.checker.specs.declared.refusal.UnmetDemand.{UnmetDemand}
+use Rattle.checker.specs.declared.refusal.FlowRefusal.TheVariants.{Unmet}
+use Rattle.checker.specs.FirstDemand.{TellsFirstDemand, TellsRefusal, Tells, rule_number}
+
+find-ev : (labelling : Labelling) (h : PrincipalHierarchy) (ds : List Demand) (d' : old.Demand) →
+    find (λ (d : old.Demand). not (flows h d.left d.right)) (map (ev labelling) ds) ≡ Some d' →
+    (d : Demand) × (find (λ (d : Demand). not (holds (label_lattice h) (chosen labelling) d)) ds ≡ Some d) × (ev labelling d ≡ d')
+find-ev labelling h [] d' e = let i : None ≡ Some d' = e in absurd (cc)
+find-ev labelling h (d ∷ ds) d' e = go (holds (label_lattice h) (chosen labelling) d) refl e (find-ev labelling h ds d')
+  where
+    go : (b : Bool) → holds (label_lattice h) (chosen labelling) d ≡ b →
+        find (λ (d : old.Demand). not (flows h d.left d.right)) (map (ev labelling) (d ∷ ds)) ≡ Some d' →
+        (find (λ (d : old.Demand). not (flows h d.left d.right)) (map (ev labelling) ds) ≡ Some d' →
+        (d : Demand) × (find (λ (d : Demand). not (holds (label_lattice h) (chosen labelling) d)) ds ≡ Some d) × (ev labelling d ≡ d')) →
+        (x : Demand) × (find (λ (d : Demand). not (holds (label_lattice h) (chosen labelling) d)) (d ∷ ds) ≡ Some x) × (ev labelling x ≡ d')
+    go true f e later =
+        let found = later (sym (ap (λ b. if not b then Some (ev labelling d) else find (λ (x : old.Demand). not (flows h x.left x.right)) (map (ev labelling) ds)) f) ∙ e) in
+        (found.0, ap (λ b. if not b then Some d else find (λ (x : Demand). not (holds (label_lattice h) (chosen labelling) x)) ds) f ∙ found.1, found.2)
+    go false f e later =
+        let is : Some (ev labelling d) ≡ Some d' =
+        sym (ap (λ b. if not b then Some (ev labelling d) else find (λ (x : old.Demand). not (flows h x.left x.right)) (map (ev labelling) ds)) f) ∙ e in
+        let same : ev labelling d ≡ d' = cc in
+        (d, ap (λ b. if not b then Some d else find (λ (x : Demand). not (holds (label_lattice h) (chosen labelling) x)) ds) f, same)
+
+least_labelling : Program → Labelling
+least_labelling program = record { locals = λ f n. least_labels program (OfLocal f n); loops = λ f n. least_labels program (OfLoop f n) }
+
+chosen-least : (program : Program) (u : Unwritten) → chosen (least_labelling program) u ≡ least_labels program u
+unfolding least_labelling
+chosen-least program (OfLocal f n) = refl
+chosen-least program (OfLoop f n) = refl
+
+finish : (program : Program) (unmet : UnmetDemand) (d : Demand) (d' : old.Demand) → ev (least_labelling program) d ≡ d' →
+    (λ u. chosen (least_labelling program) u) ≡ least_labels program →
+    first_unmet (label_lattice program.hierarchy) (program_demands program) (least_labels program) ≡ Some d → Contains (program_demands program) d →
+    is_written d.right ≡ true → Tells program.hierarchy d' unmet → TellsRefusal program unmet
+finish program unmet d d' is same first there written tells = by_right d.right refl
+  where
+    policy_of : Contains (total (λ a b. a ++ b) [] (least_labels program) d.left) unmet.policy
+    policy_of =
+        subst (λ (labels : Unwritten → Label). Contains (total (λ a b. a ++ b) [] labels d.left) unmet.policy) same
+        (subst (λ (x : old.Demand). Contains x.left unmet.policy) (sym is) tells.policy_on_left)
+
+    by_right : (r : Atom Unwritten Label) → d.right ≡ r → TellsRefusal program unmet
+    by_right (Unknown u) e = let i : false ≡ true = sym (ap is_written e) ∙ written in absurd (cc)
+    by_right (Written to) e =
+        let right : unmet.right ≡ to = tells.right_is ∙ ap (λ (x : old.Demand). x.right) (sym is) ∙ ap (value (chosen (least_labelling program))) e in
+        let is_right : d.right ≡ Written unmet.right = e ∙ ap (λ l. Written l) (sym right) in
+        let uncovered : ¬ Covers program.hierarchy unmet.right unmet.policy =
+        subst (λ (l : Label). ¬ Covers program.hierarchy l unmet.policy) (sym tells.right_is) tells.not_covered in
+        let found = refused-by program d unmet.policy unmet.right first there is_right policy_of uncovered in
+        (found.0, d, found.1, tells.at_is ∙ ap (λ (x : old.Demand). x.at) (sym is), tells.rule_is ∙ ap (λ (x : old.Demand). x.rule) (sym is), is_right)
+
+pub refused-from : (program : Program) → OwnLabelsOf program → (unmet : UnmetDemand) → TellsFirstDemand program (Unmet unmet) → TellsRefusal program unmet
+refused-from program own unmet told =
+    let lab : Labelling = least_labelling program in
+    let first = told (of_number lab) in
+    let same : (λ u. chosen lab u) ≡ least_labels program = λ i u. chosen-least program u i in
+    let found = find-ev lab program.hierarchy (program_demands program) first.0
+    (ap (find (λ (d : old.Demand). not (flows program.hierarchy d.left d.right))) (program-are lab program own).are ∙ first.1) in
+    let least = subst (λ (labels : Unwritten → Label). find (λ (d : Demand). not (holds (label_lattice program.hierarchy) labels d)) (program_demands program) ≡ Some found.0) same found.1 in
+    let first_written = first-is_written program.hierarchy (least_labels program) (program_demands program) found.0 (labels-least program).fits least in
+    finish program unmet found.0 first.0 found.2 same first_written.0 first_written.1 first_written.2 first.2

@@ -1,0 +1,219 @@
+-- Every program is labelled or refused, and not both.
+use Rattle.std.proofs.Common.{◌≡◌, refl, sym, ap, ◌∙◌, subst, ℕ, Bool, true, false, not, ◌&&◌, ◌==◌, ◌||◌, List, [], ◌∷◌, ◌++◌, ◌⊎◌, inl, inr, ⊎_elim, arith}
+use Rattle.std.specs.Prelude.{IsTrue, IsFalse, Contains, Option, Some, None, find, All}
+use Rattle.std.specs.List.{list_all}
+use Rattle.std.proofs.lemmas.Bool.{and_parts, and_from}
+use Rattle.principals.specs.ActsFor.{PrincipalHierarchy}
+use Rattle.std.proofs.lemmas.List.Elements.{Contains-append_cases}
+use Rattle.principals.proofs.Closure.{Contains-later, Contains-first, Contains-cons_cases, none_in_nil}
+use Rattle.labels.specs.Label.{ReaderPolicy, Label, Covers, covers, flows}
+use Rattle.labels.specs.Constraints.{Written, Unknown, Atom, Constraint, Keeps, is_written, value, total, holds, FitsAll, IsLeast, first_unmet, IsChain, IsRefusedAt, Joined, ends, label_lattice}
+use Rattle.labels.proofs.Constraints.{each-of, all-from, least_values, least_values-least, unknown-holds, unmet-chain, chain-rules_out, join_all, reaching, reaching-only, joined-from_reaching}
+use Rattle.labels.proofs.FlowTests.{IsLattice-flows}
+use Rattle.labels.proofs.Tests.{flows-decides, covers-decides}
+use Rattle.labels.proofs.Elements.{each_from_All}
+use Rattle.resolved.specs.Program.{Program}
+use Rattle.resolved.specs.Labelled.{Unwritten, OfLocal, OfLoop, Demand, Labelling, chosen, Labelled, program_demands}
+use Rattle.resolved.specs.Flow.{IsFlowChain, IsRefused, AreLeast}
+
+pub same_unwritten : Unwritten → Unwritten → Bool
+same_unwritten (OfLocal f n) (OfLocal g m) = (f == g) && (n == m)
+same_unwritten (OfLoop f n) (OfLoop g m) = (f == g) && (n == m)
+same_unwritten (OfLocal f n) (OfLoop g m) = false
+same_unwritten (OfLoop f n) (OfLocal g m) = false
+
+pub unwritten-same : (a b : Unwritten) → same_unwritten a b ≡ true → a ≡ b
+unfolding same_unwritten
+unwritten-same (OfLocal f n) (OfLocal g m) e =
+    let parts = and_parts (f == g) (n == m) e in
+    let i : f ≡ g = grind (arith, parts.0) in let j : n ≡ m = grind (arith, parts.1) in rw (i, j) refl
+unwritten-same (OfLoop f n) (OfLoop g m) e =
+    let parts = and_parts (f == g) (n == m) e in
+    let i : f ≡ g = grind (arith, parts.0) in let j : n ≡ m = grind (arith, parts.1) in rw (i, j) refl
+unwritten-same (OfLocal f n) (OfLoop g m) e = let i : false ≡ true = e in absurd (cc)
+unwritten-same (OfLoop f n) (OfLocal g m) e = let i : false ≡ true = e in absurd (cc)
+
+pub unwritten-itself : (a : Unwritten) → same_unwritten a a ≡ true
+unfolding same_unwritten
+unwritten-itself (OfLocal f n) = grind arith
+unwritten-itself (OfLoop f n) = grind arith
+
+-- least labels are there
+abbrev pub least_labels : Program → Unwritten → Label
+least_labels program u = least_values same_unwritten unwritten-same unwritten-itself (label_lattice program.hierarchy) (IsLattice-flows program.hierarchy) (program_demands program) u
+
+pub labels-least : (program : Program) → AreLeast program (least_labels program)
+labels-least program = least_values-least same_unwritten unwritten-same unwritten-itself (label_lattice program.hierarchy) (IsLattice-flows program.hierarchy) (program_demands program)
+
+-- a flow chain rules out every labelling
+pub chain-refuses : (program : Program) (policy : ReaderPolicy) (chain : List Demand) (last : Demand) → IsFlowChain program policy chain last →
+    Labelled program → ⊥
+chain-refuses program policy chain last is labelled =
+    chain-rules_out (label_lattice program.hierarchy) (IsLattice-flows program.hierarchy) (program_demands program) is.from chain last
+    (record { joined = is.joined; to = is.to; right_is = is.right_is; not_below = not_below (flows program.hierarchy is.from is.to) refl })
+    (chosen (record { locals = labelled.0; loops = labelled.1.0 })) labelled.1.1
+  where
+    not_below : (b : Bool) → flows program.hierarchy is.from is.to ≡ b → b ≡ false
+    not_below false e = refl
+    not_below true e = absurd (is.not_covered (each_from_All (λ p. Covers program.hierarchy is.to p) is.from
+        ((flows-decides program.hierarchy is.from is.to).0 e) policy is.policy_of))
+
+-- a label that does not flow has a policy that is not covered
+uncovered : (h : PrincipalHierarchy) (from to : Label) → flows h from to ≡ false → (policy : ReaderPolicy) × Contains from policy × (¬ Covers h to policy)
+uncovered h [] to e = let i : true ≡ false = e in absurd (cc)
+uncovered h (policy ∷ rest) to e = go (covers h to policy) refl (uncovered h rest to)
+  where
+    go : (b : Bool) → covers h to policy ≡ b → (flows h rest to ≡ false → (p : ReaderPolicy) × Contains rest p × (¬ Covers h to p)) →
+        (p : ReaderPolicy) × Contains (policy ∷ rest) p × (¬ Covers h to p)
+    go false f later = (policy, Contains-first policy rest, λ covered. let i : true ≡ false = sym ((covers-decides h to policy).1 covered) ∙ f in cc)
+    go true f later = let found = later (sym (rw f refl) ∙ e) in (found.0, Contains-later policy rest found.0 found.1, found.2)
+
+-- what is found is in the list, passes the test, or nothing does
+found-or : {X : Type 0} (test : X → Bool) (xs : List X) →
+    ((x : X) × (find test xs ≡ Some x) × Contains xs x × IsTrue (test x)) ⊎ ((x : X) → Contains xs x → IsFalse (test x))
+found-or test [] = inr (λ x h. absurd (none_in_nil x h))
+found-or {X} test (y ∷ ys) = go (test y) refl (found-or test ys)
+  where
+    go : (b : Bool) → test y ≡ b →
+        ((x : X) × (find test ys ≡ Some x) × Contains ys x × IsTrue (test x)) ⊎ ((x : X) → Contains ys x → IsFalse (test x)) →
+        ((x : X) × (find test (y ∷ ys) ≡ Some x) × Contains (y ∷ ys) x × IsTrue (test x)) ⊎ ((x : X) → Contains (y ∷ ys) x → IsFalse (test x))
+    go true e later = inl (y, rw e refl, Contains-first y ys, e)
+    go false e (inl found) = inl (found.0, rw e found.1, Contains-later y ys found.0 found.2, found.3)
+    go false e (inr none) = inr (λ x h. ⊎_elim (λ same. subst (λ z. IsFalse (test z)) same e) (λ k. none x k) (Contains-cons_cases y ys x h))
+
+-- every program is labelled or refused
+pub labelled-or_refused : (program : Program) →
+    Labelled program ⊎ ((policy : ReaderPolicy) × (chain : List Demand) × (last : Demand) × IsRefused program policy chain last)
+labelled-or_refused program =
+    ⊎_elim (λ found. inr (refused found.0 found.1 found.2 found.3)) (λ none. inl (labelled none))
+    (found-or (λ (d : Demand). is_written d.right && not (holds (label_lattice program.hierarchy) (least_labels program) d)) (program_demands program))
+  where
+    refused : (last : Demand) → first_unmet (label_lattice program.hierarchy) (program_demands program) (least_labels program) ≡ Some last →
+        Contains (program_demands program) last → (is_written last.right && not (holds (label_lattice program.hierarchy) (least_labels program) last)) ≡ true →
+        (policy : ReaderPolicy) × (chain : List Demand) × (d : Demand) × IsRefused program policy chain d
+    refused last first there e = by_right last.right refl (and_parts (is_written last.right) (not (holds (label_lattice program.hierarchy) (least_labels program) last)) e)
+      where
+        fails : (b : Bool) → not b ≡ true → b ≡ false
+        fails false f = refl
+        fails true f = let i : false ≡ true = f in absurd (cc)
+
+        by_right : (r : Atom Unwritten Label) → last.right ≡ r → (is_written last.right ≡ true) × (not (holds (label_lattice program.hierarchy) (least_labels program) last) ≡ true) →
+            (policy : ReaderPolicy) × (chain : List Demand) × (d : Demand) × IsRefused program policy chain d
+        by_right (Unknown u) is parts = let i : false ≡ true = sym (ap is_written is) ∙ parts.0 in absurd (cc)
+        by_right (Written to) is parts =
+            let found = unmet-chain same_unwritten unwritten-same unwritten-itself (label_lattice program.hierarchy) (IsLattice-flows program.hierarchy)
+            (program_demands program) last to there is (fails _ parts.1) in
+            let policy = uncovered program.hierarchy found.0 found.2.to found.2.not_below in
+            (policy.0, found.1, last, record {
+              labels = least_labels program;
+              least = labels-least program;
+              first = first;
+              chained = record {
+                from = found.0;
+                policy_of = policy.1;
+                joined = found.2.joined;
+                to = found.2.to;
+                right_is = found.2.right_is;
+                not_covered = policy.2;
+              };
+            })
+
+    chosen-same : (u : Unwritten) → least_labels program u ≡ chosen (record { locals = λ f n. least_labels program (OfLocal f n); loops = λ f n. least_labels program (OfLoop f n) }) u
+    chosen-same (OfLocal f n) = refl
+    chosen-same (OfLoop f n) = refl
+
+    the_labelling : Labelling
+    the_labelling = record { locals = λ f n. least_labels program (OfLocal f n); loops = λ f n. least_labels program (OfLoop f n) }
+
+    labelled : ((d : Demand) → Contains (program_demands program) d → IsFalse (is_written d.right && not (holds (label_lattice program.hierarchy) (least_labels program) d))) → Labelled program
+    labelled none = (λ f n. least_labels program (OfLocal f n), (λ f n. least_labels program (OfLoop f n),
+        all-from (λ (d : Demand). holds (label_lattice program.hierarchy) (chosen the_labelling) d) (program_demands program) (λ d h.
+        subst (λ (labels : Unwritten → Label). IsTrue (holds (label_lattice program.hierarchy) labels d)) (λ i u. chosen-same u i) (held d h))))
+      where
+        held : (d : Demand) → Contains (program_demands program) d → IsTrue (holds (label_lattice program.hierarchy) (least_labels program) d)
+        held d h = by_right d.right refl (none d h)
+          where
+            by_right : (r : Atom Unwritten Label) → d.right ≡ r → IsFalse (is_written d.right && not (holds (label_lattice program.hierarchy) (least_labels program) d)) →
+                IsTrue (holds (label_lattice program.hierarchy) (least_labels program) d)
+            by_right (Unknown u) is e = unknown-holds (label_lattice program.hierarchy) (IsLattice-flows program.hierarchy) (program_demands program) (least_labels program) (labels-least program).fits d u h is
+            by_right (Written to) is e = passes (holds (label_lattice program.hierarchy) (least_labels program) d) (sym (ap (λ r. is_written r && not (holds (label_lattice program.hierarchy) (least_labels program) d)) is) ∙ e)
+              where
+                passes : (b : Bool) → not b ≡ false → b ≡ true
+                passes true f = refl
+                passes false f = let i : true ≡ false = f in absurd (cc)
+
+-- ---- a policy that was told of the first demand that does not hold is that of a chain
+policy-in_all : (l : List Label) (policy : ReaderPolicy) (h : PrincipalHierarchy) → Contains (join_all (label_lattice h) l) policy →
+    (label : Label) × Contains l label × Contains label policy
+policy-in_all [] policy h there = absurd (none_in_nil policy there)
+policy-in_all (label ∷ rest) policy h there =
+    ⊎_elim
+    (λ k. (label, Contains-first label rest, k))
+    (λ k. let found = policy-in_all rest policy h k in (found.0, Contains-later label rest found.0 found.1, found.2))
+    (Contains-append_cases label (join_all (label_lattice h) rest) policy there)
+
+policy-in_left : (labels : Unwritten → Label) (left : List (Atom Unwritten Label)) (policy : ReaderPolicy) → Contains (total (λ a b. a ++ b) [] labels left) policy →
+    (atom : Atom Unwritten Label) × Contains left atom × Contains (value labels atom) policy
+policy-in_left labels [] policy there = absurd (none_in_nil policy there)
+policy-in_left labels (atom ∷ rest) policy there =
+    ⊎_elim
+    (λ k. (atom, Contains-first atom rest, k))
+    (λ k. let found = policy-in_left labels rest policy k in (found.0, Contains-later atom rest found.0 found.1, found.2))
+    (Contains-append_cases (value labels atom) (total (λ a b. a ++ b) [] labels rest) policy there)
+
+pub refused-by : (program : Program) (last : Demand) (policy : ReaderPolicy) (to : Label) →
+    first_unmet (label_lattice program.hierarchy) (program_demands program) (least_labels program) ≡ Some last → Contains (program_demands program) last →
+    last.right ≡ Written to → Contains (total (λ a b. a ++ b) [] (least_labels program) last.left) policy → (¬ Covers program.hierarchy to policy) →
+    (chain : List Demand) × IsRefused program policy chain last
+refused-by program last policy to first there is policy_of uncovered =
+    let found = policy-in_left (least_labels program) last.left policy policy_of in by_part found.0 found.1 found.2
+  where
+    made : (from : Label) (chain : List Demand) → Contains from policy → Joined (program_demands program) (Written from) chain last →
+        (chain : List Demand) × IsRefused program policy chain last
+    made from chain k joined = (chain, record {
+      labels = least_labels program;
+      least = labels-least program;
+      first = first;
+      chained = record { from = from; policy_of = k; joined = joined; to = to; right_is = is; not_covered = uncovered };
+    })
+
+    by_part : (atom : Atom Unwritten Label) → Contains last.left atom → Contains (value (least_labels program) atom) policy →
+        (chain : List Demand) × IsRefused program policy chain last
+    by_part (Written from) part k = made from (last ∷ []) k (ends (Written from) last there part)
+    by_part (Unknown u) part k =
+        let found = policy-in_all (reaching same_unwritten unwritten-same unwritten-itself (program_demands program) u) policy program.hierarchy k in
+        let longer = joined-from_reaching (label_lattice program.hierarchy) (IsLattice-flows program.hierarchy) (program_demands program) found.0 u
+        (reaching-only same_unwritten unwritten-same unwritten-itself (program_demands program) found.0 u found.1) (last ∷ []) last (ends (Unknown u) last there part) in
+        made found.0 longer.0 found.2 longer.1
+
+-- where the demands with an unwritten right side hold, the first that does not hold has a written one
+pub first-is_written : (h : PrincipalHierarchy) (labels : Unwritten → Label) (ds : List Demand) (last : Demand) →
+    IsTrue (list_all (λ (d : Demand). is_written d.right || holds (label_lattice h) labels d) ds) →
+    find (λ (d : Demand). not (holds (label_lattice h) labels d)) ds ≡ Some last →
+    (first_unmet (label_lattice h) ds labels ≡ Some last) × Contains ds last × (is_written last.right ≡ true)
+first-is_written h labels [] last fits e = let i : None ≡ Some last = e in absurd (cc)
+first-is_written h labels (d ∷ ds) last fits e =
+    let parts = and_parts (is_written d.right || holds (label_lattice h) labels d) (list_all (λ (d : Demand). is_written d.right || holds (label_lattice h) labels d) ds) fits in
+    go (holds (label_lattice h) labels d) refl parts.0 e (first-is_written h labels ds last parts.1)
+  where
+    turned : (b : Bool) → (b || false) ≡ true → b ≡ true
+    turned true f = refl
+    turned false f = f
+
+    both_false : (b : Bool) → (b && false) ≡ false
+    both_false true = refl
+    both_false false = refl
+
+    go : (b : Bool) → holds (label_lattice h) labels d ≡ b → (is_written d.right || holds (label_lattice h) labels d) ≡ true →
+        find (λ (d : Demand). not (holds (label_lattice h) labels d)) (d ∷ ds) ≡ Some last →
+        (find (λ (d : Demand). not (holds (label_lattice h) labels d)) ds ≡ Some last →
+        (first_unmet (label_lattice h) ds labels ≡ Some last) × Contains ds last × (is_written last.right ≡ true)) →
+        (first_unmet (label_lattice h) (d ∷ ds) labels ≡ Some last) × Contains (d ∷ ds) last × (is_written last.right ≡ true)
+    go true f fit e later =
+        let found = later (sym (rw f refl) ∙ e) in
+        (rw (f, both_false (is_written d.right)) found.0, Contains-later d ds last found.1, found.2)
+    go false f fit e later =
+        let is : Some d ≡ Some last = sym (rw f refl) ∙ e in
+        let same : d ≡ last = cc in
+        let written : is_written d.right ≡ true = turned (is_written d.right) (rw f at fit) in
+        (rw (f, written) (ap (λ x. Some x) same), subst (λ x. Contains (d ∷ ds) x) same (Contains-first d ds), ap (λ (x : Demand). is_written x.right) (sym same) ∙ written)
