@@ -1,7 +1,9 @@
 -- The table of inputs after lines of a world's text.
 use Rattle.std.proofs.Common.{◌≡◌, ℕ, zero, suc, ◌+◌, ◌<◌, Bool, true, false, not, ◌||◌, cond, List, [], ◌∷◌, ◌++◌, length, map, take, get_or, Option, Some, None, is_some, ℤ, refl, sym, ap, ◌∙◌, arith, append_assoc, eqb, below_more, Bor}
 use Rattle.std.specs.Option.{option_map}
-use Rattle.std.specs.HashMap.{get_by}
+use Rattle.std.specs.BTreeMap.{get_by}
+use Rattle.std.specs.Cmp.Lexicographic.{slice_cmp}
+use Rattle.std.specs.Ordering.{nat_cmp}
 use Rattle.std.specs.declared.alloc.Global.{Global}
 use Rattle.std.specs.declared.vec.Vec.{Vec}
 use Rattle.std.proofs.lemmas.List.{take_more, map_push}
@@ -135,16 +137,16 @@ texts_more : (ws : List (Bor (List ℕ))) (k : ℕ) (d : Bor (List ℕ)) → k <
 texts_more ws k d h = ap texts_of (take_more ws k d h) ∙ map_push (λ (w : Bor (List ℕ)). w.now) (take k ws) (get_or ws k d)
 
 -- one more name in an empty table
-pub empty_more : (ws : List (Bor (List ℕ))) (k : ℕ) (d : Bor (List ℕ)) (m : Inputs) (name : List ℕ) → k < length ws → table_of m name ≡ table_after (texts_of (take k ws)) [] name → option_map (λ (entry : Option (Vec ℤ Global)). option_map (λ (numbers : Vec ℤ Global). numbers.items) entry) (cond (bytes_eq (get_or ws k d).now name) (Some None) (get_by (λ (key : Bor (List ℕ)). bytes_eq name key.now) m)) ≡ table_after (texts_of (take (k + 1) ws)) [] name
+pub empty_more : (ws : List (Bor (List ℕ))) (k : ℕ) (d : Bor (List ℕ)) (m : Inputs) (name : List ℕ) → k < length ws → table_of m name ≡ table_after (texts_of (take k ws)) [] name → option_map (λ (entry : Option (Vec ℤ Global)). option_map (λ (numbers : Vec ℤ Global). numbers.items) entry) (cond (bytes_eq (get_or ws k d).now name) (Some None) (get_by (λ (key : Bor (List ℕ)). slice_cmp nat_cmp name key.now) m)) ≡ table_after (texts_of (take (k + 1) ws)) [] name
 empty_more ws k d m name h old =
     let more = texts_more ws k d h in
     let any : list_any (λ input. bytes_eq name input) (texts_of (take (k + 1) ws)) ≡ (list_any (λ input. bytes_eq name input) (texts_of (take k ws)) || (bytes_eq name (get_or ws k d).now || false)) =
     ap (list_any (λ input. bytes_eq name input)) more ∙ list_any-append (λ input. bytes_eq name input) (texts_of (take k ws)) ((get_or ws k d).now ∷ []) in
-    ap (λ (b : Bool). option_map (λ (entry : Option (Vec ℤ Global)). option_map (λ (numbers : Vec ℤ Global). numbers.items) entry) (cond b (Some None) (get_by (λ (key : Bor (List ℕ)). bytes_eq name key.now) m))) (bytes_eq_sym (get_or ws k d).now name)
+    ap (λ (b : Bool). option_map (λ (entry : Option (Vec ℤ Global)). option_map (λ (numbers : Vec ℤ Global). numbers.items) entry) (cond b (Some None) (get_by (λ (key : Bor (List ℕ)). slice_cmp nat_cmp name key.now) m))) (bytes_eq_sym (get_or ws k d).now name)
     ∙ go (bytes_eq name (get_or ws k d).now) (list_any (λ input. bytes_eq name input) (texts_of (take k ws))) old
     ∙ ap (λ (b : Bool). cond b (Some None) None) (sym any)
   where
-    go : (b known : Bool) → table_of m name ≡ cond known (Some None) None → option_map (λ (entry : Option (Vec ℤ Global)). option_map (λ (numbers : Vec ℤ Global). numbers.items) entry) (cond b (Some None) (get_by (λ (key : Bor (List ℕ)). bytes_eq name key.now) m)) ≡ cond (known || (b || false)) (Some None) None
+    go : (b known : Bool) → table_of m name ≡ cond known (Some None) None → option_map (λ (entry : Option (Vec ℤ Global)). option_map (λ (numbers : Vec ℤ Global). numbers.items) entry) (cond b (Some None) (get_by (λ (key : Bor (List ℕ)). slice_cmp nat_cmp name key.now) m)) ≡ cond (known || (b || false)) (Some None) None
     go true true e = refl
     go true false e = refl
     go false true e = e

@@ -7,7 +7,9 @@ use Rattle.std.proofs.lemmas.List.{take_more, map_push, take_all}
 use Rattle.std.proofs.lemmas.List.Folds.{list_all-append}
 use Rattle.lexer.specs.Words.{is_name_text}
 use Rattle.std.specs.Option.{option_map}
-use Rattle.std.specs.HashMap.{get_by}
+use Rattle.std.specs.BTreeMap.{get_by}
+use Rattle.std.specs.Cmp.Lexicographic.{slice_cmp}
+use Rattle.std.specs.Ordering.{nat_cmp}
 use Rattle.std.specs.declared.alloc.Global.{Global}
 use Rattle.std.specs.declared.vec.Vec.{Vec}
 use Rattle.channels.specs.Table.{Inputs, table_of}
@@ -61,7 +63,7 @@ some_list true xs ys e = cc
 some_list false xs ys e = absurd (let no : Some ys ≡ None = e in cc)
 
 -- a table after the insertion of a line's numbers
-pub put_entry : (ws : List (Bor (List ℕ))) (d : Bor (List ℕ)) (m : Inputs) (numbers : Vec ℤ Global) (name : List ℕ) → 2 ≤ length ws → Some numbers.items ≡ cond (list_all is_int (map number_of (texts_of (take (length ws - 2) (drop 2 ws))))) (Some (map number_of (texts_of (take (length ws - 2) (drop 2 ws))))) None → option_map (λ (entry : Option (Vec ℤ Global)). option_map (λ (numbers : Vec ℤ Global). numbers.items) entry) (cond (bytes_eq (get_or ws 0 d).now name) (Some (Some numbers)) (get_by (λ (key : Bor (List ℕ)). bytes_eq name key.now) m)) ≡ table_with (table_of m) (texts_of ws) name
+pub put_entry : (ws : List (Bor (List ℕ))) (d : Bor (List ℕ)) (m : Inputs) (numbers : Vec ℤ Global) (name : List ℕ) → 2 ≤ length ws → Some numbers.items ≡ cond (list_all is_int (map number_of (texts_of (take (length ws - 2) (drop 2 ws))))) (Some (map number_of (texts_of (take (length ws - 2) (drop 2 ws))))) None → option_map (λ (entry : Option (Vec ℤ Global)). option_map (λ (numbers : Vec ℤ Global). numbers.items) entry) (cond (bytes_eq (get_or ws 0 d).now name) (Some (Some numbers)) (get_by (λ (key : Bor (List ℕ)). slice_cmp nat_cmp name key.now) m)) ≡ table_with (table_of m) (texts_of ws) name
 put_entry [] d m numbers name h e = absurd (omega arith)
 put_entry (a ∷ []) d m numbers name h e = absurd (omega arith)
 put_entry (a ∷ b ∷ ws) d m numbers name h e = go (bytes_eq a.now name) written
@@ -71,6 +73,6 @@ put_entry (a ∷ b ∷ ws) d m numbers name h e = go (bytes_eq a.now name) writt
         let whole : take (length (a ∷ b ∷ ws) - 2) ws ≡ ws = take_all (length (a ∷ b ∷ ws) - 2) ws (omega arith) in
         some_list _ _ numbers.items e ∙ ap (λ (xs : List (Bor (List ℕ))). map number_of (texts_of xs)) whole
 
-    go : (t : Bool) → numbers.items ≡ map number_of (texts_of ws) → option_map (λ (entry : Option (Vec ℤ Global)). option_map (λ (numbers : Vec ℤ Global). numbers.items) entry) (cond t (Some (Some numbers)) (get_by (λ (key : Bor (List ℕ)). bytes_eq name key.now) m)) ≡ cond t (Some (Some (map number_of (texts_of ws)))) (table_of m name)
+    go : (t : Bool) → numbers.items ≡ map number_of (texts_of ws) → option_map (λ (entry : Option (Vec ℤ Global)). option_map (λ (numbers : Vec ℤ Global). numbers.items) entry) (cond t (Some (Some numbers)) (get_by (λ (key : Bor (List ℕ)). slice_cmp nat_cmp name key.now) m)) ≡ cond t (Some (Some (map number_of (texts_of ws)))) (table_of m name)
     go true w = ap (λ (ns : List ℤ). Some (Some ns)) w
     go false w = refl

@@ -6,11 +6,11 @@ ghost use Rattle.std.specs.Prelude.{[], ◌≡◌, ℕ, List, IfErr, IfOk, OnOk,
 
 use crate::defect::WorldFault;
 use crate::world::InputList;
-use crate::world_table::{Inputs, LineFault, read_line};
+use crate::world_table::{Inputs, LineFault, entry_of, read_line};
 use crate::world_text::{lines_of, words_of};
 use bytecode::{Channel, Direction};
 use std::alloc::{AllocError, Global};
-use std::collections::HashMap;
+use std::collections::BTreeMap;
 
 /// The names of the inputs among channels.
 pub fn names_of(alloc: Global, channels: &[Channel]) -> Result<Vec<&str>, AllocError>
@@ -29,7 +29,7 @@ pub fn names_of(alloc: Global, channels: &[Channel]) -> Result<Vec<&str>, AllocE
 fn empty_table<'a>(alloc: Global, names: &[&'a str]) -> Result<Inputs<'a>, AllocError>
     ensures { IfOk result (λ inputs. (name : List ℕ) → table_of inputs name ≡ table_after (texts_of names.now) [] name) }
 {
-    let mut inputs = HashMap::new(alloc);
+    let mut inputs = BTreeMap::new(alloc);
     for name in names {
         inputs.insert(*name, None)?;
     }
@@ -80,7 +80,7 @@ fn told_at(fault: LineFault, line: usize) -> WorldFault
 fn numbers_for(alloc: Global, inputs: &Inputs<'_>, name: &str) -> Result<Vec<i32>, AllocError>
     ensures { IfOk result (λ numbers. numbers.items ≡ numbers_in (table_of inputs.now name.now)) }
 {
-    match inputs.get(name) {
+    match entry_of(inputs, name) {
         Some(Some(numbers)) => Vec::from_slice(alloc, numbers),
         _ => Ok(Vec::new(alloc)),
     }

@@ -8,10 +8,11 @@ ghost use Rattle.std.specs.Prelude.{◌≡◌, ℕ, List, IfErr, IfOk, IsTrue, N
 use crate::defect::WorldDefect;
 use crate::world_text::{has_form, number_of};
 use std::alloc::{AllocError, Global};
-use std::collections::HashMap;
+use std::collections::BTreeMap;
 
-/// What a table of inputs holds: nothing so far, or the numbers of the line that names the input.
-pub type Inputs<'a> = HashMap<&'a str, Option<Vec<i32>>>;
+/// What a table of inputs holds: nothing so far, or the numbers of the line that names the input. The names are a stranger's, so
+/// the table is ordered: no choice of names makes looking them up slow, as colliding hashes would.
+pub type Inputs<'a> = BTreeMap<&'a str, Option<Vec<i32>>>;
 
 /// Why a line was not read.
 #[derive(Clone, Copy, Debug, PartialEq, Eq)]
@@ -36,6 +37,13 @@ fn numbers_of(alloc: Global, words: &[&str]) -> Result<Option<Vec<i32>>, AllocEr
     Ok(Some(numbers))
 }
 
+/// What a table holds for a name: nothing where no input has it, else the numbers of its line if there was one.
+pub fn entry_of<'t>(inputs: &'t Inputs<'_>, name: &str) -> Option<&'t Option<Vec<i32>>>
+    ensures { option_map (λ entry. option_map (λ n. n.items) entry.now) result ≡ table_of inputs.now name.now }
+{
+    inputs.get(name)
+}
+
 /// Reads a line into the table, or tells what is wrong with it.
 pub fn read_line<'a>(
     alloc: Global,
@@ -52,7 +60,7 @@ pub fn read_line<'a>(
     let [name, _, rest @ ..] = words else {
         return Ok(());
     };
-    match inputs.get(*name) {
+    match entry_of(inputs, name) {
         None => return Err(LineFault::Wrong(WorldDefect::UnknownChannel)),
         Some(Some(_)) => return Err(LineFault::Wrong(WorldDefect::RepeatedChannel)),
         Some(None) => {}

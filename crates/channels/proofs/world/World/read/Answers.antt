@@ -1,8 +1,8 @@
-use Rattle.std.proofs.Common.{◌∙◌, ap, ◌≡◌, ℕ, List, map, filter}
+use Rattle.std.proofs.Common.{◌∙◌, ap, subst, ◌≡◌, ℕ, List, map, filter}
 use Rattle.bytecode.specs.Contents.{ChannelContents}
 use Rattle.channels.specs.Table.{table_of}
 use Rattle.channels.specs.World.{input_names, is_input}
-use Rattle.channels.specs.WorldText.{input_of, lines_of, table_after, texts_of}
+use Rattle.channels.specs.WorldText.{IsWorldText, input_of, lines_of, table_after, texts_of}
 use Rattle.channels.proofs.Tables.{world_is}
 use Rattle.channels.proofs.world.World.read.Goals as goal
 
@@ -16,3 +16,8 @@ returns-clause-world c =
     let second : texts_of c.deref-2.result.now ≡ names = ap texts_of c.deref-2.ensures.value ∙ found in
     c.in-Ok-inputs_of.ensures ∙ ap (map (input_of table)) second
     ∙ world_is names lines table (λ (name : List ℕ). c.in_ok-table.ensures.table name ∙ ap (λ (ns : List (List ℕ)). table_after ns lines name) first)
+
+pub returns-clause-right : goal.returns-clause-right
+returns-clause-right c =
+    let names = ap (λ (cs : List ChannelContents). map (λ (k : ChannelContents). k.name) (filter (λ (k : ChannelContents). is_input k.direction) cs)) c.channels.ensures in
+    subst (λ (ns : List (List ℕ)). IsWorldText ns (lines_of c.args.text.now)) (ap texts_of c.deref.ensures.value ∙ c.in-Ok.ensures ∙ names) c.in_ok-table.ensures.right
