@@ -1,3 +1,4 @@
 pub mod Numbers
 pub mod Words
 pub mod Tables
+pub mod Views

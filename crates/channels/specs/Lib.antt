@@ -3,3 +3,4 @@ pub mod World
 pub mod WorldText
 pub mod Table
 pub mod Words
+pub mod View

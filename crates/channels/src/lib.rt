@@ -4,6 +4,7 @@
 pub mod defect;
 pub mod sent;
 pub mod sink;
+pub mod view;
 pub mod world;
 mod world_read;
 mod world_table;
@@ -13,6 +14,7 @@ pub use defect::{WorldDefect, WorldFault};
 pub use labels::Pair;
 pub use sent::Sent;
 pub use sink::{Device, Sink, SinkFault, write_whole};
+pub use view::{ViewFault, seen, write_view};
 pub use world::{InputList, World};
 
 #[cfg(test)]

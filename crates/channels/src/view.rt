@@ -1,0 +1,214 @@
+//! What an observer is shown of the pairs that a run has sent.
+
+ghost use Rattle.bytecode.specs.Isolated.{seen_of};
+ghost use Rattle.channels.specs.Sink.{AppendsBeginning};
+ghost use Rattle.channels.specs.View as view;
+ghost use Rattle.channels.specs.View.{ShowsAll, ShowsPrefix, answers_for, is_shown, name_in, pair_line, readable, shown, view_text};
+ghost use Rattle.std.specs.Io.KnownBytes.{Appends};
+ghost use Rattle.std.specs.Prelude.{◌≡◌, Err, IfOk, IsTrue, OnErr, OnOk, filter, slice_get};
+ghost use Rattle.std.specs.String.{string_bytes};
+
+use crate::sent::Sent;
+use crate::sink::{Sink, SinkFault, write_whole};
+use bytecode::Module;
+use labels::{Pair, may_read};
+use std::alloc::{AllocError, AllocFailed, Global};
+use thiserror::Error;
+
+/// Why a view was not written whole.
+#[derive(Clone, Copy, Debug, PartialEq, Eq, Error)]
+pub enum ViewFault {
+    /// The sink did not take what was written.
+    #[error("cannot write")]
+    Sink,
+    #[error("out of memory")]
+    NoMemory,
+}
+
+impl From<AllocError> for ViewFault {
+    ghost use Rattle.channels.specs.declared.view.ViewFault.TheVariants.{NoMemory};
+
+    ghost from_gives = { λ _ fault. fault ≡ NoMemory };
+
+    fn from(_error: AllocError) -> ViewFault {
+        ViewFault::NoMemory
+    }
+}
+
+impl<T: Drop> From<AllocFailed<T>> for ViewFault {
+    ghost use Rattle.channels.specs.declared.view.ViewFault.TheVariants.{NoMemory};
+
+    ghost from_gives = { λ _ fault. fault ≡ NoMemory };
+
+    fn from(_error: AllocFailed<T>) -> ViewFault {
+        ViewFault::NoMemory
+    }
+}
+
+impl From<SinkFault> for ViewFault {
+    ghost use Rattle.channels.specs.declared.view.ViewFault.TheVariants.{Sink};
+
+    ghost from_gives = { λ _ fault. fault ≡ Sink };
+
+    fn from(_fault: SinkFault) -> ViewFault {
+        ViewFault::Sink
+    }
+}
+
+// Who looks at what a module sent, one principal or the operator, who sees all. Whether a principal may read a channel is tested
+// once for each channel: a label may be long, and there may be many pairs.
+#[derive(Drop)]
+struct Observer<'a> {
+    program: &'a Module,
+    principal: Option<u32>,
+    answers: Vec<bool>,
+    ghost known: { answers.items ≡ answers_for program.now principal },
+}
+
+impl<'a> Observer<'a> {
+    fn of(
+        alloc: Global,
+        program: &'a Module,
+        principal: Option<u32>,
+    ) -> Result<Observer<'a>, AllocError>
+        ensures program { IfOk result (λ observer. observer.program.now ≡ program.now) }
+        ensures principal { IfOk result (λ observer. observer.principal ≡ principal) }
+    {
+        let answers = match principal {
+            None => Vec::new(alloc),
+            Some(reader) => readable_channels(alloc, program, reader)?,
+        };
+        Ok(Observer {
+            program,
+            principal,
+            answers,
+        })
+    }
+
+    // Whether the observer is shown a pair.
+    #[tactic(auto, using(crate::proofs::Views::readable_is))]
+    fn sees(&self, pair: Pair) -> bool
+        ensures { result ≡ is_shown self.now.program.now self.now.principal pair }
+    {
+        match self.principal {
+            None => true,
+            Some(_) => is_readable(&self.answers, pair.channel),
+        }
+    }
+}
+
+// For each channel of a module, by its number, whether a principal may read it.
+fn readable_channels(
+    alloc: Global,
+    program: &Module,
+    principal: u32,
+) -> Result<Vec<bool>, AllocError>
+    ensures { IfOk result (λ answers. answers.items ≡ readable program.now principal) }
+{
+    let mut answers = Vec::new(alloc);
+    for channel in program.channels() {
+        answers.push(may_read(program.hierarchy(), principal, channel.label()))?;
+    }
+    Ok(answers)
+}
+
+// The answer for a channel; one that is not there is for everybody.
+fn is_readable(answers: &[bool], channel: u32) -> bool
+    ensures { result ≡ view.is_readable (slice_get answers.now channel) }
+{
+    match answers.get(channel as usize) {
+        Some(answer) => *answer,
+        None => true,
+    }
+}
+
+// The name of a channel.
+fn name_of(program: &Module, channel: u32) -> &str
+    ensures { result.now ≡ name_in (slice_get program.now.channels channel) }
+{
+    match program.channels().get(channel as usize) {
+        Some(found) => found.name(),
+        None => "",
+    }
+}
+
+// The line of a pair: the channel's name and the number.
+fn line_of(alloc: Global, program: &Module, pair: Pair) -> Result<String, AllocError>
+    ensures { IfOk result (λ line. string_bytes line ≡ pair_line program.now pair) }
+{
+    let name = name_of(program, pair.channel);
+    let number = pair.number;
+    format!(in alloc; "{name} {number}\n")
+}
+
+// Writes a line for each pair that the observer is shown.
+fn write_lines<S: Sink>(
+    alloc: Global,
+    observer: &Observer,
+    pairs: &[Pair],
+    out: &mut S,
+) -> Result<(), ViewFault>
+    ensures sink { result ≡ Err ViewFault.Sink → IsTrue (S.has_failed out.new) }
+    ensures prefix { OnErr result (AppendsBeginning (S.taken out.old) (S.taken out.new) (view_text observer.now.program.now (shown observer.now.program.now observer.now.principal pairs.now))) }
+    ensures accepted { OnOk result (Appends (S.taken out.old) (S.taken out.new) (view_text observer.now.program.now (shown observer.now.program.now observer.now.principal pairs.now))) }
+{
+    for pair in pairs {
+        if observer.sees(*pair) {
+            let line = line_of(alloc, observer.program, *pair)?;
+            write_whole(out, line.as_bytes())?;
+        }
+    }
+    Ok(())
+}
+
+/// Writes what an observer is shown of the pairs that a module sent, or all of them where there is no observer: a line for each,
+/// with the channel's name, a space, the number in decimal and a line feed.
+///
+/// # Errors
+///
+/// `Sink` where the sink failed, `NoMemory` where an allocation failed. What went out then is a prefix of the whole text.
+pub fn write_view<S: Sink>(
+    alloc: Global,
+    sent: &Sent,
+    program: &Module,
+    observer: Option<u32>,
+    out: &mut S,
+) -> Result<(), ViewFault>
+    ensures accepted { OnOk result (ShowsAll program.now observer sent.now (S.taken out.old) (S.taken out.new)) }
+    ensures prefix { OnErr result (ShowsPrefix program.now observer sent.now (S.taken out.old) (S.taken out.new)) }
+    ensures sink { result ≡ Err ViewFault.Sink → IsTrue (S.has_failed out.new) }
+{
+    let viewer = Observer::of(alloc, program, observer)?;
+    write_lines(alloc, &viewer, sent.pairs(), out)
+}
+
+// The pairs of a list that the observer is shown.
+fn shown_pairs(
+    alloc: Global,
+    observer: &Observer,
+    sent: &[Pair],
+) -> Result<Vec<Pair>, AllocError>
+    ensures { IfOk result (λ pairs. pairs.items ≡ filter (is_shown observer.now.program.now observer.now.principal) sent.now) }
+{
+    let mut pairs = Vec::new(alloc);
+    for pair in sent {
+        if observer.sees(*pair) {
+            pairs.push(*pair)?;
+        }
+    }
+    Ok(pairs)
+}
+
+/// The pairs that a principal sees of those that a module sent, in order: those on channels whose label it may read, under the
+/// module's own hierarchy.
+pub fn seen(
+    alloc: Global,
+    sent: &Sent,
+    program: &Module,
+    principal: u32,
+) -> Result<Vec<Pair>, AllocError>
+    ensures { IfOk result (λ pairs. pairs.items ≡ seen_of program.now principal sent.now) }
+{
+    let observer = Observer::of(alloc, program, Some(principal))?;
+    shown_pairs(alloc, &observer, sent.pairs())
+}
