@@ -1,0 +1,146 @@
+#!/usr/bin/env python3
+"""How long the program takes for sources that are made to hurt, against a benign source of the same size.
+
+    bench/hostile.py PROGRAM [KIB..]
+
+PROGRAM is the built program. For each size (256, 512 and 1024 KiB unless others are given) and each shape it prints the
+seconds that `check` takes, how many times that of the benign source of the size it is, and how many times that of the
+same shape at half the size. The least of three runs counts, and a run is cut off after 120 seconds.
+"""
+
+import subprocess
+import sys
+import tempfile
+import time
+from pathlib import Path
+
+ROUNDS = 3
+LIMIT = 120
+SIZES = [256, 512, 1024]
+
+
+def chain(count):
+    """A hierarchy in which each principal acts for the one before it."""
+    names = ", ".join(f"P{n}" for n in range(count))
+    return f"principal {names};\n" + "".join(f"P{n + 1} actsfor P{n};\n" for n in range(count - 1))
+
+
+def flat(count):
+    """A hierarchy without pairs."""
+    return "principal " + ", ".join(f"P{n}" for n in range(count)) + ";\n"
+
+
+def policies(size, first=0):
+    """A label of about so many bytes, whose policies all differ: an owner, and a set of readers by the bits of a number."""
+    parts, used, number = [], 2, first
+    while True:
+        readers = ", ".join(f"P{bit}" for bit in range(1, 24) if number >> (bit - 1) & 1)
+        part = f"P{number % 200 + 24}: {readers}"
+        if used + len(part) + 1 > size:
+            return "{" + ";".join(parts) + "}"
+        parts.append(part)
+        used += len(part) + 1
+        number += 1
+
+
+def filled(head, line, tail, size):
+    """A text of the size: a line again and again between a head and a tail."""
+    count = max(0, (size - len(head) - len(tail)) // len(line))
+    return head + line * count + tail
+
+
+def benign(size):
+    head = "input{} q;\noutput{} pub;\nvoid main() throws (End{}) {\n    int{} x = receive q;\n"
+    return flat(2), filled(head, "    x = x + 1;\n    send pub, x + 2;\n", "}\n", size)
+
+
+def one_long_label(size):
+    label = policies(size // 6)
+    head = f"input{label} s;\nvoid main() throws (End{label}) {{\n"
+    return flat(256), filled(head, "    receive s;\n", "}\n", size)
+
+
+def two_long_labels(size):
+    one, other = policies(size // 3 - 200), policies(size // 3 - 200, 1)
+    source = f"input{one} s;\noutput{other} o;\nvoid main() throws (End{one}) {{ int{one} x = receive s; send o, 1; }}\n"
+    return chain(256), source
+
+
+def many_labels(size):
+    parts, names, used = [], [], 0
+    while used < size * 2 // 3:
+        name = f"s{len(names)}"
+        part = f"input{policies(2000, 7 * len(names))} {name};\n"
+        parts.append(part)
+        names.append(name)
+        used += len(part)
+    body = "".join(f"    receive {name};\n" for name in names)
+    return flat(256), "".join(parts) + "void main() throws (End{}) {\n" + body + "}\n"
+
+
+def long_names(size):
+    name = "a" * (size // 8)
+    line = f"    receive {name};\n"
+    return flat(2), filled(f"input{{}} {name};\nvoid main() throws (End{{}}) {{\n", line, "}\n", size)
+
+
+def many_names(size):
+    head, tail = "input{} q;\nvoid main() throws (End{}) {\n", "}\n"
+    parts, used, number = [], len(head) + len(tail), 0
+    while True:
+        part = f"    int{{}} v{number} = receive q;\n"
+        if used + len(part) > size:
+            return flat(2), head + "".join(parts) + tail
+        parts.append(part)
+        used += len(part)
+        number += 1
+
+
+def open_comments(size):
+    return flat(2), filled("void main() { ", "/*", "", size)
+
+
+def many_refused_flows(size):
+    head = "input{P0:} s;\noutput{} o;\nvoid main() throws (End{P0:}) {\n    int{P0:} x = receive s;\n"
+    return flat(2), filled(head, "    send o, x;\n", "}\n", size)
+
+
+SHAPES = [one_long_label, two_long_labels, many_labels, long_names, many_names, open_comments, many_refused_flows]
+
+
+def seconds(program, folder, hierarchy, source):
+    """The least time of a check, or none where it was cut off."""
+    (folder / "h").write_text(hierarchy)
+    (folder / "s").write_text(source)
+    least = None
+    for _ in range(ROUNDS):
+        start = time.perf_counter()
+        try:
+            subprocess.run([program, "check", str(folder / "h"), str(folder / "s")], capture_output=True, timeout=LIMIT)
+        except subprocess.TimeoutExpired:
+            return None
+        took = time.perf_counter() - start
+        least = took if least is None else min(least, took)
+    return least
+
+
+def main(words):
+    if not words:
+        sys.exit(__doc__)
+    sizes = [int(word) for word in words[1:]] or SIZES
+    with tempfile.TemporaryDirectory() as name:
+        folder, before = Path(name), {}
+        for kib in sizes:
+            base = seconds(words[0], folder, *benign(kib << 10))
+            print(f"{kib} KiB benign: {base:.3f} s")
+            for shape in SHAPES:
+                took = seconds(words[0], folder, *shape(kib << 10))
+                if took is None:
+                    print(f"{kib} KiB {shape.__name__}: cut off after {LIMIT} s")
+                    continue
+                growth = f", {took / before[shape]:.1f} times half the size" if shape in before else ""
+                print(f"{kib} KiB {shape.__name__}: {took:.3f} s, {took / base:.1f} times the benign one{growth}")
+                before[shape] = took
+
+
+main(sys.argv[1:])
