@@ -61,7 +61,7 @@ def one_long_label(size):
 
 
 def two_long_labels(size):
-    one, other = policies(size // 3 - 200), policies(size // 3 - 200, 1)
+    one, other = policies(size // 4 - 200), policies(size // 4 - 200, 1)
     source = f"input{one} s;\noutput{other} o;\nvoid main() throws (End{one}) {{ int{one} x = receive s; send o, 1; }}\n"
     return chain(256), source
 
