@@ -1,15 +1,16 @@
 -- The phases of a check together: what they tell of a source, by its one tree.
-use Rattle.std.proofs.Common.{◌≡◌, ℕ, ◌≤◌, List, [], Some, None, length, sym, subst, IsTrue}
+use Rattle.std.proofs.Common.{◌≡◌, ℕ, ◌≤◌, List, [], Some, None, length, sym, subst, IsTrue, not, ◌&&◌}
 use Rattle.std.specs.Prelude.{All}
 use Rattle.std.specs.Str.{IsUtf8, IsCharBoundary}
 use Rattle.std.proofs.lemmas.Str.{IsCharBoundary-start}
 use Rattle.principals.specs.ActsFor.{PrincipalHierarchy}
+use Rattle.labels.specs.Constraints.{holds, is_written, label_lattice}
+use Rattle.labels.proofs.Constraints.{found-in}
 use Rattle.syntax.specs.Tree.{ProgramTree}
 use Rattle.syntax.specs.Written.{IsWritten}
 use Rattle.resolved.specs.Program.{Program}
 use Rattle.resolved.specs.EndFaults.{EndFault, end_faults}
-use Rattle.resolved.specs.Before.{Labelling}
-use Rattle.resolved.specs.Labelled.{Labelled}
+use Rattle.resolved.specs.Labelled.{Labelled, program_demands}
 use Rattle.resolved.specs.StraightLine.{is_straight_line}
 use Rattle.resolved.specs.WellFormed.{well_formed}
 use Rattle.types.specs.FirstFault.{first_fault, IsTold}
@@ -20,10 +21,9 @@ use Rattle.types.specs.declared.fault.TypeFault.TheVariants as type_faults
 use Rattle.types.proofs.Places.{fault_place_fits, places}
 use Rattle.types.proofs.Straight.{straight_line}
 use Rattle.checker.specs.Accepted.{greatest_source, IsTreeOf, IsAccepted}
-use Rattle.checker.specs.FirstDemand.{TellsFirstDemand}
+use Rattle.checker.specs.FirstDemand.{ReportsUnmet}
 use Rattle.checker.specs.FirstFault.{first_of}
 use Rattle.checker.specs.declared.refusal.UnmetDemand.{UnmetDemand}
-use Rattle.checker.specs.declared.refusal.FlowRefusal.TheVariants.{Unmet}
 use Rattle.checker.proofs.PlacesTold.{ProcedureFits, is_boundary, boundary-passes, passes-boundary, end-place, demand-place}
 use Rattle.checker.proofs.Reading.{tree_written}
 
@@ -69,13 +69,13 @@ module _ (h : PrincipalHierarchy) (source : List ℕ) (tree : ProgramTree) (ok :
       (subst (λ (p : Program). All (ProcedureFits (is_boundary source)) p.procedures) (sym e) procedures_fit) told)
 
   pub demand_boundary : (program : Program) (unmet : UnmetDemand) → program ≡ resolved_of h tree → first_fault h tree ≡ None →
-      TellsFirstDemand program (Unmet unmet) → IsCharBoundary source unmet.at
-  demand_boundary program unmet e none told =
-      let labelling : ℕ → Labelling = λ _. record { local_label = λ _. []; loop_label = λ _. [] } in
-      let first = told labelling in
-      let fits = demand-place (is_boundary source) program labelling first.0 (subst (λ p. IsTrue (is_straight_line p)) (sym e) (straight_here none))
-      (subst (λ (p : Program). All (ProcedureFits (is_boundary source)) p.procedures) (sym e) procedures_fit) first.1 in
-      passes-boundary source unmet.at (subst (λ at. IsTrue (is_boundary source at)) (sym first.2.at_is) fits)
+      ReportsUnmet program unmet → IsCharBoundary source unmet.at
+  demand_boundary program unmet e none reports =
+      let last = reports.1 in
+      let fits = demand-place (is_boundary source) program last (subst (λ p. IsTrue (is_straight_line p)) (sym e) (straight_here none))
+      (subst (λ (p : Program). All (ProcedureFits (is_boundary source)) p.procedures) (sym e) procedures_fit)
+      (found-in (λ d. is_written d.right && not (holds (label_lattice program.hierarchy) reports.2.labels d)) (program_demands program) last reports.2.first) in
+      passes-boundary source unmet.at (subst (λ at. IsTrue (is_boundary source at)) (sym reports.3) fits)
 
 -- the first fault that was told
 pub names_told : (h : PrincipalHierarchy) (tree : ProgramTree) (fault : TypeFault) (refusal : Refusal) (at : ℕ) → fault ≡ type_faults.Refused refusal at →

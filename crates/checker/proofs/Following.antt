@@ -14,22 +14,21 @@ use Rattle.resolved.specs.Tree.{Statement, Assign, Receive, Send}
 use Rattle.resolved.specs.TreeOf.{statement_of, block_of}
 use Rattle.resolved.specs.Program.{Program, ProcedureEntry}
 use Rattle.resolved.specs.Ends.{thrown_ends}
-use Rattle.resolved.specs.Before.{Labelling, Scope, Fits, demand, target_demand, channel_label, at_ends, statement_rule, statement_marks, statement_demands, block_demands}
+use Rattle.resolved.specs.Before.{Labelling, Scope, Fits, demand, target_demand, channel_label, at_ends, statement_rule, statement_exits, statement_demands, block_demands}
 use Rattle.checker.specs.declared.refusal.FlowRefusal.{FlowRefusal}
-use Rattle.checker.specs.FirstDemand.{TellsFirst}
-use Rattle.checker.specs.Way.{StandsFor, scope_of, is_target_of, way_past, way_through, is_sum_of, is_statement_of, is_block_of}
+use Rattle.checker.specs.Way.{StandsFor, scope_of, is_target_of, way_past, way_through, is_sum_of, is_statement_of, is_block_of, TellsFirst}
 use Rattle.checker.proofs.Told.{fits-both, fits-parts, tells-before, tells-behind}
 use Rattle.checker.proofs.Ending.{sum-raises}
 
 -- the label of a statement's normal end
-pub marks-way : (scope : Scope) (channels locals : ℕ) (pc : Label) (statement : Statement) → is_statement_of channels locals statement ≡ true
-    → statement_marks scope pc statement Normal ≡ way_past scope.program pc statement
-marks-way scope channels locals pc (Assign at x e) s =
+pub exits-way : (scope : Scope) (channels locals : ℕ) (pc : Label) (statement : Statement) → is_statement_of channels locals statement ≡ true
+    → statement_exits scope pc statement Normal ≡ way_past scope.program pc statement
+exits-way scope channels locals pc (Assign at x e) s =
     ap (λ es. at_ends (Normal ∷ thrown_ends es) pc (statement_rule scope pc (Assign at x e)) Normal) (sum-raises locals e (and_parts _ (is_sum_of locals e) s).1)
-marks-way scope channels locals pc (Receive at channel target) s = refl
-marks-way scope channels locals pc (Send at channel e) s =
+exits-way scope channels locals pc (Receive at channel target) s = refl
+exits-way scope channels locals pc (Send at channel e) s =
     ap (λ es. at_ends (Normal ∷ thrown_ends es) pc (statement_rule scope pc (Send at channel e)) Normal) (sum-raises locals e (and_parts _ (is_sum_of locals e) s).1)
-marks-way scope channels locals pc _ s = absurd (let no : false ≡ true = s in cc)
+exits-way scope channels locals pc _ s = absurd (let no : false ≡ true = s in cc)
 
 -- a statement of a block that names what is there
 pub ready-at : (channels locals : ℕ) (body : List S.Statement) (i : ℕ) (statement : S.Statement) → is_block_of channels locals (block_of body) ≡ true
@@ -67,15 +66,15 @@ module _ (h : PrincipalHierarchy) (scope : Scope) (channels locals : ℕ) where
       (subst (λ (t : S.Statement). Fits h (statement_demands scope begin (statement_of t))) is g) refl
   demands-more begin (first ∷ rest) (suc i) statement s within is f g =
       let straight = and_parts (is_statement_of channels locals (statement_of first)) (is_block_of channels locals (block_of rest)) s in
-      let e : statement_marks scope begin (statement_of first) Normal ≡ way_past scope.program begin (statement_of first) =
-      marks-way scope channels locals begin (statement_of first) straight.0 in
+      let e : statement_exits scope begin (statement_of first) Normal ≡ way_past scope.program begin (statement_of first) =
+      exits-way scope channels locals begin (statement_of first) straight.0 in
       let parts = fits-parts h (statement_demands scope begin (statement_of first))
-      (block_demands scope (statement_marks scope begin (statement_of first) Normal) (block_of (take i rest))) f in
+      (block_demands scope (statement_exits scope begin (statement_of first) Normal) (block_of (take i rest))) f in
       let behind : Fits h (block_demands scope (way_past scope.program begin (statement_of first)) (block_of (take (suc i) rest))) =
       demands-more (way_past scope.program begin (statement_of first)) rest i statement straight.1 (omega arith) is
       (subst (λ (way : Label). Fits h (block_demands scope way (block_of (take i rest)))) e parts.1) g in
       fits-both h (statement_demands scope begin (statement_of first))
-      (block_demands scope (statement_marks scope begin (statement_of first) Normal) (block_of (take (suc i) rest))) parts.0
+      (block_demands scope (statement_exits scope begin (statement_of first) Normal) (block_of (take (suc i) rest))) parts.0
       (subst (λ (way : Label). Fits h (block_demands scope way (block_of (take (suc i) rest)))) (sym e) behind)
 
   pub demands-next : (begin : Label) (body : List S.Statement) (i : ℕ) (statement : S.Statement) → is_block_of channels locals (block_of body) ≡ true
@@ -95,16 +94,16 @@ module _ (h : PrincipalHierarchy) (scope : Scope) (channels locals : ℕ) where
   demands-tell begin [] i statement refusal s within is f told = absurd (omega arith)
   demands-tell begin (first ∷ rest) zero statement refusal s within is f told =
       tells-before h (statement_demands scope begin (statement_of first))
-      (block_demands scope (statement_marks scope begin (statement_of first) Normal) (block_of rest)) refusal
+      (block_demands scope (statement_exits scope begin (statement_of first) Normal) (block_of rest)) refusal
       (subst (λ (t : S.Statement). TellsFirst h (statement_demands scope begin (statement_of t)) refusal) is told)
   demands-tell begin (first ∷ rest) (suc i) statement refusal s within is f told =
       let straight = and_parts (is_statement_of channels locals (statement_of first)) (is_block_of channels locals (block_of rest)) s in
-      let e : statement_marks scope begin (statement_of first) Normal ≡ way_past scope.program begin (statement_of first) =
-      marks-way scope channels locals begin (statement_of first) straight.0 in
+      let e : statement_exits scope begin (statement_of first) Normal ≡ way_past scope.program begin (statement_of first) =
+      exits-way scope channels locals begin (statement_of first) straight.0 in
       let parts = fits-parts h (statement_demands scope begin (statement_of first))
-      (block_demands scope (statement_marks scope begin (statement_of first) Normal) (block_of (take i rest))) f in
+      (block_demands scope (statement_exits scope begin (statement_of first) Normal) (block_of (take i rest))) f in
       tells-behind h (statement_demands scope begin (statement_of first))
-      (block_demands scope (statement_marks scope begin (statement_of first) Normal) (block_of rest)) refusal parts.0
+      (block_demands scope (statement_exits scope begin (statement_of first) Normal) (block_of rest)) refusal parts.0
       (subst (λ (way : Label). TellsFirst h (block_demands scope way (block_of rest)) refusal) (sym e)
       (demands-tell (way_past scope.program begin (statement_of first)) rest i statement refusal straight.1 (omega arith) is
       (subst (λ (way : Label). Fits h (block_demands scope way (block_of (take i rest)))) e parts.1) told))

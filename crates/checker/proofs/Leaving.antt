@@ -10,21 +10,20 @@ use Rattle.resolved.specs.declared.tables.Thrown.{Thrown}
 use Rattle.resolved.specs.Value.{end_exception}
 use Rattle.resolved.specs.Program.{ProcedureEntry, ThrownEntry}
 use Rattle.resolved.specs.ProgramOf.{thrown_entry}
-use Rattle.resolved.specs.Before.{Marks, Demand, demand, Fits}
+use Rattle.resolved.specs.Before.{ExitLabels, Demand, demand, Fits}
 use Rattle.checker.specs.declared.refusal.LabelRule.TheVariants as rule
 use Rattle.checker.specs.declared.refusal.FlowRefusal.{FlowRefusal}
-use Rattle.checker.specs.FirstDemand.{TellsFirst}
-use Rattle.checker.specs.Way.{TellsPart, StandsForEnds, leaving_demands}
+use Rattle.checker.specs.Way.{TellsPart, StandsForEnds, leaving_demands, TellsFirst}
 use Rattle.checker.proofs.Told.{tells-more, tells-demand, fits-demand, fits-both, fits-parts, tells-before, tells-behind, flows-standing}
 
 -- the demands on declared exceptions
-abbrev pub thrown_demands : (at : ℕ) → Marks → List ThrownEntry → List Demand
+abbrev pub thrown_demands : (at : ℕ) → ExitLabels → List ThrownEntry → List Demand
 thrown_demands at x entries = flat_map (λ (entry : ThrownEntry). demand at 13 (x (Throw entry.exception)) entry.label) entries
 
-abbrev pub thrown_demand : (at : ℕ) → Marks → Thrown → List Demand
+abbrev pub thrown_demand : (at : ℕ) → ExitLabels → Thrown → List Demand
 thrown_demand at x thrown = demand at 13 (x (Throw thrown.exception)) thrown.label
 
-module _ (h : PrincipalHierarchy) (at : ℕ) (x : Marks) where
+module _ (h : PrincipalHierarchy) (at : ℕ) (x : ExitLabels) where
   -- the demands so far, and one more
   thrown-more : (throws : List Thrown) (i : ℕ) (thrown : Thrown) → i < length throws → thrown ≡ get_or throws i thrown
       → Fits h (thrown_demands at x (map thrown_entry (take i throws))) → Fits h (thrown_demand at x thrown)
@@ -69,7 +68,7 @@ module _ (h : PrincipalHierarchy) (at : ℕ) (x : Marks) where
       (subst (λ (l : Label). IsTrue (flows h l thrown.label)) (sym (stands.others thrown.exception is)) (flows-least h thrown.label))
 
 -- the answers on the whole list
-pub ending-tells : (h : PrincipalHierarchy) (procedure : ProcedureEntry) (x : Marks) (way : Label) (refusal : FlowRefusal) → StandsForEnds h way x
+pub ending-tells : (h : PrincipalHierarchy) (procedure : ProcedureEntry) (x : ExitLabels) (way : Label) (refusal : FlowRefusal) → StandsForEnds h way x
     → TellsPart h way procedure.at rule.Procedure procedure.end_label refusal
     → TellsFirst h (leaving_demands procedure x) refusal
 ending-tells h procedure x way refusal stands told =
@@ -77,13 +76,13 @@ ending-tells h procedure x way refusal stands told =
     (tells-demand h procedure.at rule.Procedure (x Normal ++ x Return) procedure.end_label refusal
     (tells-more h way (x Normal ++ x Return) procedure.at rule.Procedure procedure.end_label refusal stands.normal.from_way told))
 
-ending-fits : (h : PrincipalHierarchy) (procedure : ProcedureEntry) (x : Marks) (way : Label) → StandsForEnds h way x → IsTrue (flows h way procedure.end_label)
+ending-fits : (h : PrincipalHierarchy) (procedure : ProcedureEntry) (x : ExitLabels) (way : Label) → StandsForEnds h way x → IsTrue (flows h way procedure.end_label)
     → Fits h (demand procedure.at 13 (x Normal ++ x Return) procedure.end_label)
 ending-fits h procedure x way stands f =
     fits-demand h procedure.at 13 (x Normal ++ x Return) procedure.end_label
     (flows-standing h way (x Normal ++ x Return) procedure.end_label stands.normal f)
 
-pub throwing-tells : (h : PrincipalHierarchy) (procedure : ProcedureEntry) (x : Marks) (way : Label) (refusal : FlowRefusal) (throws : List Thrown) (i : ℕ) (thrown : Thrown)
+pub throwing-tells : (h : PrincipalHierarchy) (procedure : ProcedureEntry) (x : ExitLabels) (way : Label) (refusal : FlowRefusal) (throws : List Thrown) (i : ℕ) (thrown : Thrown)
     → StandsForEnds h way x → IsTrue (flows h way procedure.end_label) → map thrown_entry throws ≡ procedure.throws
     → i < length throws → thrown ≡ get_or throws i thrown → thrown.exception ≡ end_exception
     → Fits h (thrown_demands procedure.at x (map thrown_entry (take i throws)))
@@ -99,7 +98,7 @@ throwing-tells h procedure x way refusal throws i thrown stands f same within is
     (thrown-tells h procedure.at x throws i thrown refusal within is g
     (tells-demand h procedure.at rule.Procedure (x (Throw thrown.exception)) thrown.label refusal part)))
 
-pub leaving-fits : (h : PrincipalHierarchy) (procedure : ProcedureEntry) (x : Marks) (way : Label) (throws : List Thrown) (i : ℕ)
+pub leaving-fits : (h : PrincipalHierarchy) (procedure : ProcedureEntry) (x : ExitLabels) (way : Label) (throws : List Thrown) (i : ℕ)
     → StandsForEnds h way x → IsTrue (flows h way procedure.end_label) → map thrown_entry throws ≡ procedure.throws → length throws ≤ i
     → Fits h (thrown_demands procedure.at x (map thrown_entry (take i throws)))
     → Fits h (leaving_demands procedure x)

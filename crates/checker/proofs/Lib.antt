@@ -8,7 +8,7 @@ pub mod Stating
 pub mod Leaving
 pub mod Following
 pub mod PlacesTold
-pub mod Marks
+pub mod ExitLabels
 pub mod Whole
 pub mod Checking
 pub mod Bridge

@@ -11,8 +11,7 @@ use Rattle.resolved.specs.Program.{Program, ProcedureEntry}
 use Rattle.resolved.specs.Before.{Labelling, Scope, demand, target_demand, Fits, channel_label, variable_label, statement_demands}
 use Rattle.checker.specs.declared.refusal.LabelRule.TheVariants as rule
 use Rattle.checker.specs.declared.refusal.FlowRefusal.{FlowRefusal}
-use Rattle.checker.specs.FirstDemand.{TellsFirst}
-use Rattle.checker.specs.Way.{TellsPart, StandsFor, scope_of}
+use Rattle.checker.specs.Way.{TellsPart, StandsFor, scope_of, TellsFirst}
 use Rattle.checker.proofs.Told.{tells-more, tells-demand, fits-demand, fits-both, tells-before, tells-behind, flows-standing}
 
 -- the channel's label stands for the way behind

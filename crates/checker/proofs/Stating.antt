@@ -15,8 +15,8 @@ use Rattle.resolved.specs.Before.{Labelling, Scope, demand, Fits, channel_label,
 use Rattle.checker.specs.declared.refusal.LabelRule.{LabelRule}
 use Rattle.checker.specs.declared.refusal.LabelRule.TheVariants as rule
 use Rattle.checker.specs.declared.refusal.FlowRefusal.{FlowRefusal}
-use Rattle.checker.specs.FirstDemand.{rule_number, TellsFirst}
-use Rattle.checker.specs.Way.{TellsPart, StandsFor, scope_of, is_sum_of, is_local_of, is_statement_of}
+use Rattle.checker.specs.FirstDemand.{rule_number}
+use Rattle.checker.specs.Way.{TellsPart, StandsFor, scope_of, is_sum_of, is_local_of, is_statement_of, TellsFirst}
 use Rattle.checker.proofs.Told.{tells-demand, fits-demand}
 
 -- whether a sum raises an exception has the least label

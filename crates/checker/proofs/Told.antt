@@ -15,8 +15,8 @@ use Rattle.checker.specs.declared.refusal.LabelRule.{LabelRule}
 use Rattle.checker.specs.declared.refusal.UnmetDemand.{UnmetDemand}
 use Rattle.checker.specs.declared.refusal.FlowRefusal.{FlowRefusal}
 use Rattle.checker.specs.declared.refusal.FlowRefusal.TheVariants.{NoMemory, Unmet}
-use Rattle.checker.specs.FirstDemand.{rule_number, first_unmet, TellsFirst}
-use Rattle.checker.specs.Way.{TellsPart, StandsFor}
+use Rattle.checker.specs.FirstDemand.{rule_number}
+use Rattle.checker.specs.Way.{TellsPart, StandsFor, first_unmet, TellsFirst}
 
 -- what is told of a policy in a list
 pub tells_part : (h : PrincipalHierarchy) (part policies : Label) (i : ℕ) (policy : ReaderPolicy) (at : ℕ) (rule : LabelRule) (right : Label) (unmet : UnmetDemand)

@@ -14,7 +14,7 @@ use Rattle.resolved.specs.EndFaults.{end_faults}
 use Rattle.types.specs.FirstFault.{first_fault}
 use Rattle.types.specs.Resolution.{resolved_of}
 use Rattle.checker.specs.Accepted.{greatest_source, IsTreeOf}
-use Rattle.checker.specs.FirstDemand.{TellsRefusal}
+use Rattle.checker.specs.FirstDemand.{ReportsUnmet}
 use Rattle.checker.specs.FirstFault.{first_of, fault_of}
 use Rattle.checker.specs.declared.fault.Cause.{Cause}
 use Rattle.checker.specs.declared.fault.Cause.TheVariants.{TextTooLong, NoToken, LiteralTooLarge, OpenComment, UnexpectedToken, TooDeep, Names, Ends, FlowNotAllowed}
@@ -40,7 +40,7 @@ IsWrongAt h source (Ends defect) at =
     × (first_of (end_faults (resolved_of h tree)) ≡ Some (fault_of (record { defect = defect; at = at })))
 IsWrongAt h source (FlowNotAllowed unmet) at =
     (tree : ProgramTree) × IsTreeOf source tree × (first_fault h tree ≡ None) × (end_faults (resolved_of h tree) ≡ [])
-    × TellsRefusal (resolved_of h tree) unmet × (unmet.at ≡ at)
+    × ReportsUnmet (resolved_of h tree) unmet × (unmet.at ≡ at)
 
 -- why the source is refused, and the byte at which that stands: a text that is too long is refused at its begin
 abbrev pub IsRefusedAt : PrincipalHierarchy → List ℕ → Cause → (at : ℕ) → Type 0

@@ -1,6 +1,9 @@
--- The label of the way to a statement of a straight-line procedure, and what may stand for it.
+-- Private to this crate, and only until the constraints of a program are gathered and solved: what the walk along a straight-line
+-- procedure says, by the rules with evaluated left sides. The label of the way to a statement, what may stand for it, and the first
+-- demand that does not hold, whatever labels stand for those that are not written.
 -- Source: our own.
-use Rattle.std.specs.Prelude.{◌≡◌, ℕ, List, [], ◌++◌, Bool, true, false, ◌&&◌, ◌||◌, nat_lt, flat_map, Option, Some, None, IsTrue, Contains}
+use Rattle.std.specs.Prelude.{◌≡◌, ℕ, List, [], ◌++◌, Bool, true, false, ◌&&◌, ◌||◌, nat_lt, flat_map, not, Option, Some, None, IsTrue, Contains}
+use Rattle.std.specs.List.{find}
 use Rattle.principals.specs.ActsFor.{PrincipalHierarchy}
 use Rattle.labels.specs.Label.{ReaderPolicy, Label, Covers, flows}
 use Rattle.resolved.specs.declared.expression.Operator.TheVariants.{Add}
@@ -10,8 +13,10 @@ use Rattle.resolved.specs.Tree.{Expression, Integer, Read, Binary, Statement, As
 use Rattle.resolved.specs.declared.statement.Exit.TheVariants.{Normal, Return, Throw}
 use Rattle.resolved.specs.Program.{Program, ProcedureEntry, ThrownEntry}
 use Rattle.resolved.specs.Value.{end_exception}
-use Rattle.resolved.specs.Before.{Labelling, Scope, Marks, Demand, demand, channel_label}
+use Rattle.resolved.specs.Before.{Labelling, Scope, ExitLabels, Demand, demand, channel_label, program_demands}
+use Rattle.checker.specs.FirstDemand.{rule_number}
 use Rattle.checker.specs.declared.refusal.LabelRule.{LabelRule}
+use Rattle.checker.specs.declared.refusal.UnmetDemand.{UnmetDemand}
 use Rattle.checker.specs.declared.refusal.FlowRefusal.{FlowRefusal}
 use Rattle.checker.specs.declared.refusal.FlowRefusal.TheVariants.{NoMemory, Unmet}
 
@@ -76,13 +81,36 @@ TellsPart h part at rule right (Unmet unmet) =
     × (¬ Covers h right unmet.policy)
 
 -- the demands on the ends of a body that has more than one
-abbrev pub leaving_demands : ProcedureEntry → Marks → List Demand
+abbrev pub leaving_demands : ProcedureEntry → ExitLabels → List Demand
 leaving_demands procedure x =
     demand procedure.at 13 (x Normal ++ x Return) procedure.end_label
     ++ flat_map (λ (entry : ThrownEntry). demand procedure.at 13 (x (Throw entry.exception)) entry.label) procedure.throws
 
 -- a label stands for the labels of the ends of a straight-line procedure with a receive: normal, and the end of an input
-pub record StandsForEnds (h : PrincipalHierarchy) (label : Label) (x : Marks) : Type 0 where
+pub record StandsForEnds (h : PrincipalHierarchy) (label : Label) (x : ExitLabels) : Type 0 where
   pub normal : StandsFor h label (x Normal ++ x Return)
   pub ended : StandsFor h label (x (Throw end_exception))
   pub others : (exception : ℕ) → ¬ (exception ≡ end_exception) → x (Throw exception) ≡ []
+
+-- the first demand that does not hold: all before it do
+abbrev pub first_unmet : PrincipalHierarchy → List Demand → Option Demand
+first_unmet h demands = find (λ (d : Demand). not (flows h d.left d.right)) demands
+
+-- what an answer says of a demand: its place, its rule, its right side, and a policy of its left side that its right side does not
+-- cover
+pub record Tells (h : PrincipalHierarchy) (d : Demand) (unmet : UnmetDemand) : Type 0 where
+  pub at_is : unmet.at ≡ d.at
+  pub rule_is : rule_number unmet.rule ≡ d.rule
+  pub right_is : unmet.right ≡ d.right
+  pub policy_on_left : Contains d.left unmet.policy
+  pub not_covered : ¬ Covers h d.right unmet.policy
+
+-- an answer is about the first of these demands that does not hold, unless memory was refused
+abbrev pub TellsFirst : PrincipalHierarchy → List Demand → FlowRefusal → Type 0
+TellsFirst h demands NoMemory = Unit {0}
+TellsFirst h demands (Unmet unmet) = (d : Demand) × (first_unmet h demands ≡ Some d) × Tells h d unmet
+
+-- the first demand of a program that does not hold, whatever labels stand for those that are not written
+abbrev pub TellsFirstDemand : Program → FlowRefusal → Type 0
+TellsFirstDemand program refusal =
+    (labelling : ℕ → Labelling) → TellsFirst program.hierarchy (program_demands program labelling) refusal

@@ -1,9 +1,11 @@
 //! The phase of labels.
-ghost use Rattle.checker.specs.FirstDemand.{RulesOut, TellsFirst, TellsFirstDemand};
-ghost use Rattle.checker.specs.Way.{StandsFor, StandsForEnds, TellsPart, leaving_demands, is_block_of, is_local_of, is_statement_of, is_sum_of, is_target_of, scope_of, way_through};
+ghost use Rattle.checker.specs.FirstDemand.{ReportsRefusal, RulesOut};
+ghost use Rattle.checker.specs.Way.{StandsFor, StandsForEnds, TellsFirst, TellsFirstDemand, TellsPart, leaving_demands, is_block_of, is_local_of, is_statement_of, is_sum_of, is_target_of, scope_of, way_through};
 ghost use Rattle.labels.specs.Label.{flows};
 ghost use Rattle.resolved.specs.CoreOf.{program_of};
-ghost use Rattle.resolved.specs.Before.{Fits, Labelled, Labelling, Marks, block_demands, statement_demands, value_label, variable_label};
+ghost use Rattle.resolved.specs.Before as before;
+ghost use Rattle.resolved.specs.Before.{Fits, Labelling, ExitLabels, block_demands, statement_demands, value_label, variable_label};
+ghost use Rattle.resolved.specs.Labelled.{Labelled};
 ghost use Rattle.resolved.specs.Program.{Program};
 ghost use Rattle.resolved.specs.ProgramOf.{procedure_entry};
 ghost use Rattle.resolved.specs.StraightLine.{is_labelled_int, is_straight_line};
@@ -23,13 +25,27 @@ use resolved::statement::Statement;
 use resolved::tables::Procedure;
 use std::alloc::{AllocError, Global};
 
-/// Looks for a labelling of a program, and tells the first demand that does not hold, with a policy that its right side does not
-/// cover. It takes memory for that policy and that side alone; the allocator is for what other programs need.
+/// Looks for a labelling of a program. Where there is none, reports the first demand with a written right side that does not hold
+/// under the least labelling, with a policy that flows there and is not covered. It takes memory for that policy and that side alone;
+/// the allocator is for what other programs need.
+///
+/// # Errors
+///
+/// The demand that does not hold; or out of memory.
 pub fn check_flows(_alloc: Global, core: &Core) -> Result<(), FlowRefusal>
     requires straight { IsTrue (is_straight_line (program_of core.now)) }
     ensures labelled { OnOk result (Labelled (program_of core.now)) }
-    ensures refused { IfErr result (λ refusal. TellsFirstDemand (program_of core.now) refusal) }
+    ensures refused { IfErr result (λ refusal. ReportsRefusal (program_of core.now) refusal) }
     ensures not_labelled { IfErr result (λ refusal. RulesOut (program_of core.now) refusal) }
+{
+    walk(core)
+}
+
+// Walks along the only procedure, by the rules with evaluated left sides.
+fn walk(core: &Core) -> Result<(), FlowRefusal>
+    requires straight { IsTrue (is_straight_line (program_of core.now)) }
+    ensures labelled { OnOk result (before.Labelled (program_of core.now)) }
+    ensures refused { IfErr result (λ refusal. TellsFirstDemand (program_of core.now) refusal) }
 {
     let main = main_of(core);
     let way = follow(core, main)?;
@@ -144,10 +160,10 @@ fn check_leaving(
     procedure: &Procedure,
     way: &Label,
 ) -> Result<(), FlowRefusal>
-    ensures met { OnOk result ((marks : Marks) → StandsForEnds hierarchy.now way.now marks →
-        Fits hierarchy.now (leaving_demands (procedure_entry procedure.now) marks)) }
-    ensures unmet { IfErr result (λ refusal. (marks : Marks) → StandsForEnds hierarchy.now way.now marks →
-        TellsFirst hierarchy.now (leaving_demands (procedure_entry procedure.now) marks) refusal) }
+    ensures met { OnOk result ((exits : ExitLabels) → StandsForEnds hierarchy.now way.now exits →
+        Fits hierarchy.now (leaving_demands (procedure_entry procedure.now) exits)) }
+    ensures unmet { IfErr result (λ refusal. (exits : ExitLabels) → StandsForEnds hierarchy.now way.now exits →
+        TellsFirst hierarchy.now (leaving_demands (procedure_entry procedure.now) exits) refusal) }
 {
     let ending = Demand {
         at: procedure.at,

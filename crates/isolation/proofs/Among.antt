@@ -461,9 +461,9 @@ among-leaving : (program : Program) (f : ℕ) (back : State → State) (o : Outc
 among-leaving program f back (Ended Normal r s) declared h = record { among = refl }
 among-leaving program f back (Ended Return r s) declared h = record { among = refl }
 among-leaving program f back (Ended Break r s) declared h =
-    record { among = all-has (may_end (procedure_at program f)) (block_ends program (procedure_at program f).body) Break (declared f) h.among }
+    let no : false ≡ true = all-has (may_end (procedure_at program f)) (block_ends program (procedure_at program f).body) Break (declared f) h.among in absurd (cc)
 among-leaving program f back (Ended Continue r s) declared h =
-    record { among = all-has (may_end (procedure_at program f)) (block_ends program (procedure_at program f).body) Continue (declared f) h.among }
+    let no : false ≡ true = all-has (may_end (procedure_at program f)) (block_ends program (procedure_at program f).body) Continue (declared f) h.among in absurd (cc)
 among-leaving program f back (Ended (Throw x) r s) declared h =
     record { among = all-has (may_end (procedure_at program f)) (block_ends program (procedure_at program f).body) (Throw x) (declared f) h.among }
 among-leaving program f back (Stopped stop s) declared h = record { among = tt }

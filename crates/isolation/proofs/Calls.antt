@@ -16,27 +16,27 @@ use Rattle.resolved.specs.State.{State, assigned, cells}
 use Rattle.resolved.specs.Meaning.{Stop, Outcome, Ended, Stopped, leaving, returned_to, state_after}
 use Rattle.resolved.specs.Ends.{same_exit, has_end, one_end, thrown_ends, declared_by}
 use Rattle.resolved.specs.EndFaults.{may_end}
-use Rattle.resolved.specs.Labelled.{Labelling, Marks, Demand, demand, Fits, label_if, any_of, ToEnd, ToThrown, one, label_of, join_under, Scope, here, as_one_end, end_demands, one}
+use Rattle.resolved.specs.Labelled.{Labelling, ExitLabels, Demand, demand, Fits, label_if, any_of, ToEnd, ToThrown, one, label_of, join_under, Scope, here, as_one_end, end_demands, one}
 use Rattle.isolation.proofs.Grows.{Grows, grows-itself, grows-returned_to}
 use Rattle.isolation.proofs.Among.{Among, same-exit, same_exit-itself, all-has, raised_in, thrown-is}
 use Rattle.isolation.proofs.Observer.{LabelReader, under, Reader, View, view_of, shown, AgreeFor, agree-back, agree-through, agree-unread, agree-with_cells, unread-left, unread-right}
 use Rattle.isolation.proofs.Kept.{Hidden, hidden_end, hidden_return, hidden_stop, Kept}
 use Rattle.isolation.proofs.Related.{Related, same_end, same_return, apart, first_stops, second_stops, both-kept, stopped-begins, agree-begins}
-use Rattle.isolation.proofs.Closed.{read_marks, one-same}
-use Rattle.isolation.proofs.Confined.{KeptCall, HiddenCall, call_end, call_thrown, call_stop, unread_marks, kept-returned_to, unread-label_if, fits-left, fits-right, unread-demand}
+use Rattle.isolation.proofs.Closed.{read_exits, one-same}
+use Rattle.isolation.proofs.Confined.{KeptCall, HiddenCall, call_end, call_thrown, call_stop, unread_exits, kept-returned_to, unread-label_if, fits-left, fits-right, unread-demand}
 
 -- two calls: they end in the same way, or the observer reads the label of neither end; and a stopped one begins the other
-pub data RelatedCall (view : View) (value : Bool) (marks : Exit → Bool) : Outcome → Outcome → Type 0 where
+pub data RelatedCall (view : View) (value : Bool) (exits : Exit → Bool) : Outcome → Outcome → Type 0 where
   same_call : (r q : Option Value) (s t : State) → AgreeFor view s t → (value ≡ true → r ≡ q) →
-      RelatedCall view value marks (Ended Normal r s) (Ended Normal q t)
+      RelatedCall view value exits (Ended Normal r s) (Ended Normal q t)
   same_thrown : (x : ℕ) (s t : State) → AgreeFor view s t →
-      RelatedCall view value marks (Ended (Throw x) None s) (Ended (Throw x) None t)
-  apart_calls : (o p : Outcome) → HiddenCall value marks o → HiddenCall value marks p →
-      AgreeFor view (state_after o) (state_after p) → RelatedCall view value marks o p
+      RelatedCall view value exits (Ended (Throw x) None s) (Ended (Throw x) None t)
+  apart_calls : (o p : Outcome) → HiddenCall value exits o → HiddenCall value exits p →
+      AgreeFor view (state_after o) (state_after p) → RelatedCall view value exits o p
   first_call_stops : (stop : Stop) (s : State) (p : Outcome) → Begins (shown view s.sent) (shown view (state_after p).sent) →
-      RelatedCall view value marks (Stopped stop s) p
+      RelatedCall view value exits (Stopped stop s) p
   second_call_stops : (o : Outcome) (stop : Stop) (t : State) → Begins (shown view t.sent) (shown view (state_after o).sent) →
-      RelatedCall view value marks o (Stopped stop t)
+      RelatedCall view value exits o (Stopped stop t)
 
 grown-returned_to : (target : Option Variable) (o : Outcome) → Grows (state_after o) (returned_to target o)
 grown-returned_to target o = grows-returned_to (state_after o) target o (grows-itself (state_after o) (state_after o) refl o refl)
@@ -66,32 +66,32 @@ returned-same view result value more x None (Some w) s t agree read same =
     let unread = target-unread view result x None (Some w) read same (λ e. cc) in
     same_end Normal s (assigned t x w) (agree-through view s t (assigned t x w) agree (agree-unread view t x (w ∷ []) unread))
 
-pub related-returned_to : (view : View) (result value : Bool) (marks more : Exit →
-    Bool) (target : Option Variable) (o p : Outcome) → RelatedCall view result marks o p →
-    ((exit : Exit) → marks exit ≡ false → more exit ≡ false) →
-    (marks Normal ≡ false → (x : Variable) → target ≡ Some x → view.variable x ≡ false) →
+pub related-returned_to : (view : View) (result value : Bool) (exits more : Exit →
+    Bool) (target : Option Variable) (o p : Outcome) → RelatedCall view result exits o p →
+    ((exit : Exit) → exits exit ≡ false → more exit ≡ false) →
+    (exits Normal ≡ false → (x : Variable) → target ≡ Some x → view.variable x ≡ false) →
     ((x : Variable) → target ≡ Some x → view.variable x ≡ true → result ≡ true) →
     Related view value more (returned_to target o) (returned_to target p)
-related-returned_to view result value marks more None o p (same_call r q s t h i) weaker unread read = same_end Normal s t h
-related-returned_to view result value marks more (Some x) o p (same_call r q s t h i) weaker unread read =
+related-returned_to view result value exits more None o p (same_call r q s t h i) weaker unread read = same_end Normal s t h
+related-returned_to view result value exits more (Some x) o p (same_call r q s t h i) weaker unread read =
     returned-same view result value more x r q s t h (read x refl) i
-related-returned_to view result value marks more None o p (same_thrown y s t h) weaker unread read = same_end (Throw y) s t h
-related-returned_to view result value marks more (Some x) o p (same_thrown y s t h) weaker unread read = same_end (Throw y) s t h
-related-returned_to view result value marks more target o p (apart_calls _ _ h i j) weaker unread read =
+related-returned_to view result value exits more None o p (same_thrown y s t h) weaker unread read = same_end (Throw y) s t h
+related-returned_to view result value exits more (Some x) o p (same_thrown y s t h) weaker unread read = same_end (Throw y) s t h
+related-returned_to view result value exits more target o p (apart_calls _ _ h i j) weaker unread read =
     both-kept view value more (state_after o) (state_after p) (returned_to target o) (returned_to target p) j
-    (kept-returned_to view result value marks more target o h weaker unread)
-    (kept-returned_to view result value marks more target p i weaker unread)
-related-returned_to view result value marks more None o p (first_call_stops stop s _ h) weaker unread read =
+    (kept-returned_to view result value exits more target o h weaker unread)
+    (kept-returned_to view result value exits more target p i weaker unread)
+related-returned_to view result value exits more None o p (first_call_stops stop s _ h) weaker unread read =
     first_stops stop s (returned_to None p) (stopped-begins view s p (returned_to None p) h (grown-returned_to None p))
-related-returned_to view result value marks more (Some x) o p (first_call_stops stop s _ h) weaker unread read =
+related-returned_to view result value exits more (Some x) o p (first_call_stops stop s _ h) weaker unread read =
     first_stops stop s (returned_to (Some x) p) (stopped-begins view s p (returned_to (Some x) p) h (grown-returned_to (Some x) p))
-related-returned_to view result value marks more None o p (second_call_stops _ stop t h) weaker unread read =
+related-returned_to view result value exits more None o p (second_call_stops _ stop t h) weaker unread read =
     second_stops (returned_to None o) stop t (stopped-begins view t o (returned_to None o) h (grown-returned_to None o))
-related-returned_to view result value marks more (Some x) o p (second_call_stops _ stop t h) weaker unread read =
+related-returned_to view result value exits more (Some x) o p (second_call_stops _ stop t h) weaker unread read =
     second_stops (returned_to (Some x) o) stop t (stopped-begins view t o (returned_to (Some x) o) h (grown-returned_to (Some x) o))
 
 -- what a procedure declares of its ends, for its callers
-abbrev pub declared_label : Program → (callee : ℕ) → Marks
+abbrev pub declared_label : Program → (callee : ℕ) → ExitLabels
 declared_label program f Normal = label_if (any_of (procedure_at program f).throws) (one (label_of program (ToEnd f)))
 declared_label program f (Throw exception) = one (label_of program (ToThrown f exception))
 declared_label program f Return = []
@@ -100,7 +100,7 @@ declared_label program f Continue = []
 
 -- these are the same under every labelling
 pub declared-under : {h : PrincipalHierarchy} (base : LabelReader h) (labels inner : Labelling) (program : Program) (f : ℕ) (exit : Exit) →
-    read_marks (under base inner) (declared_label program f) exit ≡ false → read_marks (under base labels) (declared_label program f) exit ≡ false
+    read_exits (under base inner) (declared_label program f) exit ≡ false → read_exits (under base labels) (declared_label program f) exit ≡ false
 declared-under base labels inner program f Normal m = go (any_of (procedure_at program f).throws) m
   where
     go : (b : Bool) → base.reads (join_under inner (label_if b (one (label_of program (ToEnd f))))) ≡ false →
@@ -112,20 +112,20 @@ declared-under base labels inner program f Break m = m
 declared-under base labels inner program f Continue m = m
 declared-under base labels inner program f (Throw x) m = m
 
-hidden_call-weaker : (value : Bool) (marks more : Exit → Bool) (o : Outcome) → ((exit : Exit) → marks exit ≡ false → more exit ≡ false) →
-    HiddenCall value marks o → HiddenCall value more o
-hidden_call-weaker value marks more o weaker (call_end r t m none) = call_end r t (weaker Normal m) none
-hidden_call-weaker value marks more o weaker (call_thrown x t m) = call_thrown x t (weaker (Throw x) m)
-hidden_call-weaker value marks more o weaker (call_stop stop t) = call_stop stop t
+hidden_call-weaker : (value : Bool) (exits more : Exit → Bool) (o : Outcome) → ((exit : Exit) → exits exit ≡ false → more exit ≡ false) →
+    HiddenCall value exits o → HiddenCall value more o
+hidden_call-weaker value exits more o weaker (call_end r t m none) = call_end r t (weaker Normal m) none
+hidden_call-weaker value exits more o weaker (call_thrown x t m) = call_thrown x t (weaker (Throw x) m)
+hidden_call-weaker value exits more o weaker (call_stop stop t) = call_stop stop t
 
-pub related_call-weaker : (view : View) (value : Bool) (marks more : Exit → Bool) (o p : Outcome) →
-    ((exit : Exit) → marks exit ≡ false → more exit ≡ false) → RelatedCall view value marks o p → RelatedCall view value more o p
-related_call-weaker view value marks more o p weaker (same_call r q s t h i) = same_call r q s t h i
-related_call-weaker view value marks more o p weaker (same_thrown x s t h) = same_thrown x s t h
-related_call-weaker view value marks more o p weaker (apart_calls _ _ h i j) =
-    apart_calls o p (hidden_call-weaker value marks more o weaker h) (hidden_call-weaker value marks more p weaker i) j
-related_call-weaker view value marks more o p weaker (first_call_stops stop s _ h) = first_call_stops stop s p h
-related_call-weaker view value marks more o p weaker (second_call_stops _ stop t h) = second_call_stops o stop t h
+pub related_call-weaker : (view : View) (value : Bool) (exits more : Exit → Bool) (o p : Outcome) →
+    ((exit : Exit) → exits exit ≡ false → more exit ≡ false) → RelatedCall view value exits o p → RelatedCall view value more o p
+related_call-weaker view value exits more o p weaker (same_call r q s t h i) = same_call r q s t h i
+related_call-weaker view value exits more o p weaker (same_thrown x s t h) = same_thrown x s t h
+related_call-weaker view value exits more o p weaker (apart_calls _ _ h i j) =
+    apart_calls o p (hidden_call-weaker value exits more o weaker h) (hidden_call-weaker value exits more p weaker i) j
+related_call-weaker view value exits more o p weaker (first_call_stops stop s _ h) = first_call_stops stop s p h
+related_call-weaker view value exits more o p weaker (second_call_stops _ stop t h) = second_call_stops o stop t h
 
 -- the state of a caller that has its frame again
 abbrev pub home : State → State → State
@@ -144,28 +144,21 @@ agree-home base program caller callee labels inner s t s' t' outer within = reco
     variables (Global n) e = within.variables (Global n) e
     variables (Local n) e = outer.variables (Local n) e
 
--- neither `break` nor `continue` is an exception
-thrown-not_break : (xs : List ℕ) → has_end (thrown_ends xs) Break ≡ true → ⊥
-thrown-not_break [] h = let e : true ≡ false = sym h in cc
-thrown-not_break (x ∷ xs) h = thrown-not_break xs h
-
-thrown-not_continue : (xs : List ℕ) → has_end (thrown_ends xs) Continue ≡ true → ⊥
-thrown-not_continue [] h = let e : true ≡ false = sym h in cc
-thrown-not_continue (x ∷ xs) h = thrown-not_continue xs h
+-- no procedure may end by `break` or `continue`
+never-may : false ≡ true → ⊥
+never-may e = cc
 
 -- a body that ends as it may, of which nothing is seen
 module _ (callee : ProcedureEntry) (ends : List Exit) (declared : list_all (may_end callee) ends ≡ true) (back : State → State) (value : Bool) where
-  pub hidden-shape : (marks : Exit → Bool) (o : Outcome) → Among ends o → Hidden value marks o →
-      HiddenCall value unread_marks (leaving back o)
-  hidden-shape marks o among (hidden_end Normal t m) = call_end None (back t) refl (λ e. refl)
-  hidden-shape marks o among (hidden_end Return t m) = call_end None (back t) refl (λ e. refl)
-  hidden-shape marks o among (hidden_end Break t m) = absurd (thrown-not_break (declared_by callee.throws)
-      (all-has (may_end callee) ends Break declared among.among))
-  hidden-shape marks o among (hidden_end Continue t m) = absurd
-      (thrown-not_continue (declared_by callee.throws) (all-has (may_end callee) ends Continue declared among.among))
-  hidden-shape marks o among (hidden_end (Throw x) t m) = call_thrown x (back t) refl
-  hidden-shape marks o among (hidden_return r t m none) = call_end r (back t) refl none
-  hidden-shape marks o among (hidden_stop stop t) = call_stop stop (back t)
+  pub hidden-shape : (exits : Exit → Bool) (o : Outcome) → Among ends o → Hidden value exits o →
+      HiddenCall value unread_exits (leaving back o)
+  hidden-shape exits o among (hidden_end Normal t m) = call_end None (back t) refl (λ e. refl)
+  hidden-shape exits o among (hidden_end Return t m) = call_end None (back t) refl (λ e. refl)
+  hidden-shape exits o among (hidden_end Break t m) = absurd (never-may (all-has (may_end callee) ends Break declared among.among))
+  hidden-shape exits o among (hidden_end Continue t m) = absurd (never-may (all-has (may_end callee) ends Continue declared among.among))
+  hidden-shape exits o among (hidden_end (Throw x) t m) = call_thrown x (back t) refl
+  hidden-shape exits o among (hidden_return r t m none) = call_end r (back t) refl none
+  hidden-shape exits o among (hidden_stop stop t) = call_stop stop (back t)
 
 -- normal and return counted as one end
 as_one-has : (ends : List Exit) (exit : Exit) → has_end ends exit ≡ true → has_end (map as_one_end ends) (as_one_end exit) ≡ true
@@ -187,21 +180,21 @@ among-as_one ends back (Ended (Throw x) r s) h = record { among = as_one-has end
 among-as_one ends back (Stopped stop s) h = record { among = tt }
 
 -- two hidden calls that have one end only
-calls-one : (view : View) (value : Bool) (marks more : Exit → Bool) (ends : List Exit) (o p : Outcome) → one_end ends ≡ true →
-    Among ends o → Among ends p → HiddenCall value marks o → HiddenCall value marks p →
+calls-one : (view : View) (value : Bool) (exits more : Exit → Bool) (ends : List Exit) (o p : Outcome) → one_end ends ≡ true →
+    Among ends o → Among ends p → HiddenCall value exits o → HiddenCall value exits p →
     AgreeFor view (state_after o) (state_after p) → RelatedCall view value more o p
-calls-one view value marks more ends o p one among among' (call_end r s m none) (call_end q t m' none') agree =
+calls-one view value exits more ends o p one among among' (call_end r s m none) (call_end q t m' none') agree =
     same_call r q s t agree (λ e. none e ∙ sym (none' e))
-calls-one view value marks more ends o p one among among' (call_end r s m none) (call_thrown x t m') agree =
+calls-one view value exits more ends o p one among among' (call_end r s m none) (call_thrown x t m') agree =
     let e : Normal ≡ Throw x = one-same ends Normal (Throw x) one among.among among'.among in absurd (cc)
-calls-one view value marks more ends o p one among among' (call_thrown x s m) (call_end q t m' none') agree =
+calls-one view value exits more ends o p one among among' (call_thrown x s m) (call_end q t m' none') agree =
     let e : Throw x ≡ Normal = one-same ends (Throw x) Normal one among.among among'.among in absurd (cc)
-calls-one view value marks more ends o p one among among' (call_thrown x s m) (call_thrown y t m') agree =
+calls-one view value exits more ends o p one among among' (call_thrown x s m) (call_thrown y t m') agree =
     let e : Throw x ≡ Throw y = one-same ends (Throw x) (Throw y) one among.among among'.among in
     let same : x ≡ y = cc in rw same (same_thrown y s t agree)
-calls-one view value marks more ends o p one among among' (call_stop stop s) h agree =
+calls-one view value exits more ends o p one among among' (call_stop stop s) h agree =
     first_call_stops stop s p (agree-begins view s (state_after p) agree)
-calls-one view value marks more ends o p one among among' h (call_stop stop t) agree =
+calls-one view value exits more ends o p one among among' h (call_stop stop t) agree =
     second_call_stops o stop t (agree-begins view t (state_after o) (agree-back view (state_after o) t agree))
 
 -- where no exception is declared, a body that ends as it may has one end only
@@ -221,8 +214,8 @@ no_throws-one callee (first ∷ rest) none declared =
     one : (exit : Exit) → may_end callee exit ≡ true → same_exit Normal (as_one_end exit) ≡ true
     one Normal e = refl
     one Return e = refl
-    one Break e = absurd (nothing callee.throws Break none e)
-    one Continue e = absurd (nothing callee.throws Continue none e)
+    one Break e = e
+    one Continue e = e
     one (Throw x) e = absurd (nothing callee.throws (Throw x) none e)
 
 some-throws : (callee : ProcedureEntry) (ends : List Exit) (exit : Exit) → list_all (may_end callee) ends ≡ true →
@@ -242,7 +235,7 @@ some-throws callee (first ∷ rest) exit declared h several = go (any_of callee.
         let i : true ≡ false = sym single ∙ several in absurd (cc)
 
 -- the label that is declared of an exception which is not read
-unread-thrown : {h : PrincipalHierarchy} {labelling : Labelling} (reader : Reader h labelling) (program : Program) (f at : ℕ) (x : Marks) (throws : List ThrownEntry) (y : ℕ) →
+unread-thrown : {h : PrincipalHierarchy} {labelling : Labelling} (reader : Reader h labelling) (program : Program) (f at : ℕ) (x : ExitLabels) (throws : List ThrownEntry) (y : ℕ) →
     Fits h labelling (flat_map (λ (entry : ThrownEntry). demand program at 13 (x (Throw entry.exception)) (ToThrown f entry.exception)) throws) →
     raised_in (declared_by throws) y ≡ true → reader.reads (x (Throw y)) ≡ false → reader.reads (one (label_of program (ToThrown f y))) ≡ false
 unread-thrown reader program f at x [] y fits declared unread = let i : true ≡ false = sym declared in absurd (cc)
@@ -264,19 +257,19 @@ unread-thrown {h} {labelling} reader program f at x (entry ∷ rest) y fits decl
     go false e later = later (rw e at declared) unread
 
 -- the demands on the ends of a procedure that has several
-abbrev several : Scope → Marks → List Demand
+abbrev several : Scope → ExitLabels → List Demand
 several scope x = demand scope.program (here scope).at 13 (x Normal ++ x Return) (ToEnd scope.number)
 
-abbrev on_thrown : Scope → Marks → List Demand
+abbrev on_thrown : Scope → ExitLabels → List Demand
 on_thrown scope x = flat_map (λ (entry : ThrownEntry). demand scope.program (here scope).at 13 (x (Throw entry.exception)) (ToThrown scope.number entry.exception)) (here scope).throws
 
-several-demands : (h : PrincipalHierarchy) (labelling : Labelling) (scope : Scope) (ends : List Exit) (x : Marks) →
+several-demands : (h : PrincipalHierarchy) (labelling : Labelling) (scope : Scope) (ends : List Exit) (x : ExitLabels) →
     one_end (map as_one_end ends) ≡ false → Fits h labelling (end_demands scope ends x) →
     Fits h labelling (several scope x ++ on_thrown scope x)
 several-demands h labelling scope ends x more fits = rw more at fits
 
 module _ {h : PrincipalHierarchy} {labelling : Labelling} (reader : Reader h labelling) (scope : Scope) (ends : List Exit)
-    (declared : list_all (may_end (here scope)) ends ≡ true) (x : Marks) (fits : Fits h labelling (end_demands scope ends x)) (back : State → State)
+    (declared : list_all (may_end (here scope)) ends ≡ true) (x : ExitLabels) (fits : Fits h labelling (end_demands scope ends x)) (back : State → State)
     (value : Bool) where
   normal-unread : one_end (map as_one_end ends) ≡ false → (exit : Exit) → has_end ends exit ≡ true →
       reader.reads (x Normal ++ x Return) ≡ false → reader.reads (declared_label scope.program scope.number Normal) ≡ false
@@ -285,16 +278,14 @@ module _ {h : PrincipalHierarchy} {labelling : Labelling} (reader : Reader h lab
       unread-label_if reader (any_of (here scope).throws) (one (label_of scope.program (ToEnd scope.number))) (some-throws (here scope) ends exit declared among more)
       (unread-demand reader scope.program (here scope).at 13 (x Normal ++ x Return) (ToEnd scope.number) front unread)
 
-  hidden-leaving : (o : Outcome) → one_end (map as_one_end ends) ≡ false → Among ends o → Hidden value (read_marks reader x) o →
-      HiddenCall value (read_marks reader (declared_label scope.program scope.number)) (leaving back o)
+  hidden-leaving : (o : Outcome) → one_end (map as_one_end ends) ≡ false → Among ends o → Hidden value (read_exits reader x) o →
+      HiddenCall value (read_exits reader (declared_label scope.program scope.number)) (leaving back o)
   hidden-leaving o more among (hidden_end Normal t m) =
       call_end None (back t) (normal-unread more Normal among.among (unread-left reader (x Normal) (x Return) m)) (λ e. refl)
   hidden-leaving o more among (hidden_end Return t m) =
       call_end None (back t) (normal-unread more Return among.among (unread-right reader (x Normal) (x Return) m)) (λ e. refl)
-  hidden-leaving o more among (hidden_end Break t m) = absurd
-      (thrown-not_break (declared_by (here scope).throws) (all-has (may_end (here scope)) ends Break declared among.among))
-  hidden-leaving o more among (hidden_end Continue t m) = absurd
-      (thrown-not_continue (declared_by (here scope).throws) (all-has (may_end (here scope)) ends Continue declared among.among))
+  hidden-leaving o more among (hidden_end Break t m) = absurd (never-may (all-has (may_end (here scope)) ends Break declared among.among))
+  hidden-leaving o more among (hidden_end Continue t m) = absurd (never-may (all-has (may_end (here scope)) ends Continue declared among.among))
   hidden-leaving o more among (hidden_end (Throw y) t m) =
       call_thrown y (back t) (unread-thrown reader scope.program scope.number (here scope).at x (here scope).throws y
       (fits-right h labelling (several scope x) (on_thrown scope x) (several-demands h labelling scope ends x more fits))
@@ -316,25 +307,25 @@ begins-outside : (inner outer : View) (xs ys : List Pair) → ((zs : List Pair) 
 begins-outside inner outer xs ys same h = (h.0, ap (λ l. l ++ h.0) (sym (same xs)) ∙ h.1 ∙ same ys)
 
 -- one run of a body of which nothing is seen, for the caller
-pub kept-leaving : (callee : ProcedureEntry) (ends : List Exit) (inner outer : View) (value : Bool) (marks : Exit →
+pub kept-leaving : (callee : ProcedureEntry) (ends : List Exit) (inner outer : View) (value : Bool) (exits : Exit →
     Bool) (s u : State) (o : Outcome) → list_all (may_end callee) ends ≡ true →
-    ((t' : State) → AgreeFor inner u t' → AgreeFor outer s (home s t')) → Among ends o → Kept inner value marks u o →
-    KeptCall outer value unread_marks s (leaving (home s) o)
-kept-leaving callee ends inner outer value marks s u o declared back among h = record {
+    ((t' : State) → AgreeFor inner u t' → AgreeFor outer s (home s t')) → Among ends o → Kept inner value exits u o →
+    KeptCall outer value unread_exits s (leaving (home s) o)
+kept-leaving callee ends inner outer value exits s u o declared back among h = record {
   agree = rw (after-leaving (home s) o) (back (state_after o) h.agree);
-  hidden = hidden-shape callee ends declared (home s) value marks o among h.hidden;
+  hidden = hidden-shape callee ends declared (home s) value exits o among h.hidden;
 }
 
 -- two runs of a body, seen by the caller
-pub related-leaving : {h : PrincipalHierarchy} {labelling : Labelling} (reader : Reader h labelling) (scope : Scope) (ends : List Exit) (x : Marks) (inner outer : View) (value : Bool) (s t : State) (o p : Outcome) → list_all (may_end (here scope)) ends ≡ true → Fits h labelling (end_demands scope ends x) → ((s' t' : State) → AgreeFor inner s' t' → AgreeFor outer (home s s') (home t t')) → ((xs : List Pair) → shown inner xs ≡ shown outer xs) → Among ends o → Among ends p → Related inner value (read_marks reader x) o p → RelatedCall outer value (read_marks reader (declared_label scope.program scope.number)) (leaving (home s) o) (leaving (home t) p)
+pub related-leaving : {h : PrincipalHierarchy} {labelling : Labelling} (reader : Reader h labelling) (scope : Scope) (ends : List Exit) (x : ExitLabels) (inner outer : View) (value : Bool) (s t : State) (o p : Outcome) → list_all (may_end (here scope)) ends ≡ true → Fits h labelling (end_demands scope ends x) → ((s' t' : State) → AgreeFor inner s' t' → AgreeFor outer (home s s') (home t t')) → ((xs : List Pair) → shown inner xs ≡ shown outer xs) → Among ends o → Among ends p → Related inner value (read_exits reader x) o p → RelatedCall outer value (read_exits reader (declared_label scope.program scope.number)) (leaving (home s) o) (leaving (home t) p)
 related-leaving reader scope ends x inner outer value s t o p declared fits back same_shown among among' (same_end Normal u w h) =
     same_call None None (home s u) (home t w) (back u w h) (λ e. refl)
 related-leaving reader scope ends x inner outer value s t o p declared fits back same_shown among among' (same_end Return u w h) =
     same_call None None (home s u) (home t w) (back u w h) (λ e. refl)
 related-leaving reader scope ends x inner outer value s t o p declared fits back same_shown among among' (same_end Break u w h) =
-    absurd (thrown-not_break (declared_by (here scope).throws) (all-has (may_end (here scope)) ends Break declared among.among))
+    absurd (never-may (all-has (may_end (here scope)) ends Break declared among.among))
 related-leaving reader scope ends x inner outer value s t o p declared fits back same_shown among among' (same_end Continue u w h) =
-    absurd (thrown-not_continue (declared_by (here scope).throws) (all-has (may_end (here scope)) ends Continue declared among.among))
+    absurd (never-may (all-has (may_end (here scope)) ends Continue declared among.among))
 related-leaving reader scope ends x inner outer value s t o p declared fits back same_shown among among' (same_end (Throw y) u w h) =
     same_thrown y (home s u) (home t w) (back u w h)
 related-leaving reader scope ends x inner outer value s t o p declared fits back same_shown among among' (same_return r q u w h i) =
@@ -346,12 +337,12 @@ related-leaving reader scope ends x inner outer value s t o p declared fits back
     agree = rw (after-leaving (home s) o, after-leaving (home t) p) (back (state_after o) (state_after p) j)
 
     go : (b : Bool) → one_end (map as_one_end ends) ≡ b →
-        RelatedCall outer value (read_marks reader (declared_label scope.program scope.number)) (leaving (home s) o) (leaving (home t) p)
-    go true e = calls-one outer value unread_marks (read_marks reader (declared_label scope.program scope.number)) (map as_one_end ends) (leaving (home s) o)
+        RelatedCall outer value (read_exits reader (declared_label scope.program scope.number)) (leaving (home s) o) (leaving (home t) p)
+    go true e = calls-one outer value unread_exits (read_exits reader (declared_label scope.program scope.number)) (map as_one_end ends) (leaving (home s) o)
         (leaving (home t) p) e
         (among-as_one ends (home s) o among) (among-as_one ends (home t) p among')
-        (hidden-shape (here scope) ends declared (home s) value (read_marks reader x) o among h)
-        (hidden-shape (here scope) ends declared (home t) value (read_marks reader x) p among' i) agree
+        (hidden-shape (here scope) ends declared (home s) value (read_exits reader x) o among h)
+        (hidden-shape (here scope) ends declared (home t) value (read_exits reader x) p among' i) agree
     go false e = apart_calls (leaving (home s) o) (leaving (home t) p)
         (hidden-leaving reader scope ends declared x fits (home s) value o e among h)
         (hidden-leaving reader scope ends declared x fits (home t) value p e among' i) agree

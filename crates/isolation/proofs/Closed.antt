@@ -8,15 +8,15 @@ use Rattle.resolved.specs.declared.statement.Exit.TheVariants.{Return}
 use Rattle.resolved.specs.State.{State}
 use Rattle.resolved.specs.Meaning.{Outcome, state_after}
 use Rattle.resolved.specs.Ends.{same_exit, has_end, one_end}
-use Rattle.resolved.specs.Labelled.{Marks, at_ends, Labelling, Join, one}
+use Rattle.resolved.specs.Labelled.{ExitLabels, at_ends, Labelling, Join, one}
 use Rattle.isolation.proofs.Among.{Among, same-exit, all-has}
 use Rattle.isolation.proofs.Observer.{Reader, View, AgreeFor, agree-back}
 use Rattle.isolation.proofs.Kept.{Hidden, hidden_end, hidden_return, hidden_stop, Kept}
 use Rattle.isolation.proofs.Related.{Related, same_end, same_return, apart, first_stops, second_stops, agree-begins}
 
 -- which labels an observer reads
-abbrev pub read_marks : {h : PrincipalHierarchy} {labelling : Labelling} → Reader h labelling → Marks → Exit → Bool
-read_marks reader marks exit = reader.reads (marks exit)
+abbrev pub read_exits : {h : PrincipalHierarchy} {labelling : Labelling} → Reader h labelling → ExitLabels → Exit → Bool
+read_exits reader exits exit = reader.reads (exits exit)
 
 -- two ends of a list of one are the same
 pub one-same : (ends : List Exit) (a b : Exit) → one_end ends ≡ true → has_end ends a ≡ true → has_end ends b ≡ true → a ≡ b
@@ -27,54 +27,54 @@ one-same (first ∷ rest) a b one h i = sym (each a h) ∙ each b i
     each e f = ⊎_elim (λ g. sym (same-exit e first g)) (λ g. same-exit first e (all-has (same_exit first) rest e one g))
         (or_cases (same_exit e first) (has_end rest e) f)
 
-pub closed-unread : {h : PrincipalHierarchy} {labelling : Labelling} (reader : Reader h labelling) (ends : List Exit) (pc : Join) (marks : Marks) (exit : Exit) →
-    (one_end ends ≡ true → reader.reads pc ≡ false) → has_end ends exit ≡ true → reader.reads (marks exit) ≡ false →
-    reader.reads (at_ends ends pc marks exit) ≡ false
-closed-unread reader ends pc marks exit single among unread = go (one_end ends) refl
+pub closed-unread : {h : PrincipalHierarchy} {labelling : Labelling} (reader : Reader h labelling) (ends : List Exit) (pc : Join) (exits : ExitLabels) (exit : Exit) →
+    (one_end ends ≡ true → reader.reads pc ≡ false) → has_end ends exit ≡ true → reader.reads (exits exit) ≡ false →
+    reader.reads (at_ends ends pc exits exit) ≡ false
+closed-unread reader ends pc exits exit single among unread = go (one_end ends) refl
   where
-    go : (b : Bool) → one_end ends ≡ b → reader.reads (at_ends ends pc marks exit) ≡ false
+    go : (b : Bool) → one_end ends ≡ b → reader.reads (at_ends ends pc exits exit) ≡ false
     go true e = rw (among, e) (single e)
     go false e = rw (among, e) unread
 
-hidden-closed : {h : PrincipalHierarchy} {labelling : Labelling} (reader : Reader h labelling) (value : Bool) (ends : List Exit) (pc : Join) (marks : Marks) (o : Outcome) →
-    (one_end ends ≡ true → reader.reads pc ≡ false) → Among ends o → Hidden value (read_marks reader marks) o →
-    Hidden value (read_marks reader (at_ends ends pc marks)) o
-hidden-closed reader value ends pc marks o single among (hidden_end exit t m) =
-    hidden_end exit t (closed-unread reader ends pc marks exit single among.among m)
-hidden-closed reader value ends pc marks o single among (hidden_return r t m none) =
-    hidden_return r t (closed-unread reader ends pc marks Return single among.among m) none
-hidden-closed reader value ends pc marks o single among (hidden_stop stop t) = hidden_stop stop t
+hidden-closed : {h : PrincipalHierarchy} {labelling : Labelling} (reader : Reader h labelling) (value : Bool) (ends : List Exit) (pc : Join) (exits : ExitLabels) (o : Outcome) →
+    (one_end ends ≡ true → reader.reads pc ≡ false) → Among ends o → Hidden value (read_exits reader exits) o →
+    Hidden value (read_exits reader (at_ends ends pc exits)) o
+hidden-closed reader value ends pc exits o single among (hidden_end exit t m) =
+    hidden_end exit t (closed-unread reader ends pc exits exit single among.among m)
+hidden-closed reader value ends pc exits o single among (hidden_return r t m none) =
+    hidden_return r t (closed-unread reader ends pc exits Return single among.among m) none
+hidden-closed reader value ends pc exits o single among (hidden_stop stop t) = hidden_stop stop t
 
-pub kept-closed : {h : PrincipalHierarchy} {labelling : Labelling} (reader : Reader h labelling) (view : View) (value : Bool) (ends : List Exit) (pc : Join) (marks : Marks) (s : State) (o : Outcome) → reader.reads pc ≡ false → Among ends o → Kept view value (read_marks reader marks) s o → Kept view value (read_marks reader (at_ends ends pc marks)) s o
-kept-closed reader view value ends pc marks s o unread among h =
-    record { agree = h.agree; hidden = hidden-closed reader value ends pc marks o (λ one. unread) among h.hidden }
+pub kept-closed : {h : PrincipalHierarchy} {labelling : Labelling} (reader : Reader h labelling) (view : View) (value : Bool) (ends : List Exit) (pc : Join) (exits : ExitLabels) (s : State) (o : Outcome) → reader.reads pc ≡ false → Among ends o → Kept view value (read_exits reader exits) s o → Kept view value (read_exits reader (at_ends ends pc exits)) s o
+kept-closed reader view value ends pc exits s o unread among h =
+    record { agree = h.agree; hidden = hidden-closed reader value ends pc exits o (λ one. unread) among h.hidden }
 
 -- two hidden ends of a list of one
-related-one : (view : View) (value : Bool) (marks more : Exit → Bool) (ends : List Exit) (o p : Outcome) → one_end ends ≡ true →
-    Among ends o → Among ends p → Hidden value marks o → Hidden value marks p → AgreeFor view (state_after o) (state_after p) →
+related-one : (view : View) (value : Bool) (exits more : Exit → Bool) (ends : List Exit) (o p : Outcome) → one_end ends ≡ true →
+    Among ends o → Among ends p → Hidden value exits o → Hidden value exits p → AgreeFor view (state_after o) (state_after p) →
     Related view value more o p
-related-one view value marks more ends o p one among among' (hidden_end exit s m) (hidden_end exit' t m') agree =
+related-one view value exits more ends o p one among among' (hidden_end exit s m) (hidden_end exit' t m') agree =
     rw (one-same ends exit exit' one among.among among'.among) (same_end exit' s t agree)
-related-one view value marks more ends o p one among among' (hidden_end exit s m) (hidden_return r t m' none) agree =
+related-one view value exits more ends o p one among among' (hidden_end exit s m) (hidden_return r t m' none) agree =
     rw (one-same ends exit Return one among.among among'.among) (same_return None r s t agree (λ e. sym (none e)))
-related-one view value marks more ends o p one among among' (hidden_return r s m none) (hidden_end exit t m') agree =
+related-one view value exits more ends o p one among among' (hidden_return r s m none) (hidden_end exit t m') agree =
     rw (one-same ends exit Return one among'.among among.among) (same_return r None s t agree none)
-related-one view value marks more ends o p one among among' (hidden_return r s m none) (hidden_return q t m' none') agree =
+related-one view value exits more ends o p one among among' (hidden_return r s m none) (hidden_return q t m' none') agree =
     same_return r q s t agree (λ e. none e ∙ sym (none' e))
-related-one view value marks more ends o p one among among' (hidden_stop stop s) h agree =
+related-one view value exits more ends o p one among among' (hidden_stop stop s) h agree =
     first_stops stop s p (agree-begins view s (state_after p) agree)
-related-one view value marks more ends o p one among among' h (hidden_stop stop t) agree =
+related-one view value exits more ends o p one among among' h (hidden_stop stop t) agree =
     second_stops o stop t (agree-begins view t (state_after o) (agree-back view (state_after o) t agree))
 
-pub related-closed : {h : PrincipalHierarchy} {labelling : Labelling} (reader : Reader h labelling) (view : View) (value : Bool) (ends : List Exit) (pc : Join) (marks : Marks) (o p : Outcome) → Among ends o → Among ends p → Related view value (read_marks reader marks) o p → Related view value (read_marks reader (at_ends ends pc marks)) o p
-related-closed reader view value ends pc marks o p among among' (same_end exit s t h) = same_end exit s t h
-related-closed reader view value ends pc marks o p among among' (same_return r q s t h i) = same_return r q s t h i
-related-closed reader view value ends pc marks o p among among' (apart _ _ h i j) = go (one_end ends) refl
+pub related-closed : {h : PrincipalHierarchy} {labelling : Labelling} (reader : Reader h labelling) (view : View) (value : Bool) (ends : List Exit) (pc : Join) (exits : ExitLabels) (o p : Outcome) → Among ends o → Among ends p → Related view value (read_exits reader exits) o p → Related view value (read_exits reader (at_ends ends pc exits)) o p
+related-closed reader view value ends pc exits o p among among' (same_end exit s t h) = same_end exit s t h
+related-closed reader view value ends pc exits o p among among' (same_return r q s t h i) = same_return r q s t h i
+related-closed reader view value ends pc exits o p among among' (apart _ _ h i j) = go (one_end ends) refl
   where
-    go : (b : Bool) → one_end ends ≡ b → Related view value (read_marks reader (at_ends ends pc marks)) o p
-    go true e = related-one view value (read_marks reader marks) (read_marks reader (at_ends ends pc marks)) ends o p e among among' h i j
+    go : (b : Bool) → one_end ends ≡ b → Related view value (read_exits reader (at_ends ends pc exits)) o p
+    go true e = related-one view value (read_exits reader exits) (read_exits reader (at_ends ends pc exits)) ends o p e among among' h i j
     go false e = apart o p
-        (hidden-closed reader value ends pc marks o (λ f. let g : true ≡ false = sym f ∙ e in absurd (cc)) among h)
-        (hidden-closed reader value ends pc marks p (λ f. let g : true ≡ false = sym f ∙ e in absurd (cc)) among' i) j
-related-closed reader view value ends pc marks o p among among' (first_stops stop s _ h) = first_stops stop s p h
-related-closed reader view value ends pc marks o p among among' (second_stops _ stop t h) = second_stops o stop t h
+        (hidden-closed reader value ends pc exits o (λ f. let g : true ≡ false = sym f ∙ e in absurd (cc)) among h)
+        (hidden-closed reader value ends pc exits p (λ f. let g : true ≡ false = sym f ∙ e in absurd (cc)) among' i) j
+related-closed reader view value ends pc exits o p among among' (first_stops stop s _ h) = first_stops stop s p h
+related-closed reader view value ends pc exits o p among among' (second_stops _ stop t h) = second_stops o stop t h

@@ -19,12 +19,12 @@ use Rattle.resolved.specs.Value.{Raises, truth_in, checked_index, end_exception}
 use Rattle.resolved.specs.State.{State, assigned, stored, cleared, value_of, values_of}
 use Rattle.resolved.specs.Meaning.{Stop, Outcome, Ended, Stopped, normally, after, caught, kept_in, received, sending, returned_to, Calls, statement_meaning, block_meaning, handlers_meaning, state_after}
 use Rattle.resolved.specs.Ends.{same_exit, has_end, raises, thrown_ends, leaves_loop, handles, passes, statement_ends, block_ends, index_can_raise}
-use Rattle.resolved.specs.Labelled.{chosen, Scope, Marks, Demand, demand, Target, join_under, label_under, ToEnd, ToThrown, ToValue, Fits, variable_label, channel_label, result_label, value_label, raise_label, raise_labels, label_if, at_ends, own_label, raised_marks, call_marks, any_of, loop_marks, statement_rule, block_rule, handlers_rule, block_marks, target_demand, argument_demands, statement_demands, block_demands, handlers_demands, Labelling, Join, one, label_of, here, ToVariable, ToChannel, ToBegin, ToValue, ToLoop, LabelAtom}
+use Rattle.resolved.specs.Labelled.{chosen, Scope, ExitLabels, Demand, demand, Target, join_under, label_under, ToEnd, ToThrown, ToValue, Fits, variable_label, channel_label, result_label, value_label, raise_label, raise_labels, label_if, at_ends, own_label, raised_exits, call_exits, any_of, loop_exits, statement_rule, block_rule, handlers_rule, block_exits, target_demand, argument_demands, statement_demands, block_demands, handlers_demands, Labelling, Join, one, label_of, here, ToVariable, ToChannel, ToBegin, ToValue, ToLoop, LabelAtom}
 use Rattle.labels.specs.Constraints.{holds, label_lattice}
 use Rattle.isolation.proofs.Among.{CallsAmong, expression-raises, thrown-among, statement-among, block-among}
 use Rattle.isolation.proofs.Observer.{Reader, View, view_of, AgreeFor, agree-itself, agree-through, agree-unread, agree-unread_input, agree-unread_sending, with_input, unread-left, unread-right, unread-flowing}
-use Rattle.isolation.proofs.Kept.{hidden_end, hidden_return, Kept, LoopMarks, kept-weaker, kept-from, kept-end, kept-stop, kept-evaluated, kept-if, kept-after, kept-turns, kept-caught}
-use Rattle.isolation.proofs.Closed.{read_marks, kept-closed}
+use Rattle.isolation.proofs.Kept.{hidden_end, hidden_return, Kept, LoopExits, kept-weaker, kept-from, kept-end, kept-stop, kept-evaluated, kept-if, kept-after, kept-turns, kept-caught}
+use Rattle.isolation.proofs.Closed.{read_exits, kept-closed}
 
 -- demands that hold hold in both parts of their list
 pub fits-left : (h : PrincipalHierarchy) (labelling : Labelling) (xs ys : List Demand) → Fits h labelling (xs ++ ys) → Fits h labelling xs
@@ -56,7 +56,7 @@ unread-label_if reader test label e unread = rw e unread
 
 -- what is raised is raised at q
 pub unread-raised : {h : PrincipalHierarchy} {labelling : Labelling} (reader : Reader h labelling) (s : State) (e : Expression) (q : Join) (x : ℕ) →
-    value_of s e ≡ Raises x → reader.reads q ≡ false → reader.reads (raised_marks e q (Throw x)) ≡ false
+    value_of s e ≡ Raises x → reader.reads q ≡ false → reader.reads (raised_exits e q (Throw x)) ≡ false
 unread-raised reader s e q x f unread =
     unread-label_if reader (has_end (thrown_ends (raises e)) (Throw x)) q (thrown-among (raises e) x ((expression-raises s e).among x f)) unread
 
@@ -66,39 +66,39 @@ reads_result reader procedure = reader.label (result_label procedure.result)
 
 -- A call ends normally, perhaps with a value, or by an exception; of one of which the observer does not read the label of the end,
 -- no value is seen
-pub data HiddenCall (value : Bool) (marks : Exit → Bool) : Outcome → Type 0 where
-  call_end : (r : Option Value) (t : State) → marks Normal ≡ false → (value ≡ true → r ≡ None) →
-      HiddenCall value marks (Ended Normal r t)
-  call_thrown : (x : ℕ) (t : State) → marks (Throw x) ≡ false → HiddenCall value marks (Ended (Throw x) None t)
-  call_stop : (stop : Stop) (t : State) → HiddenCall value marks (Stopped stop t)
+pub data HiddenCall (value : Bool) (exits : Exit → Bool) : Outcome → Type 0 where
+  call_end : (r : Option Value) (t : State) → exits Normal ≡ false → (value ≡ true → r ≡ None) →
+      HiddenCall value exits (Ended Normal r t)
+  call_thrown : (x : ℕ) (t : State) → exits (Throw x) ≡ false → HiddenCall value exits (Ended (Throw x) None t)
+  call_stop : (stop : Stop) (t : State) → HiddenCall value exits (Stopped stop t)
 
-pub record KeptCall (view : View) (value : Bool) (marks : Exit → Bool) (s : State) (o : Outcome) : Type 0 where
+pub record KeptCall (view : View) (value : Bool) (exits : Exit → Bool) (s : State) (o : Outcome) : Type 0 where
   pub agree : AgreeFor view s (state_after o)
-  pub hidden : HiddenCall value marks o
+  pub hidden : HiddenCall value exits o
 
 -- nothing is read
-abbrev pub unread_marks : Exit → Bool
-unread_marks exit = false
+abbrev pub unread_exits : Exit → Bool
+unread_exits exit = false
 
 -- what the calls of a program do: they end as declared, and at a begin label that the observer does not read nothing is seen
 pub record Confines {h : PrincipalHierarchy} {labelling : Labelling} (reader : Reader h labelling) (scope : Scope) (calls : Calls) : Type 0 where
   pub among : CallsAmong scope.program calls
   pub kept : (f : ℕ) (vs : List Value) (s : State) → reader.reads (one (label_of scope.program (ToBegin f))) ≡ false →
-      KeptCall (view_of reader scope) (reads_result reader (procedure_at scope.program f)) unread_marks s (calls f vs s)
+      KeptCall (view_of reader scope) (reads_result reader (procedure_at scope.program f)) unread_exits s (calls f vs s)
 
 -- the value of such a call goes to a target that the observer does not read
-pub kept-returned_to : (view : View) (result value : Bool) (marks more : Exit → Bool) (target : Option Variable) (o : Outcome) →
-    HiddenCall result marks o → ((exit : Exit) → marks exit ≡ false → more exit ≡ false) →
-    (marks Normal ≡ false → (x : Variable) → target ≡ Some x → view.variable x ≡ false) →
+pub kept-returned_to : (view : View) (result value : Bool) (exits more : Exit → Bool) (target : Option Variable) (o : Outcome) →
+    HiddenCall result exits o → ((exit : Exit) → exits exit ≡ false → more exit ≡ false) →
+    (exits Normal ≡ false → (x : Variable) → target ≡ Some x → view.variable x ≡ false) →
     Kept view value more (state_after o) (returned_to target o)
-kept-returned_to view result value marks more None o (call_end r t m none) weaker unread = kept-end view value more t Normal (weaker Normal m)
-kept-returned_to view result value marks more None o (call_thrown x t m) weaker unread = kept-end view value more t (Throw x) (weaker (Throw x) m)
-kept-returned_to view result value marks more None o (call_stop stop t) weaker unread = kept-stop view value more t stop
-kept-returned_to view result value marks more (Some x) o (call_end None t m none) weaker unread = kept-end view value more t Normal (weaker Normal m)
-kept-returned_to view result value marks more (Some x) o (call_end (Some v) t m none) weaker unread =
+kept-returned_to view result value exits more None o (call_end r t m none) weaker unread = kept-end view value more t Normal (weaker Normal m)
+kept-returned_to view result value exits more None o (call_thrown x t m) weaker unread = kept-end view value more t (Throw x) (weaker (Throw x) m)
+kept-returned_to view result value exits more None o (call_stop stop t) weaker unread = kept-stop view value more t stop
+kept-returned_to view result value exits more (Some x) o (call_end None t m none) weaker unread = kept-end view value more t Normal (weaker Normal m)
+kept-returned_to view result value exits more (Some x) o (call_end (Some v) t m none) weaker unread =
     record { agree = agree-unread view t x (v ∷ []) (unread m x refl); hidden = hidden_end Normal (assigned t x v) (weaker Normal m) }
-kept-returned_to view result value marks more (Some x) o (call_thrown y t m) weaker unread = kept-end view value more t (Throw y) (weaker (Throw y) m)
-kept-returned_to view result value marks more (Some x) o (call_stop stop t) weaker unread = kept-stop view value more t stop
+kept-returned_to view result value exits more (Some x) o (call_thrown y t m) weaker unread = kept-end view value more t (Throw y) (weaker (Throw y) m)
+kept-returned_to view result value exits more (Some x) o (call_stop stop t) weaker unread = kept-stop view value more t stop
 
 -- a target that is demanded to be above an unread label is not read
 pub unread-target : {h : PrincipalHierarchy} {labelling : Labelling} (reader : Reader h labelling) (scope : Scope) (at rule : ℕ) (left : Join) (target : Option Variable) →
@@ -113,13 +113,13 @@ kept-kept_in : (view : View) (target : Option Variable) (v : Value) (s : State) 
 kept-kept_in view None v s unread = agree-itself view s
 kept-kept_in view (Some x) v s unread = agree-unread view s x (v ∷ []) (unread x refl)
 
-kept-received : (view : View) (value : Bool) (marks : Exit →
-    Bool) (channel : ℕ) (target : Option Variable) (s : State) (numbers : List ℤ) → ((exit : Exit) → marks exit ≡ false) →
+kept-received : (view : View) (value : Bool) (exits : Exit →
+    Bool) (channel : ℕ) (target : Option Variable) (s : State) (numbers : List ℤ) → ((exit : Exit) → exits exit ≡ false) →
     view.channel channel ≡ false → ((x : Variable) → target ≡ Some x → view.variable x ≡ false) →
-    Kept view value marks s (received numbers channel target s)
-kept-received view value marks channel target s [] unread unread_channel unread_target = kept-end view value marks s (Throw end_exception)
+    Kept view value exits s (received numbers channel target s)
+kept-received view value exits channel target s [] unread unread_channel unread_target = kept-end view value exits s (Throw end_exception)
     (unread (Throw end_exception))
-kept-received view value marks channel target s (z ∷ rest) unread unread_channel unread_target =
+kept-received view value exits channel target s (z ∷ rest) unread unread_channel unread_target =
     record {
       agree = agree-through view s (with_input s channel rest) (kept_in target (Number z) (with_input s channel rest))
           (agree-unread_input view s channel rest unread_channel)
@@ -154,7 +154,7 @@ own-unread reader scope pc (If at e yes_block no_block) fits unread = unread-lef
 own-unread {h} {labelling} reader scope pc (While at loop e body) fits unread =
     let l : Join = one (label_of scope.program (ToLoop scope.number loop)) in
     let b : Join = own_label scope pc (While at loop e body) ++ value_label scope e in
-    let x : Marks = block_marks scope b body in
+    let x : ExitLabels = block_exits scope b body in
     unread-left reader l (raise_label scope e)
     (unread-demand reader scope.program at 8 pc (ToLoop scope.number loop) (fits-left h labelling (demand scope.program at 8 pc (ToLoop scope.number loop)) (block_demands scope b body)
     (fits-left h labelling (demand scope.program at 8 pc (ToLoop scope.number loop) ++ block_demands scope b body) (demand scope.program at 8 (x Normal ++ x Continue) (ToLoop scope.number loop)) fits)) unread)
@@ -164,16 +164,16 @@ own-unread reader scope pc (ReturnWith at (Some e)) fits unread = unread-left re
 own-unread reader scope pc (Try at block handlers) fits unread = unread
 own-unread reader scope pc (Nested at block) fits unread = unread
 
--- the marks of a loop by those of its body
-pub loop-read : {h : PrincipalHierarchy} {labelling : Labelling} (reader : Reader h labelling) (raised : Marks) (b : Join) (x : Marks) →
-    LoopMarks (read_marks reader x) (λ exit. reader.reads (raised exit ++ loop_marks b x exit))
+-- the exits of a loop by those of its body
+pub loop-read : {h : PrincipalHierarchy} {labelling : Labelling} (reader : Reader h labelling) (raised : ExitLabels) (b : Join) (x : ExitLabels) →
+    LoopExits (read_exits reader x) (λ exit. reader.reads (raised exit ++ loop_exits b x exit))
 loop-read reader raised b x = record {
   leaving = leaving;
   broken = λ m. unread-right reader (raised Normal) (b ++ x Break) (unread-right reader b (x Break) m);
 }
   where
     leaving : (exit : Exit) → leaves_loop exit ≡ true → reader.reads (x exit) ≡ false →
-        reader.reads (raised exit ++ loop_marks b x exit) ≡ false
+        reader.reads (raised exit ++ loop_exits b x exit) ≡ false
     leaving Normal e m = let i : true ≡ false = sym e in absurd (cc)
     leaving Return e m = unread-right reader (raised Return) (x Return) m
     leaving Break e m = let i : true ≡ false = sym e in absurd (cc)
@@ -192,7 +192,7 @@ kept-handler view value more exception handled s x y h i = go (exception == hand
 
 -- each end of a call is above q
 pub unread-call : {h : PrincipalHierarchy} {labelling : Labelling} (reader : Reader h labelling) (program : Program) (f : ℕ) (q : Join) → reader.reads q ≡ false →
-    (exit : Exit) → reader.reads (call_marks program f q exit) ≡ false
+    (exit : Exit) → reader.reads (call_exits program f q exit) ≡ false
 unread-call reader program f q unread Normal =
     unread-left reader q (label_if (any_of (procedure_at program f).throws) (one (label_of program (ToEnd f)))) unread
 unread-call reader program f q unread Return = unread
@@ -204,16 +204,16 @@ module _ (h : PrincipalHierarchy) (labelling : Labelling) (reader : Reader h lab
   mutual
     pub statement-kept : (statement : Statement) (pc : Join) → Fits h labelling (statement_demands scope pc statement) →
         reader.reads (own_label scope pc statement) ≡ false → (s : State) →
-        Kept (view_of reader scope) (reads_result reader (here scope)) (read_marks reader (statement_rule scope pc statement)) s
+        Kept (view_of reader scope) (reads_result reader (here scope)) (read_exits reader (statement_rule scope pc statement)) s
         (statement_meaning calls k statement s)
     statement-kept (Assign at x e) pc fits unread s =
         let view = view_of reader scope in
         let value = reads_result reader (here scope) in
         let q = own_label scope pc (Assign at x e) in
-        let marks = read_marks reader (statement_rule scope pc (Assign at x e)) in
+        let exits = read_exits reader (statement_rule scope pc (Assign at x e)) in
         let unread_x : reader.reads (variable_label scope x) ≡ false = unread-demand reader scope.program at 1 (q ++ value_label scope e)
         (ToVariable scope.number x) fits (unread-left reader q (value_label scope e) unread) in
-        kept-evaluated view value marks s (value_of s e) (λ v. normally (assigned s x v)) (λ y f. unread) (λ v f.
+        kept-evaluated view value exits s (value_of s e) (λ v. normally (assigned s x v)) (λ y f. unread) (λ v f.
         record { agree = agree-unread view s x (v ∷ []) unread_x; hidden = hidden_end Normal (assigned s x v) unread })
     statement-kept (Clear at slot) pc fits unread s =
         record {
@@ -224,77 +224,77 @@ module _ (h : PrincipalHierarchy) (labelling : Labelling) (reader : Reader h lab
         let view = view_of reader scope in
         let value = reads_result reader (here scope) in
         let q = own_label scope pc (Store at array len index e) in
-        let marks = read_marks reader (statement_rule scope pc (Store at array len index e)) in
+        let exits = read_exits reader (statement_rule scope pc (Store at array len index e)) in
         let unread_array : reader.reads (variable_label scope array) ≡ false = unread-demand reader scope.program at 3
         (q ++ value_label scope index ++ value_label scope e) (ToVariable scope.number array) fits
         (unread-left reader (q ++ value_label scope index) (value_label scope e) (unread-left reader q (value_label scope index) unread)) in
-        kept-evaluated view value marks s (value_of s index) _ (λ y f. unread) (λ v f.
-        kept-evaluated view value marks s (value_of s e) _ (λ y g. unread) (λ w g.
-        kept-evaluated view value marks s (checked_index v len) (λ i. normally (stored s array i w)) (λ y g. unread) (λ i j.
+        kept-evaluated view value exits s (value_of s index) _ (λ y f. unread) (λ v f.
+        kept-evaluated view value exits s (value_of s e) _ (λ y g. unread) (λ w g.
+        kept-evaluated view value exits s (checked_index v len) (λ i. normally (stored s array i w)) (λ y g. unread) (λ i j.
         record { agree = agree-unread view s array _ unread_array; hidden = hidden_end Normal (stored s array i w) unread })))
     statement-kept (Receive at channel target) pc fits unread s =
         let view = view_of reader scope in
         let value = reads_result reader (here scope) in
         let q = own_label scope pc (Receive at channel target) in
-        let marks = read_marks reader (statement_rule scope pc (Receive at channel target)) in
-        kept-received view value marks channel target s (s.inputs channel) (λ exit. unread)
+        let exits = read_exits reader (statement_rule scope pc (Receive at channel target)) in
+        kept-received view value exits channel target s (s.inputs channel) (λ exit. unread)
         (sym (reader.written (channel_label scope.program channel)) ∙ unread-above reader pc (label_of scope.program (ToChannel channel)) (fits-one h labelling scope.program at 4 pc (ToChannel channel) (fits-left h labelling (demand scope.program at 4 pc (ToChannel channel)) (target_demand scope at 4 q target) fits)) unread)
         (unread-target reader scope at 4 q target (fits-right h labelling (demand scope.program at 4 pc (ToChannel channel)) (target_demand scope at 4 q target) fits) unread)
     statement-kept (Send at channel e) pc fits unread s =
         let view = view_of reader scope in
         let value = reads_result reader (here scope) in
         let q = own_label scope pc (Send at channel e) in
-        let marks = read_marks reader (statement_rule scope pc (Send at channel e)) in
+        let exits = read_exits reader (statement_rule scope pc (Send at channel e)) in
         let unread_channel : reader.label (channel_label scope.program channel) ≡ false = sym (reader.written _) ∙ unread-demand reader scope.program at 5
         (q ++ value_label scope e) (ToChannel channel) fits (unread-left reader q (value_label scope e) unread) in
-        kept-evaluated view value marks s (value_of s e) (λ v. normally (sending channel v s)) (λ y f. unread) (λ v f.
+        kept-evaluated view value exits s (value_of s e) (λ v. normally (sending channel v s)) (λ y f. unread) (λ v f.
         record { agree = agree-unread_sending view s channel v unread_channel; hidden = hidden_end Normal (sending channel v s) unread })
     statement-kept (Call at f arguments target) pc fits unread s =
         let view = view_of reader scope in
         let value = reads_result reader (here scope) in
         let q = own_label scope pc (Call at f arguments target) in
         let callee = procedure_at scope.program f in
-        let marks = read_marks reader (statement_rule scope pc (Call at f arguments target)) in
+        let exits = read_exits reader (statement_rule scope pc (Call at f arguments target)) in
         let ds = argument_demands scope at q f 0 arguments in
-        let ts = target_demand scope at 6 (call_marks scope.program f q Normal ++ one (label_of scope.program (ToValue f))) target in
+        let ts = target_demand scope at 6 (call_exits scope.program f q Normal ++ one (label_of scope.program (ToValue f))) target in
         let front = fits-left h labelling (demand scope.program at 6 q (ToBegin f) ++ ds) ts fits in
         let unread_begin : reader.reads (one (label_of scope.program (ToBegin f))) ≡ false = unread-demand reader scope.program at 6 q (ToBegin f)
         (fits-left h labelling (demand scope.program at 6 q (ToBegin f)) ds front) unread in
-        let each : (exit : Exit) → marks exit ≡ false = unread-call reader scope.program f q unread in
-        kept-evaluated view value marks s (values_of s arguments) (λ vs. returned_to target (calls f vs s)) (λ y g. each (Throw y)) (λ vs g.
+        let each : (exit : Exit) → exits exit ≡ false = unread-call reader scope.program f q unread in
+        kept-evaluated view value exits s (values_of s arguments) (λ vs. returned_to target (calls f vs s)) (λ y g. each (Throw y)) (λ vs g.
         let call = confines.kept f vs s unread_begin in
-        kept-from view value marks s (state_after (calls f vs s)) (returned_to target (calls f vs s)) call.agree
-        (kept-returned_to view (reads_result reader callee) value unread_marks marks target (calls f vs s) call.hidden (λ exit m. each exit)
-        (λ m. unread-target reader scope at 6 (call_marks scope.program f q Normal ++ one (label_of scope.program (ToValue f))) target
+        kept-from view value exits s (state_after (calls f vs s)) (returned_to target (calls f vs s)) call.agree
+        (kept-returned_to view (reads_result reader callee) value unread_exits exits target (calls f vs s) call.hidden (λ exit m. each exit)
+        (λ m. unread-target reader scope at 6 (call_exits scope.program f q Normal ++ one (label_of scope.program (ToValue f))) target
         (fits-right h labelling (demand scope.program at 6 q (ToBegin f) ++ ds) ts fits)
-        (unread-left reader (call_marks scope.program f q Normal) (one (label_of scope.program (ToValue f))) (each Normal)))))
+        (unread-left reader (call_exits scope.program f q Normal) (one (label_of scope.program (ToValue f))) (each Normal)))))
     statement-kept (If at e yes_block no_block) pc fits unread s =
         let view = view_of reader scope in
         let value = reads_result reader (here scope) in
         let q : Join = own_label scope pc (If at e yes_block no_block) in
         let b : Join = q ++ value_label scope e in
         let unread_b : reader.reads b ≡ false = unread-left reader q (value_label scope e) unread in
-        let marks = read_marks reader (statement_rule scope pc (If at e yes_block no_block)) in
+        let exits = read_exits reader (statement_rule scope pc (If at e yes_block no_block)) in
         let yes_ends = block_ends scope.program yes_block in
         let no_ends = block_ends scope.program no_block in
-        let yes_marks : Marks = at_ends yes_ends b (block_rule scope b yes_block) in
-        let no_marks : Marks = at_ends no_ends b (block_rule scope b no_block) in
-        kept-evaluated view value marks s (value_of s e)
+        let yes_exits : ExitLabels = at_ends yes_ends b (block_rule scope b yes_block) in
+        let no_exits : ExitLabels = at_ends no_ends b (block_rule scope b no_block) in
+        kept-evaluated view value exits s (value_of s e)
         (λ v. if truth_in v then block_meaning calls k yes_block s else block_meaning calls k no_block s)
-        (λ y f. unread-left reader (raised_marks e q (Throw y) ++ yes_marks (Throw y)) (no_marks (Throw y))
-        (unread-left reader (raised_marks e q (Throw y)) (yes_marks (Throw y)) (unread-raised reader s e q y f unread))) (λ v f.
-        kept-if view value marks s (truth_in v) (block_meaning calls k yes_block s) (block_meaning calls k no_block s)
-        (kept-weaker view value (read_marks reader yes_marks) marks s (block_meaning calls k yes_block s)
+        (λ y f. unread-left reader (raised_exits e q (Throw y) ++ yes_exits (Throw y)) (no_exits (Throw y))
+        (unread-left reader (raised_exits e q (Throw y)) (yes_exits (Throw y)) (unread-raised reader s e q y f unread))) (λ v f.
+        kept-if view value exits s (truth_in v) (block_meaning calls k yes_block s) (block_meaning calls k no_block s)
+        (kept-weaker view value (read_exits reader yes_exits) exits s (block_meaning calls k yes_block s)
         (kept-closed reader view value yes_ends b (block_rule scope b yes_block) s (block_meaning calls k yes_block s) unread_b
         (block-among yes_block scope.program calls k confines.among s)
         (block-kept yes_block b (fits-left h labelling (block_demands scope b yes_block) (block_demands scope b no_block) fits) unread_b s))
-        (λ exit m. unread-left reader (raised_marks e q exit ++ yes_marks exit) (no_marks exit)
-        (unread-right reader (raised_marks e q exit) (yes_marks exit) m)))
-        (kept-weaker view value (read_marks reader no_marks) marks s (block_meaning calls k no_block s)
+        (λ exit m. unread-left reader (raised_exits e q exit ++ yes_exits exit) (no_exits exit)
+        (unread-right reader (raised_exits e q exit) (yes_exits exit) m)))
+        (kept-weaker view value (read_exits reader no_exits) exits s (block_meaning calls k no_block s)
         (kept-closed reader view value no_ends b (block_rule scope b no_block) s (block_meaning calls k no_block s) unread_b
         (block-among no_block scope.program calls k confines.among s)
         (block-kept no_block b (fits-right h labelling (block_demands scope b yes_block) (block_demands scope b no_block) fits) unread_b s))
-        (λ exit m. unread-right reader (raised_marks e q exit ++ yes_marks exit) (no_marks exit) m)))
+        (λ exit m. unread-right reader (raised_exits e q exit ++ yes_exits exit) (no_exits exit) m)))
     statement-kept (While at loop e body) pc fits unread s =
         let view = view_of reader scope in
         let value = reads_result reader (here scope) in
@@ -303,30 +303,30 @@ module _ (h : PrincipalHierarchy) (labelling : Labelling) (reader : Reader h lab
         let b : Join = q ++ value_label scope e in
         let unread_b : reader.reads b ≡ false = unread-left reader q (value_label scope e) unread in
         let ends = block_ends scope.program body in
-        let x : Marks = at_ends ends b (block_rule scope b body) in
-        let marks = read_marks reader (statement_rule scope pc (While at loop e body)) in
+        let x : ExitLabels = at_ends ends b (block_rule scope b body) in
+        let exits = read_exits reader (statement_rule scope pc (While at loop e body)) in
         let front = fits-left h labelling (demand scope.program at 8 pc (ToLoop scope.number loop) ++ block_demands scope b body) (demand scope.program at 8 (x Normal ++ x Continue) (ToLoop scope.number loop)) fits in
-        kept-turns view value (read_marks reader x) marks k (λ t. value_of t e) (block_meaning calls k body)
-        (λ t y f. unread-left reader (raised_marks e q (Throw y)) (loop_marks b x (Throw y)) (unread-raised reader t e q y f unread))
-        (unread-right reader (raised_marks e q Normal) (b ++ x Break) (unread-left reader b (x Break) unread_b))
-        (loop-read reader (raised_marks e q) b x)
+        kept-turns view value (read_exits reader x) exits k (λ t. value_of t e) (block_meaning calls k body)
+        (λ t y f. unread-left reader (raised_exits e q (Throw y)) (loop_exits b x (Throw y)) (unread-raised reader t e q y f unread))
+        (unread-right reader (raised_exits e q Normal) (b ++ x Break) (unread-left reader b (x Break) unread_b))
+        (loop-read reader (raised_exits e q) b x)
         (λ t. kept-closed reader view value ends b (block_rule scope b body) t (block_meaning calls k body t) unread_b
         (block-among body scope.program calls k confines.among t)
         (block-kept body b (fits-right h labelling (demand scope.program at 8 pc (ToLoop scope.number loop)) (block_demands scope b body) front) unread_b t)) s
     statement-kept (Leave at exit) pc fits unread s =
         kept-end (view_of reader scope) (reads_result reader (here scope))
-        (read_marks reader (statement_rule scope pc (Leave at exit))) s exit unread
+        (read_exits reader (statement_rule scope pc (Leave at exit))) s exit unread
     statement-kept (ReturnWith at None) pc fits unread s =
         kept-end (view_of reader scope) (reads_result reader (here scope))
-        (read_marks reader (statement_rule scope pc (ReturnWith at None))) s Return unread
+        (read_exits reader (statement_rule scope pc (ReturnWith at None))) s Return unread
     statement-kept (ReturnWith at (Some e)) pc fits unread s =
         let view = view_of reader scope in
         let value = reads_result reader (here scope) in
         let q = own_label scope pc (ReturnWith at (Some e)) in
-        let marks = read_marks reader (statement_rule scope pc (ReturnWith at (Some e))) in
+        let exits = read_exits reader (statement_rule scope pc (ReturnWith at (Some e))) in
         let unread_result : value ≡ false = sym (reader.written _) ∙ unread-demand reader scope.program at 10 (q ++ value_label scope e) (ToValue scope.number) fits
         (unread-left reader q (value_label scope e) unread) in
-        kept-evaluated view value marks s (value_of s e) (λ v. Ended Return (Some v) s) (λ y f. unread) (λ v f.
+        kept-evaluated view value exits s (value_of s e) (λ v. Ended Return (Some v) s) (λ y f. unread) (λ v f.
         record {
           agree = agree-itself view s;
           hidden = hidden_return (Some v) s unread
@@ -336,19 +336,19 @@ module _ (h : PrincipalHierarchy) (labelling : Labelling) (reader : Reader h lab
         let view = view_of reader scope in
         let value = reads_result reader (here scope) in
         let ends = block_ends scope.program block in
-        let x : Marks = at_ends ends pc (block_rule scope pc block) in
-        let marks = read_marks reader (statement_rule scope pc (Try at block handlers)) in
+        let x : ExitLabels = at_ends ends pc (block_rule scope pc block) in
+        let exits = read_exits reader (statement_rule scope pc (Try at block handlers)) in
         let inner = kept-closed reader view value ends pc (block_rule scope pc block) s (block_meaning calls k block s) unread
         (block-among block scope.program calls k confines.among s)
         (block-kept block pc (fits-left h labelling (block_demands scope pc block) (handlers_demands scope x handlers) fits) unread s) in
-        let others : (exit : Exit) → passes handlers exit ≡ true → reader.reads (x exit) ≡ false → marks exit ≡ false =
+        let others : (exit : Exit) → passes handlers exit ≡ true → reader.reads (x exit) ≡ false → exits exit ≡ false =
         λ exit passing m. unread-left reader (label_if (passes handlers exit) (x exit)) (handlers_rule scope x handlers exit)
         (unread-label_if reader (passes handlers exit) (x exit) passing m) in
-        kept-from view value marks s (state_after (block_meaning calls k block s))
+        kept-from view value exits s (state_after (block_meaning calls k block s))
         (caught (block_meaning calls k block s) (handlers_meaning calls k handlers)) inner.agree
-        (kept-caught view value handlers (read_marks reader x) marks (block_meaning calls k block s)
+        (kept-caught view value handlers (read_exits reader x) exits (block_meaning calls k block s)
         (handlers_meaning calls k handlers) inner.hidden others
-        (λ y t m. handlers-kept handlers x (fits-right h labelling (block_demands scope pc block) (handlers_demands scope x handlers) fits) y t m marks
+        (λ y t m. handlers-kept handlers x (fits-right h labelling (block_demands scope pc block) (handlers_demands scope x handlers) fits) y t m exits
         (λ exit n. unread-right reader (label_if (passes handlers exit) (x exit)) (handlers_rule scope x handlers exit) n)
         (λ none. others (Throw y) (rw none refl) m)))
     statement-kept (Nested at block) pc fits unread s =
@@ -358,30 +358,30 @@ module _ (h : PrincipalHierarchy) (labelling : Labelling) (reader : Reader h lab
         (block-kept block pc fits unread s)
 
     pub block-kept : (block : Block) (pc : Join) → Fits h labelling (block_demands scope pc block) → reader.reads pc ≡ false → (s : State) →
-        Kept (view_of reader scope) (reads_result reader (here scope)) (read_marks reader (block_rule scope pc block)) s
+        Kept (view_of reader scope) (reads_result reader (here scope)) (read_exits reader (block_rule scope pc block)) s
         (block_meaning calls k block s)
     block-kept Empty pc fits unread s = kept-end (view_of reader scope) (reads_result reader (here scope))
-        (read_marks reader (block_rule scope pc Empty)) s Normal unread
+        (read_exits reader (block_rule scope pc Empty)) s Normal unread
     block-kept (Then statement rest) pc fits unread s =
         let view = view_of reader scope in
         let value = reads_result reader (here scope) in
         let ends = statement_ends scope.program statement in
-        let x : Marks = at_ends ends pc (statement_rule scope pc statement) in
-        let marks = read_marks reader (block_rule scope pc (Then statement rest)) in
+        let x : ExitLabels = at_ends ends pc (statement_rule scope pc statement) in
+        let exits = read_exits reader (block_rule scope pc (Then statement rest)) in
         let here = fits-left h labelling (statement_demands scope pc statement) (block_demands scope (x Normal) rest) fits in
         let first = kept-closed reader view value ends pc (statement_rule scope pc statement) s (statement_meaning calls k statement s) unread
         (statement-among statement scope.program calls k confines.among s)
         (statement-kept statement pc here (own-unread reader scope pc statement here unread) s) in
-        kept-from view value marks s (state_after (statement_meaning calls k statement s))
+        kept-from view value exits s (state_after (statement_meaning calls k statement s))
         (after (statement_meaning calls k statement s) (block_meaning calls k rest)) first.agree
-        (kept-after view value (read_marks reader x) marks (statement_meaning calls k statement s) (block_meaning calls k rest) first.hidden
+        (kept-after view value (read_exits reader x) exits (statement_meaning calls k statement s) (block_meaning calls k rest) first.hidden
         (λ exit other m. unread-left reader (label_if (not (same_exit Normal exit)) (x exit)) (block_rule scope (x Normal) rest exit)
         (unread-label_if reader (not (same_exit Normal exit)) (x exit) (ap not other) m))
-        (λ t m. kept-weaker view value (read_marks reader (block_rule scope (x Normal) rest)) marks t (block_meaning calls k rest t)
+        (λ t m. kept-weaker view value (read_exits reader (block_rule scope (x Normal) rest)) exits t (block_meaning calls k rest t)
         (block-kept rest (x Normal) (fits-right h labelling (statement_demands scope pc statement) (block_demands scope (x Normal) rest) fits) m t)
         (λ exit n. unread-right reader (label_if (not (same_exit Normal exit)) (x exit)) (block_rule scope (x Normal) rest exit) n)))
 
-    pub handlers-kept : (handlers : Handlers) (x : Marks) → Fits h labelling (handlers_demands scope x handlers) →
+    pub handlers-kept : (handlers : Handlers) (x : ExitLabels) → Fits h labelling (handlers_demands scope x handlers) →
         (exception : ℕ) (s : State) → reader.reads (x (Throw exception)) ≡ false → (more : Exit → Bool) →
         ((exit : Exit) → reader.reads (handlers_rule scope x handlers exit) ≡ false → more exit ≡ false) →
         (handles handlers exception ≡ false → more (Throw exception) ≡ false) →
@@ -393,15 +393,15 @@ module _ (h : PrincipalHierarchy) (labelling : Labelling) (reader : Reader h lab
         let value = reads_result reader (here scope) in
         let ends = block_ends scope.program body in
         let pc : Join = x (Throw handled) in
-        let body_marks : Marks = at_ends ends pc (block_rule scope pc body) in
+        let body_exits : ExitLabels = at_ends ends pc (block_rule scope pc body) in
         kept-handler view value more exception handled s (block_meaning calls k body s) (handlers_meaning calls k rest exception s)
         (λ same.
         let unread_pc : reader.reads pc ≡ false = ap (λ y. reader.reads (x (Throw y))) (sym same) ∙ unread in
-        kept-weaker view value (read_marks reader body_marks) more s (block_meaning calls k body s)
+        kept-weaker view value (read_exits reader body_exits) more s (block_meaning calls k body s)
         (kept-closed reader view value ends pc (block_rule scope pc body) s (block_meaning calls k body s) unread_pc
         (block-among body scope.program calls k confines.among s)
         (block-kept body pc (fits-left h labelling (block_demands scope pc body) (handlers_demands scope x rest) fits) unread_pc s))
-        (λ exit m. weaker exit (unread-left reader (body_marks exit) (handlers_rule scope x rest exit) m)))
+        (λ exit m. weaker exit (unread-left reader (body_exits exit) (handlers_rule scope x rest exit) m)))
         (λ other. handlers-kept rest x (fits-right h labelling (block_demands scope pc body) (handlers_demands scope x rest) fits) exception s unread more
-        (λ exit m. weaker exit (unread-right reader (body_marks exit) (handlers_rule scope x rest exit) m))
+        (λ exit m. weaker exit (unread-right reader (body_exits exit) (handlers_rule scope x rest exit) m))
         (λ none. passing (rw (other, none) refl)))

@@ -15,13 +15,13 @@ use Rattle.resolved.specs.Program.{Program, ChannelEntry, ProcedureEntry, proced
 use Rattle.resolved.specs.State.{State, World, cells}
 use Rattle.resolved.specs.Meaning.{Deep, Outcome, leaving, Stopped, entering, slot_cells, block_meaning, calls_with, first_state, channel_numbers, numbers_by, run_within, state_after}
 use Rattle.resolved.specs.Ends.{block_ends}
-use Rattle.resolved.specs.Labelled.{parameter_label, Scope, OfLocal, Join, one, written_or, label_of, ToBegin, join_under, Labelling, Fits, channel_label, block_rule, block_marks, block_demands, end_demands, procedure_demands, demands_from, program_demands}
+use Rattle.resolved.specs.Labelled.{parameter_label, Scope, OfLocal, Join, one, written_or, label_of, ToBegin, join_under, Labelling, Fits, channel_label, block_rule, block_exits, block_demands, end_demands, procedure_demands, demands_from, program_demands}
 use Rattle.labels.specs.Constraints.{Written}
 use Rattle.isolation.proofs.Grows.{calls-grow}
 use Rattle.isolation.proofs.Among.{EndsAsDeclared, calls-among, block-among}
 use Rattle.isolation.proofs.Observer.{LabelReader, under, View, view_of, shown, AgreeFor, agree-itself}
 use Rattle.isolation.proofs.Related.{agree-begins}
-use Rattle.isolation.proofs.Closed.{read_marks, related-closed}
+use Rattle.isolation.proofs.Closed.{read_exits, related-closed}
 use Rattle.isolation.proofs.Confined.{Confines, call_stop, reads_result, fits-left, fits-right, block-kept}
 use Rattle.isolation.proofs.Calls.{RelatedCall, same_call, same_thrown, apart_calls, first_call_stops, second_call_stops, declared_label, home, agree-home, declared-under, related_call-weaker, kept-leaving, related-leaving}
 use Rattle.isolation.proofs.Secure.{Secures, ParametersAlike, block-secure}
@@ -115,13 +115,13 @@ module _ (program : Program) (labelling : Labelling) (accepted : Accepted progra
   body-fits f =
       fits-left program.hierarchy labelling (block_demands (inside f) (begin f) (procedure_at program f).body)
       (end_demands (inside f) (block_ends program (procedure_at program f).body)
-      (block_marks (inside f) (begin f) (procedure_at program f).body)) (accepted.fits f)
+      (block_exits (inside f) (begin f) (procedure_at program f).body)) (accepted.fits f)
 
-  ends-fit : (f : ℕ) → Fits program.hierarchy labelling (end_demands (inside f) (block_ends program (procedure_at program f).body) (block_marks (inside f) (begin f) (procedure_at program f).body))
+  ends-fit : (f : ℕ) → Fits program.hierarchy labelling (end_demands (inside f) (block_ends program (procedure_at program f).body) (block_exits (inside f) (begin f) (procedure_at program f).body))
   ends-fit f =
       fits-right program.hierarchy labelling (block_demands (inside f) (begin f) (procedure_at program f).body)
       (end_demands (inside f) (block_ends program (procedure_at program f).body)
-      (block_marks (inside f) (begin f) (procedure_at program f).body)) (accepted.fits f)
+      (block_exits (inside f) (begin f) (procedure_at program f).body)) (accepted.fits f)
 
   -- calls at a begin label that the observer does not read
   pub calls-confine : (k frames : ℕ) (caller : ℕ) (labels : Labelling) →
@@ -142,7 +142,7 @@ module _ (program : Program) (labelling : Labelling) (accepted : Accepted progra
         let u : State = entering callee vs s in
         kept-leaving callee (block_ends program callee.body) (view_of (under reader labelling) (inside f))
         (view_of (under reader labels) (record { program = program; number = caller })) (reads_result (under reader labelling) callee)
-        (read_marks (under reader labelling) (block_rule (inside f) (begin f) callee.body)) s u (block_meaning calls k callee.body u) (accepted.declared f)
+        (read_exits (under reader labelling) (block_rule (inside f) (begin f) callee.body)) s u (block_meaning calls k callee.body u) (accepted.declared f)
         (λ t. agree-kept_home reader program caller f labels labelling vs s t)
         (block-among callee.body program calls k (calls-among program k frames accepted.declared) u)
         (block-kept program.hierarchy labelling (under reader labelling) (inside f) calls k (calls-confine k frames f labelling) callee.body (begin f)
@@ -180,10 +180,10 @@ module _ (program : Program) (labelling : Labelling) (accepted : Accepted progra
         let p : Outcome = block_meaning further m callee.body w in
         let among = block-among callee.body program calls k (calls-among program k frames accepted.declared) u in
         let among' = block-among callee.body program further m (calls-among program m frames accepted.declared) w in
-        related_call-weaker outer value (read_marks (under reader labelling) (declared_label program f))
-        (read_marks (under reader labels) (declared_label program f)) (leaving (home s) o) (leaving (home t) p)
+        related_call-weaker outer value (read_exits (under reader labelling) (declared_label program f))
+        (read_exits (under reader labels) (declared_label program f)) (leaving (home s) o) (leaving (home t) p)
         (declared-under reader labels labelling program f)
-        (related-leaving (under reader labelling) (inside f) ends (block_marks (inside f) (begin f) callee.body) inner outer value s t o p
+        (related-leaving (under reader labelling) (inside f) ends (block_exits (inside f) (begin f) callee.body) inner outer value s t o p
         (accepted.declared f) (ends-fit f)
         (λ s' t' within. agree-home reader program caller f labels labelling s t s' t' agree within)
         (λ xs. refl) among among'
@@ -207,14 +207,14 @@ numbers-alike (channel ∷ rest) none (suc n) first second same =
     numbers-alike rest none n first second (λ h e. same (omega (arith, h)) e)
 
 -- what an observer sees of calls of which one is stopped, or which end in the same way, or at labels that it does not read
-related_call-begins : (view : View) (value : Bool) (marks : Exit → Bool) (o p : Outcome) → RelatedCall view value marks o p →
+related_call-begins : (view : View) (value : Bool) (exits : Exit → Bool) (o p : Outcome) → RelatedCall view value exits o p →
     Begins (shown view (state_after o).sent) (shown view (state_after p).sent) ⊎ Begins (shown view (state_after p).sent)
     (shown view (state_after o).sent)
-related_call-begins view value marks o p (same_call r q s t h i) = inl (agree-begins view s t h)
-related_call-begins view value marks o p (same_thrown x s t h) = inl (agree-begins view s t h)
-related_call-begins view value marks o p (apart_calls _ _ h i j) = inl (agree-begins view (state_after o) (state_after p) j)
-related_call-begins view value marks o p (first_call_stops stop s _ h) = inl h
-related_call-begins view value marks o p (second_call_stops _ stop t h) = inr h
+related_call-begins view value exits o p (same_call r q s t h i) = inl (agree-begins view s t h)
+related_call-begins view value exits o p (same_thrown x s t h) = inl (agree-begins view s t h)
+related_call-begins view value exits o p (apart_calls _ _ h i j) = inl (agree-begins view (state_after o) (state_after p) j)
+related_call-begins view value exits o p (first_call_stops stop s _ h) = inl h
+related_call-begins view value exits o p (second_call_stops _ stop t h) = inr h
 
 module _ (program : Program) (labelling : Labelling) (accepted : Accepted program labelling) (reader : LabelReader program.hierarchy) where
   -- what it reads, whatever the procedure
@@ -245,7 +245,7 @@ module _ (program : Program) (labelling : Labelling) (accepted : Accepted progra
       (shown outside (state_after (run_within frames program first k)).sent)
   runs-begin first second same frames k m =
       let callee : ProcedureEntry = procedure_at program program.main in
-      related_call-begins outside (reads_result (under reader labelling) callee) (read_marks (under reader labelling) (declared_label program program.main))
+      related_call-begins outside (reads_result (under reader labelling) callee) (read_exits (under reader labelling) (declared_label program program.main))
       (run_within frames program first k) (run_within frames program second m)
       ((calls-secure program labelling accepted reader k m frames program.main labelling).related program.main [] []
       (first_state program first) (first_state program second)

@@ -11,71 +11,71 @@ use Rattle.resolved.specs.Meaning.{Stop, OutOfTurns, Outcome, Ended, Stopped, no
 use Rattle.resolved.specs.Ends.{same_exit, leaves_loop, passes}
 use Rattle.isolation.proofs.Observer.{View, AgreeFor, agree-itself, agree-through}
 
--- An outcome of which the observer does not read the label, where `marks` says which labels of ways out it reads, and `value`
+-- An outcome of which the observer does not read the label, where `exits` says which labels of ways out it reads, and `value`
 -- whether it reads that of a returned value: then none was returned. Only a return gives a value
-pub data Hidden (value : Bool) (marks : Exit → Bool) : Outcome → Type 0 where
-  hidden_end : (exit : Exit) (t : State) → marks exit ≡ false → Hidden value marks (Ended exit None t)
-  hidden_return : (r : Option Value) (t : State) → marks Return ≡ false → (value ≡ true → r ≡ None) →
-      Hidden value marks (Ended Return r t)
-  hidden_stop : (stop : Stop) (t : State) → Hidden value marks (Stopped stop t)
+pub data Hidden (value : Bool) (exits : Exit → Bool) : Outcome → Type 0 where
+  hidden_end : (exit : Exit) (t : State) → exits exit ≡ false → Hidden value exits (Ended exit None t)
+  hidden_return : (r : Option Value) (t : State) → exits Return ≡ false → (value ≡ true → r ≡ None) →
+      Hidden value exits (Ended Return r t)
+  hidden_stop : (stop : Stop) (t : State) → Hidden value exits (Stopped stop t)
 
 -- such an outcome whose state is the same for the observer as the one before
-pub record Kept (view : View) (value : Bool) (marks : Exit → Bool) (s : State) (o : Outcome) : Type 0 where
+pub record Kept (view : View) (value : Bool) (exits : Exit → Bool) (s : State) (o : Outcome) : Type 0 where
   pub agree : AgreeFor view s (state_after o)
-  pub hidden : Hidden value marks o
+  pub hidden : Hidden value exits o
 
-pub hidden-weaker : (value : Bool) (marks more : Exit → Bool) (o : Outcome) → Hidden value marks o →
-    ((exit : Exit) → marks exit ≡ false → more exit ≡ false) → Hidden value more o
-hidden-weaker value marks more o (hidden_end exit t m) weaker = hidden_end exit t (weaker exit m)
-hidden-weaker value marks more o (hidden_return r t m none) weaker = hidden_return r t (weaker Return m) none
-hidden-weaker value marks more o (hidden_stop stop t) weaker = hidden_stop stop t
+pub hidden-weaker : (value : Bool) (exits more : Exit → Bool) (o : Outcome) → Hidden value exits o →
+    ((exit : Exit) → exits exit ≡ false → more exit ≡ false) → Hidden value more o
+hidden-weaker value exits more o (hidden_end exit t m) weaker = hidden_end exit t (weaker exit m)
+hidden-weaker value exits more o (hidden_return r t m none) weaker = hidden_return r t (weaker Return m) none
+hidden-weaker value exits more o (hidden_stop stop t) weaker = hidden_stop stop t
 
-pub kept-weaker : (view : View) (value : Bool) (marks more : Exit → Bool) (s : State) (o : Outcome) → Kept view value marks s o →
-    ((exit : Exit) → marks exit ≡ false → more exit ≡ false) → Kept view value more s o
-kept-weaker view value marks more s o h weaker = record { agree = h.agree; hidden = hidden-weaker value marks more o h.hidden weaker }
+pub kept-weaker : (view : View) (value : Bool) (exits more : Exit → Bool) (s : State) (o : Outcome) → Kept view value exits s o →
+    ((exit : Exit) → exits exit ≡ false → more exit ≡ false) → Kept view value more s o
+kept-weaker view value exits more s o h weaker = record { agree = h.agree; hidden = hidden-weaker value exits more o h.hidden weaker }
 
-pub kept-from : (view : View) (value : Bool) (marks : Exit → Bool) (s t : State) (o : Outcome) → AgreeFor view s t →
-    Kept view value marks t o → Kept view value marks s o
-kept-from view value marks s t o h i = record { agree = agree-through view s t (state_after o) h i.agree; hidden = i.hidden }
+pub kept-from : (view : View) (value : Bool) (exits : Exit → Bool) (s t : State) (o : Outcome) → AgreeFor view s t →
+    Kept view value exits t o → Kept view value exits s o
+kept-from view value exits s t o h i = record { agree = agree-through view s t (state_after o) h i.agree; hidden = i.hidden }
 
-pub kept-end : (view : View) (value : Bool) (marks : Exit → Bool) (s : State) (exit : Exit) → marks exit ≡ false →
-    Kept view value marks s (Ended exit None s)
-kept-end view value marks s exit m = record { agree = agree-itself view s; hidden = hidden_end exit s m }
+pub kept-end : (view : View) (value : Bool) (exits : Exit → Bool) (s : State) (exit : Exit) → exits exit ≡ false →
+    Kept view value exits s (Ended exit None s)
+kept-end view value exits s exit m = record { agree = agree-itself view s; hidden = hidden_end exit s m }
 
-pub kept-stop : (view : View) (value : Bool) (marks : Exit → Bool) (s : State) (stop : Stop) →
-    Kept view value marks s (Stopped stop s)
-kept-stop view value marks s stop = record { agree = agree-itself view s; hidden = hidden_stop stop s }
+pub kept-stop : (view : View) (value : Bool) (exits : Exit → Bool) (s : State) (stop : Stop) →
+    Kept view value exits s (Stopped stop s)
+kept-stop view value exits s stop = record { agree = agree-itself view s; hidden = hidden_stop stop s }
 
-pub kept-evaluated : {A : Type 0} (view : View) (value : Bool) (marks : Exit → Bool) (s : State) (e : Evaluated A) (next : A →
-    Outcome) → ((x : ℕ) → e ≡ Raises x → marks (Throw x) ≡ false) → ((v : A) → e ≡ Gives v → Kept view value marks s (next v)) →
-    Kept view value marks s (evaluated e s next)
-kept-evaluated view value marks s (Gives v) next raised rest = rest v refl
-kept-evaluated view value marks s (Raises x) next raised rest = kept-end view value marks s (Throw x) (raised x refl)
+pub kept-evaluated : {A : Type 0} (view : View) (value : Bool) (exits : Exit → Bool) (s : State) (e : Evaluated A) (next : A →
+    Outcome) → ((x : ℕ) → e ≡ Raises x → exits (Throw x) ≡ false) → ((v : A) → e ≡ Gives v → Kept view value exits s (next v)) →
+    Kept view value exits s (evaluated e s next)
+kept-evaluated view value exits s (Gives v) next raised rest = rest v refl
+kept-evaluated view value exits s (Raises x) next raised rest = kept-end view value exits s (Throw x) (raised x refl)
 
-pub kept-if : (view : View) (value : Bool) (marks : Exit → Bool) (s : State) (b : Bool) (x y : Outcome) →
-    Kept view value marks s x → Kept view value marks s y → Kept view value marks s (if b then x else y)
-kept-if view value marks s true x y h i = h
-kept-if view value marks s false x y h i = i
+pub kept-if : (view : View) (value : Bool) (exits : Exit → Bool) (s : State) (b : Bool) (x y : Outcome) →
+    Kept view value exits s x → Kept view value exits s y → Kept view value exits s (if b then x else y)
+kept-if view value exits s true x y h i = h
+kept-if view value exits s false x y h i = i
 
-pub kept-after : (view : View) (value : Bool) (marks more : Exit → Bool) (o : Outcome) (next : State → Outcome) →
-    Hidden value marks o → ((exit : Exit) → same_exit Normal exit ≡ false → marks exit ≡ false → more exit ≡ false) →
-    ((t : State) → marks Normal ≡ false → Kept view value more t (next t)) → Kept view value more (state_after o) (after o next)
-kept-after view value marks more o next (hidden_end Normal t m) others rest = rest t m
-kept-after view value marks more o next (hidden_end Return t m) others rest = kept-end view value more t Return (others Return refl m)
-kept-after view value marks more o next (hidden_end Break t m) others rest = kept-end view value more t Break (others Break refl m)
-kept-after view value marks more o next (hidden_end Continue t m) others rest = kept-end view value more t Continue (others Continue refl m)
-kept-after view value marks more o next (hidden_end (Throw x) t m) others rest = kept-end view value more t (Throw x) (others (Throw x) refl m)
-kept-after view value marks more o next (hidden_return r t m none) others rest =
+pub kept-after : (view : View) (value : Bool) (exits more : Exit → Bool) (o : Outcome) (next : State → Outcome) →
+    Hidden value exits o → ((exit : Exit) → same_exit Normal exit ≡ false → exits exit ≡ false → more exit ≡ false) →
+    ((t : State) → exits Normal ≡ false → Kept view value more t (next t)) → Kept view value more (state_after o) (after o next)
+kept-after view value exits more o next (hidden_end Normal t m) others rest = rest t m
+kept-after view value exits more o next (hidden_end Return t m) others rest = kept-end view value more t Return (others Return refl m)
+kept-after view value exits more o next (hidden_end Break t m) others rest = kept-end view value more t Break (others Break refl m)
+kept-after view value exits more o next (hidden_end Continue t m) others rest = kept-end view value more t Continue (others Continue refl m)
+kept-after view value exits more o next (hidden_end (Throw x) t m) others rest = kept-end view value more t (Throw x) (others (Throw x) refl m)
+kept-after view value exits more o next (hidden_return r t m none) others rest =
     record { agree = agree-itself view t; hidden = hidden_return r t (others Return refl m) none }
-kept-after view value marks more o next (hidden_stop stop t) others rest = kept-stop view value more t stop
+kept-after view value exits more o next (hidden_stop stop t) others rest = kept-stop view value more t stop
 
--- the body of a loop, by the marks of its ends: what leaves the loop, what ends it, and what comes back
-pub record LoopMarks (body more : Exit → Bool) : Type 0 where
+-- the body of a loop, by the exits of its ends: what leaves the loop, what ends it, and what comes back
+pub record LoopExits (body more : Exit → Bool) : Type 0 where
   pub leaving : (exit : Exit) → leaves_loop exit ≡ true → body exit ≡ false → more exit ≡ false
   pub broken : body Break ≡ false → more Normal ≡ false
 
 pub kept-looped : (view : View) (value : Bool) (body more : Exit → Bool) (o : Outcome) (again : State → Outcome) →
-    Hidden value body o → LoopMarks body more → ((t : State) → body Normal ≡ false → Kept view value more t (again t)) →
+    Hidden value body o → LoopExits body more → ((t : State) → body Normal ≡ false → Kept view value more t (again t)) →
     ((t : State) → body Continue ≡ false → Kept view value more t (again t)) → Kept view value more (state_after o) (looped o again)
 kept-looped view value body more o again (hidden_end Normal t m) loop normal continued = normal t m
 kept-looped view value body more o again (hidden_end Return t m) loop normal continued = kept-end view value more t Return
@@ -99,7 +99,7 @@ kept-turn_zero view value more condition body s raised over =
 
 pub kept-turn_suc : (view : View) (value : Bool) (inner more : Exit → Bool) (k : ℕ) (condition : State →
     Evaluated Value) (body : State → Outcome) (s : State) → ((x : ℕ) → condition s ≡ Raises x → more (Throw x) ≡ false) →
-    more Normal ≡ false → LoopMarks inner more → Kept view value inner s (body s) →
+    more Normal ≡ false → LoopExits inner more → Kept view value inner s (body s) →
     ((t : State) → inner Normal ≡ false → Kept view value more t (turns k condition body t)) →
     ((t : State) → inner Continue ≡ false → Kept view value more t (turns k condition body t)) →
     Kept view value more s (turns (suc k) condition body s)
@@ -113,7 +113,7 @@ kept-turn_suc view value inner more k condition body s raised over loop once nor
 -- a loop of which nothing is seen, its condition included
 pub kept-turns : (view : View) (value : Bool) (inner more : Exit → Bool) (k : ℕ) (condition : State →
     Evaluated Value) (body : State → Outcome) → ((t : State) (x : ℕ) → condition t ≡ Raises x → more (Throw x) ≡ false) →
-    more Normal ≡ false → LoopMarks inner more → ((t : State) → Kept view value inner t (body t)) → (s : State) →
+    more Normal ≡ false → LoopExits inner more → ((t : State) → Kept view value inner t (body t)) → (s : State) →
     Kept view value more s (turns k condition body s)
 kept-turns view value inner more zero condition body raised over loop each s =
     kept-turn_zero view value more condition body s (raised s) over

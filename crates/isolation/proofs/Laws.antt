@@ -7,7 +7,7 @@ use Rattle.resolved.specs.Program.{Program}
 use Rattle.resolved.specs.Meaning.{Outcome, Ended, Stopped, statement_meaning, calls_with, state_after, frame_limit}
 use Rattle.resolved.specs.Ends.{statement_ends}
 use Rattle.resolved.specs.EndFaults.{end_faults}
-use Rattle.resolved.specs.Labelled.{Scope, here, Labelling, Marks, Labelled, statement_rule, statement_marks, result_label}
+use Rattle.resolved.specs.Labelled.{Scope, here, Labelling, ExitLabels, Labelled, statement_rule, statement_exits, result_label}
 use Rattle.resolved.specs.Isolated.{Isolated}
 use Rattle.isolation.specs.Confinement.{SameFor, UnreadEnd, StatementsAreConfined, PossibleEndsAreUnread}
 use Rattle.isolation.specs.TwoRuns.{OutcomesAgree, StatementsAgree}
@@ -17,7 +17,7 @@ use Rattle.isolation.proofs.Declared.{ends-as-declared}
 use Rattle.isolation.proofs.Observer.{under, view_of, AgreeFor, agree-back}
 use Rattle.isolation.proofs.Kept.{Hidden, hidden_end, hidden_return, hidden_stop}
 use Rattle.isolation.proofs.Related.{Related, same_end, same_return, apart, first_stops, second_stops, agree-begins}
-use Rattle.isolation.proofs.Closed.{read_marks, closed-unread, kept-closed, related-closed}
+use Rattle.isolation.proofs.Closed.{read_exits, closed-unread, kept-closed, related-closed}
 use Rattle.isolation.proofs.Confined.{reads_result, own-unread, statement-kept}
 use Rattle.isolation.proofs.Unread.{statement-ends-unread}
 use Rattle.isolation.proofs.Secure.{statement-secure}
@@ -33,11 +33,11 @@ accepted-from program faults labelled = record {
   fits = procedure-fits program (labelling_of program labelled) labelled.1.1;
 }
 
-unread-end : (scope : Scope) (labelling : Labelling) (p : ℕ) (marks : Marks) (value : Bool) (o : Outcome) →
-    Hidden value (read_marks (under (principal-reader scope.program.hierarchy p) labelling) marks) o → UnreadEnd scope labelling p marks o
-unread-end scope labelling p marks value o (hidden_end exit t m) = m
-unread-end scope labelling p marks value o (hidden_return r t m none) = m
-unread-end scope labelling p marks value o (hidden_stop stop t) = tt
+unread-end : (scope : Scope) (labelling : Labelling) (p : ℕ) (exits : ExitLabels) (value : Bool) (o : Outcome) →
+    Hidden value (read_exits (under (principal-reader scope.program.hierarchy p) labelling) exits) o → UnreadEnd scope labelling p exits o
+unread-end scope labelling p exits value o (hidden_end exit t m) = m
+unread-end scope labelling p exits value o (hidden_return r t m none) = m
+unread-end scope labelling p exits value o (hidden_stop stop t) = tt
 
 pub confined : (scope : Scope) (labelling : Labelling) → StatementsAreConfined scope labelling
 confined scope labelling faults labelled p pc unread statement fits frames k s =
@@ -51,7 +51,7 @@ confined scope labelling faults labelled p pc unread statement fits frames k s =
     (statement-among statement scope.program calls k confines.among s)
     (statement-kept scope.program.hierarchy labelling reader scope calls k confines statement pc fits (own-unread reader scope pc statement fits unread) s) in (
       record { variables = kept.agree.variables; inputs = kept.agree.inputs; sent = kept.agree.sent },
-      unread-end scope labelling p (statement_marks scope pc statement) (reads_result reader (here scope)) o kept.hidden,
+      unread-end scope labelling p (statement_exits scope pc statement) (reads_result reader (here scope)) o kept.hidden,
     )
 
 pub isolated : (program : Program) → end_faults program ≡ [] → Labelled program → Isolated program
@@ -80,60 +80,60 @@ agree-from : (scope : Scope) (labelling : Labelling) (p : ℕ) (s t : State) →
 agree-from scope labelling p s t same = record { variables = same.variables; inputs = same.inputs; sent = same.sent }
 
 -- two outcomes of which the principal reads the label of neither end
-apart-agree : (scope : Scope) (labelling : Labelling) (p : ℕ) (marks : Marks) (value : Bool) →
+apart-agree : (scope : Scope) (labelling : Labelling) (p : ℕ) (exits : ExitLabels) (value : Bool) →
     value ≡ may_read scope.program.hierarchy p (result_label (here scope).result) → (o q : Outcome) →
-    Hidden value (read_marks (under (principal-reader scope.program.hierarchy p) labelling) marks) o →
-    Hidden value (read_marks (under (principal-reader scope.program.hierarchy p) labelling) marks) q →
+    Hidden value (read_exits (under (principal-reader scope.program.hierarchy p) labelling) exits) o →
+    Hidden value (read_exits (under (principal-reader scope.program.hierarchy p) labelling) exits) q →
     AgreeFor (view_of (under (principal-reader scope.program.hierarchy p) labelling) scope) (state_after o) (state_after q) →
-    OutcomesAgree scope labelling p marks o q
-apart-agree scope labelling p marks value is o q (hidden_end exit s m) (hidden_end other t n) agree = (
+    OutcomesAgree scope labelling p exits o q
+apart-agree scope labelling p exits value is o q (hidden_end exit s m) (hidden_end other t n) agree = (
   same-from scope labelling p s t agree,
   λ reads. let i : true ≡ false = sym reads ∙ m in absurd (cc),
   λ reads. let i : true ≡ false = sym reads
       ∙ n in absurd (cc),
   λ reads. refl,
 )
-apart-agree scope labelling p marks value is o q (hidden_end exit s m) (hidden_return r t n none) agree = (
+apart-agree scope labelling p exits value is o q (hidden_end exit s m) (hidden_return r t n none) agree = (
   same-from scope labelling p s t agree,
   λ reads. let i : true ≡ false = sym reads ∙ m in absurd (cc),
   λ reads. let i : true ≡ false = sym reads
       ∙ n in absurd (cc),
   λ reads. sym (none (is ∙ reads)),
 )
-apart-agree scope labelling p marks value is o q (hidden_return r s m none) (hidden_end other t n) agree = (
+apart-agree scope labelling p exits value is o q (hidden_return r s m none) (hidden_end other t n) agree = (
   same-from scope labelling p s t agree,
   λ reads. let i : true ≡ false = sym reads ∙ m in absurd (cc),
   λ reads. let i : true ≡ false = sym reads
       ∙ n in absurd (cc),
   λ reads. none (is ∙ reads),
 )
-apart-agree scope labelling p marks value is o q (hidden_return r s m none) (hidden_return r' t n none') agree =
+apart-agree scope labelling p exits value is o q (hidden_return r s m none) (hidden_return r' t n none') agree =
     (same-from scope labelling p s t agree, λ reads. refl, λ reads. refl, λ reads. none (is ∙ reads) ∙ sym (none' (is ∙ reads)))
-apart-agree scope labelling p marks value is o q (hidden_stop stop s) (hidden_end other t n) agree = agree-begins
+apart-agree scope labelling p exits value is o q (hidden_stop stop s) (hidden_end other t n) agree = agree-begins
     (view_of (under (principal-reader scope.program.hierarchy p) labelling) scope) s t agree
-apart-agree scope labelling p marks value is o q (hidden_stop stop s) (hidden_return r t n none) agree = agree-begins
+apart-agree scope labelling p exits value is o q (hidden_stop stop s) (hidden_return r t n none) agree = agree-begins
     (view_of (under (principal-reader scope.program.hierarchy p) labelling) scope) s t agree
-apart-agree scope labelling p marks value is o q (hidden_end exit s m) (hidden_stop stop t) agree =
+apart-agree scope labelling p exits value is o q (hidden_end exit s m) (hidden_stop stop t) agree =
     agree-begins (view_of (under (principal-reader scope.program.hierarchy p) labelling) scope) t s
     (agree-back (view_of (under (principal-reader scope.program.hierarchy p) labelling) scope) s t agree)
-apart-agree scope labelling p marks value is o q (hidden_return r s m none) (hidden_stop stop t) agree =
+apart-agree scope labelling p exits value is o q (hidden_return r s m none) (hidden_stop stop t) agree =
     agree-begins (view_of (under (principal-reader scope.program.hierarchy p) labelling) scope) t s
     (agree-back (view_of (under (principal-reader scope.program.hierarchy p) labelling) scope) s t agree)
-apart-agree scope labelling p marks value is o q (hidden_stop stop s) (hidden_stop other t) agree =
+apart-agree scope labelling p exits value is o q (hidden_stop stop s) (hidden_stop other t) agree =
     inl (agree-begins (view_of (under (principal-reader scope.program.hierarchy p) labelling) scope) s t agree)
 
-outcomes-agree : (scope : Scope) (labelling : Labelling) (p : ℕ) (marks : Marks) (o q : Outcome) →
+outcomes-agree : (scope : Scope) (labelling : Labelling) (p : ℕ) (exits : ExitLabels) (o q : Outcome) →
     Related (view_of (under (principal-reader scope.program.hierarchy p) labelling) scope)
     (reads_result (under (principal-reader scope.program.hierarchy p) labelling) (here scope))
-    (read_marks (under (principal-reader scope.program.hierarchy p) labelling) marks) o q → OutcomesAgree scope labelling p marks o q
-outcomes-agree scope labelling p marks o q (same_end exit s t agree) = (same-from scope labelling p s t agree, λ reads. refl, λ reads. refl, λ reads. refl)
-outcomes-agree scope labelling p marks o q (same_return r r' s t agree same) = (same-from scope labelling p s t agree, λ reads. refl, λ reads. refl, same)
-outcomes-agree scope labelling p marks o q (apart _ _ h i agree) =
-    apart-agree scope labelling p marks (reads_result (under (principal-reader scope.program.hierarchy p) labelling) (here scope)) refl o q h i agree
-outcomes-agree scope labelling p marks o (Ended exit r t) (first_stops stop s _ begins) = begins
-outcomes-agree scope labelling p marks o (Stopped other t) (first_stops stop s _ begins) = inl begins
-outcomes-agree scope labelling p marks (Ended exit r s) q (second_stops _ stop t begins) = begins
-outcomes-agree scope labelling p marks (Stopped other s) q (second_stops _ stop t begins) = inr begins
+    (read_exits (under (principal-reader scope.program.hierarchy p) labelling) exits) o q → OutcomesAgree scope labelling p exits o q
+outcomes-agree scope labelling p exits o q (same_end exit s t agree) = (same-from scope labelling p s t agree, λ reads. refl, λ reads. refl, λ reads. refl)
+outcomes-agree scope labelling p exits o q (same_return r r' s t agree same) = (same-from scope labelling p s t agree, λ reads. refl, λ reads. refl, same)
+outcomes-agree scope labelling p exits o q (apart _ _ h i agree) =
+    apart-agree scope labelling p exits (reads_result (under (principal-reader scope.program.hierarchy p) labelling) (here scope)) refl o q h i agree
+outcomes-agree scope labelling p exits o (Ended exit r t) (first_stops stop s _ begins) = begins
+outcomes-agree scope labelling p exits o (Stopped other t) (first_stops stop s _ begins) = inl begins
+outcomes-agree scope labelling p exits (Ended exit r s) q (second_stops _ stop t begins) = begins
+outcomes-agree scope labelling p exits (Stopped other s) q (second_stops _ stop t begins) = inr begins
 
 pub statements-agree : (scope : Scope) (labelling : Labelling) → StatementsAgree scope labelling
 statements-agree scope labelling faults labelled p pc statement fits frames k m s t same =
@@ -144,7 +144,7 @@ statements-agree scope labelling faults labelled p pc statement fits frames k m 
     let secures = calls-secure scope.program (labelling_of scope.program labelled) accepted (principal-reader scope.program.hierarchy p) k m frames scope.number labelling in
     let o : Outcome = statement_meaning calls k statement s in
     let q : Outcome = statement_meaning further m statement t in
-    outcomes-agree scope labelling p (statement_marks scope pc statement) o q
+    outcomes-agree scope labelling p (statement_exits scope pc statement) o q
     (related-closed reader (view_of reader scope) (reads_result reader (here scope)) (statement_ends scope.program statement) pc
     (statement_rule scope pc statement) o q
     (statement-among statement scope.program calls k secures.first.among s) (statement-among statement scope.program further m secures.second.among t)

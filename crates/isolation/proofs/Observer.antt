@@ -3,7 +3,7 @@ use Rattle.std.proofs.Common.{◌≡◌, refl, sym, ap, ◌∙◌, ℕ, Bool, tr
 use Rattle.std.specs.Prelude.{IsTrue, ◌==◌, ℤ}
 use Rattle.std.proofs.lemmas.Bool.{and_parts}
 use Rattle.std.proofs.lemmas.List.{append-nil}
-use Rattle.labels.proofs.Constraints.{total-append}
+use Rattle.labels.proofs.Constraints.{join_of-append}
 use Rattle.std.proofs.lemmas.List.Elements.{filter-append}
 use Rattle.principals.specs.ActsFor.{PrincipalHierarchy}
 use Rattle.labels.specs.declared.sent.Pair.{Pair}
@@ -48,7 +48,7 @@ under {h} base labelling = record {
   label = base.reads;
   written = λ label. reads-one base label;
   nothing = base.nothing;
-  joined = λ a b. ap base.reads (total-append (chosen labelling) a b) ∙ base.joined (join_under labelling a) (join_under labelling b);
+  joined = λ a b. ap base.reads (join_of-append (chosen labelling) a b) ∙ base.joined (join_under labelling a) (join_under labelling b);
   flowing = λ a b flow e. base.flowing (join_under labelling a) (label_under labelling b) flow (sym (reads-one base (label_under labelling b)) ∙ e);
 }
 

@@ -18,18 +18,18 @@ use Rattle.labels.proofs.Begins.{Begins-through}
 use Rattle.isolation.proofs.Grows.{Grows, grows-itself, grows-after, grows-looped, grows-turns, grows-caught}
 use Rattle.isolation.proofs.Observer.{View, shown, AgreeFor, agree-across, agree-back}
 use Rattle.isolation.proofs.Values.{Alike, both_give, both_raise, SameIf}
-use Rattle.isolation.proofs.Kept.{Hidden, hidden-weaker, Kept, LoopMarks, kept-after, kept-looped, kept-turn_zero, kept-turn_suc, kept-caught}
+use Rattle.isolation.proofs.Kept.{Hidden, hidden-weaker, Kept, LoopExits, kept-after, kept-looped, kept-turn_zero, kept-turn_suc, kept-caught}
 
-pub data Related (view : View) (value : Bool) (marks : Exit → Bool) : Outcome → Outcome → Type 0 where
-  same_end : (exit : Exit) (s t : State) → AgreeFor view s t → Related view value marks (Ended exit None s) (Ended exit None t)
+pub data Related (view : View) (value : Bool) (exits : Exit → Bool) : Outcome → Outcome → Type 0 where
+  same_end : (exit : Exit) (s t : State) → AgreeFor view s t → Related view value exits (Ended exit None s) (Ended exit None t)
   same_return : (r q : Option Value) (s t : State) → AgreeFor view s t → (value ≡ true → r ≡ q) →
-      Related view value marks (Ended Return r s) (Ended Return q t)
-  apart : (o p : Outcome) → Hidden value marks o → Hidden value marks p → AgreeFor view (state_after o) (state_after p) →
-      Related view value marks o p
+      Related view value exits (Ended Return r s) (Ended Return q t)
+  apart : (o p : Outcome) → Hidden value exits o → Hidden value exits p → AgreeFor view (state_after o) (state_after p) →
+      Related view value exits o p
   first_stops : (stop : Stop) (s : State) (p : Outcome) → Begins (shown view s.sent) (shown view (state_after p).sent) →
-      Related view value marks (Stopped stop s) p
+      Related view value exits (Stopped stop s) p
   second_stops : (o : Outcome) (stop : Stop) (t : State) → Begins (shown view t.sent) (shown view (state_after o).sent) →
-      Related view value marks o (Stopped stop t)
+      Related view value exits o (Stopped stop t)
 
 -- what is seen of what was sent grows with it
 pub shown-begins : (view : View) (xs ys : List Pair) → Begins xs ys → Begins (shown view xs) (shown view ys)
@@ -47,70 +47,70 @@ pub agree-begins : (view : View) (s t : State) → AgreeFor view s t → Begins 
 agree-begins view s t h = ([], append-nil (shown view s.sent) ∙ h.sent)
 
 -- of two related runs the observer sees two lists of which one begins the other
-pub related-begins : (view : View) (value : Bool) (marks : Exit → Bool) (o p : Outcome) → Related view value marks o p →
+pub related-begins : (view : View) (value : Bool) (exits : Exit → Bool) (o p : Outcome) → Related view value exits o p →
     Begins (shown view (state_after o).sent) (shown view (state_after p).sent) ⊎ Begins (shown view (state_after p).sent)
     (shown view (state_after o).sent)
-related-begins view value marks o p (same_end exit s t h) = inl (agree-begins view s t h)
-related-begins view value marks o p (same_return r q s t h i) = inl (agree-begins view s t h)
-related-begins view value marks o p (apart _ _ h i j) = inl (agree-begins view (state_after o) (state_after p) j)
-related-begins view value marks o p (first_stops stop s _ h) = inl h
-related-begins view value marks o p (second_stops _ stop t h) = inr h
+related-begins view value exits o p (same_end exit s t h) = inl (agree-begins view s t h)
+related-begins view value exits o p (same_return r q s t h i) = inl (agree-begins view s t h)
+related-begins view value exits o p (apart _ _ h i j) = inl (agree-begins view (state_after o) (state_after p) j)
+related-begins view value exits o p (first_stops stop s _ h) = inl h
+related-begins view value exits o p (second_stops _ stop t h) = inr h
 
 -- two runs of which nothing is seen
-pub both-kept : (view : View) (value : Bool) (marks : Exit → Bool) (s t : State) (o p : Outcome) → AgreeFor view s t →
-    Kept view value marks s o → Kept view value marks t p → Related view value marks o p
-both-kept view value marks s t o p h i j =
+pub both-kept : (view : View) (value : Bool) (exits : Exit → Bool) (s t : State) (o p : Outcome) → AgreeFor view s t →
+    Kept view value exits s o → Kept view value exits t p → Related view value exits o p
+both-kept view value exits s t o p h i j =
     apart o p i.hidden j.hidden (agree-across view s t (state_after o) (state_after p) h i.agree j.agree)
 
-pub related-evaluated : {A B : Type 0} (P : A → B → Type 0) (view : View) (value : Bool) (marks : Exit →
+pub related-evaluated : {A B : Type 0} (P : A → B → Type 0) (view : View) (value : Bool) (exits : Exit →
     Bool) (s t : State) (e : Evaluated A) (f : Evaluated B) (next : A → Outcome) (further : B → Outcome) → AgreeFor view s t →
-    Alike P e f → ((v : A) (w : B) → e ≡ Gives v → f ≡ Gives w → P v w → Related view value marks (next v) (further w)) →
-    Related view value marks (evaluated e s next) (evaluated f t further)
-related-evaluated P view value marks s t e f next further agree (both_give v w h) rest = rest v w refl refl h
-related-evaluated P view value marks s t e f next further agree (both_raise x) rest = same_end (Throw x) s t agree
+    Alike P e f → ((v : A) (w : B) → e ≡ Gives v → f ≡ Gives w → P v w → Related view value exits (next v) (further w)) →
+    Related view value exits (evaluated e s next) (evaluated f t further)
+related-evaluated P view value exits s t e f next further agree (both_give v w h) rest = rest v w refl refl h
+related-evaluated P view value exits s t e f next further agree (both_raise x) rest = same_end (Throw x) s t agree
 
-pub related-if : (view : View) (value : Bool) (marks : Exit → Bool) (b c : Bool) (x y x' y' : Outcome) → b ≡ c →
-    Related view value marks x x' → Related view value marks y y' →
-    Related view value marks (if b then x else y) (if c then x' else y')
-related-if view value marks true c x y x' y' e h i = rw (← e) h
-related-if view value marks false c x y x' y' e h i = rw (← e) i
+pub related-if : (view : View) (value : Bool) (exits : Exit → Bool) (b c : Bool) (x y x' y' : Outcome) → b ≡ c →
+    Related view value exits x x' → Related view value exits y y' →
+    Related view value exits (if b then x else y) (if c then x' else y')
+related-if view value exits true c x y x' y' e h i = rw (← e) h
+related-if view value exits false c x y x' y' e h i = rw (← e) i
 
-pub related-weaker : (view : View) (value : Bool) (marks more : Exit → Bool) (o p : Outcome) → Related view value marks o p →
-    ((exit : Exit) → marks exit ≡ false → more exit ≡ false) → Related view value more o p
-related-weaker view value marks more o p (same_end exit s t h) weaker = same_end exit s t h
-related-weaker view value marks more o p (same_return r q s t h i) weaker = same_return r q s t h i
-related-weaker view value marks more o p (apart _ _ h i j) weaker =
-    apart o p (hidden-weaker value marks more o h weaker) (hidden-weaker value marks more p i weaker) j
-related-weaker view value marks more o p (first_stops stop s _ h) weaker = first_stops stop s p h
-related-weaker view value marks more o p (second_stops _ stop t h) weaker = second_stops o stop t h
+pub related-weaker : (view : View) (value : Bool) (exits more : Exit → Bool) (o p : Outcome) → Related view value exits o p →
+    ((exit : Exit) → exits exit ≡ false → more exit ≡ false) → Related view value more o p
+related-weaker view value exits more o p (same_end exit s t h) weaker = same_end exit s t h
+related-weaker view value exits more o p (same_return r q s t h i) weaker = same_return r q s t h i
+related-weaker view value exits more o p (apart _ _ h i j) weaker =
+    apart o p (hidden-weaker value exits more o h weaker) (hidden-weaker value exits more p i weaker) j
+related-weaker view value exits more o p (first_stops stop s _ h) weaker = first_stops stop s p h
+related-weaker view value exits more o p (second_stops _ stop t h) weaker = second_stops o stop t h
 
 -- ways on from two states that are the same for the observer
-pub record WaysOn (view : View) (value : Bool) (marks : Exit → Bool) (next further : State → Outcome) : Type 0 where
-  pub related : (s t : State) → AgreeFor view s t → Related view value marks (next s) (further t)
+pub record WaysOn (view : View) (value : Bool) (exits : Exit → Bool) (next further : State → Outcome) : Type 0 where
+  pub related : (s t : State) → AgreeFor view s t → Related view value exits (next s) (further t)
   pub grows_first : (s : State) → Grows s (next s)
   pub grows_second : (s : State) → Grows s (further s)
 
 grown-after : (o : Outcome) (next : State → Outcome) → ((s : State) → Grows s (next s)) → Grows (state_after o) (after o next)
 grown-after o next h = grows-after (state_after o) o next (grows-itself (state_after o) (state_after o) refl o refl) h
 
-pub related-after : (view : View) (value : Bool) (marks more : Exit → Bool) (o p : Outcome) (next further : State → Outcome) →
-    Related view value marks o p → ((exit : Exit) → same_exit Normal exit ≡ false → marks exit ≡ false → more exit ≡ false) →
-    (marks Normal ≡ false → (t : State) → Kept view value more t (next t)) →
-    (marks Normal ≡ false → (t : State) → Kept view value more t (further t)) → WaysOn view value more next further →
+pub related-after : (view : View) (value : Bool) (exits more : Exit → Bool) (o p : Outcome) (next further : State → Outcome) →
+    Related view value exits o p → ((exit : Exit) → same_exit Normal exit ≡ false → exits exit ≡ false → more exit ≡ false) →
+    (exits Normal ≡ false → (t : State) → Kept view value more t (next t)) →
+    (exits Normal ≡ false → (t : State) → Kept view value more t (further t)) → WaysOn view value more next further →
     Related view value more (after o next) (after p further)
-related-after view value marks more o p next further (same_end Normal s t h) others first second ways = ways.related s t h
-related-after view value marks more o p next further (same_end Return s t h) others first second ways = same_end Return s t h
-related-after view value marks more o p next further (same_end Break s t h) others first second ways = same_end Break s t h
-related-after view value marks more o p next further (same_end Continue s t h) others first second ways = same_end Continue s t h
-related-after view value marks more o p next further (same_end (Throw x) s t h) others first second ways = same_end (Throw x) s t h
-related-after view value marks more o p next further (same_return r q s t h i) others first second ways = same_return r q s t h i
-related-after view value marks more o p next further (apart _ _ h i j) others first second ways =
+related-after view value exits more o p next further (same_end Normal s t h) others first second ways = ways.related s t h
+related-after view value exits more o p next further (same_end Return s t h) others first second ways = same_end Return s t h
+related-after view value exits more o p next further (same_end Break s t h) others first second ways = same_end Break s t h
+related-after view value exits more o p next further (same_end Continue s t h) others first second ways = same_end Continue s t h
+related-after view value exits more o p next further (same_end (Throw x) s t h) others first second ways = same_end (Throw x) s t h
+related-after view value exits more o p next further (same_return r q s t h i) others first second ways = same_return r q s t h i
+related-after view value exits more o p next further (apart _ _ h i j) others first second ways =
     both-kept view value more (state_after o) (state_after p) (after o next) (after p further) j
-    (kept-after view value marks more o next h others (λ t m. first m t))
-    (kept-after view value marks more p further i others (λ t m. second m t))
-related-after view value marks more o p next further (first_stops stop s _ h) others first second ways =
+    (kept-after view value exits more o next h others (λ t m. first m t))
+    (kept-after view value exits more p further i others (λ t m. second m t))
+related-after view value exits more o p next further (first_stops stop s _ h) others first second ways =
     first_stops stop s (after p further) (stopped-begins view s p (after p further) h (grown-after p further ways.grows_second))
-related-after view value marks more o p next further (second_stops _ stop t h) others first second ways =
+related-after view value exits more o p next further (second_stops _ stop t h) others first second ways =
     second_stops (after o next) stop t (stopped-begins view t o (after o next) h (grown-after o next ways.grows_first))
 
 grown-looped : (o : Outcome) (next : State → Outcome) → ((s : State) → Grows s (next s)) → Grows (state_after o) (looped o next)
@@ -118,7 +118,7 @@ grown-looped o next h = grows-looped (state_after o) o next (grows-itself (state
 
 -- the body of a loop whose label the observer reads, which cannot come back where it does not read how
 pub related-looped : (view : View) (value : Bool) (inner more : Exit → Bool) (o p : Outcome) (again further : State → Outcome) →
-    Related view value inner o p → LoopMarks inner more → (inner Normal ≡ false → ⊥) → (inner Continue ≡ false → ⊥) →
+    Related view value inner o p → LoopExits inner more → (inner Normal ≡ false → ⊥) → (inner Continue ≡ false → ⊥) →
     WaysOn view value more again further → Related view value more (looped o again) (looped p further)
 related-looped view value inner more o p again further (same_end Normal s t h) loop normal continued ways = ways.related s t h
 related-looped view value inner more o p again further (same_end Return s t h) loop normal continued ways = same_end Return s t h
@@ -136,21 +136,21 @@ related-looped view value inner more o p again further (second_stops _ stop t h)
     second_stops (looped o again) stop t (stopped-begins view t o (looped o again) h (grown-looped o again ways.grows_first))
 
 -- a run that is out of turns
-out-first : (view : View) (value : Bool) (marks : Exit → Bool) (s t : State) (p : Outcome) → AgreeFor view s t → Grows t p →
-    Related view value marks (Stopped OutOfTurns s) p
-out-first view value marks s t p h grows =
+out-first : (view : View) (value : Bool) (exits : Exit → Bool) (s t : State) (p : Outcome) → AgreeFor view s t → Grows t p →
+    Related view value exits (Stopped OutOfTurns s) p
+out-first view value exits s t p h grows =
     first_stops OutOfTurns s p (stopped-begins view s (normally t) p (agree-begins view s t h) grows)
 
-out-second : (view : View) (value : Bool) (marks : Exit → Bool) (s t : State) (o : Outcome) → AgreeFor view s t → Grows s o →
-    Related view value marks o (Stopped OutOfTurns t)
-out-second view value marks s t o h grows =
+out-second : (view : View) (value : Bool) (exits : Exit → Bool) (s t : State) (o : Outcome) → AgreeFor view s t → Grows s o →
+    Related view value exits o (Stopped OutOfTurns t)
+out-second view value exits s t o h grows =
     second_stops o OutOfTurns t (stopped-begins view t (normally s) o (agree-begins view t s (agree-back view s t h)) grows)
 
 -- a loop whose condition and label the observer reads
 pub record LoopRead (view : View) (value : Bool) (inner more : Exit → Bool) (condition : State → Evaluated Value)
     (body further : State → Outcome) : Type 0 where
   pub condition_alike : (s t : State) → AgreeFor view s t → Alike (SameIf true) (condition s) (condition t)
-  pub loop : LoopMarks inner more
+  pub loop : LoopExits inner more
   pub normal : inner Normal ≡ false → ⊥
   pub continued : inner Continue ≡ false → ⊥
   pub ways : WaysOn view value inner body further
@@ -206,7 +206,7 @@ related-turns view value inner more condition body further h (suc k) (suc m) s t
 -- exception: its body cannot come back
 pub record LoopUnread (view : View) (value : Bool) (inner more : Exit → Bool) (b : Bool) (condition : State → Evaluated Value)
     (body : State → Outcome) : Type 0 where
-  pub loop : LoopMarks inner more
+  pub loop : LoopExits inner more
   pub over : more Normal ≡ false
   pub normal : inner Normal ≡ false → ⊥
   pub continued : inner Continue ≡ false → ⊥
@@ -245,8 +245,8 @@ grown-caught : (o : Outcome) (handle : ℕ → State → Outcome) → ((x : ℕ)
 grown-caught o handle h = grows-caught (state_after o) o handle (grows-itself (state_after o) (state_after o) refl o refl) h
 
 -- handlers from two states that are the same for the observer
-pub record HandlersOn (view : View) (value : Bool) (marks : Exit → Bool) (handle further : ℕ → State → Outcome) : Type 0 where
-  pub related : (x : ℕ) (s t : State) → AgreeFor view s t → Related view value marks (handle x s) (further x t)
+pub record HandlersOn (view : View) (value : Bool) (exits : Exit → Bool) (handle further : ℕ → State → Outcome) : Type 0 where
+  pub related : (x : ℕ) (s t : State) → AgreeFor view s t → Related view value exits (handle x s) (further x t)
   pub grows_first : (x : ℕ) (s : State) → Grows s (handle x s)
   pub grows_second : (x : ℕ) (s : State) → Grows s (further x s)
 

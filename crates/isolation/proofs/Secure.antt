@@ -14,14 +14,14 @@ use Rattle.resolved.specs.Value.{truth_in, checked_index, end_exception, zero_va
 use Rattle.resolved.specs.State.{State, assigned, stored, cleared, cells, value_of, values_of}
 use Rattle.resolved.specs.Meaning.{Ended, normally, kept_in, received, sending, returned_to, Calls, statement_meaning, block_meaning, handlers_meaning}
 use Rattle.resolved.specs.Ends.{same_exit, passes, statement_ends, block_ends, index_can_raise}
-use Rattle.resolved.specs.Labelled.{Target, ToParameter, ToValue, Scope, Marks, demand, Fits, variable_label, value_label, raise_label, raise_labels, label_if, at_ends, own_label, raised_marks, call_marks, statement_rule, block_rule, handlers_rule, target_demand, argument_demands, statement_demands, block_demands, handlers_demands, Labelling, Join, one, label_of, here, ToVariable, ToChannel, ToBegin, ToValue, ToLoop}
+use Rattle.resolved.specs.Labelled.{Target, ToParameter, ToValue, Scope, ExitLabels, demand, Fits, variable_label, value_label, raise_label, raise_labels, label_if, at_ends, own_label, raised_exits, call_exits, statement_rule, block_rule, handlers_rule, target_demand, argument_demands, statement_demands, block_demands, handlers_demands, Labelling, Join, one, label_of, here, ToVariable, ToChannel, ToBegin, ToValue, ToLoop}
 use Rattle.isolation.proofs.Grows.{CallsGrow, block-grows, handlers-grow}
 use Rattle.isolation.proofs.Among.{statement-among, block-among}
 use Rattle.isolation.proofs.Observer.{Reader, View, view_of, AgreeFor, agree-with_cells, agree-with_input, agree-sending, with_input, read-left, read-right, unread-left, unread-right}
 use Rattle.isolation.proofs.Values.{SameIf, index-alike, expression-alike, ArgumentsAlike, no_arguments, one_more, arguments-alike, read-label_if}
 use Rattle.isolation.proofs.Kept.{kept-weaker, kept-if}
 use Rattle.isolation.proofs.Related.{Related, same_end, same_return, both-kept, related-evaluated, related-if, related-weaker, related-after, related-turns, related-once, related-caught}
-use Rattle.isolation.proofs.Closed.{read_marks, kept-closed, related-closed}
+use Rattle.isolation.proofs.Closed.{read_exits, kept-closed, related-closed}
 use Rattle.isolation.proofs.Confined.{Confines, reads_result, fits-left, fits-right, fits-one, unread-label_if, unread-target, loop-read, statement-kept, block-kept, handlers-kept}
 use Rattle.isolation.proofs.Calls.{RelatedCall, related-returned_to, declared_label}
 
@@ -56,15 +56,15 @@ pub record Secures {h : PrincipalHierarchy} {labelling : Labelling} (reader : Re
   pub related : (f : ℕ) (vs ws : List Value) (s t : State) → AgreeFor (view_of reader scope) s t →
       ParametersAlike reader scope.program f vs ws →
       RelatedCall (view_of reader scope) (reads_result reader (procedure_at scope.program f))
-      (read_marks reader (declared_label scope.program f)) (calls f vs s) (further f ws t)
+      (read_exits reader (declared_label scope.program f)) (calls f vs s) (further f ws t)
 
 by-reading : {P : Type 0} (b : Bool) → (b ≡ false → P) → (b ≡ true → P) → P
 by-reading true unread read = read refl
 by-reading false unread read = unread refl
 
--- the marks that a callee declares are among those of the call
+-- the exits that a callee declares are among those of the call
 unread-declared : {h : PrincipalHierarchy} {labelling : Labelling} (reader : Reader h labelling) (program : Program) (callee : ℕ) (q : Join) (exit : Exit) →
-    reader.reads (declared_label program callee exit) ≡ false → reader.reads (call_marks program callee q exit) ≡ false
+    reader.reads (declared_label program callee exit) ≡ false → reader.reads (call_exits program callee q exit) ≡ false
 unread-declared reader program callee q Normal m = unread-right reader q (declared_label program callee Normal) m
 unread-declared reader program callee q Return m = let i : true ≡ false = sym reader.nothing ∙ m in absurd (cc)
 unread-declared reader program callee q Break m = let i : true ≡ false = sym reader.nothing ∙ m in absurd (cc)
@@ -84,11 +84,11 @@ agree-kept_in : (view : View) (target : Option Variable) (v : Value) (s t : Stat
 agree-kept_in view None v s t agree = agree
 agree-kept_in view (Some x) v s t agree = agree-with_cells view s t x (v ∷ []) (v ∷ []) agree (λ e. refl)
 
-related-received : (view : View) (value : Bool) (marks : Exit →
+related-received : (view : View) (value : Bool) (exits : Exit →
     Bool) (channel : ℕ) (target : Option Variable) (s t : State) (numbers others : List ℤ) → numbers ≡ others → AgreeFor view s t →
-    Related view value marks (received numbers channel target s) (received others channel target t)
-related-received view value marks channel target s t numbers [] e agree = rw e (same_end (Throw end_exception) s t agree)
-related-received view value marks channel target s t numbers (z ∷ rest) e agree =
+    Related view value exits (received numbers channel target s) (received others channel target t)
+related-received view value exits channel target s t numbers [] e agree = rw e (same_end (Throw end_exception) s t agree)
+related-received view value exits channel target s t numbers (z ∷ rest) e agree =
     rw e (same_end Normal (kept_in target (Number z) (with_input s channel rest)) (kept_in target (Number z) (with_input t channel rest))
     (agree-kept_in view target (Number z) (with_input s channel rest) (with_input t channel rest) (agree-with_input view s t channel rest agree)))
 
@@ -97,10 +97,10 @@ module _ (h : PrincipalHierarchy) (labelling : Labelling) (reader : Reader h lab
   -- where the own label of a statement is not read nothing is seen of either run
   both-hidden : (statement : Statement) (pc : Join) → Fits h labelling (statement_demands scope pc statement) → (s t : State) →
       AgreeFor (view_of reader scope) s t → reader.reads (own_label scope pc statement) ≡ false →
-      Related (view_of reader scope) (reads_result reader (here scope)) (read_marks reader (statement_rule scope pc statement))
+      Related (view_of reader scope) (reads_result reader (here scope)) (read_exits reader (statement_rule scope pc statement))
       (statement_meaning calls k statement s) (statement_meaning further m statement t)
   both-hidden statement pc fits s t agree unread =
-      both-kept (view_of reader scope) (reads_result reader (here scope)) (read_marks reader (statement_rule scope pc statement)) s t
+      both-kept (view_of reader scope) (reads_result reader (here scope)) (read_exits reader (statement_rule scope pc statement)) s t
       (statement_meaning calls k statement s) (statement_meaning further m statement t) agree
       (statement-kept h labelling reader scope calls k secures.first statement pc fits unread s)
       (statement-kept h labelling reader scope further m secures.second statement pc fits unread t)
@@ -108,15 +108,15 @@ module _ (h : PrincipalHierarchy) (labelling : Labelling) (reader : Reader h lab
   mutual
     pub statement-secure : (statement : Statement) (pc : Join) → Fits h labelling (statement_demands scope pc statement) → (s t : State) →
         AgreeFor (view_of reader scope) s t →
-        Related (view_of reader scope) (reads_result reader (here scope)) (read_marks reader (statement_rule scope pc statement))
+        Related (view_of reader scope) (reads_result reader (here scope)) (read_exits reader (statement_rule scope pc statement))
         (statement_meaning calls k statement s) (statement_meaning further m statement t)
     statement-secure (Assign at x e) pc fits s t agree =
         let view = view_of reader scope in
         let value = reads_result reader (here scope) in
         let q : Join = own_label scope pc (Assign at x e) in
-        let marks = read_marks reader (statement_rule scope pc (Assign at x e)) in
+        let exits = read_exits reader (statement_rule scope pc (Assign at x e)) in
         by-reading (reader.reads q) (both-hidden (Assign at x e) pc fits s t agree) (λ read.
-        related-evaluated (SameIf (reader.reads (value_label scope e))) view value marks s t (value_of s e) (value_of t e)
+        related-evaluated (SameIf (reader.reads (value_label scope e))) view value exits s t (value_of s e) (value_of t e)
         (λ v. normally (assigned s x v)) (λ v. normally (assigned t x v)) agree
         (expression-alike reader scope s t agree e (read-right reader pc (raise_label scope e) read)) (λ v w f g same.
         same_end Normal (assigned s x v) (assigned t x w) (agree-with_cells view s t x (v ∷ []) (w ∷ []) agree (λ reads.
@@ -134,16 +134,16 @@ module _ (h : PrincipalHierarchy) (labelling : Labelling) (reader : Reader h lab
         let ve : Join = value_label scope e in
         let test : Bool = index_can_raise index len in
         let q : Join = own_label scope pc (Store at array len index e) in
-        let marks = read_marks reader (statement_rule scope pc (Store at array len index e)) in
+        let exits = read_exits reader (statement_rule scope pc (Store at array len index e)) in
         by-reading (reader.reads q) (both-hidden (Store at array len index e) pc fits s t agree) (λ read.
         let front = read-left reader (pc ++ ri ++ re) (label_if test vi) read in
         let covered : test ≡ true → reader.reads vi ≡ true = read-label_if reader test vi
         (read-right reader (pc ++ ri ++ re) (label_if test vi) read) in
-        related-evaluated (SameIf (reader.reads vi)) view value marks s t (value_of s index) (value_of t index) _ _ agree
+        related-evaluated (SameIf (reader.reads vi)) view value exits s t (value_of s index) (value_of t index) _ _ agree
         (expression-alike reader scope s t agree index (read-right reader pc ri (read-left reader (pc ++ ri) re front))) (λ v v' f f' same_index.
-        related-evaluated (SameIf (reader.reads ve)) view value marks s t (value_of s e) (value_of t e) _ _ agree
+        related-evaluated (SameIf (reader.reads ve)) view value exits s t (value_of s e) (value_of t e) _ _ agree
         (expression-alike reader scope s t agree e (read-right reader (pc ++ ri) re front)) (λ w w' g g' same.
-        related-evaluated (SameIf (reader.reads vi)) view value marks s t (checked_index v len) (checked_index v' len)
+        related-evaluated (SameIf (reader.reads vi)) view value exits s t (checked_index v len) (checked_index v' len)
         (λ i. normally (stored s array i w)) (λ i. normally (stored t array i w')) agree
         (index-alike s t index len (reader.reads vi) v v' covered f f' same_index) (λ i j d d' same_place.
         same_end Normal (stored s array i w) (stored t array j w')
@@ -154,17 +154,17 @@ module _ (h : PrincipalHierarchy) (labelling : Labelling) (reader : Reader h lab
     statement-secure (Receive at channel target) pc fits s t agree =
         let view = view_of reader scope in
         let value = reads_result reader (here scope) in
-        let marks = read_marks reader (statement_rule scope pc (Receive at channel target)) in
+        let exits = read_exits reader (statement_rule scope pc (Receive at channel target)) in
         by-reading (reader.reads (own_label scope pc (Receive at channel target))) (both-hidden (Receive at channel target) pc fits s t agree) (λ read.
-        related-received view value marks channel target s t (s.inputs channel) (t.inputs channel)
+        related-received view value exits channel target s t (s.inputs channel) (t.inputs channel)
         (agree.inputs channel (sym (reader.written _) ∙ read-right reader pc (one (label_of scope.program (ToChannel channel))) read)) agree)
     statement-secure (Send at channel e) pc fits s t agree =
         let view = view_of reader scope in
         let value = reads_result reader (here scope) in
         let q : Join = own_label scope pc (Send at channel e) in
-        let marks = read_marks reader (statement_rule scope pc (Send at channel e)) in
+        let exits = read_exits reader (statement_rule scope pc (Send at channel e)) in
         by-reading (reader.reads q) (both-hidden (Send at channel e) pc fits s t agree) (λ read.
-        related-evaluated (SameIf (reader.reads (value_label scope e))) view value marks s t (value_of s e) (value_of t e)
+        related-evaluated (SameIf (reader.reads (value_label scope e))) view value exits s t (value_of s e) (value_of t e)
         (λ v. normally (sending channel v s)) (λ v. normally (sending channel v t)) agree
         (expression-alike reader scope s t agree e (read-right reader pc (raise_label scope e) read)) (λ v w f g same.
         same_end Normal (sending channel v s) (sending channel w t) (agree-sending view s t channel v w agree (λ reads.
@@ -175,77 +175,77 @@ module _ (h : PrincipalHierarchy) (labelling : Labelling) (reader : Reader h lab
         let value = reads_result reader (here scope) in
         let q : Join = own_label scope pc (Call at f arguments target) in
         let callee = procedure_at scope.program f in
-        let marks = read_marks reader (statement_rule scope pc (Call at f arguments target)) in
+        let exits = read_exits reader (statement_rule scope pc (Call at f arguments target)) in
         let ds = argument_demands scope at q f 0 arguments in
-        let left : Join = call_marks scope.program f q Normal ++ one (label_of scope.program (ToValue f)) in
+        let left : Join = call_exits scope.program f q Normal ++ one (label_of scope.program (ToValue f)) in
         let ts = target_demand scope at 6 left target in
         let front = fits-left h labelling (demand scope.program at 6 q (ToBegin f) ++ ds) ts fits in
         let last = fits-right h labelling (demand scope.program at 6 q (ToBegin f) ++ ds) ts fits in
         by-reading (reader.reads q) (both-hidden (Call at f arguments target) pc fits s t agree) (λ read.
-        related-evaluated (ArgumentsAlike reader scope arguments) view value marks s t (values_of s arguments) (values_of t arguments)
+        related-evaluated (ArgumentsAlike reader scope arguments) view value exits s t (values_of s arguments) (values_of t arguments)
         (λ vs. returned_to target (calls f vs s)) (λ vs. returned_to target (further f vs t)) agree
         (arguments-alike reader scope s t agree arguments (read-right reader pc (raise_labels scope arguments) read)) (λ vs ws g g' same.
-        related-returned_to view (reads_result reader callee) value (read_marks reader (declared_label scope.program f)) marks target (calls f vs s)
+        related-returned_to view (reads_result reader callee) value (read_exits reader (declared_label scope.program f)) exits target (calls f vs s)
         (further f ws t)
         (secures.related f vs ws s t agree (λ n reads. parameters-from reader scope at q f 0 arguments vs ws
         (fits-right h labelling (demand scope.program at 6 q (ToBegin f)) ds front) same n n (omega arith) reads))
         (λ exit u. unread-declared reader scope.program f q exit u)
-        (λ u. unread-target reader scope at 6 left target last (unread-left reader (call_marks scope.program f q Normal) (one (label_of scope.program (ToValue f)))
+        (λ u. unread-target reader scope at 6 left target last (unread-left reader (call_exits scope.program f q Normal) (one (label_of scope.program (ToValue f)))
         (unread-declared reader scope.program f q Normal u)))
-        (λ x e reads. sym (reader.written _) ∙ read-right reader (call_marks scope.program f q Normal) (one (label_of scope.program (ToValue f)))
+        (λ x e reads. sym (reader.written _) ∙ read-right reader (call_exits scope.program f q Normal) (one (label_of scope.program (ToValue f)))
         (target-read reader scope at 6 left target last x e reads))))
     statement-secure (If at e yes_block no_block) pc fits s t agree =
         let view = view_of reader scope in
         let value = reads_result reader (here scope) in
         let q : Join = own_label scope pc (If at e yes_block no_block) in
         let b : Join = q ++ value_label scope e in
-        let marks = read_marks reader (statement_rule scope pc (If at e yes_block no_block)) in
+        let exits = read_exits reader (statement_rule scope pc (If at e yes_block no_block)) in
         let yes_ends = block_ends scope.program yes_block in
         let no_ends = block_ends scope.program no_block in
-        let yes_marks : Marks = at_ends yes_ends b (block_rule scope b yes_block) in
-        let no_marks : Marks = at_ends no_ends b (block_rule scope b no_block) in
+        let yes_exits : ExitLabels = at_ends yes_ends b (block_rule scope b yes_block) in
+        let no_exits : ExitLabels = at_ends no_ends b (block_rule scope b no_block) in
         let yes_fits = fits-left h labelling (block_demands scope b yes_block) (block_demands scope b no_block) fits in
         let no_fits = fits-right h labelling (block_demands scope b yes_block) (block_demands scope b no_block) fits in
-        let yes_more : (exit : Exit) → reader.reads (yes_marks exit) ≡ false → marks exit ≡ false = λ exit u. unread-left reader
-        (raised_marks e q exit ++ yes_marks exit) (no_marks exit) (unread-right reader (raised_marks e q exit) (yes_marks exit) u) in
-        let no_more : (exit : Exit) → reader.reads (no_marks exit) ≡ false → marks exit ≡ false = λ exit u. unread-right reader
-        (raised_marks e q exit ++ yes_marks exit) (no_marks exit) u in
+        let yes_more : (exit : Exit) → reader.reads (yes_exits exit) ≡ false → exits exit ≡ false = λ exit u. unread-left reader
+        (raised_exits e q exit ++ yes_exits exit) (no_exits exit) (unread-right reader (raised_exits e q exit) (yes_exits exit) u) in
+        let no_more : (exit : Exit) → reader.reads (no_exits exit) ≡ false → exits exit ≡ false = λ exit u. unread-right reader
+        (raised_exits e q exit ++ yes_exits exit) (no_exits exit) u in
         by-reading (reader.reads q) (both-hidden (If at e yes_block no_block) pc fits s t agree) (λ read.
-        related-evaluated (SameIf (reader.reads (value_label scope e))) view value marks s t (value_of s e) (value_of t e)
+        related-evaluated (SameIf (reader.reads (value_label scope e))) view value exits s t (value_of s e) (value_of t e)
         (λ v. if truth_in v then block_meaning calls k yes_block s else block_meaning calls k no_block s)
         (λ v. if truth_in v then block_meaning further m yes_block t else block_meaning further m no_block t) agree
         (expression-alike reader scope s t agree e (read-right reader pc (raise_label scope e) read)) (λ v w f g same.
         by-reading (reader.reads (value_label scope e))
         (λ unread.
         let unread_b : reader.reads b ≡ false = unread-right reader q (value_label scope e) unread in
-        both-kept view value marks s t (if truth_in v then block_meaning calls k yes_block s else block_meaning calls k no_block s)
+        both-kept view value exits s t (if truth_in v then block_meaning calls k yes_block s else block_meaning calls k no_block s)
         (if truth_in w then block_meaning further m yes_block t else block_meaning further m no_block t) agree
-        (kept-if view value marks s (truth_in v) (block_meaning calls k yes_block s) (block_meaning calls k no_block s)
-        (kept-weaker view value (read_marks reader yes_marks) marks s (block_meaning calls k yes_block s)
+        (kept-if view value exits s (truth_in v) (block_meaning calls k yes_block s) (block_meaning calls k no_block s)
+        (kept-weaker view value (read_exits reader yes_exits) exits s (block_meaning calls k yes_block s)
         (kept-closed reader view value yes_ends b (block_rule scope b yes_block) s (block_meaning calls k yes_block s) unread_b
         (block-among yes_block scope.program calls k secures.first.among s)
         (block-kept h labelling reader scope calls k secures.first yes_block b yes_fits unread_b s)) yes_more)
-        (kept-weaker view value (read_marks reader no_marks) marks s (block_meaning calls k no_block s)
+        (kept-weaker view value (read_exits reader no_exits) exits s (block_meaning calls k no_block s)
         (kept-closed reader view value no_ends b (block_rule scope b no_block) s (block_meaning calls k no_block s) unread_b
         (block-among no_block scope.program calls k secures.first.among s)
         (block-kept h labelling reader scope calls k secures.first no_block b no_fits unread_b s)) no_more))
-        (kept-if view value marks t (truth_in w) (block_meaning further m yes_block t) (block_meaning further m no_block t)
-        (kept-weaker view value (read_marks reader yes_marks) marks t (block_meaning further m yes_block t)
+        (kept-if view value exits t (truth_in w) (block_meaning further m yes_block t) (block_meaning further m no_block t)
+        (kept-weaker view value (read_exits reader yes_exits) exits t (block_meaning further m yes_block t)
         (kept-closed reader view value yes_ends b (block_rule scope b yes_block) t (block_meaning further m yes_block t) unread_b
         (block-among yes_block scope.program further m secures.second.among t)
         (block-kept h labelling reader scope further m secures.second yes_block b yes_fits unread_b t)) yes_more)
-        (kept-weaker view value (read_marks reader no_marks) marks t (block_meaning further m no_block t)
+        (kept-weaker view value (read_exits reader no_exits) exits t (block_meaning further m no_block t)
         (kept-closed reader view value no_ends b (block_rule scope b no_block) t (block_meaning further m no_block t) unread_b
         (block-among no_block scope.program further m secures.second.among t)
         (block-kept h labelling reader scope further m secures.second no_block b no_fits unread_b t)) no_more)))
         (λ seen.
-        related-if view value marks (truth_in v) (truth_in w) (block_meaning calls k yes_block s) (block_meaning calls k no_block s)
+        related-if view value exits (truth_in v) (truth_in w) (block_meaning calls k yes_block s) (block_meaning calls k no_block s)
         (block_meaning further m yes_block t) (block_meaning further m no_block t) (ap (λ x. truth_in x) (same seen))
-        (related-weaker view value (read_marks reader yes_marks) marks (block_meaning calls k yes_block s) (block_meaning further m yes_block t)
+        (related-weaker view value (read_exits reader yes_exits) exits (block_meaning calls k yes_block s) (block_meaning further m yes_block t)
         (related-closed reader view value yes_ends b (block_rule scope b yes_block) (block_meaning calls k yes_block s)
         (block_meaning further m yes_block t) (block-among yes_block scope.program calls k secures.first.among s)
         (block-among yes_block scope.program further m secures.second.among t) (block-secure yes_block b yes_fits s t agree)) yes_more)
-        (related-weaker view value (read_marks reader no_marks) marks (block_meaning calls k no_block s) (block_meaning further m no_block t)
+        (related-weaker view value (read_exits reader no_exits) exits (block_meaning calls k no_block s) (block_meaning further m no_block t)
         (related-closed reader view value no_ends b (block_rule scope b no_block) (block_meaning calls k no_block s)
         (block_meaning further m no_block t) (block-among no_block scope.program calls k secures.first.among s)
         (block-among no_block scope.program further m secures.second.among t) (block-secure no_block b no_fits s t agree)) no_more))))
@@ -256,12 +256,12 @@ module _ (h : PrincipalHierarchy) (labelling : Labelling) (reader : Reader h lab
         let q : Join = own_label scope pc (While at loop e body) in
         let b : Join = q ++ value_label scope e in
         let ends = block_ends scope.program body in
-        let x : Marks = at_ends ends b (block_rule scope b body) in
-        let marks = read_marks reader (statement_rule scope pc (While at loop e body)) in
+        let x : ExitLabels = at_ends ends b (block_rule scope b body) in
+        let exits = read_exits reader (statement_rule scope pc (While at loop e body)) in
         let front = fits-left h labelling (demand scope.program at 8 pc (ToLoop scope.number loop) ++ block_demands scope b body) (demand scope.program at 8 (x Normal ++ x Continue) (ToLoop scope.number loop)) fits in
         let body_fits = fits-right h labelling (demand scope.program at 8 pc (ToLoop scope.number loop)) (block_demands scope b body) front in
         let back = fits-right h labelling (demand scope.program at 8 pc (ToLoop scope.number loop) ++ block_demands scope b body) (demand scope.program at 8 (x Normal ++ x Continue) (ToLoop scope.number loop)) fits in
-        let loop_marks_read = loop-read reader (raised_marks e q) b x in
+        let loop_exits_read = loop-read reader (raised_exits e q) b x in
         by-reading (reader.reads q) (both-hidden (While at loop e body) pc fits s t agree) (λ read.
         let read_l : reader.reads l ≡ true = read-left reader l (raise_label scope e) read in
         let read_r : reader.reads (raise_label scope e) ≡ true = read-right reader l (raise_label scope e) read in
@@ -273,11 +273,11 @@ module _ (h : PrincipalHierarchy) (labelling : Labelling) (reader : Reader h lab
         by-reading (reader.reads (value_label scope e))
         (λ unread.
         let unread_b : reader.reads b ≡ false = unread-right reader q (value_label scope e) unread in
-        let over : marks Normal ≡ false = unread-right reader (raised_marks e q Normal) (b ++ x Break) (unread-left reader b (x Break) unread_b) in
-        related-once view value (read_marks reader x) marks (reader.reads (value_label scope e)) (λ u. value_of u e)
+        let over : exits Normal ≡ false = unread-right reader (raised_exits e q Normal) (b ++ x Break) (unread-left reader b (x Break) unread_b) in
+        related-once view value (read_exits reader x) exits (reader.reads (value_label scope e)) (λ u. value_of u e)
         (block_meaning calls k body) (block_meaning further m body)
         (record {
-          loop = loop_marks_read;
+          loop = loop_exits_read;
           over = over;
           normal = normal;
           continued = continued;
@@ -287,7 +287,7 @@ module _ (h : PrincipalHierarchy) (labelling : Labelling) (reader : Reader h lab
               (block-kept h labelling reader scope calls k secures.first body b body_fits unread_b u);
         })
         (record {
-          loop = loop_marks_read;
+          loop = loop_exits_read;
           over = over;
           normal = normal;
           continued = continued;
@@ -298,10 +298,10 @@ module _ (h : PrincipalHierarchy) (labelling : Labelling) (reader : Reader h lab
         })
         k m s t agree (expression-alike reader scope s t agree e read_r))
         (λ seen.
-        related-turns view value (read_marks reader x) marks (λ u. value_of u e) (block_meaning calls k body) (block_meaning further m body)
+        related-turns view value (read_exits reader x) exits (λ u. value_of u e) (block_meaning calls k body) (block_meaning further m body)
         (record {
           condition_alike = λ u u' same. rw seen at (expression-alike reader scope u u' same e read_r);
-          loop = loop_marks_read;
+          loop = loop_exits_read;
           normal = normal;
           continued = continued;
           ways = record {
@@ -319,9 +319,9 @@ module _ (h : PrincipalHierarchy) (labelling : Labelling) (reader : Reader h lab
         let view = view_of reader scope in
         let value = reads_result reader (here scope) in
         let q : Join = own_label scope pc (ReturnWith at (Some e)) in
-        let marks = read_marks reader (statement_rule scope pc (ReturnWith at (Some e))) in
+        let exits = read_exits reader (statement_rule scope pc (ReturnWith at (Some e))) in
         by-reading (reader.reads q) (both-hidden (ReturnWith at (Some e)) pc fits s t agree) (λ read.
-        related-evaluated (SameIf (reader.reads (value_label scope e))) view value marks s t (value_of s e) (value_of t e)
+        related-evaluated (SameIf (reader.reads (value_label scope e))) view value exits s t (value_of s e) (value_of t e)
         (λ v. Ended Return (Some v) s) (λ v. Ended Return (Some v) t) agree
         (expression-alike reader scope s t agree e (read-right reader pc (raise_label scope e) read)) (λ v w f g same.
         same_return (Some v) (Some w) s t agree (λ reads.
@@ -331,27 +331,27 @@ module _ (h : PrincipalHierarchy) (labelling : Labelling) (reader : Reader h lab
         let view = view_of reader scope in
         let value = reads_result reader (here scope) in
         let ends = block_ends scope.program block in
-        let x : Marks = at_ends ends pc (block_rule scope pc block) in
-        let marks = read_marks reader (statement_rule scope pc (Try at block handlers)) in
+        let x : ExitLabels = at_ends ends pc (block_rule scope pc block) in
+        let exits = read_exits reader (statement_rule scope pc (Try at block handlers)) in
         let block_fits = fits-left h labelling (block_demands scope pc block) (handlers_demands scope x handlers) fits in
         let handlers_fit = fits-right h labelling (block_demands scope pc block) (handlers_demands scope x handlers) fits in
-        let others : (exit : Exit) → passes handlers exit ≡ true → reader.reads (x exit) ≡ false → marks exit ≡ false =
+        let others : (exit : Exit) → passes handlers exit ≡ true → reader.reads (x exit) ≡ false → exits exit ≡ false =
         λ exit passing u. unread-left reader (label_if (passes handlers exit) (x exit)) (handlers_rule scope x handlers exit)
         (unread-label_if reader (passes handlers exit) (x exit) passing u) in
-        let more : (exit : Exit) → reader.reads (handlers_rule scope x handlers exit) ≡ false → marks exit ≡ false =
+        let more : (exit : Exit) → reader.reads (handlers_rule scope x handlers exit) ≡ false → exits exit ≡ false =
         λ exit u. unread-right reader (label_if (passes handlers exit) (x exit)) (handlers_rule scope x handlers exit) u in
-        related-caught view value handlers (read_marks reader x) marks (block_meaning calls k block s) (block_meaning further m block t)
+        related-caught view value handlers (read_exits reader x) exits (block_meaning calls k block s) (block_meaning further m block t)
         (handlers_meaning calls k handlers) (handlers_meaning further m handlers)
         (related-closed reader view value ends pc (block_rule scope pc block) (block_meaning calls k block s)
         (block_meaning further m block t) (block-among block scope.program calls k secures.first.among s)
         (block-among block scope.program further m secures.second.among t) (block-secure block pc block_fits s t agree))
         others
-        (λ y u unread. handlers-kept h labelling reader scope calls k secures.first handlers x handlers_fit y u unread marks more
+        (λ y u unread. handlers-kept h labelling reader scope calls k secures.first handlers x handlers_fit y u unread exits more
         (λ none. others (Throw y) (rw none refl) unread))
-        (λ y u unread. handlers-kept h labelling reader scope further m secures.second handlers x handlers_fit y u unread marks more
+        (λ y u unread. handlers-kept h labelling reader scope further m secures.second handlers x handlers_fit y u unread exits more
         (λ none. others (Throw y) (rw none refl) unread))
         (record {
-          related = λ y u u' same. handlers-secure handlers x handlers_fit y u u' same marks more;
+          related = λ y u u' same. handlers-secure handlers x handlers_fit y u u' same exits more;
           grows_first = handlers-grow handlers calls k secures.grows_first;
           grows_second = handlers-grow handlers further m secures.grows_second;
         })
@@ -363,55 +363,55 @@ module _ (h : PrincipalHierarchy) (labelling : Labelling) (reader : Reader h lab
 
     pub block-secure : (block : Block) (pc : Join) → Fits h labelling (block_demands scope pc block) → (s t : State) →
         AgreeFor (view_of reader scope) s t →
-        Related (view_of reader scope) (reads_result reader (here scope)) (read_marks reader (block_rule scope pc block))
+        Related (view_of reader scope) (reads_result reader (here scope)) (read_exits reader (block_rule scope pc block))
         (block_meaning calls k block s) (block_meaning further m block t)
     block-secure Empty pc fits s t agree = same_end Normal s t agree
     block-secure (Then statement rest) pc fits s t agree =
         let view = view_of reader scope in
         let value = reads_result reader (here scope) in
         let ends = statement_ends scope.program statement in
-        let x : Marks = at_ends ends pc (statement_rule scope pc statement) in
-        let marks = read_marks reader (block_rule scope pc (Then statement rest)) in
+        let x : ExitLabels = at_ends ends pc (statement_rule scope pc statement) in
+        let exits = read_exits reader (block_rule scope pc (Then statement rest)) in
         let here = fits-left h labelling (statement_demands scope pc statement) (block_demands scope (x Normal) rest) fits in
         let later = fits-right h labelling (statement_demands scope pc statement) (block_demands scope (x Normal) rest) fits in
-        let more : (exit : Exit) → reader.reads (block_rule scope (x Normal) rest exit) ≡ false → marks exit ≡ false =
+        let more : (exit : Exit) → reader.reads (block_rule scope (x Normal) rest exit) ≡ false → exits exit ≡ false =
         λ exit u. unread-right reader (label_if (not (same_exit Normal exit)) (x exit)) (block_rule scope (x Normal) rest exit) u in
-        related-after view value (read_marks reader x) marks (statement_meaning calls k statement s)
+        related-after view value (read_exits reader x) exits (statement_meaning calls k statement s)
         (statement_meaning further m statement t) (block_meaning calls k rest) (block_meaning further m rest)
         (related-closed reader view value ends pc (statement_rule scope pc statement) (statement_meaning calls k statement s)
         (statement_meaning further m statement t) (statement-among statement scope.program calls k secures.first.among s)
         (statement-among statement scope.program further m secures.second.among t) (statement-secure statement pc here s t agree))
         (λ exit other u. unread-left reader (label_if (not (same_exit Normal exit)) (x exit)) (block_rule scope (x Normal) rest exit)
         (unread-label_if reader (not (same_exit Normal exit)) (x exit) (ap not other) u))
-        (λ unread u. kept-weaker view value (read_marks reader (block_rule scope (x Normal) rest)) marks u (block_meaning calls k rest u)
+        (λ unread u. kept-weaker view value (read_exits reader (block_rule scope (x Normal) rest)) exits u (block_meaning calls k rest u)
         (block-kept h labelling reader scope calls k secures.first rest (x Normal) later unread u) more)
-        (λ unread u. kept-weaker view value (read_marks reader (block_rule scope (x Normal) rest)) marks u (block_meaning further m rest u)
+        (λ unread u. kept-weaker view value (read_exits reader (block_rule scope (x Normal) rest)) exits u (block_meaning further m rest u)
         (block-kept h labelling reader scope further m secures.second rest (x Normal) later unread u) more)
         (record {
-          related = λ u u' same. related-weaker view value (read_marks reader (block_rule scope (x Normal) rest)) marks
+          related = λ u u' same. related-weaker view value (read_exits reader (block_rule scope (x Normal) rest)) exits
               (block_meaning calls k rest u) (block_meaning further m rest u') (block-secure rest (x Normal) later u u' same) more;
           grows_first = block-grows rest calls k secures.grows_first;
           grows_second = block-grows rest further m secures.grows_second;
         })
 
-    pub handlers-secure : (handlers : Handlers) (x : Marks) → Fits h labelling (handlers_demands scope x handlers) →
-        (exception : ℕ) (s t : State) → AgreeFor (view_of reader scope) s t → (marks : Exit → Bool) →
-        ((exit : Exit) → reader.reads (handlers_rule scope x handlers exit) ≡ false → marks exit ≡ false) →
-        Related (view_of reader scope) (reads_result reader (here scope)) marks (handlers_meaning calls k handlers exception s)
+    pub handlers-secure : (handlers : Handlers) (x : ExitLabels) → Fits h labelling (handlers_demands scope x handlers) →
+        (exception : ℕ) (s t : State) → AgreeFor (view_of reader scope) s t → (exits : Exit → Bool) →
+        ((exit : Exit) → reader.reads (handlers_rule scope x handlers exit) ≡ false → exits exit ≡ false) →
+        Related (view_of reader scope) (reads_result reader (here scope)) exits (handlers_meaning calls k handlers exception s)
         (handlers_meaning further m handlers exception t)
-    handlers-secure NoMore x fits exception s t agree marks more = same_end (Throw exception) s t agree
-    handlers-secure (Catch at handled body rest) x fits exception s t agree marks more =
+    handlers-secure NoMore x fits exception s t agree exits more = same_end (Throw exception) s t agree
+    handlers-secure (Catch at handled body rest) x fits exception s t agree exits more =
         let view = view_of reader scope in
         let value = reads_result reader (here scope) in
         let ends = block_ends scope.program body in
         let pc : Join = x (Throw handled) in
-        let body_marks : Marks = at_ends ends pc (block_rule scope pc body) in
-        related-if view value marks (exception == handled) (exception == handled) (block_meaning calls k body s)
+        let body_exits : ExitLabels = at_ends ends pc (block_rule scope pc body) in
+        related-if view value exits (exception == handled) (exception == handled) (block_meaning calls k body s)
         (handlers_meaning calls k rest exception s) (block_meaning further m body t) (handlers_meaning further m rest exception t) refl
-        (related-weaker view value (read_marks reader body_marks) marks (block_meaning calls k body s) (block_meaning further m body t)
+        (related-weaker view value (read_exits reader body_exits) exits (block_meaning calls k body s) (block_meaning further m body t)
         (related-closed reader view value ends pc (block_rule scope pc body) (block_meaning calls k body s) (block_meaning further m body t)
         (block-among body scope.program calls k secures.first.among s) (block-among body scope.program further m secures.second.among t)
         (block-secure body pc (fits-left h labelling (block_demands scope pc body) (handlers_demands scope x rest) fits) s t agree))
-        (λ exit u. more exit (unread-left reader (body_marks exit) (handlers_rule scope x rest exit) u)))
-        (handlers-secure rest x (fits-right h labelling (block_demands scope pc body) (handlers_demands scope x rest) fits) exception s t agree marks
-        (λ exit u. more exit (unread-right reader (body_marks exit) (handlers_rule scope x rest exit) u)))
+        (λ exit u. more exit (unread-left reader (body_exits exit) (handlers_rule scope x rest exit) u)))
+        (handlers-secure rest x (fits-right h labelling (block_demands scope pc body) (handlers_demands scope x rest) fits) exception s t agree exits
+        (λ exit u. more exit (unread-right reader (body_exits exit) (handlers_rule scope x rest exit) u)))

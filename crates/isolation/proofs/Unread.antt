@@ -10,7 +10,7 @@ use Rattle.resolved.specs.declared.statement.Exit.TheVariants.{Normal, Return, B
 use Rattle.resolved.specs.Tree.{Statement, Call, If, While, ReturnWith, Try, Nested, Block, Empty, Then, Handlers, NoMore, Catch, place_of}
 use Rattle.resolved.specs.Ends.{same_exit, has_end, raises, thrown_ends, leaves_loop, passes, then_ends, statement_ends, block_ends, handlers_ends}
 use Rattle.resolved.specs.EndFaults.{OutsideLoop, Unreachable, NeverRaised, fault_unless, may_stand, inner_faults, block_faults, handlers_faults}
-use Rattle.resolved.specs.Labelled.{Scope, Marks, demand, Fits, value_label, label_if, at_ends, own_label, raised_marks, loop_marks, statement_rule, block_rule, handlers_rule, statement_demands, block_demands, handlers_demands, Labelling, Join, one, label_of, ToLoop}
+use Rattle.resolved.specs.Labelled.{Scope, ExitLabels, demand, Fits, value_label, label_if, at_ends, own_label, raised_exits, loop_exits, statement_rule, block_rule, handlers_rule, statement_demands, block_demands, handlers_demands, Labelling, Join, one, label_of, ToLoop}
 use Rattle.isolation.proofs.Among.{same-exit, end-filter}
 use Rattle.isolation.proofs.Declared.{append-empty, no_fault-test}
 use Rattle.isolation.proofs.Observer.{Reader, unread-left, unread-right}
@@ -52,8 +52,8 @@ module _ (h : PrincipalHierarchy) (labelling : Labelling) (reader : Reader h lab
       reader.reads (label_if (has_end (thrown_ends xs) exit) q) ≡ false
   raised-end xs q exit unread e = unread-label_if reader (has_end (thrown_ends xs) exit) q e unread
 
-  loop-end : (b : Join) (x : Marks) (exit : Exit) → leaves_loop exit ≡ true → reader.reads (x exit) ≡ false →
-      reader.reads (loop_marks b x exit) ≡ false
+  loop-end : (b : Join) (x : ExitLabels) (exit : Exit) → leaves_loop exit ≡ true → reader.reads (x exit) ≡ false →
+      reader.reads (loop_exits b x exit) ≡ false
   loop-end b x Normal e unread = let i : true ≡ false = sym e in absurd (cc)
   loop-end b x Return e unread = unread
   loop-end b x Break e unread = let i : true ≡ false = sym e in absurd (cc)
@@ -75,20 +75,20 @@ module _ (h : PrincipalHierarchy) (labelling : Labelling) (reader : Reader h lab
         let unread_b = unread-left reader q (value_label scope e) unread_q in
         let yes_ends = block_ends scope.program yes_block in
         let no_ends = block_ends scope.program no_block in
-        let yes_marks : Marks = at_ends yes_ends b (block_rule scope b yes_block) in
-        let no_marks : Marks = at_ends no_ends b (block_rule scope b no_block) in
+        let yes_exits : ExitLabels = at_ends yes_ends b (block_rule scope b yes_block) in
+        let no_exits : ExitLabels = at_ends no_ends b (block_rule scope b no_block) in
         let parts = append-empty (block_faults scope.program in_loop true yes_block) (block_faults scope.program in_loop true no_block) faults in
         ⊎_elim
         (λ front. ⊎_elim
-        (λ raised. unread-left reader (raised_marks e q exit ++ yes_marks exit) (no_marks exit)
-        (unread-left reader (raised_marks e q exit) (yes_marks exit) (raised-end (raises e) q exit unread_q raised)))
-        (λ yes. unread-left reader (raised_marks e q exit ++ yes_marks exit) (no_marks exit)
-        (unread-right reader (raised_marks e q exit) (yes_marks exit)
+        (λ raised. unread-left reader (raised_exits e q exit ++ yes_exits exit) (no_exits exit)
+        (unread-left reader (raised_exits e q exit) (yes_exits exit) (raised-end (raises e) q exit unread_q raised)))
+        (λ yes. unread-left reader (raised_exits e q exit ++ yes_exits exit) (no_exits exit)
+        (unread-right reader (raised_exits e q exit) (yes_exits exit)
         (closed-unread reader yes_ends b (block_rule scope b yes_block) exit (λ one. unread_b) yes
         (block-ends-unread yes_block b in_loop true parts.0 (fits-left h labelling (block_demands scope b yes_block)
         (block_demands scope b no_block) fits) unread_b exit yes))))
         (either-end (thrown_ends (raises e)) yes_ends exit front))
-        (λ no. unread-right reader (raised_marks e q exit ++ yes_marks exit) (no_marks exit)
+        (λ no. unread-right reader (raised_exits e q exit ++ yes_exits exit) (no_exits exit)
         (closed-unread reader no_ends b (block_rule scope b no_block) exit (λ one. unread_b) no
         (block-ends-unread no_block b in_loop true parts.1 (fits-right h labelling (block_demands scope b yes_block)
         (block_demands scope b no_block) fits) unread_b exit no)))
@@ -100,23 +100,23 @@ module _ (h : PrincipalHierarchy) (labelling : Labelling) (reader : Reader h lab
         let unread_q = own-unread reader scope pc (While at loop e body) fits unread in
         let unread_b = unread-left reader q (value_label scope e) unread_q in
         let ends = block_ends scope.program body in
-        let x : Marks = at_ends ends b (block_rule scope b body) in
+        let x : ExitLabels = at_ends ends b (block_rule scope b body) in
         let body_fits = fits-right h labelling (demand scope.program at 8 pc (ToLoop scope.number loop)) (block_demands scope b body)
         (fits-left h labelling (demand scope.program at 8 pc (ToLoop scope.number loop) ++ block_demands scope b body) (demand scope.program at 8 (x Normal ++ x Continue) (ToLoop scope.number loop)) fits) in
         ⊎_elim
-        (λ normal. rw (same-exit exit Normal normal) (unread-right reader (raised_marks e q Normal) (b ++ x Break)
+        (λ normal. rw (same-exit exit Normal normal) (unread-right reader (raised_exits e q Normal) (b ++ x Break)
         (unread-left reader b (x Break) unread_b)))
         (λ other. ⊎_elim
-        (λ raised. unread-left reader (raised_marks e q exit) (loop_marks b x exit) (raised-end (raises e) q exit unread_q raised))
+        (λ raised. unread-left reader (raised_exits e q exit) (loop_exits b x exit) (raised-end (raises e) q exit unread_q raised))
         (λ leaves. let found = filtered-end leaves_loop ends exit leaves in
-        unread-right reader (raised_marks e q exit) (loop_marks b x exit) (loop-end b x exit found.0
+        unread-right reader (raised_exits e q exit) (loop_exits b x exit) (loop-end b x exit found.0
         (closed-unread reader ends b (block_rule scope b body) exit (λ one. unread_b) found.1
         (block-ends-unread body b true true faults body_fits unread_b exit found.1))))
         (either-end (thrown_ends (raises e)) (filter leaves_loop ends) exit other))
         (or_cases (same_exit exit Normal) (has_end (thrown_ends (raises e) ++ filter leaves_loop ends) exit) among)
     statement-ends-unread (Try at block handlers) pc in_loop faults fits unread exit among =
         let ends = block_ends scope.program block in
-        let x : Marks = at_ends ends pc (block_rule scope pc block) in
+        let x : ExitLabels = at_ends ends pc (block_rule scope pc block) in
         let parts = append-empty (block_faults scope.program in_loop true block) (handlers_faults scope.program in_loop ends handlers) faults in
         let block_fits = fits-left h labelling (block_demands scope pc block) (handlers_demands scope x handlers) fits in
         let inner : (e : Exit) → has_end ends e ≡ true → reader.reads (x e) ≡ false = λ e found. closed-unread reader ends pc
@@ -148,7 +148,7 @@ module _ (h : PrincipalHierarchy) (labelling : Labelling) (reader : Reader h lab
         (or_cases (same_exit exit Normal) false among)
     block-ends-unread (Then statement rest) pc in_loop reached faults fits unread exit among =
         let ends = statement_ends scope.program statement in
-        let x : Marks = at_ends ends pc (statement_rule scope pc statement) in
+        let x : ExitLabels = at_ends ends pc (statement_rule scope pc statement) in
         let first = fault_unless (may_stand in_loop statement) OutsideLoop (place_of statement) ++ fault_unless reached Unreachable
         (place_of statement) in
         let later = block_faults scope.program in_loop (has_end ends Normal) rest in
@@ -167,7 +167,7 @@ module _ (h : PrincipalHierarchy) (labelling : Labelling) (reader : Reader h lab
         (inner Normal after.0) exit after.1))
         (then-cases ends (block_ends scope.program rest) exit among)
 
-    pub handlers-ends-unread : (handlers : Handlers) (x : Marks) (in_loop : Bool) (ends : List Exit) →
+    pub handlers-ends-unread : (handlers : Handlers) (x : ExitLabels) (in_loop : Bool) (ends : List Exit) →
         handlers_faults scope.program in_loop ends handlers ≡ [] → Fits h labelling (handlers_demands scope x handlers) →
         ((y : ℕ) → has_end ends (Throw y) ≡ true → reader.reads (x (Throw y)) ≡ false) → (exit : Exit) →
         has_end (handlers_ends scope.program handlers) exit ≡ true → reader.reads (handlers_rule scope x handlers exit) ≡ false
@@ -175,18 +175,18 @@ module _ (h : PrincipalHierarchy) (labelling : Labelling) (reader : Reader h lab
     handlers-ends-unread (Catch at handled body rest) x in_loop ends faults fits unread exit among =
         let body_ends = block_ends scope.program body in
         let pc : Join = x (Throw handled) in
-        let marks : Marks = at_ends body_ends pc (block_rule scope pc body) in
+        let exits : ExitLabels = at_ends body_ends pc (block_rule scope pc body) in
         let others = filter (λ e. not (same_exit (Throw handled) e)) ends in
         let raised = fault_unless (has_end ends (Throw handled)) NeverRaised at in
         let both = append-empty (raised ++ block_faults scope.program in_loop true body) (handlers_faults scope.program in_loop others rest) faults in
         let here = append-empty raised (block_faults scope.program in_loop true body) both.0 in
         let unread_pc : reader.reads pc ≡ false = unread handled (no_fault-test (has_end ends (Throw handled)) NeverRaised at here.0) in
         ⊎_elim
-        (λ found. unread-left reader (marks exit) (handlers_rule scope x rest exit)
+        (λ found. unread-left reader (exits exit) (handlers_rule scope x rest exit)
         (closed-unread reader body_ends pc (block_rule scope pc body) exit (λ one. unread_pc) found
         (block-ends-unread body pc in_loop true here.1 (fits-left h labelling (block_demands scope pc body)
         (handlers_demands scope x rest) fits) unread_pc exit found)))
-        (λ later. unread-right reader (marks exit) (handlers_rule scope x rest exit)
+        (λ later. unread-right reader (exits exit) (handlers_rule scope x rest exit)
         (handlers-ends-unread rest x in_loop others both.1 (fits-right h labelling (block_demands scope pc body) (handlers_demands scope x rest) fits)
         (λ y found. unread y (filtered-end (λ e. not (same_exit (Throw handled) e)) ends (Throw y) found).1) exit later))
         (either-end body_ends (handlers_ends scope.program rest) exit among)

@@ -11,7 +11,7 @@ use Rattle.resolved.specs.State.{State, cells}
 use Rattle.resolved.specs.Meaning.{Outcome, Ended, Stopped, state_after, statement_meaning, calls_with}
 use Rattle.resolved.specs.Ends.{has_end, statement_ends}
 use Rattle.resolved.specs.EndFaults.{end_faults, inner_faults}
-use Rattle.resolved.specs.Labelled.{Scope, Labelling, Join, Marks, Fits, Labelled, join_under, variable_label, channel_label, statement_demands, statement_marks}
+use Rattle.resolved.specs.Labelled.{Scope, Labelling, Join, ExitLabels, Fits, Labelled, join_under, variable_label, channel_label, statement_demands, statement_exits}
 
 -- whether a principal may read a label, and what it sees in a state of what was sent, under the program's own hierarchy
 abbrev pub reads : Scope → (p : ℕ) → Label → Bool
@@ -31,9 +31,9 @@ pub record SameFor (scope : Scope) (labelling : Labelling) (p : ℕ) (before aft
   pub sent : sees scope p before ≡ sees scope p after
 
 -- the label of the end that was reached, if one was, is one that the principal may not read
-abbrev pub UnreadEnd : Scope → Labelling → (p : ℕ) → Marks → Outcome → Type 0
-UnreadEnd scope labelling p marks (Ended exit returned s) = IsFalse (reads_under scope labelling p (marks exit))
-UnreadEnd scope labelling p marks (Stopped stop s) = Unit {0}
+abbrev pub UnreadEnd : Scope → Labelling → (p : ℕ) → ExitLabels → Outcome → Type 0
+UnreadEnd scope labelling p exits (Ended exit returned s) = IsFalse (reads_under scope labelling p (exits exit))
+UnreadEnd scope labelling p exits (Stopped stop s) = Unit {0}
 
 -- in a labelled program without a fault of its ends, a labelled statement at a label that a principal may not read changes nothing
 -- that the principal may read, and ends at a label that it may not read; also where it is stopped
@@ -44,7 +44,7 @@ StatementsAreConfined scope labelling =
     → (statement : Statement) → Fits scope.program.hierarchy labelling (statement_demands scope pc statement)
     → (frames k : ℕ) (s : State)
     → SameFor scope labelling p s (state_after (statement_meaning (calls_with scope.program k frames) k statement s))
-    × UnreadEnd scope labelling p (statement_marks scope pc statement)
+    × UnreadEnd scope labelling p (statement_exits scope pc statement)
     (statement_meaning (calls_with scope.program k frames) k statement s)
 
 -- each possible end of such a statement, if that has no fault of its ends, has a label that the principal may not read
@@ -54,4 +54,4 @@ PossibleEndsAreUnread scope labelling =
     → (in_loop : Bool) (statement : Statement) → inner_faults scope.program in_loop statement ≡ []
     → Fits scope.program.hierarchy labelling (statement_demands scope pc statement)
     → (exit : Exit) → IsTrue (has_end (statement_ends scope.program statement) exit)
-    → IsFalse (reads_under scope labelling p (statement_marks scope pc statement exit))
+    → IsFalse (reads_under scope labelling p (statement_exits scope pc statement exit))

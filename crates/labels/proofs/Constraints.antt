@@ -7,7 +7,7 @@ use Rattle.std.proofs.lemmas.Bool.{and_parts, and_from, or_left, or_right, or_ca
 use Rattle.std.proofs.lemmas.List.Elements.{Contains-append_cases, Contains-append_left, Contains-append_right}
 use Rattle.principals.proofs.Closure.{none_in_nil, Contains-cons_cases, Contains-later, Contains-first}
 use Rattle.labels.specs.Lattice.{IsLattice}
-use Rattle.labels.specs.Constraints.{Lattice, Keeps, Atom, Written, Unknown, Constraint, is_written, value, total, holds, FitsAll, FitsUnknowns, IsLeast, first_unmet, Reaches, directly, onward, Joined, ends, goes_on, IsChain, IsRefusedAt, Occurs, renamed, StandsFor, OneByOne, IsGathered}
+use Rattle.labels.specs.Constraints.{Lattice, LatticeLaws, Atom, Written, Unknown, Constraint, is_written, value, join_of, holds, FitsAll, FitsUnknowns, IsLeast, first_unmet, Reaches, directly, onward, Linked, ends, goes_on, IsChain, IsRefusedAt, Occurs, renamed, StandsFor, OneByOne, IsGathered}
 
 -- ---- tests over lists
 pub each-of : {X : Type 0} (test : X → Bool) (xs : List X) → IsTrue (list_all test xs) → (x : X) → Contains xs x → IsTrue (test x)
@@ -30,7 +30,7 @@ abbrev pub join_all : {V : Type 0} → Lattice V → List V → V
 join_all l [] = l.least
 join_all l (v ∷ vs) = l.join v (join_all l vs)
 
-module _ {V : Type 0} (l : Lattice V) (laws : Keeps l) where
+module _ {V : Type 0} (l : Lattice V) (laws : LatticeLaws l) where
   pub join_all-above : (vs : List V) (v : V) → Contains vs v → IsTrue (l.leq v (join_all l vs))
   join_all-above [] v h = absurd (none_in_nil v h)
   join_all-above (w ∷ ws) v h =
@@ -45,29 +45,29 @@ module _ {V : Type 0} (l : Lattice V) (laws : Keeps l) where
       laws.least_above w (join_all l ws) b (each w (Contains-first w ws)) (join_all-least ws b (λ v h. each v (Contains-later w ws v h)))
 
   module _ {U : Type 0} (values : U → V) where
-    pub total-above : (left : List (Atom U V)) (atom : Atom U V) → Contains left atom → IsTrue (l.leq (value values atom) (total l.join l.least values left))
-    total-above [] atom h = absurd (none_in_nil atom h)
-    total-above (a ∷ rest) atom h =
+    pub join_of-above : (left : List (Atom U V)) (atom : Atom U V) → Contains left atom → IsTrue (l.leq (value values atom) (join_of l.join l.least values left))
+    join_of-above [] atom h = absurd (none_in_nil atom h)
+    join_of-above (a ∷ rest) atom h =
         ⊎_elim
-        (λ same. subst (λ x. IsTrue (l.leq (value values x) (total l.join l.least values (a ∷ rest)))) same (laws.above_left (value values a) (total l.join l.least values rest)))
-        (λ later. laws.transitive (value values atom) (total l.join l.least values rest) (total l.join l.least values (a ∷ rest)) (total-above rest atom later)
-        (laws.above_right (value values a) (total l.join l.least values rest)))
+        (λ same. subst (λ x. IsTrue (l.leq (value values x) (join_of l.join l.least values (a ∷ rest)))) same (laws.above_left (value values a) (join_of l.join l.least values rest)))
+        (λ later. laws.transitive (value values atom) (join_of l.join l.least values rest) (join_of l.join l.least values (a ∷ rest)) (join_of-above rest atom later)
+        (laws.above_right (value values a) (join_of l.join l.least values rest)))
         (Contains-cons_cases a rest atom h)
 
-    pub total-least : (left : List (Atom U V)) (b : V) → ((atom : Atom U V) → Contains left atom → IsTrue (l.leq (value values atom) b)) →
-        IsTrue (l.leq (total l.join l.least values left) b)
-    total-least [] b each = laws.below_all b
-    total-least (a ∷ rest) b each =
-        laws.least_above (value values a) (total l.join l.least values rest) b (each a (Contains-first a rest))
-        (total-least rest b (λ atom h. each atom (Contains-later a rest atom h)))
+    pub join_of-least : (left : List (Atom U V)) (b : V) → ((atom : Atom U V) → Contains left atom → IsTrue (l.leq (value values atom) b)) →
+        IsTrue (l.leq (join_of l.join l.least values left) b)
+    join_of-least [] b each = laws.below_all b
+    join_of-least (a ∷ rest) b each =
+        laws.least_above (value values a) (join_of l.join l.least values rest) b (each a (Contains-first a rest))
+        (join_of-least rest b (λ atom h. each atom (Contains-later a rest atom h)))
 
     -- where a left side is not below, some part of it is not
-    pub not_below-part : (left : List (Atom U V)) (b : V) → IsFalse (l.leq (total l.join l.least values left) b) →
+    pub not_below-part : (left : List (Atom U V)) (b : V) → IsFalse (l.leq (join_of l.join l.least values left) b) →
         (atom : Atom U V) × Contains left atom × IsFalse (l.leq (value values atom) b)
     not_below-part [] b fails = let i : true ≡ false = sym (laws.below_all b) ∙ fails in absurd (cc)
     not_below-part (a ∷ rest) b fails = by_test (l.leq (value values a) b) refl (λ e.
-        by_test (l.leq (total l.join l.least values rest) b) refl
-        (λ f. let i : true ≡ false = sym (laws.least_above (value values a) (total l.join l.least values rest) b e f) ∙ fails in absurd (cc))
+        by_test (l.leq (join_of l.join l.least values rest) b) refl
+        (λ f. let i : true ≡ false = sym (laws.least_above (value values a) (join_of l.join l.least values rest) b e f) ∙ fails in absurd (cc))
         (λ f. let found = not_below-part rest b f in (found.0, Contains-later a rest found.0 found.1, found.2)))
         (λ e. (a, Contains-first a rest, e))
 
@@ -81,20 +81,20 @@ module _ {V : Type 0} (l : Lattice V) (laws : Keeps l) where
       (λ e. (v, Contains-first v rest, e))
 
 -- the join of two left sides, where join is that of lists
-pub total-append : {U X : Type 0} (values : U → List X) (a b : List (Atom U (List X))) →
-    total (λ x y. x ++ y) [] values (a ++ b) ≡ total (λ x y. x ++ y) [] values a ++ total (λ x y. x ++ y) [] values b
-total-append values [] b = refl
-total-append values (atom ∷ rest) b =
-    ap (λ x. value values atom ++ x) (total-append values rest b)
-    ∙ sym (append_assoc (value values atom) (total (λ x y. x ++ y) [] values rest) (total (λ x y. x ++ y) [] values b))
+pub join_of-append : {U X : Type 0} (values : U → List X) (a b : List (Atom U (List X))) →
+    join_of (λ x y. x ++ y) [] values (a ++ b) ≡ join_of (λ x y. x ++ y) [] values a ++ join_of (λ x y. x ++ y) [] values b
+join_of-append values [] b = refl
+join_of-append values (atom ∷ rest) b =
+    ap (λ x. value values atom ++ x) (join_of-append values rest b)
+    ∙ sym (append_assoc (value values atom) (join_of (λ x y. x ++ y) [] values rest) (join_of (λ x y. x ++ y) [] values b))
 
 -- ---- what follows for any values
-module _ {N U V : Type 0} (l : Lattice V) (laws : Keeps l) (cs : List (Constraint N U V)) where
+module _ {N U V : Type 0} (l : Lattice V) (laws : LatticeLaws l) (cs : List (Constraint N U V)) where
   -- a part of the left side of a constraint that holds lies below its right side
   pub part-below : (values : U → V) (c : Constraint N U V) → IsTrue (holds l values c) → (atom : Atom U V) → Contains c.left atom →
       IsTrue (l.leq (value values atom) (value values c.right))
   part-below values c held atom h =
-      laws.transitive (value values atom) (total l.join l.least values c.left) (value values c.right) (total-above l laws values c.left atom h) held
+      laws.transitive (value values atom) (join_of l.join l.least values c.left) (value values c.right) (join_of-above l laws values c.left atom h) held
 
   pub unknown-holds : (values : U → V) → FitsUnknowns l cs values → (c : Constraint N U V) (u : U) → Contains cs c →
       c.right ≡ Unknown u → IsTrue (holds l values c)
@@ -134,7 +134,7 @@ module _ {N U V : Type 0} (l : Lattice V) (laws : Keeps l) (cs : List (Constrain
       by_right : (c : Constraint N U V) (r : Atom U V) → Contains cs c → c.right ≡ r → IsTrue (holds l values c)
       by_right c (Unknown u) h is = unknown-holds values least.fits c u h is
       by_right c (Written v) h is =
-          total-least l laws values c.left (value values c.right) (λ atom from.
+          join_of-least l laws values c.left (value values c.right) (λ atom from.
           laws.transitive (value values atom) (value others atom) (value values c.right) (part c h atom from)
           (subst (λ x. IsTrue (l.leq (value others atom) x)) (ap (value others) is ∙ sym (ap (value values) is))
           (part-below others c (each-of (λ c. holds l others c) cs fits c h) atom from)))
@@ -143,27 +143,49 @@ module _ {N U V : Type 0} (l : Lattice V) (laws : Keeps l) (cs : List (Constrain
       each c h = by_right c c.right h refl
 
   -- a chain rules out every choice of values
-  pub joined-below : (values : U → V) → FitsAll l cs values → (from : Atom U V) (chain : List (Constraint N U V)) (last : Constraint N U V) →
-      Joined cs from chain last → IsTrue (l.leq (value values from) (value values last.right))
-  joined-below values fits from chain last (ends _ c h part) = part-below values c (each-of (λ c. holds l values c) cs fits c h) from part
-  joined-below values fits from chain last (goes_on _ c u rest _ h part is more) =
+  pub linked-below : (values : U → V) → FitsAll l cs values → (from : Atom U V) (chain : List (Constraint N U V)) (last : Constraint N U V) →
+      Linked cs from chain last → IsTrue (l.leq (value values from) (value values last.right))
+  linked-below values fits from chain last (ends _ c h part) = part-below values c (each-of (λ c. holds l values c) cs fits c h) from part
+  linked-below values fits from chain last (goes_on _ c u rest _ h part is more) =
       laws.transitive (value values from) (values u) (value values last.right)
       (subst (λ r. IsTrue (l.leq (value values from) (value values r))) is
       (part-below values c (each-of (λ c. holds l values c) cs fits c h) from part))
-      (joined-below values fits (Unknown u) rest last more)
+      (linked-below values fits (Unknown u) rest last more)
 
   pub chain-rules_out : (from : V) (chain : List (Constraint N U V)) (last : Constraint N U V) → IsChain l cs from chain last →
       (values : U → V) → FitsAll l cs values → ⊥
   chain-rules_out from chain last is values fits =
-      let flow = joined-below values fits (Written from) chain last is.joined in
+      let flow = linked-below values fits (Written from) chain last is.linked in
       let i : true ≡ false = sym (subst (λ r. IsTrue (l.leq from (value values r))) is.right_is flow) ∙ is.not_below in cc
 
   -- a chain may be led on to by a value that reaches an unknown
-  pub joined-from_reaching : (v : V) (u : U) → Reaches cs v u → (chain : List (Constraint N U V)) (last : Constraint N U V) →
-      Joined cs (Unknown u) chain last → (longer : List (Constraint N U V)) × Joined cs (Written v) longer last
-  joined-from_reaching v u (directly c _ h from is) chain last more = (c ∷ chain, goes_on (Written v) c u chain last h from is more)
-  joined-from_reaching v u (onward c w _ reach h from is) chain last more =
-      joined-from_reaching v w reach (c ∷ chain) last (goes_on (Unknown w) c u chain last h from is more)
+  pub linked-from_reaching : (v : V) (u : U) → Reaches cs v u → (chain : List (Constraint N U V)) (last : Constraint N U V) →
+      Linked cs (Unknown u) chain last → (longer : List (Constraint N U V)) × Linked cs (Written v) longer last
+  linked-from_reaching v u (directly c _ h from is) chain last more = (c ∷ chain, goes_on (Written v) c u chain last h from is more)
+  linked-from_reaching v u (onward c w _ reach h from is) chain last more =
+      linked-from_reaching v w reach (c ∷ chain) last (goes_on (Unknown w) c u chain last h from is more)
+
+-- what is found is in the list and passes the test, or nothing does
+pub found-or : {X : Type 0} (test : X → Bool) (xs : List X) →
+    ((x : X) × (find test xs ≡ Some x) × Contains xs x × IsTrue (test x)) ⊎ ((x : X) → Contains xs x → IsFalse (test x))
+found-or test [] = inr (λ x h. absurd (none_in_nil x h))
+found-or {X} test (y ∷ ys) = go (test y) refl (found-or test ys)
+  where
+    go : (b : Bool) → test y ≡ b →
+        ((x : X) × (find test ys ≡ Some x) × Contains ys x × IsTrue (test x)) ⊎ ((x : X) → Contains ys x → IsFalse (test x)) →
+        ((x : X) × (find test (y ∷ ys) ≡ Some x) × Contains (y ∷ ys) x × IsTrue (test x)) ⊎ ((x : X) → Contains (y ∷ ys) x → IsFalse (test x))
+    go true e later = inl (y, rw e refl, Contains-first y ys, e)
+    go false e (inl found) = inl (found.0, rw e found.1, Contains-later y ys found.0 found.2, found.3)
+    go false e (inr none) = inr (λ x h. ⊎_elim (λ same. subst (λ z. IsFalse (test z)) same e) (λ k. none x k) (Contains-cons_cases y ys x h))
+
+pub found-in : {X : Type 0} (test : X → Bool) (xs : List X) (x : X) → find test xs ≡ Some x → Contains xs x
+found-in test [] x e = let i : None ≡ Some x = e in absurd (cc)
+found-in {X} test (y ∷ ys) x e = go (test y) refl e (found-in test ys x)
+  where
+    go : (b : Bool) → test y ≡ b → find test (y ∷ ys) ≡ Some x → (find test ys ≡ Some x → Contains ys x) → Contains (y ∷ ys) x
+    go true f e later =
+        let is : Some y ≡ Some x = sym (rw f refl) ∙ e in let same : y ≡ x = cc in subst (λ z. Contains (y ∷ ys) z) same (Contains-first y ys)
+    go false f e later = Contains-later y ys x (later (sym (rw f refl) ∙ e))
 
 -- ---- what reaches what, as a test: along the links between unknowns
 module _ {U : Type 0} (eq : U → U → Bool) (eq-same : (a b : U) → eq a b ≡ true → a ≡ b) (eq-itself : (a : U) → eq a a ≡ true) where
@@ -370,7 +392,7 @@ module _ {U : Type 0} (eq : U → U → Bool) (eq-same : (a b : U) → eq a b �
         let link = links_of-only cs a b k in onward link.0 a b reach link.1 link.2 link.3)
         found.2 u found.4 (directly found.0 found.2 found.1 found.5 found.3)
 
-    module _ {N : Type 0} (l : Lattice V) (laws : Keeps l) (cs : List (Constraint N U V)) where
+    module _ {N : Type 0} (l : Lattice V) (laws : LatticeLaws l) (cs : List (Constraint N U V)) where
       -- the least values: each is the join of the written values that reach its unknown
       abbrev pub least_values : U → V
       least_values u = join_all l (reaching cs u)
@@ -387,8 +409,8 @@ module _ {U : Type 0} (eq : U → U → Bool) (eq-same : (a b : U) → eq a b �
           by_right : (c : Constraint N U V) (r : Atom U V) → Contains cs c → c.right ≡ r → IsTrue (is_written c.right || holds l least_values c)
           by_right c (Written v) h is = or_left (is_written c.right) (holds l least_values c) (ap is_written is)
           by_right c (Unknown u) h is = or_right (is_written c.right) (holds l least_values c)
-              (subst (λ r. IsTrue (l.leq (total l.join l.least least_values c.left) (value least_values r))) (sym is)
-              (total-least l laws least_values c.left (least_values u) (part c u h is)))
+              (subst (λ r. IsTrue (l.leq (join_of l.join l.least least_values c.left) (value least_values r))) (sym is)
+              (join_of-least l laws least_values c.left (least_values u) (part c u h is)))
 
       -- least values are there
       pub least_values-least : IsLeast l cs least_values
@@ -402,13 +424,47 @@ module _ {U : Type 0} (eq : U → U → Bool) (eq-same : (a b : U) → eq a b �
       pub unmet-chain : (c : Constraint N U V) (to : V) → Contains cs c → c.right ≡ Written to → IsFalse (holds l least_values c) →
           (from : V) × (chain : List (Constraint N U V)) × IsChain l cs from chain c
       unmet-chain c to h is fails =
-          let found = not_below-part l laws least_values c.left to (subst (λ r. IsFalse (l.leq (total l.join l.least least_values c.left) (value least_values r))) is fails) in
+          let found = not_below-part l laws least_values c.left to (subst (λ r. IsFalse (l.leq (join_of l.join l.least least_values c.left) (value least_values r))) is fails) in
           by_part found.0 found.1 found.2
         where
           by_part : (atom : Atom U V) → Contains c.left atom → IsFalse (l.leq (value least_values atom) to) →
               (from : V) × (chain : List (Constraint N U V)) × IsChain l cs from chain c
-          by_part (Written v) part fails = (v, c ∷ [], record { joined = ends (Written v) c h part; to = to; right_is = is; not_below = fails })
+          by_part (Written v) part fails = (v, c ∷ [], record { linked = ends (Written v) c h part; to = to; right_is = is; not_below = fails })
           by_part (Unknown u) part fails =
               let found = not_below-one l laws (reaching cs u) to fails in
-              let longer = joined-from_reaching l laws cs found.0 u (reaching-only cs found.0 u found.1) (c ∷ []) c (ends (Unknown u) c h part) in
-              (found.0, longer.0, record { joined = longer.1; to = to; right_is = is; not_below = found.2 })
+              let longer = linked-from_reaching l laws cs found.0 u (reaching-only cs found.0 u found.1) (c ∷ []) c (ends (Unknown u) c h part) in
+              (found.0, longer.0, record { linked = longer.1; to = to; right_is = is; not_below = found.2 })
+
+      -- some values fit, or the first that the least do not fit has a chain that ends there
+      pub fits-or_refused : ((values : U → V) × FitsAll l cs values)
+          ⊎ ((from : V) × (chain : List (Constraint N U V)) × (last : Constraint N U V) × IsRefusedAt l cs from chain last)
+      fits-or_refused =
+          ⊎_elim (λ found. inr (refused found.0 found.1 found.2 found.3)) (λ none. inl (least_values, all-from (λ c. holds l least_values c) cs (λ c h. held c h (none c h))))
+          (found-or (λ c. is_written c.right && not (holds l least_values c)) cs)
+        where
+          false_from : (b : Bool) → not b ≡ true → b ≡ false
+          false_from false e = refl
+          false_from true e = let i : false ≡ true = e in absurd (cc)
+
+          refused : (last : Constraint N U V) → first_unmet l cs least_values ≡ Some last → Contains cs last →
+              (is_written last.right && not (holds l least_values last)) ≡ true →
+              (from : V) × (chain : List (Constraint N U V)) × (c : Constraint N U V) × IsRefusedAt l cs from chain c
+          refused last first there e = by_right last.right refl (and_parts (is_written last.right) (not (holds l least_values last)) e)
+            where
+              by_right : (r : Atom U V) → last.right ≡ r → (is_written last.right ≡ true) × (not (holds l least_values last) ≡ true) →
+                  (from : V) × (chain : List (Constraint N U V)) × (c : Constraint N U V) × IsRefusedAt l cs from chain c
+              by_right (Unknown u) is parts = let i : false ≡ true = sym (ap is_written is) ∙ parts.0 in absurd (cc)
+              by_right (Written to) is parts =
+                  let found = unmet-chain last to there is (false_from (holds l least_values last) parts.1) in
+                  (found.0, found.1, last, record { values = least_values; least = least_values-least; first = first; chained = found.2 })
+
+          held : (c : Constraint N U V) → Contains cs c → IsFalse (is_written c.right && not (holds l least_values c)) → IsTrue (holds l least_values c)
+          held c h e = by_right c.right refl
+            where
+              passes : (b : Bool) → not b ≡ false → b ≡ true
+              passes true f = refl
+              passes false f = let i : true ≡ false = f in absurd (cc)
+
+              by_right : (r : Atom U V) → c.right ≡ r → IsTrue (holds l least_values c)
+              by_right (Unknown u) is = unknown-holds l laws cs least_values least_values-fit c u h is
+              by_right (Written to) is = passes (holds l least_values c) (sym (ap (λ r. is_written r && not (holds l least_values c)) is) ∙ e)

@@ -5,8 +5,8 @@ use Rattle.std.specs.Prelude.{IsTrue, IsFalse, Contains, Option, Some, None, fin
 use Rattle.std.specs.List.{list_all}
 use Rattle.std.proofs.lemmas.Bool.{or_left, or_right}
 use Rattle.principals.proofs.Closure.{none_in_nil, Contains-cons_cases, Contains-later, Contains-first}
-use Rattle.labels.specs.Constraints.{Lattice, Keeps, Atom, Written, Unknown, Constraint, is_written, value, total, holds, FitsAll, FitsUnknowns, IsLeast, first_unmet, Reaches, directly, onward, Joined, ends, goes_on, IsChain, IsRefusedAt, Occurs, renamed, is_inner, outer, Feeds, itself, through, LeftStandsFor, StandsFor, OneByOne, IsGathered}
-use Rattle.labels.proofs.Constraints.{each-of, all-from, total-above, total-least, part-below, unknown-holds, reaching, reaching-only, least_values, least_values-least, join_all, join_all-least}
+use Rattle.labels.specs.Constraints.{Lattice, LatticeLaws, Atom, Written, Unknown, Constraint, is_written, value, join_of, holds, FitsAll, FitsUnknowns, IsLeast, first_unmet, Reaches, directly, onward, Linked, ends, goes_on, IsChain, IsRefusedAt, Occurs, renamed, is_inner, outer, Feeds, itself, through, LeftStandsFor, StandsFor, OneByOne, IsGathered, reported_steps, reported_gathered}
+use Rattle.labels.proofs.Constraints.{each-of, all-from, join_of-above, join_of-least, part-below, unknown-holds, reaching, reaching-only, least_values, least_values-least, join_all, join_all-least}
 
 by_test : {P : Type 0} (b : Bool) → (b ≡ true → P) → (b ≡ false → P) → P
 by_test true held fails = held refl
@@ -60,7 +60,7 @@ module _ {N U V : Type 0} (inner : U → Bool) where
     feeds-occurs u to (through c part _ fed h left is e) =
         inr (⊎_elim (λ same. (c, h, subst (λ x. Contains c.left x) (sym same) left)) (λ found. found) (feeds-occurs u part fed))
 
-    module _ (l : Lattice V) (laws : Keeps l) (w : U → V) where
+    module _ (l : Lattice V) (laws : LatticeLaws l) (w : U → V) where
       abbrev pub FitsInner : Type 0
       FitsInner = (c : Constraint N U V) → Contains cs c → IsTrue (is_inner inner c.right) → IsTrue (holds l w c)
 
@@ -87,7 +87,7 @@ module _ {N U V : Type 0} (inner : U → Bool) where
 
 -- ---- values for the inner unknowns by those of the others: the least that fit
 module _ {U : Type 0} (eq : U → U → Bool) (eq-same : (a b : U) → eq a b ≡ true → a ≡ b) (eq-itself : (a : U) → eq a a ≡ true) where
-  module _ {N V : Type 0} (l : Lattice V) (laws : Keeps l) (inner : U → Bool) (cs : List (Constraint N U V)) (w : U → V) where
+  module _ {N V : Type 0} (l : Lattice V) (laws : LatticeLaws l) (inner : U → Bool) (cs : List (Constraint N U V)) (w : U → V) where
     -- the constraints with the others at their values
     abbrev fixed : Atom U V → Atom U V
     fixed (Written v) = Written v
@@ -162,9 +162,9 @@ module _ {U : Type 0} (eq : U → U → Bool) (eq-same : (a b : U) → eq a b �
         go true = refl
         go false = refl
 
-    total-extended : (left : List (Atom U V)) → total l.join l.least extended left ≡ total l.join l.least least_inner (all_fixed left)
-    total-extended [] = refl
-    total-extended (a ∷ rest) = rw (value-extended a, total-extended rest) refl
+    join_of-extended : (left : List (Atom U V)) → join_of l.join l.least extended left ≡ join_of l.join l.least least_inner (all_fixed left)
+    join_of-extended [] = refl
+    join_of-extended (a ∷ rest) = rw (value-extended a, join_of-extended rest) refl
 
     -- at what is no inner unknown they are the others' values
     pub extended-outer : (a : Atom U V) → IsFalse (is_inner inner a) → value extended a ≡ value w a
@@ -177,7 +177,7 @@ module _ {U : Type 0} (eq : U → U → Bool) (eq-same : (a b : U) → eq a b �
         let held : IsTrue (holds l least_inner (pinned c)) =
           unknown-holds l laws (all_pinned cs) least_inner (least_values-least eq eq-same eq-itself l laws (all_pinned cs)).fits (pinned c) found.0
           (all_pinned-has cs c h) (fixed-inner c.right e ∙ found.1) in
-        subst IsTrue (sym (ap (λ x. l.leq x (value extended c.right)) (total-extended c.left) ∙ ap (λ x. l.leq (total l.join l.least least_inner (all_fixed c.left)) x) (value-extended c.right))) held
+        subst IsTrue (sym (ap (λ x. l.leq x (value extended c.right)) (join_of-extended c.left) ∙ ap (λ x. l.leq (join_of l.join l.least least_inner (all_fixed c.left)) x) (value-extended c.right))) held
 
     -- each value that reaches an inner unknown is that of what feeds it
     reached : (v : V) (u : U) → Reaches (all_pinned cs) v u → (from : Atom U V) × Feeds inner cs from (Unknown u) × (value w from ≡ v)
@@ -217,13 +217,13 @@ module _ {U : Type 0} (eq : U → U → Bool) (eq-same : (a b : U) → eq a b �
         by_right c h (Written v) is = or_left (is_written c.right) (holds l extended c) (ap is_written is)
         by_right c h (Unknown u) is = or_right (is_written c.right) (holds l extended c) (by_test (is_inner inner c.right)
             (λ e. extended-fits_inner c h e)
-            (λ e. total-least l laws extended c.left (value extended c.right) (λ a left.
+            (λ e. join_of-least l laws extended c.left (value extended c.right) (λ a left.
             laws.transitive (value extended a) (value w a) (value extended c.right) (extended-part (fits-inner inner cs l laws w fits) a)
             (subst (λ x. IsTrue (l.leq (value w a) x)) (sym (extended-outer c.right e))
             (part-below l laws cs w c (unknown-holds l laws cs w fits c u h is) a left)))))
 
   -- the least values are tight
-  pub least-tight : {N V : Type 0} (l : Lattice V) (laws : Keeps l) (inner : U → Bool) (cs : List (Constraint N U V)) (w : U → V) → IsLeast l cs w →
+  pub least-tight : {N V : Type 0} (l : Lattice V) (laws : LatticeLaws l) (inner : U → Bool) (cs : List (Constraint N U V)) (w : U → V) → IsLeast l cs w →
       IsTight inner cs l laws w
   least-tight l laws inner cs w least u e occurs v each =
       laws.transitive (w u) (extended l laws inner cs w u) v
@@ -249,12 +249,12 @@ pulled number w u = w (number u)
 
 -- values that are the same at the unknowns of constraints fit alike
 module _ {N U V : Type 0} (l : Lattice V) (ds : List (Constraint N U V)) (u u' : U → V) (same : (x : U) → Occurs ds x → u x ≡ u' x) where
-  total-alike : (left : List (Atom U V)) → ((a : Atom U V) → Contains left a → value u a ≡ value u' a) → total l.join l.least u left ≡ total l.join l.least u' left
-  total-alike [] each = refl
-  total-alike (a ∷ rest) each = rw (each a (Contains-first a rest), total-alike rest (λ b h. each b (Contains-later a rest b h))) refl
+  join_of-alike : (left : List (Atom U V)) → ((a : Atom U V) → Contains left a → value u a ≡ value u' a) → join_of l.join l.least u left ≡ join_of l.join l.least u' left
+  join_of-alike [] each = refl
+  join_of-alike (a ∷ rest) each = rw (each a (Contains-first a rest), join_of-alike rest (λ b h. each b (Contains-later a rest b h))) refl
 
   pub holds-alike : (d : Constraint N U V) → Contains ds d → holds l u d ≡ holds l u' d
-  holds-alike d h = ap (λ x. l.leq x (value u d.right)) (total-alike d.left left) ∙ ap (λ r. l.leq (total l.join l.least u' d.left) r) (right d.right refl)
+  holds-alike d h = ap (λ x. l.leq x (value u d.right)) (join_of-alike d.left left) ∙ ap (λ r. l.leq (join_of l.join l.least u' d.left) r) (right d.right refl)
     where
       left : (a : Atom U V) → Contains d.left a → value u a ≡ value u' a
       left (Written v) k = refl
@@ -264,7 +264,7 @@ module _ {N U V : Type 0} (l : Lattice V) (ds : List (Constraint N U V)) (u u' :
       right (Written v) e = refl
       right (Unknown x) e = same x (d, h, inr e)
 
-module _ {N U W V : Type 0} (l : Lattice V) (laws : Keeps l) (number : U → W) (inner : W → Bool) (cs : List (Constraint (Option N) W V)) where
+module _ {N U W V : Type 0} (l : Lattice V) (laws : LatticeLaws l) (number : U → W) (inner : W → Bool) (cs : List (Constraint (Option N) W V)) where
   module _ (w : W → V) (d : Constraint N U V) (c : Constraint (Option N) W V) (is : StandsFor number inner cs d c) where
     right-same : value w c.right ≡ value (pulled number w) d.right
     right-same = ap (value w) is.right_is ∙ value-renamed number w d.right
@@ -274,22 +274,22 @@ module _ {N U W V : Type 0} (l : Lattice V) (laws : Keeps l) (number : U → W) 
 
     -- it holds where that one does: down under any values that fit the inner constraints, up under tight ones
     pub holds-down : FitsInner inner cs l laws w → IsTrue (holds l w c) → IsTrue (holds l (pulled number w) d)
-    holds-down fits held = total-least l laws (pulled number w) d.left (value (pulled number w) d.right) (λ a h.
+    holds-down fits held = join_of-least l laws (pulled number w) d.left (value (pulled number w) d.right) (λ a h.
         let fed = is.left.has a h in
         subst (λ x. IsTrue (l.leq (value (pulled number w) a) x)) right-same
         (subst (λ x. IsTrue (l.leq x (value w c.right))) (value-renamed number w a)
         (laws.transitive (value w (renamed number a)) (value w fed.0) (value w c.right)
         (feeds-below inner cs l laws w fits (renamed number a) fed.0 fed.2)
-        (laws.transitive (value w fed.0) (total l.join l.least w c.left) (value w c.right) (total-above l laws w c.left fed.0 fed.1) held))))
+        (laws.transitive (value w fed.0) (join_of l.join l.least w c.left) (value w c.right) (join_of-above l laws w c.left fed.0 fed.1) held))))
 
     pub holds-up : Contains cs c → IsTight inner cs l laws w → IsTrue (holds l (pulled number w) d) → IsTrue (holds l w c)
-    holds-up there tight held = total-least l laws w c.left (value w c.right) (λ part h.
+    holds-up there tight held = join_of-least l laws w c.left (value w c.right) (λ part h.
         part-tight inner cs l laws w tight c there part h (value w c.right) (λ from fed.
         let found = is.left.only part from h fed in
         subst (λ x. IsTrue (l.leq x (value w c.right))) (sym (value-renamed number w found.0) ∙ ap (value w) found.2)
         (subst (λ x. IsTrue (l.leq (value (pulled number w) found.0) x)) (sym right-same)
-        (laws.transitive (value (pulled number w) found.0) (total l.join l.least (pulled number w) d.left) (value (pulled number w) d.right)
-        (total-above l laws (pulled number w) d.left found.0 found.1) held))))
+        (laws.transitive (value (pulled number w) found.0) (join_of l.join l.least (pulled number w) d.left) (value (pulled number w) d.right)
+        (join_of-above l laws (pulled number w) d.left found.0 found.1) held))))
 
     pub holds-same : Contains cs c → FitsInner inner cs l laws w → IsTight inner cs l laws w → holds l w c ≡ holds l (pulled number w) d
     holds-same there fits tight = same-tests (holds l w c) (holds l (pulled number w) d) (holds-down fits) (holds-up there tight)
@@ -377,7 +377,7 @@ module _ {N U W V : Type 0} (ds : List (Constraint N U V)) (cs : List (Constrain
       (λ found. (found.0, found.1, inl found.2))
       (feeds-occurs gathered.inner cs (gathered.number u) fed.0 fed.2)
 
-  module _ (l : Lattice V) (laws : Keeps l) where
+  module _ (l : Lattice V) (laws : LatticeLaws l) where
     -- values that fit what was gathered fit, by number, what it was gathered from
     pub fits-down : (w : W → V) → FitsAll l cs w → FitsAll l ds (pulled gathered.number w)
     fits-down w fits = all-from (λ d. holds l (pulled gathered.number w) d) ds (λ d h.
@@ -493,17 +493,17 @@ module _ {N U W V : Type 0} (ds : List (Constraint N U V)) (cs : List (Constrain
     outer_skips c chain e = rw e refl
 
     abbrev Along : Atom U V → List (Constraint (Option N) W V) → Constraint N U V → Type 0
-    Along a chain d = (there : List (Constraint N U V)) × Joined ds a there d × OneByOne gathered.number gathered.inner cs there (outer gathered.inner chain)
+    Along a chain d = (there : List (Constraint N U V)) × Linked ds a there d × OneByOne gathered.number gathered.inner cs there (outer gathered.inner chain)
 
     -- a chain of the one, without its inner steps, is a chain of the other, and ends at whichever the last stands for
-    pub joined-same : (b : Atom W V) (chain : List (Constraint (Option N) W V)) (last : Constraint (Option N) W V) → Joined cs b chain last →
+    pub linked-same : (b : Atom W V) (chain : List (Constraint (Option N) W V)) (last : Constraint (Option N) W V) → Linked cs b chain last →
         (a : Atom U V) → OccursAtom a → Feeds gathered.inner cs (renamed gathered.number a) b → (d : Constraint N U V) → Contains ds d →
         StandsFor gathered.number gathered.inner cs d last → IsFalse (is_inner gathered.inner last.right) → Along a chain d
-    joined-same b chain last (ends _ c h part) a occurs fed d k is e =
+    linked-same b chain last (ends _ c h part) a occurs fed d k is e =
         (d ∷ [], ends a d k (fed-by d c k is b part a occurs fed),
         subst (λ x. OneByOne gathered.number gathered.inner cs (d ∷ []) x) (sym (outer_first c [] e)) (is, tt))
-    joined-same b chain last (goes_on _ c u rest _ h part right more) a occurs fed d k is e =
-        by_inner (is_inner gathered.inner c.right) refl (λ x y z. joined-same (Unknown u) rest last more x y z d k is e)
+    linked-same b chain last (goes_on _ c u rest _ h part right more) a occurs fed d k is e =
+        by_inner (is_inner gathered.inner c.right) refl (λ x y z. linked-same (Unknown u) rest last more x y z d k is e)
       where
         by_inner : (t : Bool) → is_inner gathered.inner c.right ≡ t →
             ((x : Atom U V) → OccursAtom x → Feeds gathered.inner cs (renamed gathered.number x) (Unknown u) → Along x rest d) → Along a (c ∷ rest) d
@@ -525,14 +525,14 @@ module _ {N U W V : Type 0} (ds : List (Constraint N U V)) (cs : List (Constrain
           × OneByOne gathered.number gathered.inner cs there (outer gathered.inner chain)
       refused-same from chain last refused =
           let first = first-same eq eq-same eq-itself refused.values refused.least last refused.first in
-          let found = joined-same (Written from) chain last refused.chained.joined (Written from) tt (itself (Written from) refl refl) first.0 first.3 first.2
+          let found = linked-same (Written from) chain last refused.chained.linked (Written from) tt (itself (Written from) refl refl) first.0 first.3 first.2
           (ap (is_inner gathered.inner) refused.chained.right_is) in
           (first.0, found.0, record {
             values = pulled gathered.number refused.values;
             least = least-same eq eq-same eq-itself refused.values refused.least;
             first = first.1;
             chained = record {
-              joined = found.1;
+              linked = found.1;
               to = refused.chained.to;
               right_is = written-right first.0.right (sym first.2.right_is ∙ refused.chained.right_is);
               not_below = refused.chained.not_below;
@@ -598,40 +598,28 @@ module _ {N U W V : Type 0} (ds : List (Constraint N U V)) (cs : List (Constrain
         subst (λ x. Carries ds v x) same found.2
 
   -- the constraints of a chain are there
-  joined-within : {M X V' : Type 0} (xs : List (Constraint M X V')) (a : Atom X V') (chain : List (Constraint M X V')) (last : Constraint M X V') → Joined xs a chain last →
+  linked-within : {M X V' : Type 0} (xs : List (Constraint M X V')) (a : Atom X V') (chain : List (Constraint M X V')) (last : Constraint M X V') → Linked xs a chain last →
       (c : Constraint M X V') → Contains chain c → Contains xs c
-  joined-within xs a chain last (ends _ x h part) c k = ⊎_elim (λ same. subst (λ y. Contains xs y) same h) (λ later. absurd (none_in_nil c later)) (Contains-cons_cases x [] c k)
-  joined-within xs a chain last (goes_on _ x u rest _ h part right more) c k =
-      ⊎_elim (λ same. subst (λ y. Contains xs y) same h) (λ later. joined-within xs (Unknown u) rest last more c later) (Contains-cons_cases x rest c k)
+  linked-within xs a chain last (ends _ x h part) c k = ⊎_elim (λ same. subst (λ y. Contains xs y) same h) (λ later. absurd (none_in_nil c later)) (Contains-cons_cases x [] c k)
+  linked-within xs a chain last (goes_on _ x u rest _ h part right more) c k =
+      ⊎_elim (λ same. subst (λ y. Contains xs y) same h) (λ later. linked-within xs (Unknown u) rest last more c later) (Contains-cons_cases x rest c k)
 
-  -- what is told of the steps of both chains, by byte, rule and target, is the same
-  module _ {T : Type 0} (tell : ℕ → ℕ → N → List T) where
-    abbrev pub tell_if : ℕ → ℕ → Option N → List T
-    tell_if at rule None = []
-    tell_if at rule (Some target) = tell at rule target
-
-    abbrev pub told : List (Constraint N U V) → List T
-    told [] = []
-    told (d ∷ rest) = tell d.at d.rule d.target ++ told rest
-
-    abbrev pub told_gathered : List (Constraint (Option N) W V) → List T
-    told_gathered [] = []
-    told_gathered (c ∷ rest) = tell_if c.at c.rule c.target ++ told_gathered rest
-
-    told-along : (chain : List (Constraint (Option N) W V)) → ((c : Constraint (Option N) W V) → Contains chain c → Contains cs c) → (there : List (Constraint N U V)) →
-        OneByOne gathered.number gathered.inner cs there (outer gathered.inner chain) → told_gathered chain ≡ told there
-    told-along [] within [] one = refl
-    told-along [] within (d ∷ ds') one = absurd one
-    told-along (c ∷ rest) within there one = by_inner (is_inner gathered.inner c.right) refl there one (λ t o. told-along rest (λ x h. within x (Contains-later c rest x h)) t o)
+  -- what is reported of the steps of both chains, by byte, rule and target, is the same
+  module _ {T : Type 0} (report : ℕ → ℕ → N → List T) where
+    reported-along : (chain : List (Constraint (Option N) W V)) → ((c : Constraint (Option N) W V) → Contains chain c → Contains cs c) → (there : List (Constraint N U V)) →
+        OneByOne gathered.number gathered.inner cs there (outer gathered.inner chain) → reported_gathered report chain ≡ reported_steps report there
+    reported-along [] within [] one = refl
+    reported-along [] within (d ∷ ds') one = absurd one
+    reported-along (c ∷ rest) within there one = by_inner (is_inner gathered.inner c.right) refl there one (λ t o. reported-along rest (λ x h. within x (Contains-later c rest x h)) t o)
       where
         by_inner : (b : Bool) → is_inner gathered.inner c.right ≡ b → (there : List (Constraint N U V)) →
             OneByOne gathered.number gathered.inner cs there (if b then outer gathered.inner rest else (c ∷ outer gathered.inner rest)) →
-            ((t : List (Constraint N U V)) → OneByOne gathered.number gathered.inner cs t (outer gathered.inner rest) → told_gathered rest ≡ told t) →
-            told_gathered (c ∷ rest) ≡ told there
+            ((t : List (Constraint N U V)) → OneByOne gathered.number gathered.inner cs t (outer gathered.inner rest) → reported_gathered report rest ≡ reported_steps report t) →
+            reported_gathered report (c ∷ rest) ≡ reported_steps report there
         by_inner true e there one next = rw (gathered.no_target c (within c (Contains-first c rest)) e) (next there one)
         by_inner false e [] one next = absurd one
         by_inner false e (d ∷ ds') one next = rw (one.0.at_is, one.0.rule_is, one.0.target_is, next ds' one.1) refl
 
-    pub told-same : (a : Atom W V) (chain : List (Constraint (Option N) W V)) (last : Constraint (Option N) W V) → Joined cs a chain last → (there : List (Constraint N U V)) →
-        OneByOne gathered.number gathered.inner cs there (outer gathered.inner chain) → told_gathered chain ≡ told there
-    told-same a chain last joined there one = told-along chain (joined-within cs a chain last joined) there one
+    pub reported-same : (a : Atom W V) (chain : List (Constraint (Option N) W V)) (last : Constraint (Option N) W V) → Linked cs a chain last → (there : List (Constraint N U V)) →
+        OneByOne gathered.number gathered.inner cs there (outer gathered.inner chain) → reported_gathered report chain ≡ reported_steps report there
+    reported-same a chain last linked there one = reported-along chain (linked-within cs a chain last linked) there one

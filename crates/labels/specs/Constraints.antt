@@ -1,5 +1,5 @@
 -- Constraints with unknowns over a lattice: what a choice of values for the unknowns must fit, the least such choice, which
--- written values reach an unknown, and the chain that shows why none fits.
+-- written values reach an unknown, and the chain that shows why none fits; and constraints that were gathered from others.
 -- Source: our own; constraints with a least solution after Volpano, Smith and Irvine 1996.
 use Rattle.std.specs.Prelude.{◌≡◌, ℕ, List, [], ◌∷◌, ◌++◌, Bool, true, false, not, ◌&&◌, ◌||◌, Option, Some, None, find, if◌then◌else◌, IsTrue, IsFalse, Contains, ◌↔◌, ◌⊎◌}
 use Rattle.std.specs.List.{list_all}
@@ -13,9 +13,9 @@ pub record Lattice (V : Type 0) : Type 0 where
   pub join : V → V → V
   pub least : V
 
--- what it keeps
-abbrev pub Keeps : {V : Type 0} → Lattice V → Type 0
-Keeps l = IsLattice (λ a b. IsTrue (l.leq a b)) l.join l.least
+-- its order is reflexive and transitive, the join is a least upper bound, and the least element lies below all
+abbrev pub LatticeLaws : {V : Type 0} → Lattice V → Type 0
+LatticeLaws l = IsLattice (λ a b. IsTrue (l.leq a b)) l.join l.least
 
 -- that of labels under a hierarchy
 abbrev pub label_lattice : PrincipalHierarchy → Lattice Label
@@ -43,13 +43,13 @@ abbrev pub value : {U V : Type 0} → (U → V) → Atom U V → V
 value values (Written v) = v
 value values (Unknown u) = values u
 
-abbrev pub total : {U V : Type 0} → (join : V → V → V) → (least : V) → (U → V) → List (Atom U V) → V
-total join least values [] = least
-total join least values (atom ∷ rest) = join (value values atom) (total join least values rest)
+abbrev pub join_of : {U V : Type 0} → (join : V → V → V) → (least : V) → (U → V) → List (Atom U V) → V
+join_of join least values [] = least
+join_of join least values (atom ∷ rest) = join (value values atom) (join_of join least values rest)
 
 -- a constraint that holds; values that fit all constraints, and those that fit all whose right side is an unknown
 abbrev pub holds : {N U V : Type 0} → Lattice V → (U → V) → Constraint N U V → Bool
-holds l values c = l.leq (total l.join l.least values c.left) (value values c.right)
+holds l values c = l.leq (join_of l.join l.least values c.left) (value values c.right)
 
 abbrev pub FitsAll : {N U V : Type 0} → Lattice V → List (Constraint N U V) → (U → V) → Type 0
 FitsAll l cs values = IsTrue (list_all (λ c. holds l values c) cs)
@@ -78,17 +78,17 @@ pub data Reaches {N U V : Type 0} (cs : List (Constraint N U V)) (v : V) : U →
   onward : (c : Constraint N U V) (w u : U) → Reaches cs v w → Contains cs c → Contains c.left (Unknown w) →
       c.right ≡ Unknown u → Reaches cs v u
 
--- constraints joined one to the next, from an atom in the left side of the first to the last: each but the last has as right side
+-- constraints that are linked one to the next, from an atom in the left side of the first to the last: each but the last has as right side
 -- an unknown of the next one's left side
-pub data Joined {N U V : Type 0} (cs : List (Constraint N U V)) :
+pub data Linked {N U V : Type 0} (cs : List (Constraint N U V)) :
     Atom U V → List (Constraint N U V) → (last : Constraint N U V) → Type 0 where
-  ends : (from : Atom U V) (c : Constraint N U V) → Contains cs c → Contains c.left from → Joined cs from (c ∷ []) c
+  ends : (from : Atom U V) (c : Constraint N U V) → Contains cs c → Contains c.left from → Linked cs from (c ∷ []) c
   goes_on : (from : Atom U V) (c : Constraint N U V) (u : U) (rest : List (Constraint N U V)) (last : Constraint N U V) →
-      Contains cs c → Contains c.left from → c.right ≡ Unknown u → Joined cs (Unknown u) rest last → Joined cs from (c ∷ rest) last
+      Contains cs c → Contains c.left from → c.right ≡ Unknown u → Linked cs (Unknown u) rest last → Linked cs from (c ∷ rest) last
 
 -- a flow chain: it leads from a written value to a written right side that the value does not lie below
 pub record IsChain {N U V : Type 0} (l : Lattice V) (cs : List (Constraint N U V)) (from : V) (chain : List (Constraint N U V)) (last : Constraint N U V) : Type 0 where
-  pub joined : Joined cs (Written from) chain last
+  pub linked : Linked cs (Written from) chain last
   pub to : V
   pub right_is : last.right ≡ Written to
   pub not_below : IsFalse (l.leq from to)
@@ -100,8 +100,13 @@ pub record IsRefusedAt {N U V : Type 0} (l : Lattice V) (cs : List (Constraint N
   pub first : first_unmet l cs values ≡ Some last
   pub chained : IsChain l cs from chain last
 
--- ---- the same constraints with other names for the unknowns, and with inner unknowns between their parts. A constraint whose
--- right side is an inner unknown is inner, and has no target
+-- a test of whether two are the same
+pub record DecidesSame {U : Type 0} (same : U → U → Bool) : Type 0 where
+  pub only_same : (a b : U) → IsTrue (same a b) → a ≡ b
+  pub each_itself : (a : U) → IsTrue (same a a)
+
+-- ---- the same constraints with other names for the unknowns, and with inner unknowns between them. A constraint whose right side is
+-- an inner unknown is inner, and has no target
 abbrev pub renamed : {U W V : Type 0} → (U → W) → Atom U V → Atom W V
 renamed name (Written v) = Written v
 renamed name (Unknown u) = Unknown (name u)
@@ -151,3 +156,15 @@ pub record IsGathered {N U W V : Type 0} (ds : List (Constraint N U V)) (cs : Li
   pub named : (u : U) → Occurs ds u → name (number u) ≡ u
   pub one_by_one : OneByOne number inner cs ds (outer inner cs)
   pub no_target : (c : Constraint (Option N) W V) → Contains cs c → IsTrue (is_inner inner c.right) → c.target ≡ None
+
+-- what is reported of the steps of a chain, each by its byte, rule and target; of a step without a target nothing
+abbrev pub reported_steps : {N U V T : Type 0} → (report : ℕ → ℕ → N → List T) → List (Constraint N U V) → List T
+reported_steps report [] = []
+reported_steps report (c ∷ rest) = report c.at c.rule c.target ++ reported_steps report rest
+
+abbrev pub report_some : {N T : Type 0} → (report : ℕ → ℕ → N → List T) → ℕ → ℕ → Option N → List T
+report_some report at rule None = []
+report_some report at rule (Some target) = report at rule target
+
+abbrev pub reported_gathered : {N U V T : Type 0} → (report : ℕ → ℕ → N → List T) → List (Constraint (Option N) U V) → List T
+reported_gathered report chain = reported_steps (report_some report) chain

@@ -1,6 +1,7 @@
 //! Labels of the decentralized label model: who may read what, and what may flow where.
 #![tactic(auto)]
 
+pub mod constraint_laws;
 pub mod joins;
 pub mod label_sets;
 pub mod laws;

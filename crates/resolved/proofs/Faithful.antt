@@ -1,4 +1,5 @@
--- The symbolic rules, evaluated under a labelling, are the rules as they stood before with evaluated left sides.
+-- Private to `resolved` and `checker`, and only until the constraints of a program are gathered and solved: the symbolic rules,
+-- evaluated under a labelling, are the rules with evaluated left sides of `specs/Before`.
 use Rattle.std.proofs.Common.{arith, ◌==◌, ◌≡◌, refl, sym, ap, ◌∙◌, subst, ℕ, zero, suc, ◌+◌, ◌<◌, length, List, [], ◌∷◌, ◌++◌, map, flat_map, append-nil, Bool, true, false, not, ◌&&◌, ◌||◌}
 use Rattle.std.specs.Prelude.{Option, Some, None, if◌then◌else◌, IsTrue, slice_get, slice_index_or}
 use Rattle.std.specs.List.{list_all, list_any}
@@ -9,7 +10,7 @@ use Rattle.std.proofs.lemmas.List.{map-append}
 use Rattle.principals.specs.ActsFor.{PrincipalHierarchy}
 use Rattle.labels.specs.Label.{Label, flows}
 use Rattle.labels.specs.Constraints.{holds, label_lattice}
-use Rattle.labels.proofs.Constraints.{total-append}
+use Rattle.labels.proofs.Constraints.{join_of-append}
 use Rattle.resolved.specs.declared.expression.Variable.{Variable}
 use Rattle.resolved.specs.declared.expression.Variable.TheVariants.{Global, Local}
 use Rattle.resolved.specs.declared.statement.Exit.{Exit}
@@ -17,7 +18,7 @@ use Rattle.resolved.specs.declared.statement.Exit.TheVariants.{Normal, Return, B
 use Rattle.resolved.specs.Tree.{Expression, Integer, Logical, Read, Element, Unary, Binary, Short, Statement, Assign, Clear, Store, Receive, Send, Call, If, While, Leave, ReturnWith, Try, Nested, Block, Empty, Then, Handlers, NoMore, Catch}
 use Rattle.resolved.specs.Program.{Program, ProcedureEntry, ResultEntry, ThrownEntry, slot_at, procedure_at}
 use Rattle.resolved.specs.Ends.{same_exit, has_end, one_end, index_can_raise, divisor_can_raise, is_division, raises, thrown_ends, leaves_loop, passes, statement_ends, block_ends}
-use Rattle.resolved.specs.Labelled.{Scope, here, result_label, Join, LabelAtom, one, OfLocal, written_or, Target, ToVariable, ToChannel, ToBegin, ToParameter, ToValue, ToEnd, ToThrown, ToLoop, label_of, parameter_label, thrown_label, variable_label, value_label, label_if, any_of, raise_label, raise_labels, Marks, at_ends, own_label, raised_marks, call_marks, loop_marks, statement_rule, block_rule, handlers_rule, statement_marks, block_marks, Demand, demand, target_demand, argument_demands, statement_demands, block_demands, handlers_demands, as_one_end, end_demands, procedure_demands, demands_from, program_demands, Labelled, Labelling, chosen, label_under, join_under}
+use Rattle.resolved.specs.Labelled.{Scope, here, result_label, Join, LabelAtom, one, OfLocal, written_or, Target, ToVariable, ToChannel, ToBegin, ToParameter, ToValue, ToEnd, ToThrown, ToLoop, label_of, parameter_label, thrown_label, variable_label, value_label, label_if, any_of, raise_label, raise_labels, ExitLabels, at_ends, own_label, raised_exits, call_exits, loop_exits, statement_rule, block_rule, handlers_rule, statement_exits, block_exits, Demand, demand, target_demand, argument_demands, statement_demands, block_demands, handlers_demands, as_one_end, end_demands, procedure_demands, demands_from, program_demands, Labelled, Labelling, chosen, label_under, join_under}
 use Rattle.resolved.specs.Before as old
 
 module _ (labelling : Labelling) where
@@ -35,7 +36,7 @@ module _ (labelling : Labelling) where
     pub is : under join ≡ label
 
   both : {a b : Join} {x y : Label} → Is a x → Is b y → Is (a ++ b) (x ++ y)
-  both {a} {b} {x} {y} e f = record { is = total-append (chosen labelling) a b ∙ ap (λ l. l ++ under b) e.is ∙ ap (λ l. x ++ l) f.is }
+  both {a} {b} {x} {y} e f = record { is = join_of-append (chosen labelling) a b ∙ ap (λ l. l ++ under b) e.is ∙ ap (λ l. x ++ l) f.is }
 
   when : (test : Bool) {j : Join} {x : Label} → Is j x → Is (label_if test j) (old.label_if test x)
   when true e = e
@@ -111,7 +112,7 @@ module _ (labelling : Labelling) where
   own-is scope is (Try at block handlers) = is
   own-is scope is (Nested at block) = is
 
-  raised-is : (e : Expression) {q : Join} {q' : Label} → Is q q' → (exit : Exit) → Is (raised_marks e q exit) (old.raised_marks e q' exit)
+  raised-is : (e : Expression) {q : Join} {q' : Label} → Is q q' → (exit : Exit) → Is (raised_exits e q exit) (old.raised_exits e q' exit)
   raised-is e is exit = when (has_end (thrown_ends (raises e)) exit) is
 
   thrown-is : (throws : List ThrownEntry) (x : ℕ) → thrown_label throws x ≡ old.thrown_label throws x
@@ -119,18 +120,18 @@ module _ (labelling : Labelling) where
   thrown-is (entry ∷ rest) x = ap (λ l. if x == entry.exception then entry.label else l) (thrown-is rest x)
 
   call-is : (program : Program) (f : ℕ) {q : Join} {q' : Label} → Is q q' → (exit : Exit) →
-      Is (call_marks program f q exit) (old.call_marks (procedure_at program f) q' exit)
+      Is (call_exits program f q exit) (old.call_exits (procedure_at program f) q' exit)
   call-is program f is Normal = both is (when-any (procedure_at program f).throws (single refl))
   call-is program f is Return = is
   call-is program f is Break = is
   call-is program f is Continue = is
   call-is program f is (Throw x) = both is (single (thrown-is (procedure_at program f).throws x))
 
-  -- marks that are the same at each end
-  pub record AllAre (x : Marks) (x' : old.Marks) : Type 0 where
+  -- exits that are the same at each end
+  pub record AllAre (x : ExitLabels) (x' : old.ExitLabels) : Type 0 where
     pub at : (exit : Exit) → Is (x exit) (x' exit)
 
-  closed-is : (ends : List Exit) {pc : Join} {pc' : Label} → Is pc pc' → {x : Marks} {x' : old.Marks} → AllAre x x' →
+  closed-is : (ends : List Exit) {pc : Join} {pc' : Label} → Is pc pc' → {x : ExitLabels} {x' : old.ExitLabels} → AllAre x x' →
       AllAre (at_ends ends pc x) (old.at_ends ends pc' x')
   closed-is ends {pc} {pc'} is {x} {x'} same = record { at = λ exit. when (has_end ends exit) (go (one_end ends) exit) }
     where
@@ -138,8 +139,8 @@ module _ (labelling : Labelling) where
       go true exit = is
       go false exit = same.at exit
 
-  loop-is : {b : Join} {b' : Label} → Is b b' → {x : Marks} {x' : old.Marks} → AllAre x x' → (exit : Exit) →
-      Is (loop_marks b x exit) (old.loop_marks b' x' exit)
+  loop-is : {b : Join} {b' : Label} → Is b b' → {x : ExitLabels} {x' : old.ExitLabels} → AllAre x x' → (exit : Exit) →
+      Is (loop_exits b x exit) (old.loop_exits b' x' exit)
   loop-is is same Normal = both is (same.at Break)
   loop-is is same Return = same.at Return
   loop-is is same Break = none
@@ -178,7 +179,7 @@ module _ (labelling : Labelling) where
         let x = closed-is (statement_ends scope.program statement) is (record { at = rule-is scope is statement }) in
         both (when (not (same_exit Normal exit)) (x.at exit)) (block-is scope (x.at Normal) rest exit)
 
-    pub handlers-is : (scope : Scope) {x : Marks} {x' : old.Marks} → AllAre x x' → (handlers : Handlers) (exit : Exit) →
+    pub handlers-is : (scope : Scope) {x : ExitLabels} {x' : old.ExitLabels} → AllAre x x' → (handlers : Handlers) (exit : Exit) →
         Is (handlers_rule scope x handlers exit) (old.handlers_rule (before scope) x' handlers exit)
     handlers-is scope same NoMore exit = none
     handlers-is scope same (Catch at handled body rest) exit =
@@ -261,7 +262,7 @@ module _ (labelling : Labelling) where
         and-then (demands-are scope is statement) (block-demands-are scope
         ((closed-is (statement_ends scope.program statement) is (record { at = rule-is scope is statement })).at Normal) rest)
 
-    pub handlers-demands-are : (scope : Scope) {x : Marks} {x' : old.Marks} → AllAre x x' → (handlers : Handlers) →
+    pub handlers-demands-are : (scope : Scope) {x : ExitLabels} {x' : old.ExitLabels} → AllAre x x' → (handlers : Handlers) →
         Are (handlers_demands scope x handlers) (old.handlers_demands (before scope) x' handlers)
     handlers-demands-are scope same NoMore = empty
     handlers-demands-are scope same (Catch at handled body rest) =
@@ -272,7 +273,7 @@ module _ (labelling : Labelling) where
   OwnLabels all [] = Unit {0}
   OwnLabels all (entry ∷ rest) = (thrown_label all entry.exception ≡ entry.label) × OwnLabels all rest
 
-  thrown-are : (scope : Scope) {x : Marks} {x' : old.Marks} → AllAre x x' → (throws : List ThrownEntry) → OwnLabels (here scope).throws throws →
+  thrown-are : (scope : Scope) {x : ExitLabels} {x' : old.ExitLabels} → AllAre x x' → (throws : List ThrownEntry) → OwnLabels (here scope).throws throws →
       Are (flat_map (λ (entry : ThrownEntry). demand scope.program (here scope).at 13 (x (Throw entry.exception)) (ToThrown scope.number entry.exception)) throws)
       (flat_map (λ (entry : ThrownEntry). old.demand (here scope).at 13 (x' (Throw entry.exception)) entry.label) throws)
   thrown-are scope same [] own = empty
@@ -280,7 +281,7 @@ module _ (labelling : Labelling) where
       and-then (demand-is scope.program (here scope).at 13 (same.at (Throw entry.exception)) (ToThrown scope.number entry.exception) entry.label own.0)
       (thrown-are scope same rest own.1)
 
-  ends-are : (scope : Scope) (ends : List Exit) {x : Marks} {x' : old.Marks} → AllAre x x' → OwnLabels (here scope).throws (here scope).throws →
+  ends-are : (scope : Scope) (ends : List Exit) {x : ExitLabels} {x' : old.ExitLabels} → AllAre x x' → OwnLabels (here scope).throws (here scope).throws →
       Are (end_demands scope ends x) (old.end_demands (here scope) ends x')
   ends-are scope ends {x} {x'} same own = rw as_one (go (one_end (map old.as_one_end ends)))
     where
@@ -329,7 +330,7 @@ module _ (labelling : Labelling) where
       (procedure-are (record { program = program; number = i }) (own i)))
       (from-are program own rest (suc i) (λ k n e within. at (suc k) n (omega arith) (omega (arith, within))))
 
-  -- the demands of a program, evaluated, are its demands as they stood before
+  -- the demands of a program, evaluated, are its demands with evaluated left sides
   pub program-are : (program : Program) → ((f : ℕ) → OwnLabels (procedure_at program f).throws (procedure_at program f).throws) →
       Are (program_demands program) (old.program_demands program of_number)
   program-are program own = from-are program own program.procedures 0 (λ k n e within. found program.procedures _ k n e within)

@@ -1,5 +1,5 @@
 -- Every program is labelled or refused, and not both.
-use Rattle.std.proofs.Common.{◌≡◌, refl, sym, ap, ◌∙◌, subst, ℕ, Bool, true, false, not, ◌&&◌, ◌==◌, ◌||◌, List, [], ◌∷◌, ◌++◌, ◌⊎◌, inl, inr, ⊎_elim, arith}
+use Rattle.std.proofs.Common.{◌≡◌, refl, sym, ap, ◌∙◌, subst, ℕ, Bool, true, false, not, ◌&&◌, ◌==◌, ◌||◌, List, [], ◌∷◌, ◌++◌, ◌⊎◌, inl, inr, ⊎_elim, ◌↔◌, arith}
 use Rattle.std.specs.Prelude.{IsTrue, IsFalse, Contains, Option, Some, None, find, All}
 use Rattle.std.specs.List.{list_all}
 use Rattle.std.proofs.lemmas.Bool.{and_parts, and_from}
@@ -7,14 +7,15 @@ use Rattle.principals.specs.ActsFor.{PrincipalHierarchy}
 use Rattle.std.proofs.lemmas.List.Elements.{Contains-append_cases}
 use Rattle.principals.proofs.Closure.{Contains-later, Contains-first, Contains-cons_cases, none_in_nil}
 use Rattle.labels.specs.Label.{ReaderPolicy, Label, Covers, covers, flows}
-use Rattle.labels.specs.Constraints.{Written, Unknown, Atom, Constraint, Keeps, is_written, value, total, holds, FitsAll, IsLeast, first_unmet, IsChain, IsRefusedAt, Joined, ends, label_lattice}
-use Rattle.labels.proofs.Constraints.{each-of, all-from, least_values, least_values-least, unknown-holds, unmet-chain, chain-rules_out, join_all, reaching, reaching-only, joined-from_reaching}
+use Rattle.labels.specs.Constraints.{Written, Unknown, Atom, Constraint, LatticeLaws, is_written, value, join_of, holds, FitsAll, IsLeast, first_unmet, IsChain, IsRefusedAt, StandsFor, Linked, ends, label_lattice, renamed, reported_steps, reported_gathered}
+use Rattle.labels.proofs.Constraints.{found-or, least-fits, all-from, least_values, least_values-least, unknown-holds, unmet-chain, chain-rules_out, join_all, reaching, reaching-only, linked-from_reaching}
+use Rattle.labels.proofs.Gathered.{fits-up, fits-down, refused-same, reported-same}
 use Rattle.labels.proofs.FlowTests.{IsLattice-flows}
 use Rattle.labels.proofs.Tests.{flows-decides, covers-decides}
 use Rattle.labels.proofs.Elements.{each_from_All}
 use Rattle.resolved.specs.Program.{Program}
 use Rattle.resolved.specs.Labelled.{Unwritten, OfLocal, OfLoop, Demand, Labelling, chosen, Labelled, program_demands}
-use Rattle.resolved.specs.Flow.{IsFlowChain, IsRefused, AreLeast}
+use Rattle.resolved.specs.Flow.{IsFlowChain, IsRefused, AreLeast, Gathered, AreGathered, IsUncovered, reported_step}
 
 pub same_unwritten : Unwritten → Unwritten → Bool
 same_unwritten (OfLocal f n) (OfLocal g m) = (f == g) && (n == m)
@@ -50,7 +51,7 @@ pub chain-refuses : (program : Program) (policy : ReaderPolicy) (chain : List De
     Labelled program → ⊥
 chain-refuses program policy chain last is labelled =
     chain-rules_out (label_lattice program.hierarchy) (IsLattice-flows program.hierarchy) (program_demands program) is.from chain last
-    (record { joined = is.joined; to = is.to; right_is = is.right_is; not_below = not_below (flows program.hierarchy is.from is.to) refl })
+    (record { linked = is.linked; to = is.to; right_is = is.right_is; not_below = not_below (flows program.hierarchy is.from is.to) refl })
     (chosen (record { locals = labelled.0; loops = labelled.1.0 })) labelled.1.1
   where
     not_below : (b : Bool) → flows program.hierarchy is.from is.to ≡ b → b ≡ false
@@ -68,18 +69,23 @@ uncovered h (policy ∷ rest) to e = go (covers h to policy) refl (uncovered h r
     go false f later = (policy, Contains-first policy rest, λ covered. let i : true ≡ false = sym ((covers-decides h to policy).1 covered) ∙ f in cc)
     go true f later = let found = later (sym (rw f refl) ∙ e) in (found.0, Contains-later policy rest found.0 found.1, found.2)
 
--- what is found is in the list, passes the test, or nothing does
-found-or : {X : Type 0} (test : X → Bool) (xs : List X) →
-    ((x : X) × (find test xs ≡ Some x) × Contains xs x × IsTrue (test x)) ⊎ ((x : X) → Contains xs x → IsFalse (test x))
-found-or test [] = inr (λ x h. absurd (none_in_nil x h))
-found-or {X} test (y ∷ ys) = go (test y) refl (found-or test ys)
+-- labels for what has no written one make a labelling
+pub labelled-from : (program : Program) (labels : Unwritten → Label) → FitsAll (label_lattice program.hierarchy) (program_demands program) labels → Labelled program
+labelled-from program labels fits = (λ f n. labels (OfLocal f n), (λ f n. labels (OfLoop f n),
+    subst (λ (l : Unwritten → Label). FitsAll (label_lattice program.hierarchy) (program_demands program) l) (λ i u. same u i) fits))
   where
-    go : (b : Bool) → test y ≡ b →
-        ((x : X) × (find test ys ≡ Some x) × Contains ys x × IsTrue (test x)) ⊎ ((x : X) → Contains ys x → IsFalse (test x)) →
-        ((x : X) × (find test (y ∷ ys) ≡ Some x) × Contains (y ∷ ys) x × IsTrue (test x)) ⊎ ((x : X) → Contains (y ∷ ys) x → IsFalse (test x))
-    go true e later = inl (y, rw e refl, Contains-first y ys, e)
-    go false e (inl found) = inl (found.0, rw e found.1, Contains-later y ys found.0 found.2, found.3)
-    go false e (inr none) = inr (λ x h. ⊎_elim (λ same. subst (λ z. IsFalse (test z)) same e) (λ k. none x k) (Contains-cons_cases y ys x h))
+    same : (u : Unwritten) → labels u ≡ chosen (record { locals = λ f n. labels (OfLocal f n); loops = λ f n. labels (OfLoop f n) }) u
+    same (OfLocal f n) = refl
+    same (OfLoop f n) = refl
+
+-- the least labels decide
+pub least-decide : (program : Program) (labels : Unwritten → Label) → AreLeast program labels →
+    Labelled program ↔ FitsAll (label_lattice program.hierarchy) (program_demands program) labels
+least-decide program labels least = (
+  λ labelled. least-fits (label_lattice program.hierarchy) (IsLattice-flows program.hierarchy) (program_demands program) labels least
+      (chosen (record { locals = labelled.0; loops = labelled.1.0 })) labelled.1.1,
+  λ fits. labelled-from program labels fits,
+)
 
 -- every program is labelled or refused
 pub labelled-or_refused : (program : Program) →
@@ -111,27 +117,20 @@ labelled-or_refused program =
               chained = record {
                 from = found.0;
                 policy_of = policy.1;
-                joined = found.2.joined;
+                linked = found.2.linked;
                 to = found.2.to;
                 right_is = found.2.right_is;
                 not_covered = policy.2;
               };
             })
 
-    chosen-same : (u : Unwritten) → least_labels program u ≡ chosen (record { locals = λ f n. least_labels program (OfLocal f n); loops = λ f n. least_labels program (OfLoop f n) }) u
-    chosen-same (OfLocal f n) = refl
-    chosen-same (OfLoop f n) = refl
-
-    the_labelling : Labelling
-    the_labelling = record { locals = λ f n. least_labels program (OfLocal f n); loops = λ f n. least_labels program (OfLoop f n) }
-
     labelled : ((d : Demand) → Contains (program_demands program) d → IsFalse (is_written d.right && not (holds (label_lattice program.hierarchy) (least_labels program) d))) → Labelled program
-    labelled none = (λ f n. least_labels program (OfLocal f n), (λ f n. least_labels program (OfLoop f n),
-        all-from (λ (d : Demand). holds (label_lattice program.hierarchy) (chosen the_labelling) d) (program_demands program) (λ d h.
-        subst (λ (labels : Unwritten → Label). IsTrue (holds (label_lattice program.hierarchy) labels d)) (λ i u. chosen-same u i) (held d h))))
+    labelled none = labelled-from program (least_labels program)
+        (all-from (λ (d : Demand). holds (label_lattice program.hierarchy) (least_labels program) d) (program_demands program) (λ d h. held d h (none d h)))
       where
-        held : (d : Demand) → Contains (program_demands program) d → IsTrue (holds (label_lattice program.hierarchy) (least_labels program) d)
-        held d h = by_right d.right refl (none d h)
+        held : (d : Demand) → Contains (program_demands program) d → IsFalse (is_written d.right && not (holds (label_lattice program.hierarchy) (least_labels program) d)) →
+            IsTrue (holds (label_lattice program.hierarchy) (least_labels program) d)
+        held d h none = by_right d.right refl none
           where
             by_right : (r : Atom Unwritten Label) → d.right ≡ r → IsFalse (is_written d.right && not (holds (label_lattice program.hierarchy) (least_labels program) d)) →
                 IsTrue (holds (label_lattice program.hierarchy) (least_labels program) d)
@@ -152,29 +151,29 @@ policy-in_all (label ∷ rest) policy h there =
     (λ k. let found = policy-in_all rest policy h k in (found.0, Contains-later label rest found.0 found.1, found.2))
     (Contains-append_cases label (join_all (label_lattice h) rest) policy there)
 
-policy-in_left : (labels : Unwritten → Label) (left : List (Atom Unwritten Label)) (policy : ReaderPolicy) → Contains (total (λ a b. a ++ b) [] labels left) policy →
+policy-in_left : (labels : Unwritten → Label) (left : List (Atom Unwritten Label)) (policy : ReaderPolicy) → Contains (join_of (λ a b. a ++ b) [] labels left) policy →
     (atom : Atom Unwritten Label) × Contains left atom × Contains (value labels atom) policy
 policy-in_left labels [] policy there = absurd (none_in_nil policy there)
 policy-in_left labels (atom ∷ rest) policy there =
     ⊎_elim
     (λ k. (atom, Contains-first atom rest, k))
     (λ k. let found = policy-in_left labels rest policy k in (found.0, Contains-later atom rest found.0 found.1, found.2))
-    (Contains-append_cases (value labels atom) (total (λ a b. a ++ b) [] labels rest) policy there)
+    (Contains-append_cases (value labels atom) (join_of (λ a b. a ++ b) [] labels rest) policy there)
 
 pub refused-by : (program : Program) (last : Demand) (policy : ReaderPolicy) (to : Label) →
     first_unmet (label_lattice program.hierarchy) (program_demands program) (least_labels program) ≡ Some last → Contains (program_demands program) last →
-    last.right ≡ Written to → Contains (total (λ a b. a ++ b) [] (least_labels program) last.left) policy → (¬ Covers program.hierarchy to policy) →
+    last.right ≡ Written to → Contains (join_of (λ a b. a ++ b) [] (least_labels program) last.left) policy → (¬ Covers program.hierarchy to policy) →
     (chain : List Demand) × IsRefused program policy chain last
 refused-by program last policy to first there is policy_of uncovered =
     let found = policy-in_left (least_labels program) last.left policy policy_of in by_part found.0 found.1 found.2
   where
-    made : (from : Label) (chain : List Demand) → Contains from policy → Joined (program_demands program) (Written from) chain last →
+    made : (from : Label) (chain : List Demand) → Contains from policy → Linked (program_demands program) (Written from) chain last →
         (chain : List Demand) × IsRefused program policy chain last
-    made from chain k joined = (chain, record {
+    made from chain k linked = (chain, record {
       labels = least_labels program;
       least = labels-least program;
       first = first;
-      chained = record { from = from; policy_of = k; joined = joined; to = to; right_is = is; not_covered = uncovered };
+      chained = record { from = from; policy_of = k; linked = linked; to = to; right_is = is; not_covered = uncovered };
     })
 
     by_part : (atom : Atom Unwritten Label) → Contains last.left atom → Contains (value (least_labels program) atom) policy →
@@ -182,7 +181,7 @@ refused-by program last policy to first there is policy_of uncovered =
     by_part (Written from) part k = made from (last ∷ []) k (ends (Written from) last there part)
     by_part (Unknown u) part k =
         let found = policy-in_all (reaching same_unwritten unwritten-same unwritten-itself (program_demands program) u) policy program.hierarchy k in
-        let longer = joined-from_reaching (label_lattice program.hierarchy) (IsLattice-flows program.hierarchy) (program_demands program) found.0 u
+        let longer = linked-from_reaching (label_lattice program.hierarchy) (IsLattice-flows program.hierarchy) (program_demands program) found.0 u
         (reaching-only same_unwritten unwritten-same unwritten-itself (program_demands program) found.0 u found.1) (last ∷ []) last (ends (Unknown u) last there part) in
         made found.0 longer.0 found.2 longer.1
 
@@ -217,3 +216,39 @@ first-is_written h labels (d ∷ ds) last fits e =
         let same : d ≡ last = cc in
         let written : is_written d.right ≡ true = turned (is_written d.right) (rw f at fit) in
         (rw (f, written) (ap (λ x. Some x) same), subst (λ x. Contains (d ∷ ds) x) same (Contains-first d ds), ap (λ (x : Demand). is_written x.right) (sym same) ∙ written)
+
+-- ---- what was gathered decides
+module _ (program : Program) (cs : List Gathered) (gathered : AreGathered program cs) where
+  pub gathered-labelled : Labelled program ↔ ((labels : ℕ → Label) × FitsAll (label_lattice program.hierarchy) cs labels)
+  gathered-labelled = (
+    λ labelled.
+    let up = fits-up (program_demands program) cs gathered (label_lattice program.hierarchy) (IsLattice-flows program.hierarchy)
+    (λ (a b : ℕ). a == b) (λ a b e. grind (arith, e)) (λ a. grind arith) (chosen (record { locals = labelled.0; loops = labelled.1.0 })) labelled.1.1 in
+    (up.0, up.1),
+    λ found. labelled-from program (λ u. found.0 (gathered.number u))
+        (fits-down (program_demands program) cs gathered (label_lattice program.hierarchy) (IsLattice-flows program.hierarchy) found.0 found.1),
+  )
+
+  pub gathered-refused : (from : Label) (chain : List Gathered) (last : Gathered) (policy : ReaderPolicy) →
+      IsRefusedAt (label_lattice program.hierarchy) cs from chain last → Contains from policy → IsUncovered program.hierarchy last.right policy →
+      (there : List Demand) × (d : Demand) × IsRefused program policy there d × StandsFor gathered.number gathered.inner cs d last
+      × (reported_gathered reported_step chain ≡ reported_steps reported_step there)
+  gathered-refused from chain last policy refused policy_of uncovered =
+      let found = refused-same (program_demands program) cs gathered (label_lattice program.hierarchy) (IsLattice-flows program.hierarchy)
+      (λ (a b : ℕ). a == b) (λ a b e. grind (arith, e)) (λ a. grind arith) from chain last refused in
+      let is = found.2 in
+      let right : last.right ≡ Written is.chained.to = found.3.right_is ∙ ap (renamed gathered.number) is.chained.right_is in
+      (found.1, found.0, record {
+        labels = is.values;
+        least = is.least;
+        first = is.first;
+        chained = record {
+          from = from;
+          policy_of = policy_of;
+          linked = is.chained.linked;
+          to = is.chained.to;
+          right_is = is.chained.right_is;
+          not_covered = subst (λ (r : Atom ℕ Label). IsUncovered program.hierarchy r policy) right uncovered;
+        };
+      }, found.3,
+      reported-same (program_demands program) cs gathered reported_step (Written from) chain last refused.chained.linked found.1 found.4)

@@ -18,7 +18,7 @@ use Rattle.resolved.specs.Tree.{Expression, Statement, Assign, Clear, Store, Rec
 use Rattle.resolved.specs.Program.{Program, ProcedureEntry, ThrownEntry, procedure_at}
 use Rattle.resolved.specs.Ends.{same_exit, has_end, one_end, raises, thrown_ends, leaves_loop, then_ends, index_can_raise, handles, passes, statement_ends, block_ends, handlers_ends}
 use Rattle.resolved.specs.EndFaults.{EndRefusal, EndFault, OutsideLoop, Unreachable, NeverRaised, fault_unless, may_stand, inner_faults, block_faults, handlers_faults}
-use Rattle.resolved.specs.Labelled.{Unwritten, OfLocal, OfLoop, Scope, Join, LabelAtom, one, Target, ToVariable, ToChannel, ToBegin, ToParameter, ToValue, ToEnd, ToThrown, ToLoop, label_of, value_label, raise_label, raise_labels, label_if, any_of, call_marks, argument_demands, Marks, at_ends, own_label, raised_marks, loop_marks, statement_rule, block_rule, handlers_rule, statement_marks, block_marks, Demand, demand, target_demand, statement_demands, block_demands, handlers_demands, here, as_one_end, end_demands, procedure_demands, demands_from, program_demands}
+use Rattle.resolved.specs.Labelled.{Unwritten, OfLocal, OfLoop, Scope, Join, LabelAtom, one, Target, ToVariable, ToChannel, ToBegin, ToParameter, ToValue, ToEnd, ToThrown, ToLoop, label_of, value_label, raise_label, raise_labels, label_if, any_of, call_exits, argument_demands, ExitLabels, at_ends, own_label, raised_exits, loop_exits, statement_rule, block_rule, handlers_rule, statement_exits, block_exits, Demand, demand, target_demand, statement_demands, block_demands, handlers_demands, here, as_one_end, end_demands, procedure_demands, demands_from, program_demands}
 
 -- ---- the gathering
 -- an unknown of what is gathered: a label that is not written, or an inner one by its number
@@ -265,11 +265,11 @@ module _ (scope : Scope) (m : ℕ → Join) where
         (m n ≡ branch) × AgreesIn (suc n) branch yes_block × AgreesIn (suc n + made_in yes_block) branch no_block
     Agrees n pc (While at loop e body) =
         let b : Join = (one (label_of scope.program (ToLoop scope.number loop)) ++ raise_label scope e) ++ value_label scope e in
-        (m n ≡ b) × (m (suc n) ≡ (block_marks scope b body Normal ++ block_marks scope b body Continue)) × AgreesIn (suc (suc n)) b body
+        (m n ≡ b) × (m (suc n) ≡ (block_exits scope b body Normal ++ block_exits scope b body Continue)) × AgreesIn (suc (suc n)) b body
     Agrees n pc (Leave at exit) = Unit {0}
     Agrees n pc (ReturnWith at value) = Unit {0}
     Agrees n pc (Try at block handlers) =
-        let x : Marks = block_marks scope pc block in
+        let x : ExitLabels = block_exits scope pc block in
         ((y : ℕ) → handles handlers y ≡ true → m (number_of handlers n y) ≡ x (Throw y))
         × AgreesIn (n + count handlers) pc block × AgreesBy ((n + count handlers) + made_in block) x handlers
     Agrees n pc (Nested at block) = AgreesIn n pc block
@@ -277,10 +277,10 @@ module _ (scope : Scope) (m : ℕ → Join) where
     AgreesIn : (n : ℕ) → (pc : Join) → Block → Type 0
     AgreesIn n pc Empty = Unit {0}
     AgreesIn n pc (Then statement rest) =
-        (m n ≡ statement_marks scope pc statement Normal) × Agrees (suc n) pc statement
-        × AgreesIn (suc n + made statement) (statement_marks scope pc statement Normal) rest
+        (m n ≡ statement_exits scope pc statement Normal) × Agrees (suc n) pc statement
+        × AgreesIn (suc n + made statement) (statement_exits scope pc statement Normal) rest
 
-    AgreesBy : (n : ℕ) → Marks → Handlers → Type 0
+    AgreesBy : (n : ℕ) → ExitLabels → Handlers → Type 0
     AgreesBy n x NoMore = Unit {0}
     AgreesBy n x (Catch at handled body rest) = AgreesIn n (x (Throw handled)) body × AgreesBy (n + made_in body) x rest
 
@@ -335,14 +335,14 @@ normal_or_other Break = inr (refl, λ o t. refl)
 normal_or_other Continue = inr (refl, λ o t. refl)
 normal_or_other (Throw x) = inr (refl, λ o t. refl)
 
-marks-single : (ends : List Exit) (pc : Join) (marks : Marks) (e : Exit) → one_end ends ≡ true → has_end ends e ≡ true → at_ends ends pc marks e ≡ pc
-marks-single ends pc marks e one h = rw (one, h) refl
+exits-single : (ends : List Exit) (pc : Join) (exits : ExitLabels) (e : Exit) → one_end ends ≡ true → has_end ends e ≡ true → at_ends ends pc exits e ≡ pc
+exits-single ends pc exits e one h = rw (one, h) refl
 
-marks-many : (ends : List Exit) (pc : Join) (marks : Marks) (e : Exit) → one_end ends ≡ false → has_end ends e ≡ true → at_ends ends pc marks e ≡ marks e
-marks-many ends pc marks e one h = rw (one, h) refl
+exits-many : (ends : List Exit) (pc : Join) (exits : ExitLabels) (e : Exit) → one_end ends ≡ false → has_end ends e ≡ true → at_ends ends pc exits e ≡ exits e
+exits-many ends pc exits e one h = rw (one, h) refl
 
-marks-none : (ends : List Exit) (pc : Join) (marks : Marks) (e : Exit) → has_end ends e ≡ false → at_ends ends pc marks e ≡ []
-marks-none ends pc marks e h = rw h refl
+exits-none : (ends : List Exit) (pc : Join) (exits : ExitLabels) (e : Exit) → has_end ends e ≡ false → at_ends ends pc exits e ≡ []
+exits-none ends pc exits e h = rw h refl
 
 -- an end of a try's block is taken by a handler, or goes on
 abbrev Taken : Handlers → Exit → Type 0
@@ -367,10 +367,10 @@ Sub x y = (a : LabelAtom) → Contains x a → Contains y a
 sub-same : (x y : Join) → x ≡ y → Sub x y
 sub-same x y e a h = subst (λ z. Contains z a) e h
 
-then-marks : (scope : Scope) (pc : Join) (s : Statement) (rest : Block) (e : Exit) → same_exit Normal e ≡ false →
-    Sub (statement_marks scope pc s e) (block_rule scope pc (Then s rest) e)
-then-marks scope pc s rest e other a h =
-    Contains-append_left (label_if (not (same_exit Normal e)) (statement_marks scope pc s e)) (block_rule scope (statement_marks scope pc s Normal) rest e) a (rw other h)
+then-exits : (scope : Scope) (pc : Join) (s : Statement) (rest : Block) (e : Exit) → same_exit Normal e ≡ false →
+    Sub (statement_exits scope pc s e) (block_rule scope pc (Then s rest) e)
+then-exits scope pc s rest e other a h =
+    Contains-append_left (label_if (not (same_exit Normal e)) (statement_exits scope pc s e)) (block_rule scope (statement_exits scope pc s Normal) rest e) a (rw other h)
 
 -- ---- closed: what flows to an inner unknown is part of what it stands for
 module _ (m : ℕ → Join) where
@@ -465,7 +465,7 @@ module _ (m : ℕ → Join) where
   grown-below : (p : List Wire) (pc j : Join) → Below p pc → Below (p ++ wires j) (pc ++ j)
   grown-below p pc j below = below-append p (wires j) pc j below (below-wires j)
 
-  call-below : (program : Program) (callee : ℕ) (q : List Wire) (j : Join) → Below q j → (e : Exit) → Below (call_wires program callee q e) (call_marks program callee j e)
+  call-below : (program : Program) (callee : ℕ) (q : List Wire) (j : Join) → Below q j → (e : Exit) → Below (call_wires program callee q e) (call_exits program callee j e)
   call-below program callee q j below Normal = grown-below q j (label_if (any_of (procedure_at program callee).throws) (one (label_of program (ToEnd callee)))) below
   call-below program callee q j below Return = below
   call-below program callee q j below Break = below
@@ -478,33 +478,33 @@ module _ (m : ℕ → Join) where
       closed-append (rule_con scope at 6 (q ++ wires (value_label scope e)) (ToParameter callee i)) (argument_cons scope at q callee (suc i) rest)
       (closed-rule_con scope at 6 (q ++ wires (value_label scope e)) (ToParameter callee i)) (closed-arguments scope at q callee (suc i) rest)
 
-  -- the takers of ends stand for no less than their marks
-  abbrev pub Take : List Exit → Takers → Marks → Type 0
-  Take ends takers marks = (e : Exit) (k : ℕ) → has_end ends e ≡ true → takers e ≡ Some k → Sub (marks e) (m k)
+  -- the takers of ends stand for no less than their exits
+  abbrev pub Take : List Exit → Takers → ExitLabels → Type 0
+  Take ends takers exits = (e : Exit) (k : ℕ) → has_end ends e ≡ true → takers e ≡ Some k → Sub (exits e) (m k)
 
-  take-within : (b : Bool) (ends : List Exit) (takers : Takers) (pc : Join) (marks : Marks) → one_end ends ≡ b → Take ends takers (at_ends ends pc marks) →
-      Take ends (within_single b takers) marks
-  take-within true ends takers pc marks one take e k h is a there = let i : None ≡ Some k = is in absurd (cc)
-  take-within false ends takers pc marks one take e k h is a there =
-      take e k h is a (subst (λ x. Contains x a) (sym (marks-many ends pc marks e one h)) there)
+  take-within : (b : Bool) (ends : List Exit) (takers : Takers) (pc : Join) (exits : ExitLabels) → one_end ends ≡ b → Take ends takers (at_ends ends pc exits) →
+      Take ends (within_single b takers) exits
+  take-within true ends takers pc exits one take e k h is a there = let i : None ≡ Some k = is in absurd (cc)
+  take-within false ends takers pc exits one take e k h is a there =
+      take e k h is a (subst (λ x. Contains x a) (sym (exits-many ends pc exits e one h)) there)
 
-  closed-single : (b : Bool) (ends : List Exit) (p : List Wire) (takers : Takers) (pc : Join) (marks : Marks) → one_end ends ≡ b → Below p pc →
-      Take ends takers (at_ends ends pc marks) → Closed (single b p takers ends)
-  closed-single false ends p takers pc marks one below take = closed-nil
-  closed-single true [] p takers pc marks one below take = closed-nil
-  closed-single true (e ∷ rest) p takers pc marks one below take =
+  closed-single : (b : Bool) (ends : List Exit) (p : List Wire) (takers : Takers) (pc : Join) (exits : ExitLabels) → one_end ends ≡ b → Below p pc →
+      Take ends takers (at_ends ends pc exits) → Closed (single b p takers ends)
+  closed-single false ends p takers pc exits one below take = closed-nil
+  closed-single true [] p takers pc exits one below take = closed-nil
+  closed-single true (e ∷ rest) p takers pc exits one below take =
       closed-flow p (takers e) (λ k is. below-sub p pc (m k) below (λ a h.
       let there : has_end (e ∷ rest) e ≡ true = or_left (same_exit e e) (has_end rest e) (same_exit-itself e) in
-      take e k there is a (subst (λ x. Contains x a) (sym (marks-single (e ∷ rest) pc marks e one there)) h)))
+      take e k there is a (subst (λ x. Contains x a) (sym (exits-single (e ∷ rest) pc exits e one there)) h)))
 
   -- a block within a statement, by its walk
-  closed-block : (ends : List Exit) (p : List Wire) (takers : Takers) (pc : Join) (marks : Marks) (walked : Takers → List Con) → Below p pc →
-      Take ends takers (at_ends ends pc marks) → ((t : Takers) → Take ends t marks → Closed (walked t)) →
+  closed-block : (ends : List Exit) (p : List Wire) (takers : Takers) (pc : Join) (exits : ExitLabels) (walked : Takers → List Con) → Below p pc →
+      Take ends takers (at_ends ends pc exits) → ((t : Takers) → Take ends t exits → Closed (walked t)) →
       Closed (single (one_end ends) p takers ends ++ walked (within_single (one_end ends) takers))
-  closed-block ends p takers pc marks walked below take each =
+  closed-block ends p takers pc exits walked below take each =
       closed-append (single (one_end ends) p takers ends) (walked (within_single (one_end ends) takers))
-      (closed-single (one_end ends) ends p takers pc marks refl below take)
-      (each (within_single (one_end ends) takers) (take-within (one_end ends) ends takers pc marks refl take))
+      (closed-single (one_end ends) ends p takers pc exits refl below take)
+      (each (within_single (one_end ends) takers) (take-within (one_end ends) ends takers pc exits refl take))
 
   sub-left : (x y : Join) → Sub x (x ++ y)
   sub-left x y a h = Contains-append_left x y a h
@@ -512,14 +512,14 @@ module _ (m : ℕ → Join) where
   sub-right : (x y : Join) → Sub y (x ++ y)
   sub-right x y a h = Contains-append_right x y a h
 
-  raised-has : (e : Expression) (q : Join) (exit : Exit) → has_end (thrown_ends (raises e)) exit ≡ true → Sub q (raised_marks e q exit)
-  raised-has e q exit h = sub-same q (raised_marks e q exit) (rw h refl)
+  raised-has : (e : Expression) (q : Join) (exit : Exit) → has_end (thrown_ends (raises e)) exit ≡ true → Sub q (raised_exits e q exit)
+  raised-has e q exit h = sub-same q (raised_exits e q exit) (rw h refl)
 
-  onward-below : (normal b : Bool) (ends : List Exit) (p : List Wire) (n : ℕ) (pc : Join) (marks : Marks) → has_end ends Normal ≡ normal → one_end ends ≡ b →
-      m n ≡ at_ends ends pc marks Normal → Below p pc → Below (onward_wires normal b p n) (at_ends ends pc marks Normal)
-  onward-below false b ends p n pc marks has one is below = below-nil (at_ends ends pc marks Normal)
-  onward-below true true ends p n pc marks has one is below = below-sub p pc (at_ends ends pc marks Normal) below (sub-same pc _ (sym (marks-single ends pc marks Normal one has)))
-  onward-below true false ends p n pc marks has one is below = below-inner n (at_ends ends pc marks Normal) is
+  onward-below : (normal b : Bool) (ends : List Exit) (p : List Wire) (n : ℕ) (pc : Join) (exits : ExitLabels) → has_end ends Normal ≡ normal → one_end ends ≡ b →
+      m n ≡ at_ends ends pc exits Normal → Below p pc → Below (onward_wires normal b p n) (at_ends ends pc exits Normal)
+  onward-below false b ends p n pc exits has one is below = below-nil (at_ends ends pc exits Normal)
+  onward-below true true ends p n pc exits has one is below = below-sub p pc (at_ends ends pc exits Normal) below (sub-same pc _ (sym (exits-single ends pc exits Normal one has)))
+  onward-below true false ends p n pc exits has one is below = below-inner n (at_ends ends pc exits Normal) is
 
   module _ (scope : Scope) where
     closed-unreached : (s : Statement) (rest : Block) (takers : Takers) (n : ℕ) → Goes scope.program s rest → has_end (statement_ends scope.program s) Normal ≡ false →
@@ -528,13 +528,13 @@ module _ (m : ℕ → Join) where
     closed-unreached s (Then next rest) takers n goes e = let i : true ≡ false = sym goes ∙ e in absurd (cc)
 
     take-statement : (pc : Join) (s : Statement) (rest : Block) (takers : Takers) → Take (block_ends scope.program (Then s rest)) takers (block_rule scope pc (Then s rest)) →
-        (normal : Option ℕ) → ((k : ℕ) → normal ≡ Some k → m k ≡ statement_marks scope pc s Normal) →
-        Take (statement_ends scope.program s) (with_normal normal takers) (statement_marks scope pc s)
+        (normal : Option ℕ) → ((k : ℕ) → normal ≡ Some k → m k ≡ statement_exits scope pc s Normal) →
+        Take (statement_ends scope.program s) (with_normal normal takers) (statement_exits scope pc s)
     take-statement pc s rest takers take normal named e k h is = ⊎_elim
         (λ same a there. subst (λ x. Contains x a) (sym (named k (subst (λ x. with_normal normal takers x ≡ Some k) (sym same) is)))
-        (subst (λ x. Contains (statement_marks scope pc s x) a) (sym same) there))
+        (subst (λ x. Contains (statement_exits scope pc s x) a) (sym same) there))
         (λ other a there. take e k (then-other (statement_ends scope.program s) (block_ends scope.program rest) e other.0 h) (sym (other.1 normal takers) ∙ is) a
-        (then-marks scope pc s rest e other.0 a there))
+        (then-exits scope pc s rest e other.0 a there))
         (normal_or_other e)
 
     loop-leaving : (xs : List ℕ) (ends : List Exit) (y : Exit) → leaves_loop y ≡ true → has_end ends y ≡ true → has_end (Normal ∷ (thrown_ends xs ++ filter leaves_loop ends)) y ≡ true
@@ -542,21 +542,21 @@ module _ (m : ℕ → Join) where
         or_right (same_exit y Normal) (has_end (thrown_ends xs ++ filter leaves_loop ends) y) (has-right (thrown_ends xs) (filter leaves_loop ends) y (has-filter leaves_loop ends y leaves h))
 
     -- what the takers of a loop's body stand for
-    in_body : (ends : List Exit) (takers : Takers) (n : ℕ) (x : Marks) (b : Join) (e : Expression) (q : Join) → m (suc n) ≡ (x Normal ++ x Continue) →
-        Take (Normal ∷ (thrown_ends (raises e) ++ filter leaves_loop ends)) takers (λ y. raised_marks e q y ++ loop_marks b x y) → Take ends (in_loop (suc n) takers) x
+    in_body : (ends : List Exit) (takers : Takers) (n : ℕ) (x : ExitLabels) (b : Join) (e : Expression) (q : Join) → m (suc n) ≡ (x Normal ++ x Continue) →
+        Take (Normal ∷ (thrown_ends (raises e) ++ filter leaves_loop ends)) takers (λ y. raised_exits e q y ++ loop_exits b x y) → Take ends (in_loop (suc n) takers) x
     in_body ends takers n x b e q is take Normal k h at a i =
         let same : suc n ≡ k = cc in subst (λ z. Contains (m z) a) same (sub-same _ (m (suc n)) (sym is) a (sub-left (x Normal) (x Continue) a i))
     in_body ends takers n x b e q is take Continue k h at a i =
         let same : suc n ≡ k = cc in subst (λ z. Contains (m z) a) same (sub-same _ (m (suc n)) (sym is) a (sub-right (x Normal) (x Continue) a i))
     in_body ends takers n x b e q is take Break k h at a i =
-        take Normal k refl at a (sub-right (raised_marks e q Normal) (b ++ x Break) a (sub-right b (x Break) a i))
+        take Normal k refl at a (sub-right (raised_exits e q Normal) (b ++ x Break) a (sub-right b (x Break) a i))
     in_body ends takers n x b e q is take Return k h at a i =
-        take Return k (loop-leaving (raises e) ends Return refl h) at a (sub-right (raised_marks e q Return) (x Return) a i)
+        take Return k (loop-leaving (raises e) ends Return refl h) at a (sub-right (raised_exits e q Return) (x Return) a i)
     in_body ends takers n x b e q is take (Throw y) k h at a i =
-        take (Throw y) k (loop-leaving (raises e) ends (Throw y) refl h) at a (sub-right (raised_marks e q (Throw y)) (x (Throw y)) a i)
+        take (Throw y) k (loop-leaving (raises e) ends (Throw y) refl h) at a (sub-right (raised_exits e q (Throw y)) (x (Throw y)) a i)
 
     -- what the takers of a try's block stand for
-    in_block : (ends others : List Exit) (handlers : Handlers) (number : ℕ → ℕ) (takers : Takers) (x rest : Marks) → ((y : ℕ) → handles handlers y ≡ true → m (number y) ≡ x (Throw y)) →
+    in_block : (ends others : List Exit) (handlers : Handlers) (number : ℕ → ℕ) (takers : Takers) (x rest : ExitLabels) → ((y : ℕ) → handles handlers y ≡ true → m (number y) ≡ x (Throw y)) →
         Take (filter (passes handlers) ends ++ others) takers (λ y. label_if (passes handlers y) (x y) ++ rest y) → Take ends (in_try number handlers takers) x
     in_block ends others handlers number takers x rest named take e k h is a there = ⊎_elim
         (λ taken. let to : Some (number taken.0) ≡ Some k = sym (in_try-taken number handlers takers taken.0 taken.2) ∙ ap (in_try number handlers takers) taken.1 ∙ is in
@@ -617,7 +617,7 @@ module _ (m : ℕ → Join) where
           (closed-append second (third ++ fourth) (closed-arguments scope at q procedure 0 arguments)
           (closed-append third fourth (closed-target scope at 6 left target)
           (closed-flows_by (call_wires scope.program procedure q) takers ends (λ y k h is.
-          below-sub (call_wires scope.program procedure q y) (call_marks scope.program procedure (pc ++ r) y) (m k)
+          below-sub (call_wires scope.program procedure q y) (call_exits scope.program procedure (pc ++ r) y) (m k)
           (call-below scope.program procedure q (pc ++ r) (grown-below p pc r below) y) (take y k h is)))))
       closed-gathered (If at e yes_block no_block) p pc takers n part agrees below take =
           let r : Join = raise_label scope e in
@@ -627,8 +627,8 @@ module _ (m : ℕ → Join) where
           let thrown : List Exit = thrown_ends (raises e) in
           let yes_ends : List Exit = block_ends scope.program yes_block in
           let no_ends : List Exit = block_ends scope.program no_block in
-          let yes_marks : Marks = block_marks scope branch yes_block in
-          let no_marks : Marks = block_marks scope branch no_block in
+          let yes_exits : ExitLabels = block_exits scope branch yes_block in
+          let no_exits : ExitLabels = block_exits scope branch no_block in
           let q_below : Below q (pc ++ r) = below-append p (wires r) pc r below (below-wires r) in
           let b_below : Below (inner_wire n) branch = below-inner n branch agrees.0 in
           let first : List Con = inner_con (q ++ wires v) n in
@@ -640,15 +640,15 @@ module _ (m : ℕ → Join) where
           (closed-append second (third ++ fourth)
           (closed-flows q takers thrown (λ y k h is. below-sub q (pc ++ r) (m k) q_below (λ a i.
           take y k (has-left (thrown ++ yes_ends) no_ends y (has-left thrown yes_ends y h)) is a
-          (sub-left (raised_marks e (pc ++ r) y ++ yes_marks y) (no_marks y) a (sub-left (raised_marks e (pc ++ r) y) (yes_marks y) a (raised-has e (pc ++ r) y h a i))))))
+          (sub-left (raised_exits e (pc ++ r) y ++ yes_exits y) (no_exits y) a (sub-left (raised_exits e (pc ++ r) y) (yes_exits y) a (raised-has e (pc ++ r) y h a i))))))
           (closed-append third fourth
           (closed-block yes_ends (inner_wire n) takers branch (block_rule scope branch yes_block) (λ t. walk scope (inner_wire n) t (suc n) yes_block) b_below
           (λ y k h is a i. take y k (has-left (thrown ++ yes_ends) no_ends y (has-right thrown yes_ends y h)) is a
-          (sub-left (raised_marks e (pc ++ r) y ++ yes_marks y) (no_marks y) a (sub-right (raised_marks e (pc ++ r) y) (yes_marks y) a i)))
+          (sub-left (raised_exits e (pc ++ r) y ++ yes_exits y) (no_exits y) a (sub-right (raised_exits e (pc ++ r) y) (yes_exits y) a i)))
           (λ t fit. closed-walk yes_block (inner_wire n) branch t (suc n) part.0 agrees.1 b_below fit))
           (closed-block no_ends (inner_wire n) takers branch (block_rule scope branch no_block) (λ t. walk scope (inner_wire n) t (suc n + made_in yes_block) no_block) b_below
           (λ y k h is a i. take y k (has-right (thrown ++ yes_ends) no_ends y h) is a
-          (sub-right (raised_marks e (pc ++ r) y ++ yes_marks y) (no_marks y) a i))
+          (sub-right (raised_exits e (pc ++ r) y ++ yes_exits y) (no_exits y) a i))
           (λ t fit. closed-walk no_block (inner_wire n) branch t (suc n + made_in yes_block) part.1 agrees.2 b_below fit))))
       closed-gathered (While at loop e body) p pc takers n part agrees below take =
           let l : Join = one (label_of scope.program (ToLoop scope.number loop)) in
@@ -658,7 +658,7 @@ module _ (m : ℕ → Join) where
           let b : Join = (l ++ r) ++ v in
           let thrown : List Exit = thrown_ends (raises e) in
           let ends : List Exit = block_ends scope.program body in
-          let x : Marks = block_marks scope b body in
+          let x : ExitLabels = block_exits scope b body in
           let q_below : Below q (l ++ r) = below-append (wires l) (wires r) l r (below-wires l) (below-wires r) in
           let b_below : Below (inner_wire n) b = below-inner n b agrees.0 in
           let all_ends : List Exit = thrown ++ filter leaves_loop ends in
@@ -666,7 +666,7 @@ module _ (m : ℕ → Join) where
           let second : List Con = inner_con (q ++ wires v) n ++ (flow (inner_wire n) (takers Normal) ++ flows q takers thrown) in
           let third : List Con = single (one_end ends) (inner_wire n) (in_loop (suc n) takers) ends ++ walk scope (inner_wire n) (within_single (one_end ends) (in_loop (suc n) takers)) (suc (suc n)) body in
           let fourth : List Con = rule_con scope at 8 (inner_wire (suc n)) (ToLoop scope.number loop) in
-          let rule : Marks = statement_rule scope pc (While at loop e body) in
+          let rule : ExitLabels = statement_rule scope pc (While at loop e body) in
           closed-append first (second ++ (third ++ fourth))
           (closed-rule_con scope at 8 p (ToLoop scope.number loop))
           (closed-append second (third ++ fourth)
@@ -674,10 +674,10 @@ module _ (m : ℕ → Join) where
           (closed-inner (q ++ wires v) n (below-sub (q ++ wires v) b (m n) (below-append q (wires v) (l ++ r) v q_below (below-wires v)) (sub-same b (m n) (sym agrees.0))))
           (closed-append (flow (inner_wire n) (takers Normal)) (flows q takers thrown)
           (closed-flow (inner_wire n) (takers Normal) (λ k is. below-sub (inner_wire n) b (m k) b_below (λ a i.
-          take Normal k refl is a (sub-right (raised_marks e (l ++ r) Normal) (b ++ x Break) a (sub-left b (x Break) a i)))))
+          take Normal k refl is a (sub-right (raised_exits e (l ++ r) Normal) (b ++ x Break) a (sub-left b (x Break) a i)))))
           (closed-flows q takers thrown (λ y k h is. below-sub q (l ++ r) (m k) q_below (λ a i.
           take y k (or_right (same_exit y Normal) (has_end all_ends y) (has-left thrown (filter leaves_loop ends) y h)) is a
-          (sub-left (raised_marks e (l ++ r) y) (loop_marks b x y) a (raised-has e (l ++ r) y h a i)))))))
+          (sub-left (raised_exits e (l ++ r) y) (loop_exits b x y) a (raised-has e (l ++ r) y h a i)))))))
           (closed-append third fourth
           (closed-block ends (inner_wire n) (in_loop (suc n) takers) b (block_rule scope b body) (λ t. walk scope (inner_wire n) t (suc (suc n)) body) b_below
           (in_body ends takers n x b e (l ++ r) agrees.1 take)
@@ -695,7 +695,7 @@ module _ (m : ℕ → Join) where
           closed-flow p (takers Return) (λ k is. below-sub p pc (m k) below (take Return k refl is))
       closed-gathered (Try at block handlers) p pc takers n part agrees below take =
           let ends : List Exit = block_ends scope.program block in
-          let x : Marks = block_marks scope pc block in
+          let x : ExitLabels = block_exits scope pc block in
           let number : ℕ → ℕ = λ y. number_of handlers n y in
           let inside : Takers = in_try number handlers takers in
           closed-append (single (one_end ends) p inside ends ++ walk scope p (within_single (one_end ends) inside) (n + count handlers) block)
@@ -716,7 +716,7 @@ module _ (m : ℕ → Join) where
           closed-flow p (takers Normal) (λ k is. below-sub p pc (m k) below (take Normal k refl is))
       closed-walk (Then s rest) p pc takers n part agrees below take =
           let ends : List Exit = statement_ends scope.program s in
-          let x : Marks = statement_marks scope pc s in
+          let x : ExitLabels = statement_exits scope pc s in
           let first : List Con = single (one_end ends) p (with_normal None takers) ends in
           let second : List Con = gathered scope p (within_single (one_end ends) (with_normal (Some n) takers)) (suc n) s in
           let third : List Con = walk scope (onward_wires (has_end ends Normal) (one_end ends) p n) takers (suc n + made s) rest in
@@ -735,7 +735,7 @@ module _ (m : ℕ → Join) where
           (λ h. subst (λ b. Closed (walk scope (onward_wires b (one_end ends) p n) takers (suc n + made s) rest)) (sym h)
           (closed-unreached s rest takers (suc n + made s) part.1 h))))
 
-      pub closed-handlers : (handlers : Handlers) (number : ℕ → ℕ) (x : Marks) (takers : Takers) (n : ℕ) → PartBy scope.program handlers → AgreesBy scope m n x handlers →
+      pub closed-handlers : (handlers : Handlers) (number : ℕ → ℕ) (x : ExitLabels) (takers : Takers) (n : ℕ) → PartBy scope.program handlers → AgreesBy scope m n x handlers →
           ((y : ℕ) → handles handlers y ≡ true → m (number y) ≡ x (Throw y)) → Take (handlers_ends scope.program handlers) takers (handlers_rule scope x handlers) →
           Closed (walk_handlers scope number takers n handlers)
       closed-handlers NoMore number x takers n part agrees named take = closed-nil
@@ -747,10 +747,10 @@ module _ (m : ℕ → Join) where
           let below : Below p pc = below-inner (number handled) pc (named handled (or_left (handled == handled) (handles rest handled) (eq-eqb handled handled refl))) in
           closed-append first (walk_handlers scope number takers (n + made_in body) rest)
           (closed-block ends p takers pc (block_rule scope pc body) (λ t. walk scope p t n body) below
-          (λ e k h is a i. take e k (has-left ends (handlers_ends scope.program rest) e h) is a (sub-left (block_marks scope pc body e) (handlers_rule scope x rest e) a i))
+          (λ e k h is a i. take e k (has-left ends (handlers_ends scope.program rest) e h) is a (sub-left (block_exits scope pc body e) (handlers_rule scope x rest e) a i))
           (λ t fit. closed-walk body p pc t n part.0 agrees.0 below fit))
           (closed-handlers rest number x takers (n + made_in body) part.1 agrees.1 (λ y h. named y (or_right (y == handled) (handles rest y) h))
-          (λ e k h is a i. take e k (has-right ends (handlers_ends scope.program rest) e h) is a (sub-right (block_marks scope pc body e) (handlers_rule scope x rest e) a i)))
+          (λ e k h is a i. take e k (has-right ends (handlers_ends scope.program rest) e h) is a (sub-right (block_exits scope pc body e) (handlers_rule scope x rest e) a i)))
 
 -- ---- fed: what an inner unknown stands for feeds it
 outer_wire : (a : LabelAtom) → IsFalse (is_inner inner_name (renamed Real a))
@@ -816,30 +816,30 @@ module _ (cs : List Con) where
       (λ h. fed-flows left takers rest j (within-right (flow left (takers x)) (flows left takers rest) within) fed e k h is)
       (or_cases (same_exit e x) (has_end rest e) has)
 
-  fed-flows_by : (left : Exit → List Wire) (takers : Takers) (ends : List Exit) (marks : Marks) → Within (flows_by left takers ends) → ((e : Exit) → Fed (left e) (marks e)) →
-      (e : Exit) (k : ℕ) → has_end ends e ≡ true → takers e ≡ Some k → FedTo k (marks e)
-  fed-flows_by left takers [] marks within fed e k has is = let i : false ≡ true = has in absurd (cc)
-  fed-flows_by left takers (x ∷ rest) marks within fed e k has is = ⊎_elim
-      (λ same. subst (λ y. FedTo k (marks y)) (sym (same-exit e x same))
-      (fed-flow (left x) (takers x) (marks x) (within-left (flow (left x) (takers x)) (flows_by left takers rest) within) (fed x) k (ap takers (sym (same-exit e x same)) ∙ is)))
-      (λ h. fed-flows_by left takers rest marks (within-right (flow (left x) (takers x)) (flows_by left takers rest) within) fed e k h is)
+  fed-flows_by : (left : Exit → List Wire) (takers : Takers) (ends : List Exit) (exits : ExitLabels) → Within (flows_by left takers ends) → ((e : Exit) → Fed (left e) (exits e)) →
+      (e : Exit) (k : ℕ) → has_end ends e ≡ true → takers e ≡ Some k → FedTo k (exits e)
+  fed-flows_by left takers [] exits within fed e k has is = let i : false ≡ true = has in absurd (cc)
+  fed-flows_by left takers (x ∷ rest) exits within fed e k has is = ⊎_elim
+      (λ same. subst (λ y. FedTo k (exits y)) (sym (same-exit e x same))
+      (fed-flow (left x) (takers x) (exits x) (within-left (flow (left x) (takers x)) (flows_by left takers rest) within) (fed x) k (ap takers (sym (same-exit e x same)) ∙ is)))
+      (λ h. fed-flows_by left takers rest exits (within-right (flow (left x) (takers x)) (flows_by left takers rest) within) fed e k h is)
       (or_cases (same_exit e x) (has_end rest e) has)
 
   grown-fed : (p : List Wire) (pc j : Join) → Fed p pc → Fed (p ++ wires j) (pc ++ j)
   grown-fed p pc j fed = fed-append p (wires j) pc j fed (fed-wires j)
 
-  call-fed : (program : Program) (callee : ℕ) (q : List Wire) (j : Join) → Fed q j → (e : Exit) → Fed (call_wires program callee q e) (call_marks program callee j e)
+  call-fed : (program : Program) (callee : ℕ) (q : List Wire) (j : Join) → Fed q j → (e : Exit) → Fed (call_wires program callee q e) (call_exits program callee j e)
   call-fed program callee q j fed Normal = grown-fed q j (label_if (any_of (procedure_at program callee).throws) (one (label_of program (ToEnd callee)))) fed
   call-fed program callee q j fed Return = fed
   call-fed program callee q j fed Break = fed
   call-fed program callee q j fed Continue = fed
   call-fed program callee q j fed (Throw x) = grown-fed q j (one (label_of program (ToThrown callee x))) fed
 
-  abbrev pub Gives : List Exit → Takers → Marks → Type 0
-  Gives ends takers marks = (e : Exit) (k : ℕ) → has_end ends e ≡ true → takers e ≡ Some k → FedTo k (marks e)
+  abbrev pub Gives : List Exit → Takers → ExitLabels → Type 0
+  Gives ends takers exits = (e : Exit) (k : ℕ) → has_end ends e ≡ true → takers e ≡ Some k → FedTo k (exits e)
 
-  abbrev pub GivesAll : Takers → Marks → Type 0
-  GivesAll takers marks = (e : Exit) (k : ℕ) → takers e ≡ Some k → FedTo k (marks e)
+  abbrev pub GivesAll : Takers → ExitLabels → Type 0
+  GivesAll takers exits = (e : Exit) (k : ℕ) → takers e ≡ Some k → FedTo k (exits e)
 
   fed-single : (ends : List Exit) (p : List Wire) (takers : Takers) (pc : Join) → Within (single true p takers ends) → Fed p pc → one_end ends ≡ true →
       (e : Exit) (k : ℕ) → has_end ends e ≡ true → takers e ≡ Some k → FedTo k pc
@@ -848,43 +848,43 @@ module _ (cs : List Con) where
       fed-flow p (takers h) pc within fed k (ap takers (sym (single-end h rest e one has)) ∙ is)
 
   -- the ends of what is walked or gathered within, and of itself
-  fed-ends : (b : Bool) (ends : List Exit) (p : List Wire) (alone takers : Takers) (pc : Join) (marks : Marks) → one_end ends ≡ b →
-      Within (single b p alone ends) → Fed p pc → Gives ends (within_single b takers) marks → (e : Exit) (k : ℕ) → alone e ≡ Some k → takers e ≡ Some k →
-      FedTo k (at_ends ends pc marks e)
-  fed-ends b ends p alone takers pc marks one within fed gives e k is is' a there = by_test (has_end ends e)
+  fed-ends : (b : Bool) (ends : List Exit) (p : List Wire) (alone takers : Takers) (pc : Join) (exits : ExitLabels) → one_end ends ≡ b →
+      Within (single b p alone ends) → Fed p pc → Gives ends (within_single b takers) exits → (e : Exit) (k : ℕ) → alone e ≡ Some k → takers e ≡ Some k →
+      FedTo k (at_ends ends pc exits e)
+  fed-ends b ends p alone takers pc exits one within fed gives e k is is' a there = by_test (has_end ends e)
       (λ has. go b one within gives has)
-      (λ not_there. absurd (none_in_nil a (subst (λ x. Contains x a) (marks-none ends pc marks e not_there) there)))
+      (λ not_there. absurd (none_in_nil a (subst (λ x. Contains x a) (exits-none ends pc exits e not_there) there)))
     where
-      go : (b : Bool) → one_end ends ≡ b → Within (single b p alone ends) → Gives ends (within_single b takers) marks → has_end ends e ≡ true → Feeds inner_name cs (renamed Real a) (Unknown (Inner k))
-      go true one within gives has = fed-single ends p alone pc within fed one e k has is a (subst (λ x. Contains x a) (marks-single ends pc marks e one has) there)
-      go false one within gives has = gives e k has is' a (subst (λ x. Contains x a) (marks-many ends pc marks e one has) there)
+      go : (b : Bool) → one_end ends ≡ b → Within (single b p alone ends) → Gives ends (within_single b takers) exits → has_end ends e ≡ true → Feeds inner_name cs (renamed Real a) (Unknown (Inner k))
+      go true one within gives has = fed-single ends p alone pc within fed one e k has is a (subst (λ x. Contains x a) (exits-single ends pc exits e one has) there)
+      go false one within gives has = gives e k has is' a (subst (λ x. Contains x a) (exits-many ends pc exits e one has) there)
 
-  fed-block : (ends : List Exit) (p : List Wire) (takers : Takers) (pc : Join) (marks : Marks) (walked : Takers → List Con) →
+  fed-block : (ends : List Exit) (p : List Wire) (takers : Takers) (pc : Join) (exits : ExitLabels) (walked : Takers → List Con) →
       Within (single (one_end ends) p takers ends ++ walked (within_single (one_end ends) takers)) → Fed p pc →
-      ((t : Takers) → Within (walked t) → GivesAll t marks) → GivesAll takers (at_ends ends pc marks)
-  fed-block ends p takers pc marks walked within fed each e k is =
-      fed-ends (one_end ends) ends p takers takers pc marks refl (within-left (single (one_end ends) p takers ends) (walked (within_single (one_end ends) takers)) within) fed
+      ((t : Takers) → Within (walked t) → GivesAll t exits) → GivesAll takers (at_ends ends pc exits)
+  fed-block ends p takers pc exits walked within fed each e k is =
+      fed-ends (one_end ends) ends p takers takers pc exits refl (within-left (single (one_end ends) p takers ends) (walked (within_single (one_end ends) takers)) within) fed
       (λ y z has at. each (within_single (one_end ends) takers) (within-right (single (one_end ends) p takers ends) (walked (within_single (one_end ends) takers)) within) y z at)
       e k is is
 
-  fed-onward : (normal b : Bool) (ends : List Exit) (p : List Wire) (n : ℕ) (takers : Takers) (pc : Join) (marks : Marks) → has_end ends Normal ≡ normal → one_end ends ≡ b →
-      Fed p pc → Gives ends (within_single b (with_normal (Some n) takers)) marks → Fed (onward_wires normal b p n) (at_ends ends pc marks Normal)
-  fed-onward false b ends p n takers pc marks has one fed gives a there = absurd (none_in_nil a (subst (λ x. Contains x a) (marks-none ends pc marks Normal has) there))
-  fed-onward true true ends p n takers pc marks has one fed gives a there = fed a (subst (λ x. Contains x a) (marks-single ends pc marks Normal one has) there)
-  fed-onward true false ends p n takers pc marks has one fed gives a there =
-      fed-inner_wire n (at_ends ends pc marks Normal) (λ a there. gives Normal n has refl a (subst (λ x. Contains x a) (marks-many ends pc marks Normal one has) there)) a there
+  fed-onward : (normal b : Bool) (ends : List Exit) (p : List Wire) (n : ℕ) (takers : Takers) (pc : Join) (exits : ExitLabels) → has_end ends Normal ≡ normal → one_end ends ≡ b →
+      Fed p pc → Gives ends (within_single b (with_normal (Some n) takers)) exits → Fed (onward_wires normal b p n) (at_ends ends pc exits Normal)
+  fed-onward false b ends p n takers pc exits has one fed gives a there = absurd (none_in_nil a (subst (λ x. Contains x a) (exits-none ends pc exits Normal has) there))
+  fed-onward true true ends p n takers pc exits has one fed gives a there = fed a (subst (λ x. Contains x a) (exits-single ends pc exits Normal one has) there)
+  fed-onward true false ends p n takers pc exits has one fed gives a there =
+      fed-inner_wire n (at_ends ends pc exits Normal) (λ a there. gives Normal n has refl a (subst (λ x. Contains x a) (exits-many ends pc exits Normal one has) there)) a there
 
   module _ (scope : Scope) where
     -- a join of three, by its parts
     three : (x y z : Join) (k : ℕ) → FedTo k x → FedTo k y → FedTo k z → FedTo k (x ++ y ++ z)
     three x y z k f g h a there = ⊎_elim (λ t. ⊎_elim (λ i. f a i) (λ i. g a i) (Contains-append_cases x y a t)) (λ t. h a t) (Contains-append_cases (x ++ y) z a there)
 
-    raised-fed : (e : Expression) (q : Join) (left : List Wire) (takers : Takers) → Within (flows left takers (thrown_ends (raises e))) → Fed left q → GivesAll takers (raised_marks e q)
+    raised-fed : (e : Expression) (q : Join) (left : List Wire) (takers : Takers) → Within (flows left takers (thrown_ends (raises e))) → Fed left q → GivesAll takers (raised_exits e q)
     raised-fed e q left takers within fed y k is a there = by_test (has_end (thrown_ends (raises e)) y)
-        (λ has. fed-flows left takers (thrown_ends (raises e)) q within fed y k has is a (sub-same (raised_marks e q y) q (rw has refl) a there))
-        (λ none. absurd (none_in_nil a (sub-same (raised_marks e q y) [] (rw none refl) a there)))
+        (λ has. fed-flows left takers (thrown_ends (raises e)) q within fed y k has is a (sub-same (raised_exits e q y) q (rw has refl) a there))
+        (λ none. absurd (none_in_nil a (sub-same (raised_exits e q y) [] (rw none refl) a there)))
 
-    loop-fed : (b : Join) (x : Marks) (n : ℕ) (takers : Takers) → ((k : ℕ) → takers Normal ≡ Some k → FedTo k b) → GivesAll (in_loop n takers) x → GivesAll takers (loop_marks b x)
+    loop-fed : (b : Join) (x : ExitLabels) (n : ℕ) (takers : Takers) → ((k : ℕ) → takers Normal ≡ Some k → FedTo k b) → GivesAll (in_loop n takers) x → GivesAll takers (loop_exits b x)
     loop-fed b x n takers fed each Normal k is a there = ⊎_elim (λ t. fed k is a t) (λ t. each Break k is a t) (Contains-append_cases b (x Break) a there)
     loop-fed b x n takers fed each Return k is a there = each Return k is a there
     loop-fed b x n takers fed each Break k is a there = absurd (none_in_nil a there)
@@ -892,7 +892,7 @@ module _ (cs : List Con) where
     loop-fed b x n takers fed each (Throw y) k is a there = each (Throw y) k is a there
 
     -- what goes past the handlers is given to its taker
-    past : (handlers : Handlers) (number : ℕ → ℕ) (takers : Takers) (x : Marks) → GivesAll (in_try number handlers takers) x → GivesAll takers (λ y. label_if (passes handlers y) (x y))
+    past : (handlers : Handlers) (number : ℕ → ℕ) (takers : Takers) (x : ExitLabels) → GivesAll (in_try number handlers takers) x → GivesAll takers (λ y. label_if (passes handlers y) (x y))
     past handlers number takers x gives e k is a there = ⊎_elim
         (λ taken. absurd (none_in_nil a (sub-same (label_if (passes handlers e) (x e)) []
         (subst (λ z. label_if (passes handlers z) (x z) ≡ []) taken.1 (not_past taken.0 taken.2)) a there)))
@@ -944,7 +944,7 @@ module _ (cs : List Con) where
           let second : List Con = argument_cons scope at q procedure 0 arguments in
           let third : List Con = target_con scope at 6 (call_wires scope.program procedure q Normal ++ wires (one (label_of scope.program (ToValue procedure)))) target in
           let fourth : List Con = flows_by (call_wires scope.program procedure q) takers ends in
-          fed-flows_by (call_wires scope.program procedure q) takers ends (call_marks scope.program procedure (pc ++ r))
+          fed-flows_by (call_wires scope.program procedure q) takers ends (call_exits scope.program procedure (pc ++ r))
           (within-right third fourth (within-right second (third ++ fourth) (within-right first (second ++ (third ++ fourth)) within)))
           (call-fed scope.program procedure q (pc ++ r) (grown-fed p pc r fed)) y k has is
       fed-gathered (If at e yes_block no_block) p pc takers n part fed within y k has is =
@@ -965,7 +965,7 @@ module _ (cs : List Con) where
           let in_second : Within second = within-left second (third ++ fourth) after in
           let branches : Within (third ++ fourth) = within-right second (third ++ fourth) after in
           let b_fed : Fed (inner_wire n) branch = fed-inner_wire n branch (fed-inner_con (q ++ wires v) n branch in_first (fed-append q (wires v) (pc ++ r) v q_fed (fed-wires v))) in
-          three (raised_marks e (pc ++ r) y) (block_marks scope branch yes_block y) (block_marks scope branch no_block y) k
+          three (raised_exits e (pc ++ r) y) (block_exits scope branch yes_block y) (block_exits scope branch no_block y) k
           (raised-fed e (pc ++ r) q takers in_second q_fed y k is)
           (fed-block yes_ends (inner_wire n) takers branch (block_rule scope branch yes_block) (λ t. walk scope (inner_wire n) t (suc n) yes_block)
           (within-left third fourth branches) b_fed (λ t w. fed-walk yes_block (inner_wire n) branch t (suc n) part.0 b_fed w) y k is)
@@ -979,7 +979,7 @@ module _ (cs : List Con) where
           let b : Join = (l ++ r) ++ v in
           let thrown : List Exit = thrown_ends (raises e) in
           let ends : List Exit = block_ends scope.program body in
-          let x : Marks = block_marks scope b body in
+          let x : ExitLabels = block_exits scope b body in
           let q_fed : Fed q (l ++ r) = fed-append (wires l) (wires r) l r (fed-wires l) (fed-wires r) in
           let first : List Con = rule_con scope at 8 p (ToLoop scope.number loop) in
           let entry : List Con = inner_con (q ++ wires v) n in
@@ -998,7 +998,7 @@ module _ (cs : List Con) where
           (λ t. loop-fed b x (suc n) takers (λ z at. fed-flow (inner_wire n) (takers Normal) b (within-left out raising leaving) b_fed z at)
           (fed-block ends (inner_wire n) (in_loop (suc n) takers) b (block_rule scope b body) (λ t. walk scope (inner_wire n) t (suc (suc n)) body)
           in_third b_fed (λ t w. fed-walk body (inner_wire n) b t (suc (suc n)) part b_fed w)) y k is a t)
-          (Contains-append_cases (raised_marks e (l ++ r) y) (loop_marks b x y) a there)
+          (Contains-append_cases (raised_exits e (l ++ r) y) (loop_exits b x y) a there)
       fed-gathered (Leave at exit) p pc takers n part fed within y k has is =
           fed-flow p (takers exit) pc within fed k (ap takers (sym (single-end exit [] y refl has)) ∙ is)
       fed-gathered (ReturnWith at (Some e)) p pc takers n part fed within y k has is =
@@ -1011,7 +1011,7 @@ module _ (cs : List Con) where
           fed-flow p (takers Return) pc within fed k (ap takers (sym (single-end Return [] y refl has)) ∙ is)
       fed-gathered (Try at block handlers) p pc takers n part fed within y k has is = λ a there.
           let ends : List Exit = block_ends scope.program block in
-          let x : Marks = block_marks scope pc block in
+          let x : ExitLabels = block_exits scope pc block in
           let number : ℕ → ℕ = λ z. number_of handlers n z in
           let inside : Takers = in_try number handlers takers in
           let first : List Con = single (one_end ends) p inside ends ++ walk scope p (within_single (one_end ends) inside) (n + count handlers) block in
@@ -1034,25 +1034,25 @@ module _ (cs : List Con) where
           (λ other. absurd (none_in_nil a (sub-same (label_if (same_exit Normal y) pc) [] (rw other.0 refl) a there))) (normal_or_other y)
       fed-walk (Then s rest) p pc takers n part fed within y k is a there =
           let ends : List Exit = statement_ends scope.program s in
-          let marks : Marks = statement_rule scope pc s in
-          let x : Marks = statement_marks scope pc s in
+          let exits : ExitLabels = statement_rule scope pc s in
+          let x : ExitLabels = statement_exits scope pc s in
           let first : List Con = single (one_end ends) p (with_normal None takers) ends in
           let second : List Con = gathered scope p (within_single (one_end ends) (with_normal (Some n) takers)) (suc n) s in
           let third : List Con = walk scope (onward_wires (has_end ends Normal) (one_end ends) p n) takers (suc n + made s) rest in
           let after : Within (second ++ third) = within-right first (second ++ third) within in
-          let gives : Gives ends (within_single (one_end ends) (with_normal (Some n) takers)) marks =
+          let gives : Gives ends (within_single (one_end ends) (with_normal (Some n) takers)) exits =
             fed-gathered s p pc (within_single (one_end ends) (with_normal (Some n) takers)) (suc n) part.0 fed (within-left second third after) in
           ⊎_elim
           (λ t. ⊎_elim
           (λ same. absurd (none_in_nil a (sub-same (label_if (not (same_exit Normal y)) (x y)) [] (ap (λ z. label_if (not (same_exit Normal z)) (x z)) (sym same)) a t)))
-          (λ other. fed-ends (one_end ends) ends p (with_normal None takers) (with_normal (Some n) takers) pc marks refl (within-left first (second ++ third) within) fed gives y k
+          (λ other. fed-ends (one_end ends) ends p (with_normal None takers) (with_normal (Some n) takers) pc exits refl (within-left first (second ++ third) within) fed gives y k
           (other.1 None takers ∙ is) (other.1 (Some n) takers ∙ is) a (sub-same (label_if (not (same_exit Normal y)) (x y)) (x y) (rw other.0 refl) a t))
           (normal_or_other y))
           (λ t. fed-walk rest (onward_wires (has_end ends Normal) (one_end ends) p n) (x Normal) takers (suc n + made s) part.2
-          (fed-onward (has_end ends Normal) (one_end ends) ends p n takers pc marks refl refl fed gives) (within-right second third after) y k is a t)
+          (fed-onward (has_end ends Normal) (one_end ends) ends p n takers pc exits refl refl fed gives) (within-right second third after) y k is a t)
           (Contains-append_cases (label_if (not (same_exit Normal y)) (x y)) (block_rule scope (x Normal) rest y) a there)
 
-      pub fed-handlers : (handlers : Handlers) (number : ℕ → ℕ) (x : Marks) (takers : Takers) (n : ℕ) → PartBy scope.program handlers →
+      pub fed-handlers : (handlers : Handlers) (number : ℕ → ℕ) (x : ExitLabels) (takers : Takers) (n : ℕ) → PartBy scope.program handlers →
           ((z : ℕ) → handles handlers z ≡ true → FedTo (number z) (x (Throw z))) → Within (walk_handlers scope number takers n handlers) →
           GivesAll takers (handlers_rule scope x handlers)
       fed-handlers NoMore number x takers n part fed within y k is a there = absurd (none_in_nil a there)
@@ -1066,7 +1066,7 @@ module _ (cs : List Con) where
           ⊎_elim
           (λ t. fed-block ends p takers pc (block_rule scope pc body) (λ u. walk scope p u n body) (within-left first second within) p_fed (λ u w. fed-walk body p pc u n part.0 p_fed w) y k is a t)
           (λ t. fed-handlers rest number x takers (n + made_in body) part.1 (λ z h. fed z (or_right (z == handled) (handles rest z) h)) (within-right first second within) y k is a t)
-          (Contains-append_cases (block_marks scope pc body y) (handlers_rule scope x rest y) a there)
+          (Contains-append_cases (block_exits scope pc body y) (handlers_rule scope x rest y) a there)
 
 -- ---- one by one
 outer-append : (xs ys : List Con) → outer inner_name (xs ++ ys) ≡ (outer inner_name xs ++ outer inner_name ys)
@@ -1226,7 +1226,7 @@ module _ (cs : List Con) where
             let ends : List Exit = statement_ends scope.program (Call at procedure arguments target) in
             let v : Join = one (label_of scope.program (ToValue procedure)) in
             let left : List Wire = call_wires scope.program procedure q Normal ++ wires v in
-            let whole : Join = call_marks scope.program procedure j Normal ++ v in
+            let whole : Join = call_exits scope.program procedure j Normal ++ v in
             let fourth : List Con = flows_by (call_wires scope.program procedure q) takers ends in
             one-append (demand scope.program at 6 j (ToBegin procedure)) (argument_demands scope at j procedure 0 arguments ++ target_demand scope at 6 whole target)
             (rule_con scope at 6 q (ToBegin procedure)) (argument_cons scope at q procedure 0 arguments ++ (target_con scope at 6 left target ++ fourth))
@@ -1235,8 +1235,8 @@ module _ (cs : List Con) where
             (argument_cons scope at q procedure 0 arguments) (target_con scope at 6 left target ++ fourth)
             (one-arguments scope at q j procedure 0 arguments q_below q_fed)
             (one-call_target scope at 6 left whole target fourth
-            (grown-below m (call_wires scope.program procedure q Normal) (call_marks scope.program procedure j Normal) v (call-below m scope.program procedure q j q_below Normal))
-            (grown-fed cs (call_wires scope.program procedure q Normal) (call_marks scope.program procedure j Normal) v (call-fed cs scope.program procedure q j q_fed Normal))
+            (grown-below m (call_wires scope.program procedure q Normal) (call_exits scope.program procedure j Normal) v (call-below m scope.program procedure q j q_below Normal))
+            (grown-fed cs (call_wires scope.program procedure q Normal) (call_exits scope.program procedure j Normal) v (call-fed cs scope.program procedure q j q_fed Normal))
             (one-flows_by (call_wires scope.program procedure q) takers ends)))
         one-gathered (If at e yes_block no_block) p pc takers n part agrees below fed within =
             let r : Join = raise_label scope e in
@@ -1278,7 +1278,7 @@ module _ (cs : List Con) where
             let b : Join = (l ++ r) ++ v in
             let thrown : List Exit = thrown_ends (raises e) in
             let ends : List Exit = block_ends scope.program body in
-            let x : Marks = block_marks scope b body in
+            let x : ExitLabels = block_exits scope b body in
             let first : List Con = rule_con scope at 8 p (ToLoop scope.number loop) in
             let entry : List Con = inner_con (q ++ wires v) n in
             let out : List Con = flow (inner_wire n) (takers Normal) in
@@ -1313,7 +1313,7 @@ module _ (cs : List Con) where
         one-gathered (ReturnWith at None) p pc takers n part agrees below fed within = one-flow p (takers Return)
         one-gathered (Try at block handlers) p pc takers n part agrees below fed within =
             let ends : List Exit = block_ends scope.program block in
-            let x : Marks = block_marks scope pc block in
+            let x : ExitLabels = block_exits scope pc block in
             let number : ℕ → ℕ = λ z. number_of handlers n z in
             let inside : Takers = in_try number handlers takers in
             let own : List Con = single (one_end ends) p inside ends in
@@ -1339,8 +1339,8 @@ module _ (cs : List Con) where
         one-walk Empty p pc takers n part agrees below fed within = one-flow p (takers Normal)
         one-walk (Then s rest) p pc takers n part agrees below fed within =
             let ends : List Exit = statement_ends scope.program s in
-            let marks : Marks = statement_rule scope pc s in
-            let x : Marks = statement_marks scope pc s in
+            let exits : ExitLabels = statement_rule scope pc s in
+            let x : ExitLabels = statement_exits scope pc s in
             let t : Takers = within_single (one_end ends) (with_normal (Some n) takers) in
             let first : List Con = single (one_end ends) p (with_normal None takers) ends in
             let second : List Con = gathered scope p t (suc n) s in
@@ -1352,11 +1352,11 @@ module _ (cs : List Con) where
             (one-append (statement_demands scope pc s) (block_demands scope (x Normal) rest) second third
             (one-gathered s p pc t (suc n) part.0 agrees.1 below fed in_second)
             (one-walk rest onward (x Normal) takers (suc n + made s) part.2 agrees.2
-            (onward-below m (has_end ends Normal) (one_end ends) ends p n pc marks refl refl agrees.0 below)
-            (fed-onward cs (has_end ends Normal) (one_end ends) ends p n takers pc marks refl refl fed (fed-gathered cs scope s p pc t (suc n) part.0 fed in_second))
+            (onward-below m (has_end ends Normal) (one_end ends) ends p n pc exits refl refl agrees.0 below)
+            (fed-onward cs (has_end ends Normal) (one_end ends) ends p n takers pc exits refl refl fed (fed-gathered cs scope s p pc t (suc n) part.0 fed in_second))
             (within-right cs second third after)))
 
-        pub one-handlers : (handlers : Handlers) (number : ℕ → ℕ) (x : Marks) (takers : Takers) (n : ℕ) → PartBy scope.program handlers → AgreesBy scope m n x handlers →
+        pub one-handlers : (handlers : Handlers) (number : ℕ → ℕ) (x : ExitLabels) (takers : Takers) (n : ℕ) → PartBy scope.program handlers → AgreesBy scope m n x handlers →
             ((y : ℕ) → handles handlers y ≡ true → m (number y) ≡ x (Throw y)) → ((z : ℕ) → handles handlers z ≡ true → FedTo cs (number z) (x (Throw z))) →
             Within cs (walk_handlers scope number takers n handlers) → One (handlers_demands scope x handlers) (walk_handlers scope number takers n handlers)
         one-handlers NoMore number x takers n part agrees named fed within = tt
@@ -1400,7 +1400,7 @@ body-gathered scope begin body m part agrees =
     untargeted c (Unknown (Inner k)) is e closed = let both : Below m c.left (m k) × (c.target ≡ None) = subst (λ r. closed_by m r c.left c.target) is closed in both.1
 
 -- ---- there are meanings for the inner unknowns
-abbrev handled_at : Marks → Handlers → List Join
+abbrev handled_at : ExitLabels → Handlers → List Join
 handled_at x NoMore = []
 handled_at x (Catch at handled body rest) = x (Throw handled) ∷ handled_at x rest
 
@@ -1444,24 +1444,24 @@ module _ (scope : Scope) where
         branch ∷ (meanings_in branch yes_block ++ meanings_in branch no_block)
     meanings pc (While at loop e body) =
         let b : Join = (one (label_of scope.program (ToLoop scope.number loop)) ++ raise_label scope e) ++ value_label scope e in
-        b ∷ ((block_marks scope b body Normal ++ block_marks scope b body Continue) ∷ meanings_in b body)
+        b ∷ ((block_exits scope b body Normal ++ block_exits scope b body Continue) ∷ meanings_in b body)
     meanings pc (Leave at exit) = []
     meanings pc (ReturnWith at value) = []
     meanings pc (Try at block handlers) =
-        let x : Marks = block_marks scope pc block in
+        let x : ExitLabels = block_exits scope pc block in
         handled_at x handlers ++ (meanings_in pc block ++ meanings_by x handlers)
     meanings pc (Nested at block) = meanings_in pc block
 
     meanings_in : (pc : Join) → Block → List Join
     meanings_in pc Empty = []
     meanings_in pc (Then statement rest) =
-        statement_marks scope pc statement Normal ∷ (meanings pc statement ++ meanings_in (statement_marks scope pc statement Normal) rest)
+        statement_exits scope pc statement Normal ∷ (meanings pc statement ++ meanings_in (statement_exits scope pc statement Normal) rest)
 
-    meanings_by : Marks → Handlers → List Join
+    meanings_by : ExitLabels → Handlers → List Join
     meanings_by x NoMore = []
     meanings_by x (Catch at handled body rest) = meanings_in (x (Throw handled)) body ++ meanings_by x rest
 
-  handled-count : (handlers : Handlers) (x : Marks) → length (handled_at x handlers) ≡ count handlers
+  handled-count : (handlers : Handlers) (x : ExitLabels) → length (handled_at x handlers) ≡ count handlers
   handled-count NoMore x = refl
   handled-count (Catch at handled body rest) x = ap suc (handled-count rest x)
 
@@ -1482,7 +1482,7 @@ module _ (scope : Scope) where
     meanings-made (Leave at exit) pc = refl
     meanings-made (ReturnWith at value) pc = refl
     meanings-made (Try at block handlers) pc =
-        let x : Marks = block_marks scope pc block in
+        let x : ExitLabels = block_exits scope pc block in
         length-append (handled_at x handlers) (meanings_in pc block ++ meanings_by x handlers)
         ∙ ap (λ k. k + length (meanings_in pc block ++ meanings_by x handlers)) (handled-count handlers x)
         ∙ ap (λ k. count handlers + k) (length-append (meanings_in pc block) (meanings_by x handlers)
@@ -1492,18 +1492,18 @@ module _ (scope : Scope) where
     meanings_in-made : (block : Block) (pc : Join) → length (meanings_in pc block) ≡ made_in block
     meanings_in-made Empty pc = refl
     meanings_in-made (Then s rest) pc =
-        ap suc (length-append (meanings pc s) (meanings_in (statement_marks scope pc s Normal) rest)
-        ∙ ap (λ k. k + length (meanings_in (statement_marks scope pc s Normal) rest)) (meanings-made s pc)
-        ∙ ap (λ k. made s + k) (meanings_in-made rest (statement_marks scope pc s Normal)))
+        ap suc (length-append (meanings pc s) (meanings_in (statement_exits scope pc s Normal) rest)
+        ∙ ap (λ k. k + length (meanings_in (statement_exits scope pc s Normal) rest)) (meanings-made s pc)
+        ∙ ap (λ k. made s + k) (meanings_in-made rest (statement_exits scope pc s Normal)))
 
-    meanings_by-made : (handlers : Handlers) (x : Marks) → length (meanings_by x handlers) ≡ made_by handlers
+    meanings_by-made : (handlers : Handlers) (x : ExitLabels) → length (meanings_by x handlers) ≡ made_by handlers
     meanings_by-made NoMore x = refl
     meanings_by-made (Catch at handled body rest) x =
         length-append (meanings_in (x (Throw handled)) body) (meanings_by x rest)
         ∙ ap (λ k. k + length (meanings_by x rest)) (meanings_in-made body (x (Throw handled))) ∙ ap (λ k. made_in body + k) (meanings_by-made rest x)
 
   module _ (m : ℕ → Join) where
-    handled-named : (handlers : Handlers) (x : Marks) (n : ℕ) → Starts m n (handled_at x handlers) → (y : ℕ) → handles handlers y ≡ true → m (number_of handlers n y) ≡ x (Throw y)
+    handled-named : (handlers : Handlers) (x : ExitLabels) (n : ℕ) → Starts m n (handled_at x handlers) → (y : ℕ) → handles handlers y ≡ true → m (number_of handlers n y) ≡ x (Throw y)
     handled-named NoMore x n h y is = let i : false ≡ true = is in absurd (cc)
     handled-named (Catch at handled body rest) x n h y is = go (y == handled) refl is (handled-named rest x (suc n) h.1 y)
       where
@@ -1530,7 +1530,7 @@ module _ (scope : Scope) where
       agrees-from (Leave at exit) n pc h = tt
       agrees-from (ReturnWith at value) n pc h = tt
       agrees-from (Try at block handlers) n pc h =
-          let x : Marks = block_marks scope pc block in
+          let x : ExitLabels = block_exits scope pc block in
           let after : Starts m (n + count handlers) (meanings_in pc block ++ meanings_by x handlers) =
             subst (λ k. Starts m (n + k) (meanings_in pc block ++ meanings_by x handlers)) (handled-count handlers x)
             (starts-right m n (handled_at x handlers) (meanings_in pc block ++ meanings_by x handlers) h) in
@@ -1543,12 +1543,12 @@ module _ (scope : Scope) where
       agrees_in-from : (block : Block) (n : ℕ) (pc : Join) → Starts m n (meanings_in pc block) → AgreesIn scope m n pc block
       agrees_in-from Empty n pc h = tt
       agrees_in-from (Then s rest) n pc h =
-          let after : Join = statement_marks scope pc s Normal in
+          let after : Join = statement_exits scope pc s Normal in
           (h.0, agrees-from s (suc n) pc (starts-left m (suc n) (meanings pc s) (meanings_in after rest) h.1),
           agrees_in-from rest (suc n + made s) after (subst (λ k. Starts m (suc n + k) (meanings_in after rest)) (meanings-made s pc)
           (starts-right m (suc n) (meanings pc s) (meanings_in after rest) h.1)))
 
-      agrees_by-from : (handlers : Handlers) (n : ℕ) (x : Marks) → Starts m n (meanings_by x handlers) → AgreesBy scope m n x handlers
+      agrees_by-from : (handlers : Handlers) (n : ℕ) (x : ExitLabels) → Starts m n (meanings_by x handlers) → AgreesBy scope m n x handlers
       agrees_by-from NoMore n x h = tt
       agrees_by-from (Catch at handled body rest) n x h =
           let own : List Join = meanings_in (x (Throw handled)) body in
@@ -1571,8 +1571,8 @@ ends_of scope = block_ends scope.program (here scope).body
 abbrev begin_of : Scope → Join
 begin_of scope = one (label_of scope.program (ToBegin scope.number))
 
-abbrev marks_of : Scope → Marks
-marks_of scope = block_marks scope (begin_of scope) (here scope).body
+abbrev exits_of : Scope → ExitLabels
+exits_of scope = block_exits scope (begin_of scope) (here scope).body
 
 -- the exceptions that a procedure declares have the numbers after its end's, the first that names one for all that do
 abbrev thrown_number : List ThrownEntry → ℕ → (exception : ℕ) → ℕ
@@ -1634,8 +1634,8 @@ PartsFrom program f (procedure ∷ rest) = PartIn program (procedure_at program 
 module _ (m : ℕ → Join) where
   abbrev AgreesOf : Scope → ℕ → Type 0
   AgreesOf scope n =
-      (m n ≡ (marks_of scope Normal ++ marks_of scope Return))
-      × ((x : ℕ) → declares (here scope).throws x ≡ true → m (thrown_number (here scope).throws (suc n) x) ≡ marks_of scope (Throw x))
+      (m n ≡ (exits_of scope Normal ++ exits_of scope Return))
+      × ((x : ℕ) → declares (here scope).throws x ≡ true → m (thrown_number (here scope).throws (suc n) x) ≡ exits_of scope (Throw x))
       × AgreesIn scope m (first_within scope n) (begin_of scope) (here scope).body
 
   abbrev AgreesFrom : Program → (f n : ℕ) → List ProcedureEntry → Type 0
@@ -1643,11 +1643,11 @@ module _ (m : ℕ → Join) where
   AgreesFrom program f n (procedure ∷ rest) =
       AgreesOf (record { program = program; number = f }) n × AgreesFrom program (suc f) (n + made_of (record { program = program; number = f })) rest
 
-  at_end-take : (scope : Scope) (n : ℕ) → AgreesOf scope n → (ends : List Exit) → Take m ends (at_end n (λ x. thrown_number (here scope).throws (suc n) x) (here scope).throws) (marks_of scope)
+  at_end-take : (scope : Scope) (n : ℕ) → AgreesOf scope n → (ends : List Exit) → Take m ends (at_end n (λ x. thrown_number (here scope).throws (suc n) x) (here scope).throws) (exits_of scope)
   at_end-take scope n agrees ends Normal k h is a there =
-      let same : n ≡ k = cc in subst (λ z. Contains (m z) a) same (sub-same _ (m n) (sym agrees.0) a (Contains-append_left (marks_of scope Normal) (marks_of scope Return) a there))
+      let same : n ≡ k = cc in subst (λ z. Contains (m z) a) same (sub-same _ (m n) (sym agrees.0) a (Contains-append_left (exits_of scope Normal) (exits_of scope Return) a there))
   at_end-take scope n agrees ends Return k h is a there =
-      let same : n ≡ k = cc in subst (λ z. Contains (m z) a) same (sub-same _ (m n) (sym agrees.0) a (Contains-append_right (marks_of scope Normal) (marks_of scope Return) a there))
+      let same : n ≡ k = cc in subst (λ z. Contains (m z) a) same (sub-same _ (m n) (sym agrees.0) a (Contains-append_right (exits_of scope Normal) (exits_of scope Return) a there))
   at_end-take scope n agrees ends Break k h is a there = absurd (cc)
   at_end-take scope n agrees ends Continue k h is a there = absurd (cc)
   at_end-take scope n agrees ends (Throw x) k h is a there = go (declares (here scope).throws x) refl is
@@ -1655,13 +1655,13 @@ module _ (m : ℕ → Join) where
       go : (b : Bool) → declares (here scope).throws x ≡ b → (if b then Some (thrown_number (here scope).throws (suc n) x) else None) ≡ Some k → Contains (m k) a
       go true e is =
           let same : thrown_number (here scope).throws (suc n) x ≡ k = cc in
-          subst (λ z. Contains (m z) a) same (sub-same (marks_of scope (Throw x)) (m (thrown_number (here scope).throws (suc n) x)) (sym (agrees.1 x e)) a there)
+          subst (λ z. Contains (m z) a) same (sub-same (exits_of scope (Throw x)) (m (thrown_number (here scope).throws (suc n) x)) (sym (agrees.1 x e)) a there)
       go false e is = absurd (cc)
 
-  end-take : (scope : Scope) (n : ℕ) → AgreesOf scope n → Take m (ends_of scope) (end_takers scope n) (marks_of scope)
+  end-take : (scope : Scope) (n : ℕ) → AgreesOf scope n → Take m (ends_of scope) (end_takers scope n) (exits_of scope)
   end-take scope n agrees = go (one_end (map as_one_end (ends_of scope)))
     where
-      go : (b : Bool) → Take m (ends_of scope) (if b then nowhere else at_end n (λ x. thrown_number (here scope).throws (suc n) x) (here scope).throws) (marks_of scope)
+      go : (b : Bool) → Take m (ends_of scope) (if b then nowhere else at_end n (λ x. thrown_number (here scope).throws (suc n) x) (here scope).throws) (exits_of scope)
       go true = λ e k h is a there. let i : None ≡ Some k = is in absurd (cc)
       go false = at_end-take scope n agrees (ends_of scope)
 
@@ -1695,7 +1695,7 @@ module _ (m : ℕ → Join) where
       (closed-procedure scope n parts.0 agrees.0) (closed-from program (suc f) (n + made_of scope) rest parts.1 agrees.1)
 
   module _ (cs : List Con) (closed : Closed m cs) where
-    one-thrown : (scope : Scope) (number : ℕ → ℕ) (x : Marks) (throws : List ThrownEntry) →
+    one-thrown : (scope : Scope) (number : ℕ → ℕ) (x : ExitLabels) (throws : List ThrownEntry) →
         ((y : ℕ) → declares throws y ≡ true → Below m (inner_wire (number y)) (x (Throw y)) × Fed cs (inner_wire (number y)) (x (Throw y))) →
         One cs (flat_map (λ (entry : ThrownEntry). demand scope.program (here scope).at 13 (x (Throw entry.exception)) (ToThrown scope.number entry.exception)) throws) (thrown_cons scope number throws)
     one-thrown scope number x [] each = tt
@@ -1708,24 +1708,24 @@ module _ (m : ℕ → Join) where
         (one-rule cs m closed scope (here scope).at 13 (inner_wire (number entry.exception)) (x (Throw entry.exception)) (ToThrown scope.number entry.exception) own.0 own.1)
         (one-thrown scope number x rest (λ y h. each y (or_right (y == entry.exception) (declares rest y) h)))
 
-    one-ends : (scope : Scope) (n : ℕ) → AgreesOf scope n → GivesAll cs (end_takers scope n) (marks_of scope) → One cs (end_demands scope (ends_of scope) (marks_of scope)) (end_cons scope n)
+    one-ends : (scope : Scope) (n : ℕ) → AgreesOf scope n → GivesAll cs (end_takers scope n) (exits_of scope) → One cs (end_demands scope (ends_of scope) (exits_of scope)) (end_cons scope n)
     one-ends scope n agrees gives = go (one_end (map as_one_end (ends_of scope))) gives
       where
-        go : (b : Bool) → GivesAll cs (if b then nowhere else at_end n (λ x. thrown_number (here scope).throws (suc n) x) (here scope).throws) (marks_of scope) →
-            One cs (if b then [] else (demand scope.program (here scope).at 13 (marks_of scope Normal ++ marks_of scope Return) (ToEnd scope.number)
-            ++ flat_map (λ (entry : ThrownEntry). demand scope.program (here scope).at 13 (marks_of scope (Throw entry.exception)) (ToThrown scope.number entry.exception)) (here scope).throws))
+        go : (b : Bool) → GivesAll cs (if b then nowhere else at_end n (λ x. thrown_number (here scope).throws (suc n) x) (here scope).throws) (exits_of scope) →
+            One cs (if b then [] else (demand scope.program (here scope).at 13 (exits_of scope Normal ++ exits_of scope Return) (ToEnd scope.number)
+            ++ flat_map (λ (entry : ThrownEntry). demand scope.program (here scope).at 13 (exits_of scope (Throw entry.exception)) (ToThrown scope.number entry.exception)) (here scope).throws))
             (if b then [] else (rule_con scope (here scope).at 13 (inner_wire n) (ToEnd scope.number) ++ thrown_cons scope (λ x. thrown_number (here scope).throws (suc n) x) (here scope).throws))
         go true given = tt
         go false given =
             let number : ℕ → ℕ = λ x. thrown_number (here scope).throws (suc n) x in
-            let whole : Join = marks_of scope Normal ++ marks_of scope Return in
+            let whole : Join = exits_of scope Normal ++ exits_of scope Return in
             one-append cs (demand scope.program (here scope).at 13 whole (ToEnd scope.number))
-            (flat_map (λ (entry : ThrownEntry). demand scope.program (here scope).at 13 (marks_of scope (Throw entry.exception)) (ToThrown scope.number entry.exception)) (here scope).throws)
+            (flat_map (λ (entry : ThrownEntry). demand scope.program (here scope).at 13 (exits_of scope (Throw entry.exception)) (ToThrown scope.number entry.exception)) (here scope).throws)
             (rule_con scope (here scope).at 13 (inner_wire n) (ToEnd scope.number)) (thrown_cons scope number (here scope).throws)
             (one-rule cs m closed scope (here scope).at 13 (inner_wire n) whole (ToEnd scope.number) (below-inner m n whole agrees.0)
-            (fed-inner_wire cs n whole (λ a there. ⊎_elim (λ t. given Normal n refl a t) (λ t. given Return n refl a t) (Contains-append_cases (marks_of scope Normal) (marks_of scope Return) a there))))
-            (one-thrown scope number (marks_of scope) (here scope).throws (λ y h.
-            (below-inner m (number y) (marks_of scope (Throw y)) (agrees.1 y h), fed-inner_wire cs (number y) (marks_of scope (Throw y)) (given (Throw y) (number y) (rw h refl)))))
+            (fed-inner_wire cs n whole (λ a there. ⊎_elim (λ t. given Normal n refl a t) (λ t. given Return n refl a t) (Contains-append_cases (exits_of scope Normal) (exits_of scope Return) a there))))
+            (one-thrown scope number (exits_of scope) (here scope).throws (λ y h.
+            (below-inner m (number y) (exits_of scope (Throw y)) (agrees.1 y h), fed-inner_wire cs (number y) (exits_of scope (Throw y)) (given (Throw y) (number y) (rw h refl)))))
 
     one-procedure : (scope : Scope) (n : ℕ) → PartIn scope.program (here scope).body → AgreesOf scope n → Within cs (procedure_cons scope n) → One cs (procedure_demands scope) (procedure_cons scope n)
     one-procedure scope n part agrees within =
@@ -1735,10 +1735,10 @@ module _ (m : ℕ → Join) where
         let own : List Con = single (one_end ends) p takers ends in
         let walked : List Con = walk scope p (within_single (one_end ends) takers) (first_within scope n) (here scope).body in
         let in_body : Within cs (own ++ walked) = within-left cs (own ++ walked) (end_cons scope n) within in
-        let gives : GivesAll cs takers (marks_of scope) = fed-block cs ends p takers (begin_of scope) (block_rule scope (begin_of scope) (here scope).body)
+        let gives : GivesAll cs takers (exits_of scope) = fed-block cs ends p takers (begin_of scope) (block_rule scope (begin_of scope) (here scope).body)
           (λ t. walk scope p t (first_within scope n) (here scope).body) in_body (fed-wires cs (begin_of scope))
           (λ t w. fed-walk cs scope (here scope).body p (begin_of scope) t (first_within scope n) part (fed-wires cs (begin_of scope)) w) in
-        one-append cs (block_demands scope (begin_of scope) (here scope).body) (end_demands scope ends (marks_of scope)) (own ++ walked) (end_cons scope n)
+        one-append cs (block_demands scope (begin_of scope) (here scope).body) (end_demands scope ends (exits_of scope)) (own ++ walked) (end_cons scope n)
         (one-append cs [] (block_demands scope (begin_of scope) (here scope).body) own walked (one-single cs (one_end ends) p takers ends)
         (one-walk cs m closed scope (here scope).body p (begin_of scope) (within_single (one_end ends) takers) (first_within scope n) part agrees.2
         (below-wires m (begin_of scope)) (fed-wires cs (begin_of scope)) (within-right cs own walked in_body)))
@@ -1774,22 +1774,22 @@ program-gathered program m parts agrees =
     untargeted c (Unknown (Inner k)) is e closed = let both : Below m c.left (m k) × (c.target ≡ None) = subst (λ r. closed_by m r c.left c.target) is closed in both.1
 
 -- ---- meanings for the inner unknowns of a program
-abbrev thrown_at : Marks → List ThrownEntry → List Join
+abbrev thrown_at : ExitLabels → List ThrownEntry → List Join
 thrown_at x [] = []
 thrown_at x (entry ∷ rest) = x (Throw entry.exception) ∷ thrown_at x rest
 
-thrown-length : (x : Marks) (throws : List ThrownEntry) → length (thrown_at x throws) ≡ length throws
+thrown-length : (x : ExitLabels) (throws : List ThrownEntry) → length (thrown_at x throws) ≡ length throws
 thrown-length x [] = refl
 thrown-length x (entry ∷ rest) = ap suc (thrown-length x rest)
 
 abbrev meanings_of : Scope → List Join
 meanings_of scope =
-    (marks_of scope Normal ++ marks_of scope Return) ∷ (thrown_at (marks_of scope) (here scope).throws ++ meanings_in scope (begin_of scope) (here scope).body)
+    (exits_of scope Normal ++ exits_of scope Return) ∷ (thrown_at (exits_of scope) (here scope).throws ++ meanings_in scope (begin_of scope) (here scope).body)
 
 meanings_of-made : (scope : Scope) → length (meanings_of scope) ≡ made_of scope
 meanings_of-made scope =
-    ap suc (length-append (thrown_at (marks_of scope) (here scope).throws) (meanings_in scope (begin_of scope) (here scope).body)
-    ∙ ap (λ k. k + length (meanings_in scope (begin_of scope) (here scope).body)) (thrown-length (marks_of scope) (here scope).throws)
+    ap suc (length-append (thrown_at (exits_of scope) (here scope).throws) (meanings_in scope (begin_of scope) (here scope).body)
+    ∙ ap (λ k. k + length (meanings_in scope (begin_of scope) (here scope).body)) (thrown-length (exits_of scope) (here scope).throws)
     ∙ ap (λ k. length (here scope).throws + k) (meanings_in-made scope (here scope).body (begin_of scope)))
 
 abbrev meanings_from : Program → (f : ℕ) → List ProcedureEntry → List Join
@@ -1797,7 +1797,7 @@ meanings_from program f [] = []
 meanings_from program f (procedure ∷ rest) = meanings_of (record { program = program; number = f }) ++ meanings_from program (suc f) rest
 
 module _ (m : ℕ → Join) where
-  thrown-named : (throws : List ThrownEntry) (x : Marks) (n : ℕ) → Starts m n (thrown_at x throws) → (y : ℕ) → declares throws y ≡ true → m (thrown_number throws n y) ≡ x (Throw y)
+  thrown-named : (throws : List ThrownEntry) (x : ExitLabels) (n : ℕ) → Starts m n (thrown_at x throws) → (y : ℕ) → declares throws y ≡ true → m (thrown_number throws n y) ≡ x (Throw y)
   thrown-named [] x n h y is = let i : false ≡ true = is in absurd (cc)
   thrown-named (entry ∷ rest) x n h y is = go (y == entry.exception) refl is (thrown-named rest x (suc n) h.1 y)
     where
@@ -1808,11 +1808,11 @@ module _ (m : ℕ → Join) where
 
   agrees_of-from : (scope : Scope) (n : ℕ) → Starts m n (meanings_of scope) → AgreesOf m scope n
   agrees_of-from scope n h =
-      let xs : List Join = thrown_at (marks_of scope) (here scope).throws in
+      let xs : List Join = thrown_at (exits_of scope) (here scope).throws in
       let ys : List Join = meanings_in scope (begin_of scope) (here scope).body in
-      (h.0, thrown-named (here scope).throws (marks_of scope) (suc n) (starts-left m (suc n) xs ys h.1),
+      (h.0, thrown-named (here scope).throws (exits_of scope) (suc n) (starts-left m (suc n) xs ys h.1),
       agrees_in-from scope m (here scope).body (first_within scope n) (begin_of scope)
-      (subst (λ k. Starts m (suc n + k) ys) (thrown-length (marks_of scope) (here scope).throws) (starts-right m (suc n) xs ys h.1)))
+      (subst (λ k. Starts m (suc n + k) ys) (thrown-length (exits_of scope) (here scope).throws) (starts-right m (suc n) xs ys h.1)))
 
   agrees_from-from : (program : Program) (f n : ℕ) (ps : List ProcedureEntry) → Starts m n (meanings_from program f ps) → AgreesFrom m program f n ps
   agrees_from-from program f n [] h = tt

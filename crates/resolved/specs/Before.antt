@@ -1,5 +1,6 @@
--- The rules of labels: what each statement demands at the label of the way to it, which labels its ends have, and when a
--- program is labelled.
+-- Private to `resolved` and `checker`, and only until the constraints of a program are gathered and solved: the rules of labels as
+-- in `Labelled`, with evaluated left sides in place of lists of atoms. The checker's walk along a straight-line program goes by these,
+-- and `proofs/Faithful` shows that both say the same.
 -- Source: our own rules; a label for each way out as in JFlow (Myers 1999), simple security and confinement after Volpano,
 -- Smith and Irvine 1996.
 use Rattle.std.specs.Prelude.{ℕ, suc, List, [], ◌∷◌, ◌++◌, Bool, true, false, not, map, flat_map, ◌==◌, ◌&&◌, if◌then◌else◌, IsTrue, Option, Some, None}
@@ -89,13 +90,13 @@ raise_labels scope [] = []
 raise_labels scope (e ∷ rest) = raise_label scope e ++ raise_labels scope rest
 
 -- a label for each way out
-abbrev pub Marks : Type 0
-Marks = Exit → Label
+abbrev pub ExitLabels : Type 0
+ExitLabels = Exit → Label
 
--- the marks of a statement by what the rule of its form says: only possible ends have a label, and where there is one possible
+-- the exits of a statement by what the rule of its form says: only possible ends have a label, and where there is one possible
 -- end only, it has the label of the way to the statement (the rule of the single path)
-abbrev pub at_ends : (ends : List Exit) → (pc : Label) → Marks → Marks
-at_ends ends pc marks exit = label_if (has_end ends exit) (if one_end ends then pc else marks exit)
+abbrev pub at_ends : (ends : List Exit) → (pc : Label) → ExitLabels → ExitLabels
+at_ends ends pc exits exit = label_if (has_end ends exit) (if one_end ends then pc else exits exit)
 
 -- the label at which a statement has evaluated its own expressions, and at which these raise exceptions. For a loop it begins
 -- with the loop's own label
@@ -111,63 +112,63 @@ own_label scope pc (While at loop e body) = scope.labelling.loop_label loop ++ r
 own_label scope pc (ReturnWith at (Some e)) = pc ++ raise_label scope e
 own_label scope pc _ = pc
 
--- the marks of what an expression raises at q
-abbrev pub raised_marks : Expression → (q : Label) → Marks
-raised_marks e q exit = label_if (has_end (thrown_ends (raises e)) exit) q
+-- the exits of what an expression raises at q
+abbrev pub raised_exits : Expression → (q : Label) → ExitLabels
+raised_exits e q exit = label_if (has_end (thrown_ends (raises e)) exit) q
 
--- the marks of a call whose arguments were evaluated at q: the end label of the procedure counts where it declares exceptions
-abbrev pub call_marks : ProcedureEntry → (q : Label) → Marks
-call_marks callee q Normal = q ++ label_if (any_of callee.throws) callee.end_label
-call_marks callee q (Throw exception) = q ++ thrown_label callee.throws exception
-call_marks callee q _ = q
+-- the exits of a call whose arguments were evaluated at q: the end label of the procedure counts where it declares exceptions
+abbrev pub call_exits : ProcedureEntry → (q : Label) → ExitLabels
+call_exits callee q Normal = q ++ label_if (any_of callee.throws) callee.end_label
+call_exits callee q (Throw exception) = q ++ thrown_label callee.throws exception
+call_exits callee q _ = q
 
--- the marks of a loop whose body begins at b, by those of the body
-abbrev pub loop_marks : (b : Label) → Marks → Marks
-loop_marks b body Normal = b ++ body Break
-loop_marks b body exit = label_if (leaves_loop exit) (body exit)
+-- the exits of a loop whose body begins at b, by those of the body
+abbrev pub loop_exits : (b : Label) → ExitLabels → ExitLabels
+loop_exits b body Normal = b ++ body Break
+loop_exits b body exit = label_if (leaves_loop exit) (body exit)
 
 -- what the rule of each form says of the ends of statements, blocks and handlers. Handlers begin at the label of their exception
 abbrev mutual
-  pub statement_rule : Scope → (pc : Label) → Statement → Marks
+  pub statement_rule : Scope → (pc : Label) → Statement → ExitLabels
   statement_rule scope pc (Call at procedure arguments target) exit =
-      call_marks (procedure_at scope.program procedure) (own_label scope pc (Call at procedure arguments target)) exit
+      call_exits (procedure_at scope.program procedure) (own_label scope pc (Call at procedure arguments target)) exit
   statement_rule scope pc (If at e yes_block no_block) exit =
       let q : Label = own_label scope pc (If at e yes_block no_block) in
       let branch : Label = q ++ value_label scope e in
-      raised_marks e q exit
+      raised_exits e q exit
       ++ at_ends (block_ends scope.program yes_block) branch (block_rule scope branch yes_block) exit
       ++ at_ends (block_ends scope.program no_block) branch (block_rule scope branch no_block) exit
   statement_rule scope pc (While at loop e body) exit =
       let q : Label = own_label scope pc (While at loop e body) in
       let b : Label = q ++ value_label scope e in
-      raised_marks e q exit
-      ++ loop_marks b (at_ends (block_ends scope.program body) b (block_rule scope b body)) exit
+      raised_exits e q exit
+      ++ loop_exits b (at_ends (block_ends scope.program body) b (block_rule scope b body)) exit
   statement_rule scope pc (Try at block handlers) exit =
-      let x : Marks = at_ends (block_ends scope.program block) pc (block_rule scope pc block) in
+      let x : ExitLabels = at_ends (block_ends scope.program block) pc (block_rule scope pc block) in
       label_if (passes handlers exit) (x exit) ++ handlers_rule scope x handlers exit
   statement_rule scope pc (Nested at block) exit =
       at_ends (block_ends scope.program block) pc (block_rule scope pc block) exit
   statement_rule scope pc other exit = own_label scope pc other
 
-  pub block_rule : Scope → (pc : Label) → Block → Marks
+  pub block_rule : Scope → (pc : Label) → Block → ExitLabels
   block_rule scope pc Empty exit = label_if (same_exit Normal exit) pc
   block_rule scope pc (Then statement rest) exit =
-      let x : Marks = at_ends (statement_ends scope.program statement) pc (statement_rule scope pc statement) in
+      let x : ExitLabels = at_ends (statement_ends scope.program statement) pc (statement_rule scope pc statement) in
       label_if (not (same_exit Normal exit)) (x exit) ++ block_rule scope (x Normal) rest exit
 
-  pub handlers_rule : Scope → Marks → Handlers → Marks
+  pub handlers_rule : Scope → ExitLabels → Handlers → ExitLabels
   handlers_rule scope x NoMore exit = []
   handlers_rule scope x (Catch at handled body rest) exit =
       at_ends (block_ends scope.program body) (x (Throw handled)) (block_rule scope (x (Throw handled)) body) exit
       ++ handlers_rule scope x rest exit
 
 -- the labels of the ends of a statement and of a block that are reached at pc
-abbrev pub statement_marks : Scope → (pc : Label) → Statement → Marks
-statement_marks scope pc statement =
+abbrev pub statement_exits : Scope → (pc : Label) → Statement → ExitLabels
+statement_exits scope pc statement =
     at_ends (statement_ends scope.program statement) pc (statement_rule scope pc statement)
 
-abbrev pub block_marks : Scope → (pc : Label) → Block → Marks
-block_marks scope pc block = at_ends (block_ends scope.program block) pc (block_rule scope pc block)
+abbrev pub block_exits : Scope → (pc : Label) → Block → ExitLabels
+block_exits scope pc block = at_ends (block_ends scope.program block) pc (block_rule scope pc block)
 
 -- a demand: what is on the left flows to what is on the right; with the byte at which its statement begins and its rule
 pub record Demand : Type 0 where
@@ -211,14 +212,14 @@ abbrev mutual
       let callee : ProcedureEntry = procedure_at scope.program procedure in
       demand at 6 q callee.begin_label
       ++ argument_demands scope at q callee 0 arguments
-      ++ target_demand scope at 6 (call_marks callee q Normal ++ result_label callee.result) target
+      ++ target_demand scope at 6 (call_exits callee q Normal ++ result_label callee.result) target
   statement_demands scope pc (If at e yes_block no_block) =
       let branch : Label = own_label scope pc (If at e yes_block no_block) ++ value_label scope e in
       block_demands scope branch yes_block ++ block_demands scope branch no_block
   statement_demands scope pc (While at loop e body) =
       let l : Label = scope.labelling.loop_label loop in
       let b : Label = own_label scope pc (While at loop e body) ++ value_label scope e in
-      let x : Marks = block_marks scope b body in
+      let x : ExitLabels = block_exits scope b body in
       demand at 8 pc l ++ block_demands scope b body ++ demand at 8 (x Normal ++ x Continue) l
   statement_demands scope pc (Leave at exit) = []
   statement_demands scope pc (ReturnWith at None) = []
@@ -226,15 +227,15 @@ abbrev mutual
       let q : Label = own_label scope pc (ReturnWith at (Some e)) in
       demand at 10 (q ++ value_label scope e) (result_label scope.procedure.result)
   statement_demands scope pc (Try at block handlers) =
-      block_demands scope pc block ++ handlers_demands scope (block_marks scope pc block) handlers
+      block_demands scope pc block ++ handlers_demands scope (block_exits scope pc block) handlers
   statement_demands scope pc (Nested at block) = block_demands scope pc block
 
   pub block_demands : Scope → (pc : Label) → Block → List Demand
   block_demands scope pc Empty = []
   block_demands scope pc (Then statement rest) =
-      statement_demands scope pc statement ++ block_demands scope (statement_marks scope pc statement Normal) rest
+      statement_demands scope pc statement ++ block_demands scope (statement_exits scope pc statement Normal) rest
 
-  pub handlers_demands : Scope → Marks → Handlers → List Demand
+  pub handlers_demands : Scope → ExitLabels → Handlers → List Demand
   handlers_demands scope x NoMore = []
   handlers_demands scope x (Catch at handled body rest) =
       block_demands scope (x (Throw handled)) body ++ handlers_demands scope x rest
@@ -246,7 +247,7 @@ as_one_end exit = exit
 
 -- the demands on the ends of a procedure's body, where it has more than one: on its normal end and its return, then on each
 -- exception in the order in which they are declared
-abbrev pub end_demands : ProcedureEntry → (ends : List Exit) → Marks → List Demand
+abbrev pub end_demands : ProcedureEntry → (ends : List Exit) → ExitLabels → List Demand
 end_demands procedure ends x =
     if one_end (map as_one_end ends) then []
     else (demand procedure.at 13 (x Normal ++ x Return) procedure.end_label
@@ -257,7 +258,7 @@ abbrev pub procedure_demands : Program → Labelling → ProcedureEntry → List
 procedure_demands program labelling procedure =
     let scope : Scope = record { program = program; procedure = procedure; labelling = labelling } in
     block_demands scope procedure.begin_label procedure.body
-    ++ end_demands procedure (block_ends program procedure.body) (block_marks scope procedure.begin_label procedure.body)
+    ++ end_demands procedure (block_ends program procedure.body) (block_exits scope procedure.begin_label procedure.body)
 
 -- the demands of a program's procedures from number f on, each with its own labelling
 abbrev pub demands_from : Program → (ℕ → Labelling) → (f : ℕ) → List ProcedureEntry → List Demand

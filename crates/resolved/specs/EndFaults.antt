@@ -4,7 +4,7 @@ use Rattle.std.specs.Prelude.{ℕ, List, [], ◌∷◌, ◌++◌, Bool, true, fa
 use Rattle.std.specs.List.{list_all}
 use Rattle.resolved.specs.declared.statement.Exit.{Exit}
 use Rattle.resolved.specs.declared.statement.Exit.TheVariants.{Normal, Return, Break, Continue, Throw}
-use Rattle.resolved.specs.Tree.{Statement, If, While, Leave, Try, Nested, Block, Empty, Then, Handlers, NoMore, Catch, place_of}
+use Rattle.resolved.specs.Tree.{Statement, Assign, Clear, Store, Receive, Send, Call, If, While, Leave, ReturnWith, Try, Nested, Block, Empty, Then, Handlers, NoMore, Catch, place_of}
 use Rattle.resolved.specs.Program.{Program, ProcedureEntry}
 use Rattle.resolved.specs.Ends.{same_exit, has_end, thrown_ends, declared_by, statement_ends, block_ends}
 
@@ -27,22 +27,45 @@ abbrev pub fault_unless : Bool → EndRefusal → (at : ℕ) → List EndFault
 fault_unless test refusal at = if test then [] else (record { refusal = refusal; at = at } ∷ [])
 
 -- whether a statement may stand here, in a loop or not
+abbrev pub may_leave : (in_loop : Bool) → Exit → Bool
+may_leave in_loop Normal = true
+may_leave in_loop Return = true
+may_leave in_loop Break = in_loop
+may_leave in_loop Continue = in_loop
+may_leave in_loop (Throw exception) = true
+
 abbrev pub may_stand : (in_loop : Bool) → Statement → Bool
-may_stand in_loop (Leave at Break) = in_loop
-may_stand in_loop (Leave at Continue) = in_loop
-may_stand in_loop _ = true
+may_stand in_loop (Assign at x e) = true
+may_stand in_loop (Clear at slot) = true
+may_stand in_loop (Store at array length index e) = true
+may_stand in_loop (Receive at channel target) = true
+may_stand in_loop (Send at channel e) = true
+may_stand in_loop (Call at procedure arguments target) = true
+may_stand in_loop (If at e yes_block no_block) = true
+may_stand in_loop (While at loop e body) = true
+may_stand in_loop (Leave at exit) = may_leave in_loop exit
+may_stand in_loop (ReturnWith at value) = true
+may_stand in_loop (Try at block handlers) = true
+may_stand in_loop (Nested at block) = true
 
 -- the faults of blocks, statements and handlers. A statement is reached where the one before it can end normally; the ends are
 -- those that the handlers before have not taken
 abbrev mutual
   pub inner_faults : Program → (in_loop : Bool) → Statement → List EndFault
+  inner_faults program in_loop (Assign at x e) = []
+  inner_faults program in_loop (Clear at slot) = []
+  inner_faults program in_loop (Store at array length index e) = []
+  inner_faults program in_loop (Receive at channel target) = []
+  inner_faults program in_loop (Send at channel e) = []
+  inner_faults program in_loop (Call at procedure arguments target) = []
   inner_faults program in_loop (If at e yes_block no_block) =
       block_faults program in_loop true yes_block ++ block_faults program in_loop true no_block
   inner_faults program in_loop (While at loop e body) = block_faults program true true body
+  inner_faults program in_loop (Leave at exit) = []
+  inner_faults program in_loop (ReturnWith at value) = []
   inner_faults program in_loop (Try at block handlers) =
       block_faults program in_loop true block ++ handlers_faults program in_loop (block_ends program block) handlers
   inner_faults program in_loop (Nested at block) = block_faults program in_loop true block
-  inner_faults program in_loop _ = []
 
   pub block_faults : Program → (in_loop reached : Bool) → Block → List EndFault
   block_faults program in_loop reached Empty = []
@@ -63,7 +86,9 @@ abbrev mutual
 abbrev pub may_end : ProcedureEntry → Exit → Bool
 may_end procedure Normal = true
 may_end procedure Return = true
-may_end procedure exit = has_end (thrown_ends (declared_by procedure.throws)) exit
+may_end procedure Break = false
+may_end procedure Continue = false
+may_end procedure (Throw exception) = has_end (thrown_ends (declared_by procedure.throws)) (Throw exception)
 
 -- the faults of a procedure: those of its body and then those of its own ends, which stand at its name
 abbrev pub procedure_faults : Program → ProcedureEntry → List EndFault

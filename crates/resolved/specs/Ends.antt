@@ -1,17 +1,17 @@
 -- The ends that a statement may have, found without running it.
--- Source: our own rules; several ways out of a statement as in JFlow (Myers 1999).
+-- Source: our own rules; several exits of a statement as in JFlow (Myers 1999).
 use Rattle.std.specs.Prelude.{ℕ, List, [], ◌∷◌, ◌++◌, Bool, true, false, not, map, filter, ◌==◌, ◌||◌, if◌then◌else◌, Some, None}
 use Rattle.std.specs.List.{list_any, list_all}
 use Rattle.resolved.specs.declared.expression.Prefix.TheVariants.{Negate}
 use Rattle.resolved.specs.declared.expression.Operator.{Operator}
-use Rattle.resolved.specs.declared.expression.Operator.TheVariants.{Divide, Remainder}
+use Rattle.resolved.specs.declared.expression.Operator.TheVariants.{Add, Subtract, Multiply, Divide, Remainder, LessThan, AtMost, GreaterThan, AtLeast, Equal, Unequal, Same, Different}
 use Rattle.resolved.specs.declared.statement.Exit.{Exit}
 use Rattle.resolved.specs.declared.statement.Exit.TheVariants.{Normal, Return, Break, Continue, Throw}
 use Rattle.resolved.specs.Tree.{Expression, Integer, Logical, Read, Element, Unary, Binary, Short, Statement, Assign, Clear, Store, Receive, Send, Call, If, While, Leave, ReturnWith, Try, Nested, Block, Empty, Then, Handlers, NoMore, Catch}
 use Rattle.resolved.specs.Program.{Program, ThrownEntry, procedure_at}
 use Rattle.resolved.specs.Value.{literal_number, is_zero, in_range, arith_exception, bounds_exception, end_exception}
 
--- whether two ways out are the same
+-- whether two exits are the same
 abbrev pub same_exit : Exit → Exit → Bool
 same_exit Normal Normal = true
 same_exit Return Return = true
@@ -20,11 +20,11 @@ same_exit Continue Continue = true
 same_exit (Throw a) (Throw b) = a == b
 same_exit _ _ = false
 
--- whether a way out is among these
+-- whether an exit is among these
 abbrev pub has_end : List Exit → Exit → Bool
 has_end ends exit = list_any (same_exit exit) ends
 
--- whether these, which may name one several times, are one way out only
+-- whether these, which may name one several times, are one exit only
 abbrev pub one_end : List Exit → Bool
 one_end [] = false
 one_end (exit ∷ rest) = list_all (same_exit exit) rest
@@ -32,19 +32,39 @@ one_end (exit ∷ rest) = list_all (same_exit exit) rest
 -- whether an index may be out of range: not if it is a literal in range
 abbrev pub index_can_raise : Expression → (length : ℕ) → Bool
 index_can_raise (Integer n) length = not (in_range (literal_number n) length)
-index_can_raise _ length = true
+index_can_raise (Logical b) length = true
+index_can_raise (Read x) length = true
+index_can_raise (Element array size index) length = true
+index_can_raise (Unary prefix e) length = true
+index_can_raise (Binary operator d e) length = true
+index_can_raise (Short connective d e) length = true
 
 -- whether a divisor may be 0: not if it is a nonzero literal, or a minus sign before one
 abbrev pub divisor_can_raise : Expression → Bool
 divisor_can_raise (Integer n) = is_zero (literal_number n)
 divisor_can_raise (Unary Negate (Integer n)) = is_zero (literal_number n)
-divisor_can_raise _ = true
+divisor_can_raise (Logical b) = true
+divisor_can_raise (Read x) = true
+divisor_can_raise (Element array length index) = true
+divisor_can_raise (Unary prefix e) = true
+divisor_can_raise (Binary operator d e) = true
+divisor_can_raise (Short connective d e) = true
 
 -- whether an operator divides
 abbrev pub is_division : Operator → Bool
+is_division Add = false
+is_division Subtract = false
+is_division Multiply = false
 is_division Divide = true
 is_division Remainder = true
-is_division _ = false
+is_division LessThan = false
+is_division AtMost = false
+is_division GreaterThan = false
+is_division AtLeast = false
+is_division Equal = false
+is_division Unequal = false
+is_division Same = false
+is_division Different = false
 
 -- the exceptions of an access with this index, and of an operator with this right operand
 abbrev pub index_raises : Expression → (length : ℕ) → List ℕ
@@ -74,21 +94,26 @@ thrown_ends exceptions = map (λ exception. Throw exception) exceptions
 abbrev pub declared_by : List ThrownEntry → List ℕ
 declared_by entries = map (λ (entry : ThrownEntry). entry.exception) entries
 
--- whether a way out goes on outside a loop when the body takes it
+-- whether an exit of a loop's body is one of the loop
 abbrev pub leaves_loop : Exit → Bool
+leaves_loop Normal = false
 leaves_loop Return = true
+leaves_loop Break = false
+leaves_loop Continue = false
 leaves_loop (Throw exception) = true
-leaves_loop _ = false
 
 -- whether one of the handlers takes an exception
 abbrev pub handles : Handlers → (exception : ℕ) → Bool
 handles NoMore exception = false
 handles (Catch at handled body rest) exception = exception == handled || handles rest exception
 
--- whether a way out leaves the block of a `try` past its handlers
+-- whether an exit of the block of a `try` passes its handlers
 abbrev pub passes : Handlers → Exit → Bool
+passes handlers Normal = true
+passes handlers Return = true
+passes handlers Break = true
+passes handlers Continue = true
 passes handlers (Throw exception) = not (handles handlers exception)
-passes handlers _ = true
 
 -- the ends of a first part, its normal end replaced by the ends of what follows
 abbrev pub then_ends : List Exit → List Exit → List Exit

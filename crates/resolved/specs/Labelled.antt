@@ -1,13 +1,15 @@
--- The rules of labels: what each statement demands at the label of the way to it, which labels its ends have, and when a
--- program is labelled. The rules are symbolic: a join lists written labels and labels that are not written, and a labelling says
--- what the latter are. V is the label of a value, R that of whether an expression raises, q that at which a statement has
--- evaluated its expressions, and X gives each end of a statement its label.
+-- The rules of labels: what each statement demands at the program-counter label (pc) with which it is reached, which labels its
+-- ends have, and when a program is labelled. The rules are symbolic: a join lists written labels and labels that are not written,
+-- and a labelling says what the latter are. V is the label of an expression's value, R that of whether it raises an exception, q
+-- that at which a statement has evaluated its expressions, and X gives each end of a statement its label. The rules are numbered:
+-- 1 assignment, 2 declaration of an array, 3 store, 4 receive, 5 send, 6 call, 7 if, 8 while, 9 leave, 10 return, 11 try, 12 block
+-- (in braces), and 13 the ends of a procedure. Each of q, X and the demands has a clause for each rule, in this order.
 -- Source: our own rules; a label for each way out as in JFlow (Myers 1999), simple security and confinement after Volpano,
 -- Smith and Irvine 1996.
 use Rattle.std.specs.Prelude.{ℕ, suc, List, [], ◌∷◌, ◌++◌, Bool, true, false, not, map, flat_map, ◌==◌, ◌&&◌, if◌then◌else◌, Option, Some, None}
 use Rattle.principals.specs.ActsFor.{PrincipalHierarchy}
 use Rattle.labels.specs.Label.{Label}
-use Rattle.labels.specs.Constraints.{Atom, Written, Unknown, Constraint, FitsAll, label_lattice, total, value}
+use Rattle.labels.specs.Constraints.{Atom, Written, Unknown, Constraint, FitsAll, label_lattice, join_of, value}
 use Rattle.resolved.specs.declared.expression.Variable.{Variable}
 use Rattle.resolved.specs.declared.expression.Variable.TheVariants.{Global, Local}
 use Rattle.resolved.specs.declared.statement.Exit.{Exit}
@@ -21,8 +23,7 @@ pub data Unwritten : Type 0 where
   OfLocal : (procedure local : ℕ) → Unwritten
   OfLoop : (procedure loop : ℕ) → Unwritten
 
--- a written label, or one that is not written; and the join of all in a list: the join of two joins is `++`, and the least one is
--- empty
+-- a label that is written, or one that is not; and the join of all in a list: the join of two joins is `++`, the least is `[]`
 abbrev pub LabelAtom : Type 0
 LabelAtom = Atom Unwritten Label
 
@@ -127,17 +128,17 @@ abbrev pub raise_labels : Scope → List Expression → Join
 raise_labels scope [] = []
 raise_labels scope (e ∷ rest) = raise_label scope e ++ raise_labels scope rest
 
--- X: a label for each way out
-abbrev pub Marks : Type 0
-Marks = Exit → Join
+-- X: a label for each end
+abbrev pub ExitLabels : Type 0
+ExitLabels = Exit → Join
 
--- the marks of a statement by what the rule of its form says: only possible ends have a label, and where there is one possible
--- end only, it has the label of the way to the statement (the rule of the single path)
-abbrev pub at_ends : (ends : List Exit) → (pc : Join) → Marks → Marks
-at_ends ends pc marks exit = label_if (has_end ends exit) (if one_end ends then pc else marks exit)
+-- X by what the rule of a form says of it: only possible ends have a label, and where there is one possible end only, it has pc
+-- (the rule of the single path)
+abbrev pub at_ends : (ends : List Exit) → (pc : Join) → ExitLabels → ExitLabels
+at_ends ends pc x exit = label_if (has_end ends exit) (if one_end ends then pc else x exit)
 
--- q: the label at which a statement has evaluated its own expressions, and at which these raise exceptions. For a loop it begins
--- with the loop's own label
+-- q: the label at which a statement has evaluated its own expressions, and at which these raise exceptions. That of a loop has the
+-- loop's own label in place of pc
 abbrev pub own_label : Scope → (pc : Join) → Statement → Join
 own_label scope pc (Assign at x e) = pc ++ raise_label scope e
 own_label scope pc (Clear at slot) = pc
@@ -155,77 +156,77 @@ own_label scope pc (ReturnWith at None) = pc
 own_label scope pc (Try at block handlers) = pc
 own_label scope pc (Nested at block) = pc
 
--- the marks of what an expression raises at q
-abbrev pub raised_marks : Expression → (q : Join) → Marks
-raised_marks e q exit = label_if (has_end (thrown_ends (raises e)) exit) q
+-- X of what an expression raises at q
+abbrev pub raised_exits : Expression → (q : Join) → ExitLabels
+raised_exits e q exit = label_if (has_end (thrown_ends (raises e)) exit) q
 
--- the marks of a call whose arguments were evaluated at q: the end label of the procedure counts where it declares exceptions
-abbrev pub call_marks : Program → (callee : ℕ) → (q : Join) → Marks
-call_marks program callee q Normal =
+-- X of a call whose arguments were evaluated at q: the end label of the procedure counts where it declares exceptions
+abbrev pub call_exits : Program → (callee : ℕ) → (q : Join) → ExitLabels
+call_exits program callee q Normal =
     q ++ label_if (any_of (procedure_at program callee).throws) (one (label_of program (ToEnd callee)))
-call_marks program callee q Return = q
-call_marks program callee q Break = q
-call_marks program callee q Continue = q
-call_marks program callee q (Throw exception) = q ++ one (label_of program (ToThrown callee exception))
+call_exits program callee q Return = q
+call_exits program callee q Break = q
+call_exits program callee q Continue = q
+call_exits program callee q (Throw exception) = q ++ one (label_of program (ToThrown callee exception))
 
--- the marks of a loop whose body begins at b, by those of the body
-abbrev pub loop_marks : (b : Join) → Marks → Marks
-loop_marks b body Normal = b ++ body Break
-loop_marks b body Return = body Return
-loop_marks b body Break = []
-loop_marks b body Continue = []
-loop_marks b body (Throw exception) = body (Throw exception)
+-- X of a loop whose body is reached at b, by that of the body
+abbrev pub loop_exits : (b : Join) → ExitLabels → ExitLabels
+loop_exits b body Normal = b ++ body Break
+loop_exits b body Return = body Return
+loop_exits b body Break = []
+loop_exits b body Continue = []
+loop_exits b body (Throw exception) = body (Throw exception)
 
--- what the rule of each form says of the ends of statements, blocks and handlers. Handlers begin at the label of their exception
+-- what the rule of each form says of X, of statements, blocks and handlers. A handler is reached at the label of its exception
 abbrev mutual
-  pub statement_rule : Scope → (pc : Join) → Statement → Marks
+  pub statement_rule : Scope → (pc : Join) → Statement → ExitLabels
   statement_rule scope pc (Assign at x e) exit = own_label scope pc (Assign at x e)
   statement_rule scope pc (Clear at slot) exit = own_label scope pc (Clear at slot)
   statement_rule scope pc (Store at array length index e) exit = own_label scope pc (Store at array length index e)
   statement_rule scope pc (Receive at channel target) exit = own_label scope pc (Receive at channel target)
   statement_rule scope pc (Send at channel e) exit = own_label scope pc (Send at channel e)
   statement_rule scope pc (Call at procedure arguments target) exit =
-      call_marks scope.program procedure (own_label scope pc (Call at procedure arguments target)) exit
+      call_exits scope.program procedure (own_label scope pc (Call at procedure arguments target)) exit
   statement_rule scope pc (If at e yes_block no_block) exit =
       let q : Join = own_label scope pc (If at e yes_block no_block) in
       let branch : Join = q ++ value_label scope e in
-      raised_marks e q exit
+      raised_exits e q exit
       ++ at_ends (block_ends scope.program yes_block) branch (block_rule scope branch yes_block) exit
       ++ at_ends (block_ends scope.program no_block) branch (block_rule scope branch no_block) exit
   statement_rule scope pc (While at loop e body) exit =
       let q : Join = own_label scope pc (While at loop e body) in
       let b : Join = q ++ value_label scope e in
-      raised_marks e q exit
-      ++ loop_marks b (at_ends (block_ends scope.program body) b (block_rule scope b body)) exit
-  statement_rule scope pc (Leave at way_out) exit = own_label scope pc (Leave at way_out)
+      raised_exits e q exit
+      ++ loop_exits b (at_ends (block_ends scope.program body) b (block_rule scope b body)) exit
+  statement_rule scope pc (Leave at taken) exit = own_label scope pc (Leave at taken)
   statement_rule scope pc (ReturnWith at value) exit = own_label scope pc (ReturnWith at value)
   statement_rule scope pc (Try at block handlers) exit =
-      let x : Marks = at_ends (block_ends scope.program block) pc (block_rule scope pc block) in
+      let x : ExitLabels = at_ends (block_ends scope.program block) pc (block_rule scope pc block) in
       label_if (passes handlers exit) (x exit) ++ handlers_rule scope x handlers exit
   statement_rule scope pc (Nested at block) exit =
       at_ends (block_ends scope.program block) pc (block_rule scope pc block) exit
 
-  pub block_rule : Scope → (pc : Join) → Block → Marks
+  pub block_rule : Scope → (pc : Join) → Block → ExitLabels
   block_rule scope pc Empty exit = label_if (same_exit Normal exit) pc
   block_rule scope pc (Then statement rest) exit =
-      let x : Marks = at_ends (statement_ends scope.program statement) pc (statement_rule scope pc statement) in
+      let x : ExitLabels = at_ends (statement_ends scope.program statement) pc (statement_rule scope pc statement) in
       label_if (not (same_exit Normal exit)) (x exit) ++ block_rule scope (x Normal) rest exit
 
-  pub handlers_rule : Scope → Marks → Handlers → Marks
+  pub handlers_rule : Scope → ExitLabels → Handlers → ExitLabels
   handlers_rule scope x NoMore exit = []
   handlers_rule scope x (Catch at handled body rest) exit =
       at_ends (block_ends scope.program body) (x (Throw handled)) (block_rule scope (x (Throw handled)) body) exit
       ++ handlers_rule scope x rest exit
 
 -- X of a statement and of a block that are reached at pc
-abbrev pub statement_marks : Scope → (pc : Join) → Statement → Marks
-statement_marks scope pc statement =
+abbrev pub statement_exits : Scope → (pc : Join) → Statement → ExitLabels
+statement_exits scope pc statement =
     at_ends (statement_ends scope.program statement) pc (statement_rule scope pc statement)
 
-abbrev pub block_marks : Scope → (pc : Join) → Block → Marks
-block_marks scope pc block = at_ends (block_ends scope.program block) pc (block_rule scope pc block)
+abbrev pub block_exits : Scope → (pc : Join) → Block → ExitLabels
+block_exits scope pc block = at_ends (block_ends scope.program block) pc (block_rule scope pc block)
 
--- a demand: what is on the left flows to the label of its target; with the byte at which its statement begins and its rule
+-- a demand: what is on the left flows to the label of its target; with the first byte of its statement, and its rule
 abbrev pub Demand : Type 0
 Demand = Constraint Target Unwritten Label
 
@@ -245,7 +246,7 @@ argument_demands scope at q callee i (e ∷ rest) =
     demand scope.program at 6 (q ++ value_label scope e) (ToParameter callee i)
     ++ argument_demands scope at q callee (suc i) rest
 
--- what statements, blocks and handlers demand that are reached at pc, each rule in its own order
+-- what statements, blocks and handlers demand that are reached at pc, in the order in which each rule lists it
 abbrev mutual
   pub statement_demands : Scope → (pc : Join) → Statement → List Demand
   statement_demands scope pc (Assign at x e) =
@@ -265,13 +266,13 @@ abbrev mutual
       let q : Join = own_label scope pc (Call at procedure arguments target) in
       demand scope.program at 6 q (ToBegin procedure)
       ++ argument_demands scope at q procedure 0 arguments
-      ++ target_demand scope at 6 (call_marks scope.program procedure q Normal ++ one (label_of scope.program (ToValue procedure))) target
+      ++ target_demand scope at 6 (call_exits scope.program procedure q Normal ++ one (label_of scope.program (ToValue procedure))) target
   statement_demands scope pc (If at e yes_block no_block) =
       let branch : Join = own_label scope pc (If at e yes_block no_block) ++ value_label scope e in
       block_demands scope branch yes_block ++ block_demands scope branch no_block
   statement_demands scope pc (While at loop e body) =
       let b : Join = own_label scope pc (While at loop e body) ++ value_label scope e in
-      let x : Marks = block_marks scope b body in
+      let x : ExitLabels = block_exits scope b body in
       demand scope.program at 8 pc (ToLoop scope.number loop)
       ++ block_demands scope b body
       ++ demand scope.program at 8 (x Normal ++ x Continue) (ToLoop scope.number loop)
@@ -281,20 +282,20 @@ abbrev mutual
       demand scope.program at 10 (q ++ value_label scope e) (ToValue scope.number)
   statement_demands scope pc (ReturnWith at None) = []
   statement_demands scope pc (Try at block handlers) =
-      block_demands scope pc block ++ handlers_demands scope (block_marks scope pc block) handlers
+      block_demands scope pc block ++ handlers_demands scope (block_exits scope pc block) handlers
   statement_demands scope pc (Nested at block) = block_demands scope pc block
 
   pub block_demands : Scope → (pc : Join) → Block → List Demand
   block_demands scope pc Empty = []
   block_demands scope pc (Then statement rest) =
-      statement_demands scope pc statement ++ block_demands scope (statement_marks scope pc statement Normal) rest
+      statement_demands scope pc statement ++ block_demands scope (statement_exits scope pc statement Normal) rest
 
-  pub handlers_demands : Scope → Marks → Handlers → List Demand
+  pub handlers_demands : Scope → ExitLabels → Handlers → List Demand
   handlers_demands scope x NoMore = []
   handlers_demands scope x (Catch at handled body rest) =
       block_demands scope (x (Throw handled)) body ++ handlers_demands scope x rest
 
--- for a procedure, normal and return are one way out
+-- for a procedure, normal and return are one end
 abbrev pub as_one_end : Exit → Exit
 as_one_end Normal = Normal
 as_one_end Return = Normal
@@ -302,9 +303,9 @@ as_one_end Break = Break
 as_one_end Continue = Continue
 as_one_end (Throw exception) = Throw exception
 
--- the demands on the ends of a procedure's body, where it has more than one: on its normal end and its return, then on each
--- exception in the order in which they are declared
-abbrev pub end_demands : Scope → (ends : List Exit) → Marks → List Demand
+-- 13: the demands on the ends of a procedure's body, where it has more than one: on its normal end and its return, then on each
+-- exception in the order in which they are declared, all at the procedure's name
+abbrev pub end_demands : Scope → (ends : List Exit) → ExitLabels → List Demand
 end_demands scope ends x =
     if one_end (map as_one_end ends) then []
     else (demand scope.program (here scope).at 13 (x Normal ++ x Return) (ToEnd scope.number)
@@ -316,7 +317,7 @@ abbrev pub procedure_demands : Scope → List Demand
 procedure_demands scope =
     let begin : Join = one (label_of scope.program (ToBegin scope.number)) in
     block_demands scope begin (here scope).body
-    ++ end_demands scope (block_ends scope.program (here scope).body) (block_marks scope begin (here scope).body)
+    ++ end_demands scope (block_ends scope.program (here scope).body) (block_exits scope begin (here scope).body)
 
 -- the demands of a program's procedures from number f on
 abbrev pub demands_from : Program → (f : ℕ) → List ProcedureEntry → List Demand
@@ -347,7 +348,7 @@ abbrev pub label_under : Labelling → LabelAtom → Label
 label_under labelling atom = value (chosen labelling) atom
 
 abbrev pub join_under : Labelling → Join → Label
-join_under labelling join = total (λ a b. a ++ b) [] (chosen labelling) join
+join_under labelling join = join_of (λ a b. a ++ b) [] (chosen labelling) join
 
 -- demands that hold under a labelling
 abbrev pub Fits : PrincipalHierarchy → Labelling → List Demand → Type 0

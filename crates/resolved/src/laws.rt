@@ -1,5 +1,11 @@
 //! Laws of the definitions, each the contract of a function that does nothing.
+ghost use Rattle.labels.specs.Constraints.{FitsAll, IsRefusedAt, StandsFor, label_lattice, reported_gathered, reported_steps};
+ghost use Rattle.labels.specs.Label.{Label, ReaderPolicy};
+ghost use Rattle.resolved.specs.Flow.{AreGathered, AreLeast, FlowBothWays, Gathered, IsFlowChain, IsRefused, IsUncovered, reported_step};
 ghost use Rattle.resolved.specs.Kinds.{MeaningKeepsTypes, RunsBeginTyped, ValuesHaveTheirTypes};
+ghost use Rattle.resolved.specs.Labelled.{Demand, Labelled, Unwritten, program_demands};
+ghost use Rattle.resolved.specs.Program.{Program};
+ghost use Rattle.std.specs.Prelude.{Contains, List, ℕ, ◌≡◌, ◌↔◌, ◌⊎◌};
 
 /// In a state that fits the tables, an expression of a base type has a value of that type or raises an exception; the meaning of
 /// what fits goes from states that fit to states that fit; and a run begins in one. So no operator, condition, index, argument,
@@ -9,4 +15,35 @@ pub fn values_keep_their_types()
     ensures values { ValuesHaveTheirTypes }
     ensures meaning { MeaningKeepsTypes }
     ensures begin { RunsBeginTyped }
+{}
+
+/// Every program is labelled or refused, and not both. Its locals and loops have least labels, which are unique up to flow both ways
+/// and with which the program is labelled where it is labelled at all. Where it is refused, a flow chain leads from a policy of a
+/// written label to the first demand with a written right side that does not hold under the least labels; and a chain rules out
+/// every labelling.
+pub fn programs_are_labelled_or_refused()
+    ensures least { (program : Program) → (labels : Unwritten → Label) × AreLeast program labels }
+    ensures unique { (program : Program) (labels others : Unwritten → Label) →
+        AreLeast program labels → AreLeast program others → FlowBothWays program labels others }
+    ensures tried { (program : Program) (labels : Unwritten → Label) → AreLeast program labels →
+        Labelled program ↔ FitsAll (label_lattice program.hierarchy) (program_demands program) labels }
+    ensures either { (program : Program) → Labelled program ⊎ ((policy : ReaderPolicy)
+        × (chain : List Demand) × (last : Demand) × IsRefused program policy chain last) }
+    ensures ruled_out { (program : Program) (policy : ReaderPolicy) (chain : List Demand) (last : Demand) →
+        IsFlowChain program policy chain last → Labelled program → ⊥ }
+{}
+
+/// What was gathered from a program's demands decides it: the program is labelled where some labels fit all that was gathered, and
+/// where that is refused, the program is refused at the demand that the last of the chain stands for, with a chain of which the
+/// same steps are reported.
+pub fn gathered_constraints_decide()
+    ensures labelled { (program : Program) (cs : List Gathered) → AreGathered program cs →
+        Labelled program ↔ ((labels : ℕ → Label) × FitsAll (label_lattice program.hierarchy) cs labels) }
+    ensures refused { (program : Program) (cs : List Gathered) (gathered : AreGathered program cs)
+        (from : Label) (chain : List Gathered) (last : Gathered) (policy : ReaderPolicy) →
+        IsRefusedAt (label_lattice program.hierarchy) cs from chain last → Contains from policy →
+        IsUncovered program.hierarchy last.right policy →
+        (there : List Demand) × (d : Demand) × IsRefused program policy there d
+        × StandsFor gathered.number gathered.inner cs d last
+        × (reported_gathered reported_step chain ≡ reported_steps reported_step there) }
 {}

@@ -6,17 +6,12 @@ use Rattle.resolved.specs.StraightLine.{is_straight_line}
 use Rattle.checker.specs.FirstFault.{first_of, fault_of}
 use Rattle.std.proofs.lemmas.Str.{is_utf8-from_IsUtf8}
 use Rattle.isolation.proofs.Laws.{isolated}
-use Rattle.resolved.specs.Before as old
 use Rattle.resolved.specs.Labelled.{Labelled}
-use Rattle.resolved.proofs.Parts.{program_parts}
-use Rattle.resolved.proofs.Faithful.{labelled-after, labelled-before, own-labels}
-use Rattle.resolved.specs.declared.program.Core.{Core}
 use Rattle.types.specs.Resolution.{resolved_of}
-use Rattle.checker.specs.FirstDemand.{TellsRefusal, TellsFirstDemand, RulesOut}
+use Rattle.checker.specs.FirstDemand.{ReportsUnmet, ReportsRefusal, RulesOut}
 use Rattle.checker.specs.declared.refusal.FlowRefusal.TheVariants.{Unmet}
 use Rattle.checker.proofs.Checking.{of_tree, written_anywhere, names_boundary, straight_here, end_boundary, demand_boundary, names_told}
 use Rattle.checker.proofs.Reading.{tree_nodes}
-use Rattle.checker.proofs.Bridge.{refused-from}
 use Rattle.checker.proofs.phases.check.Goals as goal
 
 pub returns-in-Err-clause-refused : goal.returns-in-Err-clause-refused
@@ -63,13 +58,6 @@ check_ends-requires c =
           (straight_here c.args.hierarchy.now c.args.source.now (program_tree c.in-Ok.tree) c.utf8.source c.in-Ok.ensures.short c.in-Ok.ensures.spelled c.in-Ok-resolve.ensures.clean);
     }
 
--- labelled in the one form and in the other
-after : (core : Core) → old.Labelled (program_of core) → Labelled (program_of core)
-after core = labelled-after (program_of core) (own-labels (program_of core) (program_parts (program_of core) core.well_formed).procedures_fit)
-
-back : (core : Core) → Labelled (program_of core) → old.Labelled (program_of core)
-back core = labelled-before (program_of core) (own-labels (program_of core) (program_parts (program_of core) core.well_formed).procedures_fit)
-
 pub check_flows-requires : goal.check_flows-requires
 check_flows-requires c =
     record {
@@ -109,7 +97,7 @@ invariant_of-result c = record {
     straight = subst (λ p. IsTrue (is_straight_line p)) (sym c.in-Ok-resolve.ensures.resolved)
         (straight_here c.args.hierarchy.now c.args.source.now (program_tree c.in-Ok.tree) c.utf8.source c.in-Ok.ensures.short c.in-Ok.ensures.spelled c.in-Ok-resolve.ensures.clean);
     ended = c.in-Ok-check_ends.ensures.clean.0 refl;
-    labelled = after c.in-Ok-resolve.core c.in-Ok-check_flows.ensures.labelled;
+    labelled = c.in-Ok-check_flows.ensures.labelled;
   } ∣₁;
 }
 
@@ -121,7 +109,7 @@ returns-in-Ok-check_flows-clause-accepted c = record {
   spelled = c.in-Ok.ensures.spelled;
   named = c.in-Ok-resolve.ensures.clean;
   ended = sym (ap end_faults c.in-Ok-resolve.ensures.resolved) ∙ c.in-Ok-check_ends.ensures.clean.0 refl;
-  labelled = subst Labelled c.in-Ok-resolve.ensures.resolved (after c.in-Ok-resolve.core c.in-Ok-check_flows.ensures.labelled);
+  labelled = subst Labelled c.in-Ok-resolve.ensures.resolved c.in-Ok-check_flows.ensures.labelled;
 }
 
 pub returns-in-Ok-check_flows-clause-program : goal.returns-in-Ok-check_flows-clause-program
@@ -130,14 +118,14 @@ returns-in-Ok-check_flows-clause-program c = λ tree spelled.
 
 pub returns-in-Ok-check_flows-clause-isolated : goal.returns-in-Ok-check_flows-clause-isolated
 returns-in-Ok-check_flows-clause-isolated c =
-    isolated (program_of c.in-Ok-resolve.core) (c.in-Ok-check_ends.ensures.clean.0 refl) (after c.in-Ok-resolve.core c.in-Ok-check_flows.ensures.labelled)
+    isolated (program_of c.in-Ok-resolve.core) (c.in-Ok-check_ends.ensures.clean.0 refl) c.in-Ok-check_flows.ensures.labelled
 
 pub refused-requires-in-Err-Unmet : goal.refused-requires-in-Err-Unmet
 refused-requires-in-Err-Unmet c =
     record {
       boundary = demand_boundary c.args.hierarchy.now c.args.source.now (program_tree c.in-Ok.tree) c.utf8.source c.in-Ok.ensures.short c.in-Ok.ensures.spelled
           (program_of c.in-Ok-resolve.core) c.in-Err-Unmet.unmet c.in-Ok-resolve.ensures.resolved c.in-Ok-resolve.ensures.clean
-          (subst (TellsFirstDemand (program_of c.in-Ok-resolve.core)) c.in-Err-Unmet.field-0-is c.in-Err-Unmet.ensures.refused);
+          (subst (ReportsRefusal (program_of c.in-Ok-resolve.core)) c.in-Err-Unmet.field-0-is c.in-Err-Unmet.ensures.refused);
     }
 
 pub returns-clause-refused : goal.returns-clause-refused
@@ -149,9 +137,8 @@ returns-clause-refused c =
         c.in-Ok.ensures.spelled,
         c.in-Ok-resolve.ensures.clean,
         sym (ap end_faults c.in-Ok-resolve.ensures.resolved) ∙ c.in-Ok-check_ends.ensures.clean.0 refl,
-        subst (λ p. TellsRefusal p c.in-Err-Unmet.unmet) c.in-Ok-resolve.ensures.resolved
-            (refused-from (program_of c.in-Ok-resolve.core) (own-labels (program_of c.in-Ok-resolve.core) (program_parts (program_of c.in-Ok-resolve.core) c.in-Ok-resolve.core.well_formed).procedures_fit)
-            c.in-Err-Unmet.unmet (subst (TellsFirstDemand (program_of c.in-Ok-resolve.core)) c.in-Err-Unmet.field-0-is c.in-Err-Unmet.ensures.refused)),
+        subst (λ p. ReportsUnmet p c.in-Err-Unmet.unmet) c.in-Ok-resolve.ensures.resolved
+            (subst (ReportsRefusal (program_of c.in-Ok-resolve.core)) c.in-Err-Unmet.field-0-is c.in-Err-Unmet.ensures.refused),
         refl,
       ),
     )
@@ -161,4 +148,4 @@ returns-clause-not_accepted c =
     inr (λ accepted.
     let labelled = (of_tree c.args.hierarchy.now c.args.source.now (program_tree c.in-Ok.tree) c.in-Ok.ensures.only accepted).labelled in
     let out : RulesOut (program_of c.in-Ok-resolve.core) (Unmet c.in-Err-Unmet.unmet) = subst (RulesOut (program_of c.in-Ok-resolve.core)) c.in-Err-Unmet.field-0-is c.in-Err-Unmet.ensures.not_labelled in
-    out (back c.in-Ok-resolve.core (subst Labelled (sym c.in-Ok-resolve.ensures.resolved) labelled)))
+    out (subst Labelled (sym c.in-Ok-resolve.ensures.resolved) labelled))

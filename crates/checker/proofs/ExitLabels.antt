@@ -14,10 +14,10 @@ use Rattle.resolved.specs.Tree.{Statement, Assign, Receive, Send, Block, Empty, 
 use Rattle.resolved.specs.Program.{Program, ProcedureEntry}
 use Rattle.resolved.specs.Value.{end_exception}
 use Rattle.resolved.specs.Ends.{same_exit, has_end, one_end, thrown_ends, block_ends}
-use Rattle.resolved.specs.Before.{Scope, Marks, Demand, label_if, at_ends, as_one_end, statement_rule, block_rule, statement_marks, block_marks, end_demands}
+use Rattle.resolved.specs.Before.{Scope, ExitLabels, Demand, label_if, at_ends, as_one_end, statement_rule, block_rule, statement_exits, block_exits, end_demands}
 use Rattle.checker.specs.Way.{StandsFor, StandsForEnds, leaving_demands, is_receive, receives, way_past, way_through, is_sum_of, is_statement_of, is_block_of}
 use Rattle.checker.proofs.Ending.{sum-raises, ends_of, block-ends}
-use Rattle.checker.proofs.Following.{marks-way}
+use Rattle.checker.proofs.Following.{exits-way}
 
 -- the way only grows
 past-grows : (program : Program) (pc : Label) (statement : Statement) (policy : ReaderPolicy) → Contains pc policy → Contains (way_past program pc statement) policy
@@ -49,14 +49,14 @@ label-if_none true = refl
 label-if_none false = refl
 
 -- the label of a statement's end at the end of an input
-marks-ended : (scope : Scope) (channels locals : ℕ) (pc : Label) (statement : Statement) → is_statement_of channels locals statement ≡ true
-    → statement_marks scope pc statement (Throw end_exception) ≡ (if is_receive statement then way_past scope.program pc statement else [])
-marks-ended scope channels locals pc (Assign at x e) s =
+exits-ended : (scope : Scope) (channels locals : ℕ) (pc : Label) (statement : Statement) → is_statement_of channels locals statement ≡ true
+    → statement_exits scope pc statement (Throw end_exception) ≡ (if is_receive statement then way_past scope.program pc statement else [])
+exits-ended scope channels locals pc (Assign at x e) s =
     ap (λ es. at_ends (Normal ∷ thrown_ends es) pc (statement_rule scope pc (Assign at x e)) (Throw end_exception)) (sum-raises locals e (and_parts _ (is_sum_of locals e) s).1)
-marks-ended scope channels locals pc (Receive at channel target) s = refl
-marks-ended scope channels locals pc (Send at channel e) s =
+exits-ended scope channels locals pc (Receive at channel target) s = refl
+exits-ended scope channels locals pc (Send at channel e) s =
     ap (λ es. at_ends (Normal ∷ thrown_ends es) pc (statement_rule scope pc (Send at channel e)) (Throw end_exception)) (sum-raises locals e (and_parts _ (is_sum_of locals e) s).1)
-marks-ended scope channels locals pc _ s = absurd (let clash : false ≡ true = s in cc)
+exits-ended scope channels locals pc _ s = absurd (let clash : false ≡ true = s in cc)
 
 -- an end that is not one of a straight-line statement's
 pub record IsNoEnd (exit : Exit) : Type 0 where
@@ -64,20 +64,20 @@ pub record IsNoEnd (exit : Exit) : Type 0 where
   pub not_ended : same_exit exit (Throw end_exception) ≡ false
   pub normal_not : same_exit Normal exit ≡ false
 
-marks-none : (scope : Scope) (channels locals : ℕ) (pc : Label) (statement : Statement) (exit : Exit) → IsNoEnd exit → is_statement_of channels locals statement ≡ true
-    → statement_marks scope pc statement exit ≡ []
-marks-none scope channels locals pc (Assign at x e) exit n s =
+exits-none : (scope : Scope) (channels locals : ℕ) (pc : Label) (statement : Statement) (exit : Exit) → IsNoEnd exit → is_statement_of channels locals statement ≡ true
+    → statement_exits scope pc statement exit ≡ []
+exits-none scope channels locals pc (Assign at x e) exit n s =
     let raised = sum-raises locals e (and_parts _ (is_sum_of locals e) s).1 in
     ap (λ es. at_ends (Normal ∷ thrown_ends es) pc (statement_rule scope pc (Assign at x e)) exit) raised
     ∙ ap (λ b. label_if (b || false) pc) n.not_normal
-marks-none scope channels locals pc (Receive at channel target) exit n s =
+exits-none scope channels locals pc (Receive at channel target) exit n s =
     ap (λ b. label_if (b || (same_exit exit (Throw end_exception) || false)) (statement_rule scope pc (Receive at channel target) exit)) n.not_normal
     ∙ ap (λ b. label_if (b || false) (statement_rule scope pc (Receive at channel target) exit)) n.not_ended
-marks-none scope channels locals pc (Send at channel e) exit n s =
+exits-none scope channels locals pc (Send at channel e) exit n s =
     let raised = sum-raises locals e (and_parts _ (is_sum_of locals e) s).1 in
     ap (λ es. at_ends (Normal ∷ thrown_ends es) pc (statement_rule scope pc (Send at channel e)) exit) raised
     ∙ ap (λ b. label_if (b || false) pc) n.not_normal
-marks-none scope channels locals pc _ exit n s = absurd (let clash : false ≡ true = s in cc)
+exits-none scope channels locals pc _ exit n s = absurd (let clash : false ≡ true = s in cc)
 
 -- the labels of a block's ends
 rule-normal : (scope : Scope) (channels locals : ℕ) (pc : Label) (block : Block) → is_block_of channels locals block ≡ true
@@ -85,7 +85,7 @@ rule-normal : (scope : Scope) (channels locals : ℕ) (pc : Label) (block : Bloc
 rule-normal scope channels locals pc Empty s = refl
 rule-normal scope channels locals pc (Then statement rest) s =
     let parts = and_parts (is_statement_of channels locals statement) (is_block_of channels locals rest) s in
-    ap (λ (way : Label). block_rule scope way rest Normal) (marks-way scope channels locals pc statement parts.0)
+    ap (λ (way : Label). block_rule scope way rest Normal) (exits-way scope channels locals pc statement parts.0)
     ∙ rule-normal scope channels locals (way_past scope.program pc statement) rest parts.1
 
 rule-none : (scope : Scope) (channels locals : ℕ) (pc : Label) (block : Block) (exit : Exit) → IsNoEnd exit → is_block_of channels locals block ≡ true
@@ -93,18 +93,18 @@ rule-none : (scope : Scope) (channels locals : ℕ) (pc : Label) (block : Block)
 rule-none scope channels locals pc Empty exit n s = ap (λ b. label_if b pc) n.normal_not
 rule-none scope channels locals pc (Then statement rest) exit n s =
     let parts = and_parts (is_statement_of channels locals statement) (is_block_of channels locals rest) s in
-    ap (λ (l : Label). label_if (not (same_exit Normal exit)) l ++ block_rule scope (statement_marks scope pc statement Normal) rest exit)
-    (marks-none scope channels locals pc statement exit n parts.0)
-    ∙ ap (λ (l : Label). l ++ block_rule scope (statement_marks scope pc statement Normal) rest exit) (label-if_none (not (same_exit Normal exit)))
-    ∙ rule-none scope channels locals (statement_marks scope pc statement Normal) rest exit n parts.1
+    ap (λ (l : Label). label_if (not (same_exit Normal exit)) l ++ block_rule scope (statement_exits scope pc statement Normal) rest exit)
+    (exits-none scope channels locals pc statement exit n parts.0)
+    ∙ ap (λ (l : Label). l ++ block_rule scope (statement_exits scope pc statement Normal) rest exit) (label-if_none (not (same_exit Normal exit)))
+    ∙ rule-none scope channels locals (statement_exits scope pc statement Normal) rest exit n parts.1
 
 rule-ended : (scope : Scope) (channels locals : ℕ) (pc : Label) (statement : Statement) (rest : Block) → is_statement_of channels locals statement ≡ true
     → block_rule scope pc (Then statement rest) (Throw end_exception)
     ≡ (if is_receive statement then way_past scope.program pc statement else []) ++ block_rule scope (way_past scope.program pc statement) rest (Throw end_exception)
 rule-ended scope channels locals pc statement rest s =
-    ap (λ (l : Label). l ++ block_rule scope (statement_marks scope pc statement Normal) rest (Throw end_exception)) (marks-ended scope channels locals pc statement s)
+    ap (λ (l : Label). l ++ block_rule scope (statement_exits scope pc statement Normal) rest (Throw end_exception)) (exits-ended scope channels locals pc statement s)
     ∙ ap (λ (way : Label). (if is_receive statement then way_past scope.program pc statement else []) ++ block_rule scope way rest (Throw end_exception))
-    (marks-way scope channels locals pc statement s)
+    (exits-way scope channels locals pc statement s)
 
 nothing : {X : Type 0} (x : X) → Contains [] x → ⊥
 nothing {X} x there = let below : there.0 < length {A = X} [] = there.1 in omega arith
@@ -190,7 +190,7 @@ map-same [] = refl
 map-same (exit ∷ rest) = ap (λ more. exit ∷ more) (map-same rest)
 
 -- what a procedure demands of its ends
-pub ends-demanded : (program : Program) (channels locals : ℕ) (procedure : ProcedureEntry) (x : Marks) → is_block_of channels locals procedure.body ≡ true
+pub ends-demanded : (program : Program) (channels locals : ℕ) (procedure : ProcedureEntry) (x : ExitLabels) → is_block_of channels locals procedure.body ≡ true
     → end_demands procedure (block_ends program procedure.body) x ≡ (if receives procedure.body then leaving_demands procedure x else [])
 ends-demanded program channels locals procedure x s =
     ap (λ ends. end_demands procedure ends x) (block-ends program channels locals procedure.body s)
@@ -202,29 +202,29 @@ ends-demanded program channels locals procedure x s =
     chosen one false demands e = ap (λ b. if b then [] else demands) e
 
 -- the label of an end of a block with a receive
-marks-at : (scope : Scope) (channels locals : ℕ) (pc : Label) (block : Block) (exit : Exit) → is_block_of channels locals block ≡ true → receives block ≡ true
-    → block_marks scope pc block exit ≡ label_if (has_end (ends_of block) exit) (block_rule scope pc block exit)
-marks-at scope channels locals pc block exit s some =
+exits-at : (scope : Scope) (channels locals : ℕ) (pc : Label) (block : Block) (exit : Exit) → is_block_of channels locals block ≡ true → receives block ≡ true
+    → block_exits scope pc block exit ≡ label_if (has_end (ends_of block) exit) (block_rule scope pc block exit)
+exits-at scope channels locals pc block exit s some =
     ap (λ ends. at_ends ends pc (block_rule scope pc block) exit) (block-ends scope.program channels locals block s)
     ∙ ap (λ b. label_if (has_end (ends_of block) exit) (if b then pc else block_rule scope pc block exit))
     (sym (ap one_end (map-same (ends_of block))) ∙ one-end (λ exit. exit) refl refl block ∙ ap not some)
 
 -- a label that stands for the way through a block with a receive stands for the labels of its ends
 pub stands-ends : (h : PrincipalHierarchy) (scope : Scope) (channels locals : ℕ) (label pc : Label) (block : Block) → is_block_of channels locals block ≡ true
-    → receives block ≡ true → StandsFor h label (way_through scope.program pc block) → StandsForEnds h label (block_marks scope pc block)
+    → receives block ≡ true → StandsFor h label (way_through scope.program pc block) → StandsForEnds h label (block_exits scope pc block)
 stands-ends h scope channels locals label pc block s some stands =
     let none : IsNoEnd Return = record { not_normal = refl; not_ended = refl; normal_not = refl } in
-    let normal : block_marks scope pc block Normal ≡ way_through scope.program pc block =
-    marks-at scope channels locals pc block Normal s some ∙ ap (λ b. label_if b (block_rule scope pc block Normal)) (ends-normal block)
+    let normal : block_exits scope pc block Normal ≡ way_through scope.program pc block =
+    exits-at scope channels locals pc block Normal s some ∙ ap (λ b. label_if b (block_rule scope pc block Normal)) (ends-normal block)
     ∙ rule-normal scope channels locals pc block s in
-    let returned : block_marks scope pc block Return ≡ [] =
-    marks-at scope channels locals pc block Return s some ∙ ap (label_if (has_end (ends_of block) Return)) (rule-none scope channels locals pc block Return none s)
+    let returned : block_exits scope pc block Return ≡ [] =
+    exits-at scope channels locals pc block Return s some ∙ ap (label_if (has_end (ends_of block) Return)) (rule-none scope channels locals pc block Return none s)
     ∙ label-if_none (has_end (ends_of block) Return) in
-    let whole : block_marks scope pc block Normal ++ block_marks scope pc block Return ≡ way_through scope.program pc block =
-    ap (λ (l : Label). l ++ block_marks scope pc block Return) normal ∙ ap (λ (l : Label). way_through scope.program pc block ++ l) returned
+    let whole : block_exits scope pc block Normal ++ block_exits scope pc block Return ≡ way_through scope.program pc block =
+    ap (λ (l : Label). l ++ block_exits scope pc block Return) normal ∙ ap (λ (l : Label). way_through scope.program pc block ++ l) returned
     ∙ append-nil (way_through scope.program pc block) in
-    let ended : block_marks scope pc block (Throw end_exception) ≡ block_rule scope pc block (Throw end_exception) =
-    marks-at scope channels locals pc block (Throw end_exception) s some
+    let ended : block_exits scope pc block (Throw end_exception) ≡ block_rule scope pc block (Throw end_exception) =
+    exits-at scope channels locals pc block (Throw end_exception) s some
     ∙ ap (λ b. label_if b (block_rule scope pc block (Throw end_exception))) (ends-ended block ∙ some) in
     let at_end : StandsFor h label (block_rule scope pc block (Throw end_exception)) = record {
       from_way = λ policy there. ended-of scope channels locals pc block policy s some (stands.from_way policy there);
@@ -237,7 +237,7 @@ stands-ends h scope channels locals label pc block s some stands =
       normal = subst (λ (l : Label). StandsFor h label l) (sym whole) stands;
       ended = subst (λ (l : Label). StandsFor h label l) (sym ended) at_end;
       others = λ exception differs.
-          marks-at scope channels locals pc block (Throw exception) s some
+          exits-at scope channels locals pc block (Throw exception) s some
           ∙ ap (label_if (has_end (ends_of block) (Throw exception))) (rule-none scope channels locals pc block (Throw exception) (no-throw exception differs) s)
           ∙ label-if_none (has_end (ends_of block) (Throw exception));
     }
