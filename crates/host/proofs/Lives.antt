@@ -1,17 +1,20 @@
 -- What becomes of a session while a host answers events.
-use Rattle.std.proofs.Common.{◌≡◌, ℕ, zero, suc, ◌+◌, ◌<◌, ◌≤◌, ◌⊎◌, ◌==◌, Bool, true, false, not, cond, List, [], ◌∷◌, take, drop, None, Some, refl, sym, ap, ◌∙◌, subst, inl, inr, ⊎_elim, arith, eq-eqb, eqb-true, ne_eqb}
+use Rattle.std.proofs.Common.{◌≡◌, ℕ, zero, suc, ◌+◌, ◌-◌, ◌<◌, ◌≤◌, ◌⊎◌, ◌==◌, Bool, true, false, not, cond, List, [], ◌∷◌, ◌++◌, take, drop, None, Some, refl, sym, ap, ◌∙◌, subst, inl, inr, ⊎_elim, arith, eq-eqb, eqb-true, ne_eqb}
 use Rattle.std.specs.Prelude.{slice_get}
 use Rattle.std.proofs.lemmas.Option.{none-some}
 use Rattle.labels.specs.declared.sent.Pair.{Pair}
 use Rattle.bytecode.specs.Contents.{ModuleContents}
 use Rattle.bytecode.specs.Form.{Spells}
 use Rattle.bytecode.specs.Format.{module_file}
-use Rattle.bytecode.specs.Machine.{Machine, exec, program_of, sent_of}
+use Rattle.bytecode.specs.Machine.{Machine, Ended, Ending, Program, exec, program_of, sent_of}
 use Rattle.channels.specs.World.{InputNumbers}
 use Rattle.bytecode.specs.Isolated.{seen_of}
 use Rattle.machine.proofs.Told.{exec_more}
 use Rattle.host.specs.Meaning.{SessionContents, HostContents, HostEvent, Open, Turn, View, Close, HostAnswer, Opened, Turned, Viewed, Closed, Refused, Answers, Answered, session_of, with_machine, without, IsOpen, IsNotOpen, first_machine, with_opened}
-use Rattle.host.specs.Laws.{told_of, steps_told}
+use Rattle.machine.specs.Run.{HasEnded, IsTold}
+use Rattle.machine.specs.declared.status.Status.{Status}
+use Rattle.machine.specs.declared.status.Status.TheVariants as status
+use Rattle.host.specs.Laws.{ending_of, moved_by, told_of, steps_told}
 
 -- the steps that a session takes, and then more
 steps_join : (s : SessionContents) (taken more : ℕ) → exec (program_of s.program) more (exec (program_of s.program) taken s.machine) ≡ exec (program_of s.program) (taken + more) s.machine
@@ -81,10 +84,6 @@ record IsGone (id : ℕ) (host : HostContents) : Type 0 where
   given : id < host.next
   is_shut : IsNotOpen host id
 
--- a session some steps on
-abbrev moved : SessionContents → ℕ → SessionContents
-moved session n = record session { machine = exec (program_of session.program) n session.machine }
-
 is_older : (id next : ℕ) → id < next → (next == id) ≡ false
 is_older id next below = ne_eqb next id (λ e. omega (arith, e))
 
@@ -95,7 +94,7 @@ one_session host id other first second e h k =
 
 live_event : (places id : ℕ) (s : SessionContents) (old new : HostContents) (event : HostEvent) (answer : HostAnswer)
     → Answers places old event answer new → IsLive id s old
-    → IsLive id (moved s (told_of id event answer)) new ⊎ IsGone id new
+    → IsLive id (moved_by s (told_of id event answer)) new ⊎ IsGone id new
 live_event places id s old new (Open bytes world) (Opened n) by live =
     inl (subst (λ h. IsLive id s h) (sym by.2.2) (record {
       given = omega (arith, live.given);
@@ -104,11 +103,11 @@ live_event places id s old new (Open bytes world) (Opened n) by live =
 live_event places id s old new (Open bytes world) (Refused fault) by live = inl (subst (λ h. IsLive id s h) (sym by.1) live)
 live_event places id s old new (Turn other n) (Turned taken status) by live = go (other == id) refl
   where
-    go : (b : Bool) → (other == id) ≡ b → IsLive id (moved s (cond b taken 0)) new ⊎ IsGone id new
+    go : (b : Bool) → (other == id) ≡ b → IsLive id (moved_by s (cond b taken 0)) new ⊎ IsGone id new
     go true e =
         let number : other ≡ id = eqb-true other id e in
         let same = one_session old id other by.0 s number by.1 live.is_open in
-        inl (subst (λ h. IsLive id (moved s taken) h) (sym by.2.2) (record {
+        inl (subst (λ h. IsLive id (moved_by s taken) h) (sym by.2.2) (record {
           given = live.given;
           is_open = ap (λ k. session_of id (with_machine k by.2.0 old.sessions)) number
               ∙ with_machine-same id by.2.0 old.sessions s live.is_open
@@ -212,9 +211,84 @@ module _ (places id p : ℕ) (pairs : List Pair) where
   shown_moved (event ∷ events) (answer ∷ answers) old new s by live (suc k) asked told =
       ⊎_elim
       (λ next.
-      shown_moved events answers by.0 new (moved s (told_of id event answer)) by.2 next k asked told
+      shown_moved events answers by.0 new (moved_by s (told_of id event answer)) by.2 next k asked told
       ∙ ap (λ m. seen_of s.program p (sent_of m)) (steps_join s (told_of id event answer) (steps_told id (take k events) (take k answers))))
       (λ gone. absurd (never_shown events answers by.0 new by.2 gone k asked told))
+      (live_event places id s old by.0 event answer by.1 live)
+
+-- ---- the end that a turn reports
+
+-- a machine that has ended stays so
+ended_stays : (p : Program) (n : ℕ) (ending : Ending) (sent : List Pair) → exec p n (Ended ending sent) ≡ Ended ending sent
+ended_stays p zero ending sent = refl
+ended_stays p (suc n) ending sent = ended_stays p n ending sent
+
+pub still_ended : (p : Program) (n : ℕ) (ending : Ending) (machine : Machine) → HasEnded ending machine → HasEnded ending (exec p n machine)
+still_ended p n ending machine h =
+    let same : exec p n machine ≡ machine = ap (exec p n) h ∙ ended_stays p n ending (sent_of machine) ∙ sym h in
+    subst (HasEnded ending) (sym same) h
+
+still_ended_at : (p : Program) (i j : ℕ) (ending : Ending) (machine : Machine) → i ≤ j → HasEnded ending (exec p i machine) → HasEnded ending (exec p j machine)
+still_ended_at p i j ending machine h ended =
+    let whole : j ≡ i + (j - i) = omega (arith, h) in
+    subst (HasEnded ending) (exec_more p i (j - i) j machine whole) (still_ended p (j - i) ending (exec p i machine) ended)
+
+-- what an ending status tells of a machine
+tells_end : (p : Program) (n taken : ℕ) (told : Status) (machine : Machine) (ending : Ending) → ending_of told ≡ Some ending → IsTold p n taken told machine → HasEnded ending machine
+tells_end p n taken status.Running machine ending e h = absurd (none-some ending e)
+tells_end p n taken status.Finished machine ending e h = subst (λ x. HasEnded x machine) (some_is _ ending e) h
+tells_end p n taken (status.Threw exception) machine ending e h = subst (λ x. HasEnded x machine) (some_is _ ending e) h
+tells_end p n taken status.Deep machine ending e h = subst (λ x. HasEnded x machine) (some_is _ ending e) h
+tells_end p n taken status.NoMemory machine ending e h = absurd (none-some ending e)
+
+-- the steps that are reported grow with the list
+steps_grow : (id : ℕ) (events : List HostEvent) (answers : List HostAnswer) (j k : ℕ) → j ≤ k
+    → steps_told id (take j events) (take j answers) ≤ steps_told id (take k events) (take k answers)
+steps_grow id events answers zero k h = omega arith
+steps_grow id events answers (suc j) zero h = absurd (omega (arith, h))
+steps_grow id [] answers (suc j) (suc k) h = omega arith
+steps_grow id (event ∷ events) [] (suc j) (suc k) h = omega arith
+steps_grow id (event ∷ events) (answer ∷ answers) (suc j) (suc k) h =
+    let rest = steps_grow id events answers j k (omega (arith, h)) in
+    omega (arith, rest)
+
+module _ (places id steps taken : ℕ) (told : Status) (ending : Ending) (ends : ending_of told ≡ Some ending) where
+  -- a session that is gone has no turn
+  never_turned : (events : List HostEvent) (answers : List HostAnswer) (old new : HostContents) → Answered places old events answers new → IsGone id old
+      → (k : ℕ) → slice_get events k ≡ Some (Turn id steps) → slice_get answers k ≡ Some (Turned taken told) → ⊥
+  never_turned [] answers old new by gone k asked said = none-some (Turn id steps) asked
+  never_turned (event ∷ events) [] old new by gone k asked said = by
+  never_turned (event ∷ events) (answer ∷ answers) old new by gone zero asked said =
+      let turned = known places old by.0 event (Turn id steps) answer (Turned taken told) asked said by.1 in
+      none-some turned.0 (sym gone.is_shut ∙ turned.1)
+  never_turned (event ∷ events) (answer ∷ answers) old new by gone (suc k) asked said =
+      never_turned events answers by.0 new by.2 (gone_event places id old by.0 event answer by.1 gone) k asked said
+
+  -- after the turn that reports the end the run has ended
+  ended_moved : (events : List HostEvent) (answers : List HostAnswer) (old new : HostContents) (s : SessionContents)
+      → Answered places old events answers new → IsLive id s old
+      → (k : ℕ) → slice_get events k ≡ Some (Turn id steps) → slice_get answers k ≡ Some (Turned taken told)
+      → HasEnded ending (exec (program_of s.program) (steps_told id (take (suc k) events) (take (suc k) answers)) s.machine)
+  ended_moved [] answers old new s by live k asked said = absurd (none-some (Turn id steps) asked)
+  ended_moved (event ∷ events) [] old new s by live k asked said = absurd by
+  ended_moved (event ∷ events) (answer ∷ answers) old new s by live zero asked said =
+      let turned = known places old by.0 event (Turn id steps) answer (Turned taken told) asked said by.1 in
+      let same = one_session old id id turned.0 s refl turned.1 live.is_open in
+      let here : told_of id event answer ≡ taken =
+      ap (λ e. told_of id e answer) (some_is event (Turn id steps) asked) ∙ ap (told_of id (Turn id steps)) (some_is answer (Turned taken told) said)
+      ∙ ap (λ b. cond b taken 0) (eq-eqb id id refl) in
+      let all : told_of id event answer + 0 ≡ taken = omega (arith, here) in
+      let after : HasEnded ending turned.2.0 = tells_end (program_of turned.0.program) steps taken told turned.2.0 ending ends turned.2.1.told in
+      subst (HasEnded ending)
+      (turned.2.1.machine ∙ ap (λ (x : SessionContents). exec (program_of x.program) taken x.machine) same
+      ∙ ap (λ n. exec (program_of s.program) n s.machine) (sym all))
+      after
+  ended_moved (event ∷ events) (answer ∷ answers) old new s by live (suc k) asked said =
+      ⊎_elim
+      (λ next.
+      subst (HasEnded ending) (steps_join s (told_of id event answer) (steps_told id (take (suc k) events) (take (suc k) answers)))
+      (ended_moved events answers by.0 new (moved_by s (told_of id event answer)) by.2 next k asked said))
+      (λ gone. absurd (never_turned events answers by.0 new by.2 gone k asked said))
       (live_event places id s old by.0 event answer by.1 live)
 
 -- ---- from its opening on
@@ -250,6 +324,31 @@ module _ (places id p : ℕ) (pairs : List Pair) (bytes : List ℕ) (world : Lis
   shown_fresh (event ∷ events) (answer ∷ answers) old new by (suc i) (suc j) later opens opened views viewed =
       shown_fresh events answers by.0 new by.2 i j (omega arith) opens opened views viewed
 
+module _ (places id steps taken : ℕ) (told : Status) (ending : Ending) (ends : ending_of told ≡ Some ending)
+    (bytes : List ℕ) (world : List InputNumbers) (m : ModuleContents) (unique : (n : ModuleContents) → Spells module_file n bytes → n ≡ m) where
+  pub ended_fresh : (events : List HostEvent) (answers : List HostAnswer) (old new : HostContents) → Answered places old events answers new
+      → (i k j : ℕ) → i < k → k < j
+      → slice_get events i ≡ Some (Open bytes world) → slice_get answers i ≡ Some (Opened id)
+      → slice_get events k ≡ Some (Turn id steps) → slice_get answers k ≡ Some (Turned taken told)
+      → HasEnded ending (exec (program_of m) (steps_told id (drop i (take j events)) (drop i (take j answers))) (first_machine m world))
+  ended_fresh events answers old new by i k zero later before opens opened asked said = absurd (omega (arith, before))
+  ended_fresh events answers old new by i zero (suc j) later before opens opened asked said = absurd (omega (arith, later))
+  ended_fresh [] answers old new by i (suc k) (suc j) later before opens opened asked said = absurd (none-some (Open bytes world) opens)
+  ended_fresh (event ∷ events) [] old new by i (suc k) (suc j) later before opens opened asked said = absurd by
+  ended_fresh (event ∷ events) (answer ∷ answers) old new by zero (suc k) (suc j) later before opens opened asked said =
+      let at = known places old by.0 event (Open bytes world) answer (Opened id) opens opened by.1 in
+      let n : ModuleContents = at.2.0 in
+      let live = subst (λ h. IsLive id (record { id = old.next; program = n; machine = first_machine n world }) h) (sym at.2.2) (opened_live id old n world at.1) in
+      let first : told_of id event answer ≡ 0 = ap (λ e. told_of id e answer) (some_is event (Open bytes world) opens) ∙ ap (told_of id (Open bytes world)) (some_is answer (Opened id) opened) in
+      let total : steps_told id (take j events) (take j answers) ≡ told_of id event answer + steps_told id (take j events) (take j answers) = omega (arith, first) in
+      let ended = ended_moved places id steps taken told ending ends events answers by.0 new (record { id = old.next; program = n; machine = first_machine n world }) by.2 live k asked said in
+      let grown = still_ended_at (program_of n) (steps_told id (take (suc k) events) (take (suc k) answers)) (steps_told id (take j events) (take j answers)) ending
+      (first_machine n world) (steps_grow id events answers (suc k) j (omega (arith, before))) ended in
+      subst (λ t. HasEnded ending (exec (program_of m) t (first_machine m world))) total
+      (subst (λ (x : ModuleContents). HasEnded ending (exec (program_of x) (steps_told id (take j events) (take j answers)) (first_machine x world))) (unique n at.2.1.spelled) grown)
+  ended_fresh (event ∷ events) (answer ∷ answers) old new by (suc i) (suc k) (suc j) later before opens opened asked said =
+      ended_fresh events answers by.0 new by.2 i k j (omega (arith, later)) (omega (arith, before)) opens opened asked said
+
 -- ---- to the end of the list
 
 module _ (places id : ℕ) where
@@ -263,7 +362,7 @@ module _ (places id : ℕ) where
 
   still_moved : (events : List HostEvent) (answers : List HostAnswer) (old new : HostContents) (s : SessionContents)
       → Answered places old events answers new → IsLive id s old
-      → IsLive id (moved s (steps_told id events answers)) new ⊎ IsGone id new
+      → IsLive id (moved_by s (steps_told id events answers)) new ⊎ IsGone id new
   still_moved [] [] old new s by live = inl (subst (λ h. IsLive id s h) (sym by) live)
   still_moved [] (answer ∷ answers) old new s by live = absurd by
   still_moved (event ∷ events) [] old new s by live = absurd by
@@ -272,7 +371,7 @@ module _ (places id : ℕ) where
       (λ next. ⊎_elim
       (λ l. inl (subst (λ (m : Machine). IsLive id (record s { machine = m }) new) (steps_join s (told_of id event answer) (steps_told id events answers)) l))
       (λ g. inr g)
-      (still_moved events answers by.0 new (moved s (told_of id event answer)) by.2 next))
+      (still_moved events answers by.0 new (moved_by s (told_of id event answer)) by.2 next))
       (λ gone. inr (still_gone events answers by.0 new by.2 gone))
       (live_event places id s old by.0 event answer by.1 live)
 
@@ -293,12 +392,49 @@ module _ (places id : ℕ) (bytes : List ℕ) (world : List InputNumbers) (m : M
       let same = unique n at.2.1.spelled in
       ⊎_elim
       (λ l.
-      one_session new id id session (moved (record { id = old.next; program = n; machine = first_machine n world }) (steps_told id events answers)) refl there l.is_open
+      one_session new id id session (moved_by (record { id = old.next; program = n; machine = first_machine n world }) (steps_told id events answers)) refl there l.is_open
       ∙ (λ i. record { id = sym at.1 i; program = same i; machine = exec (program_of (same i)) (steps i) (first_machine (same i) world) }))
       (λ g. absurd (none-some session (sym g.is_shut ∙ there)))
       (still_moved places id events answers by.0 new (record { id = old.next; program = n; machine = first_machine n world }) by.2 live)
   stands (event ∷ events) (answer ∷ answers) old new by (suc i) opens opened session there =
       stands events answers by.0 new by.2 i opens opened session there
+
+-- ---- sessions that were open before
+
+module _ (places : ℕ) (events : List HostEvent) (answers : List HostAnswer) (old new : HostContents) (by : Answered places old events answers new)
+    (id : ℕ) (s : SessionContents) (given : id < old.next) (is_open : IsOpen old id s) where
+  pub goes_on : (later : SessionContents) → IsOpen new id later → later ≡ moved_by s (steps_told id events answers)
+  goes_on later there =
+      ⊎_elim
+      (λ l. one_session new id id later (moved_by s (steps_told id events answers)) refl there l.is_open)
+      (λ g. absurd (none-some later (sym g.is_shut ∙ there)))
+      (still_moved places id events answers old new s by (record { given = given; is_open = is_open }))
+
+  pub shows_on : (k p : ℕ) (pairs : List Pair) → slice_get events k ≡ Some (View id p) → slice_get answers k ≡ Some (Viewed pairs)
+      → pairs ≡ seen_of s.program p (sent_of (exec (program_of s.program) (steps_told id (take k events) (take k answers)) s.machine))
+  shows_on k p pairs views viewed =
+      shown_moved places id p pairs events answers old new s by (record { given = given; is_open = is_open }) k views viewed
+
+-- ---- lists in a row
+
+pub joined : (places : ℕ) (events more : List HostEvent) (answers others : List HostAnswer) (old middle new : HostContents)
+    → Answered places old events answers middle → Answered places middle more others new
+    → Answered places old (events ++ more) (answers ++ others) new
+joined places [] more [] others old middle new before after = subst (λ h. Answered places h more others new) before after
+joined places [] more (answer ∷ answers) others old middle new before after = absurd before
+joined places (event ∷ events) more [] others old middle new before after = absurd before
+joined places (event ∷ events) more (answer ∷ answers) others old middle new before after =
+    (before.0, before.1, joined places events more answers others before.0 middle new before.2 after)
+
+pub steps_add_up : (places : ℕ) (events more : List HostEvent) (answers others : List HostAnswer) (old middle : HostContents)
+    → Answered places old events answers middle
+    → (id : ℕ) → steps_told id (events ++ more) (answers ++ others) ≡ steps_told id events answers + steps_told id more others
+steps_add_up places [] more [] others old middle before id = omega arith
+steps_add_up places [] more (answer ∷ answers) others old middle before id = absurd before
+steps_add_up places (event ∷ events) more [] others old middle before id = absurd before
+steps_add_up places (event ∷ events) more (answer ∷ answers) others old middle before id =
+    let rest = steps_add_up places events more answers others before.0 middle before.2 id in
+    omega (arith, rest)
 
 -- ---- ids
 

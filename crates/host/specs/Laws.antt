@@ -1,15 +1,19 @@
 -- What the meaning of hosts implies, for every host and every list of events: a session is a run of its module alone on its
--- world, by as many steps as its own turns told; sessions of isolated bytes are isolated; no id is given twice.
+-- world, by as many steps as its own turns reported, and ends as they reported; one that was open before goes on so; lists of
+-- events and their answers are joined; sessions of isolated bytes are isolated; no id is given twice.
 -- Source: our own; noninterference after Volpano, Smith and Irvine 1996.
-use Rattle.std.specs.Prelude.{◌≡◌, ℕ, ◌+◌, ◌<◌, ◌==◌, if◌then◌else◌, List, [], ◌∷◌, slice_get, take, drop, Some}
+use Rattle.std.specs.Prelude.{◌≡◌, ℕ, ◌+◌, ◌<◌, ◌==◌, if◌then◌else◌, List, [], ◌∷◌, ◌++◌, slice_get, take, drop, Option, Some, None}
 use Rattle.labels.specs.declared.sent.Pair.{Pair}
 use Rattle.bytecode.specs.Contents.{ModuleContents}
 use Rattle.bytecode.specs.Form.{Spells}
 use Rattle.bytecode.specs.Format.{module_file}
-use Rattle.bytecode.specs.Machine.{after_steps, sent_after}
+use Rattle.bytecode.specs.Machine.{Ending, Finished, Threw, Deep, after_steps, exec, program_of, sent_after}
 use Rattle.channels.specs.World.{InputNumbers, numbers_of_channel}
 use Rattle.bytecode.specs.Isolated.{seen_of, Agree, OneBegins, IsIsolated}
-use Rattle.host.specs.Meaning.{SessionContents, HostContents, HostEvent, Open, Turn, View, HostAnswer, Opened, Turned, Viewed, Answered, IsOpen}
+use Rattle.machine.specs.Run.{HasEnded}
+use Rattle.machine.specs.declared.status.Status.{Status}
+use Rattle.machine.specs.declared.status.Status.TheVariants as status
+use Rattle.host.specs.Meaning.{SessionContents, HostContents, HostEvent, Open, Turn, View, HostAnswer, Opened, Turned, Viewed, Answered, IsOpen, view_of}
 
 -- the steps that an event's answer tells of the session of an id
 abbrev pub told_of : ℕ → HostEvent → HostAnswer → ℕ
@@ -53,6 +57,33 @@ SessionsAreFreshRuns =
     → (shows : Shows bytes world p pairs)
     → pairs ≡ seen_of m p (sent_after m (numbers_of_channel m world) (steps_of bytes world p pairs shows))
 
+-- the end that a status reports; none where the run goes on, also where it waits for memory
+abbrev pub ending_of : Status → Option Ending
+ending_of status.Running = None
+ending_of status.Finished = Some Finished
+ending_of (status.Threw exception) = Some (Threw exception)
+ending_of status.Deep = Some Deep
+ending_of status.NoMemory = None
+
+-- before the view a turn of the session reported that its run has ended so
+pub record ReportsEnd {bytes : List ℕ} {world : List InputNumbers} {p : ℕ} {pairs : List Pair} (shows : Shows bytes world p pairs) (ending : Ending) : Type 0 where
+  pub turn : ℕ
+  pub steps : ℕ
+  pub taken : ℕ
+  pub status : Status
+  pub later : shows.opened < turn
+  pub before : turn < shows.viewed
+  pub asks : slice_get shows.events turn ≡ Some (Turn shows.id steps)
+  pub answers : slice_get shows.answers turn ≡ Some (Turned taken status)
+  pub ended : ending_of status ≡ Some ending
+
+-- what a session reports of its end is so: the fresh run has ended so after the steps that the session's own turns reported
+abbrev pub SessionsEndAsReported : Type 0
+SessionsEndAsReported =
+    (bytes : List ℕ) (world : List InputNumbers) (p : ℕ) (pairs : List Pair) (m : ModuleContents) → Spells module_file m bytes
+    → (shows : Shows bytes world p pairs) (ending : Ending) → ReportsEnd shows ending
+    → HasEnded ending (after_steps m (numbers_of_channel m world) (steps_of bytes world p pairs shows))
+
 -- two sessions of one isolated module, each opened from the same bytes by any host among any events, on worlds that agree for a
 -- principal: one of what the two show to the principal begins the other
 abbrev pub SessionsAreIsolated : Type 0
@@ -75,6 +106,42 @@ SessionsStandAsTold =
       program = m;
       machine = after_steps m (numbers_of_channel m world) (steps_told id (drop opened events) (drop opened answers));
     }
+
+-- a session some steps on
+abbrev pub moved_by : SessionContents → ℕ → SessionContents
+moved_by session steps = record session { machine = exec (program_of session.program) steps session.machine }
+
+-- a session that was open before any events, under an id that was given, and is open after them: it has gone on by the steps that
+-- its own turns reported, and is otherwise as it was
+abbrev pub SessionsGoOn : Type 0
+SessionsGoOn =
+    (places : ℕ) (old : HostContents) (events : List HostEvent) (answers : List HostAnswer) (new : HostContents)
+    → Answered places old events answers new
+    → (id : ℕ) (session later : SessionContents) → id < old.next → IsOpen old id session → IsOpen new id later
+    → later ≡ moved_by session (steps_told id events answers)
+
+-- and what is shown of it is its view after the steps that its own turns reported before
+abbrev pub SessionsShowOn : Type 0
+SessionsShowOn =
+    (places : ℕ) (old : HostContents) (events : List HostEvent) (answers : List HostAnswer) (new : HostContents)
+    → Answered places old events answers new
+    → (id : ℕ) (session : SessionContents) → id < old.next → IsOpen old id session
+    → (viewed p : ℕ) (pairs : List Pair) → slice_get events viewed ≡ Some (View id p) → slice_get answers viewed ≡ Some (Viewed pairs)
+    → pairs ≡ view_of (moved_by session (steps_told id (take viewed events) (take viewed answers))) p
+
+-- events that are answered after others: both lists in a row are answered by both lists of answers in a row
+abbrev pub TranscriptsJoin : Type 0
+TranscriptsJoin =
+    (places : ℕ) (old middle new : HostContents) (events more : List HostEvent) (answers others : List HostAnswer)
+    → Answered places old events answers middle → Answered places middle more others new
+    → Answered places old (events ++ more) (answers ++ others) new
+
+-- and the steps that the turns of an id report add up
+abbrev pub StepsAddUp : Type 0
+StepsAddUp =
+    (places : ℕ) (old middle : HostContents) (events more : List HostEvent) (answers others : List HostAnswer)
+    → Answered places old events answers middle
+    → (id : ℕ) → steps_told id (events ++ more) (answers ++ others) ≡ steps_told id events answers + steps_told id more others
 
 -- no id is given twice: of two sessions that a host opens, the later one has the greater id
 abbrev pub IdsGoUp : Type 0

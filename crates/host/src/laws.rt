@@ -1,12 +1,13 @@
 //! Laws of hosts, proved for every host and every list of events. They do nothing when they are called.
 
-ghost use Rattle.host.specs.Laws.{IdsGoUp, SessionsAreFreshRuns, SessionsAreIsolated, SessionsStandAsTold};
+ghost use Rattle.host.specs.Laws.{IdsGoUp, SessionsAreFreshRuns, SessionsAreIsolated, SessionsEndAsReported, SessionsGoOn, SessionsShowOn, SessionsStandAsTold, StepsAddUp, TranscriptsJoin};
 
 /// A session is a run of its module alone on its world. What is shown of it is what that run has sent after the steps that the
-/// session's own turns told, and after all events it stands where that run stands, whatever events of other sessions come
-/// between.
+/// session's own turns told, it has ended where one of them reported an end, and after all events it stands where that run
+/// stands, whatever events of other sessions come between.
 pub fn sessions_are_fresh_runs()
     ensures shown { SessionsAreFreshRuns }
+    ensures ended { SessionsEndAsReported }
     ensures stands { SessionsStandAsTold }
 {
     bytecode::laws::one_spelling();
@@ -19,6 +20,19 @@ pub fn sessions_are_isolated()
 {
     bytecode::laws::one_spelling();
 }
+
+/// A session that was open before goes on: by the steps that its own turns report, whatever events of other sessions come
+/// between, and so it is shown.
+pub fn sessions_go_on()
+    ensures stands { SessionsGoOn }
+    ensures shown { SessionsShowOn }
+{}
+
+/// What a host answers in several calls is one transcript: events and answers in a row, with the steps of each session added up.
+pub fn transcripts_join()
+    ensures joined { TranscriptsJoin }
+    ensures steps { StepsAddUp }
+{}
 
 /// No id is given twice: of two sessions that a host opens, the later one has the greater id.
 pub fn ids_are_never_given_again()

@@ -165,7 +165,7 @@ ways text (fault.TooManyPrincipals at) h = inr (inr h)
 too_long : {P : Type 0} (text : List ℕ) → greatest_text < length text → length text ≤ greatest_text → P
 too_long text h k = absurd (omega arith)
 
-refused_text_once : (text : List ℕ) (f g : HierFault) → IsRefusedText text f → IsRefusedText text g → f ≡ g
+pub refused_text_once : (text : List ℕ) (f g : HierFault) → IsRefusedText text f → IsRefusedText text g → f ≡ g
 refused_text_once text f g a b =
     ⊎_elim
     (λ la. ⊎_elim
@@ -187,7 +187,7 @@ refused_text_once text f g a b =
     (ways text g b)))
     (ways text f a)
 
-hierarchy_not_refused : (text : List ℕ) (h : PrincipalHierarchy) (f : HierFault) → IsHierarchyOf text h → IsRefusedText text f → ⊥
+pub hierarchy_not_refused : (text : List ℕ) (h : PrincipalHierarchy) (f : HierFault) → IsHierarchyOf text h → IsRefusedText text f → ⊥
 hierarchy_not_refused text h f of refused =
     ⊎_elim
     (λ l. too_long text l.1 of.says.fits)
@@ -196,7 +196,7 @@ hierarchy_not_refused text h f of refused =
     (λ w. said_not_refused of.entries h f of.said (subst (λ x. IsFirstRefusal x f) (says_once text w.0 of.entries w.1 of.says) w.2)))
     (ways text f refused)
 
-hierarchy_once : (text : List ℕ) (h k : PrincipalHierarchy) → IsHierarchy h → IsHierarchyOf text h → IsHierarchyOf text k → h ≡ k
+pub hierarchy_once : (text : List ℕ) (h k : PrincipalHierarchy) → IsHierarchy h → IsHierarchyOf text h → IsHierarchyOf text k → h ≡ k
 hierarchy_once text h k kept a b =
     said_once a.entries h k kept a.said (subst (λ x. IsSaid x k) (says_once text b.entries a.entries b.says a.says) b.said)
 

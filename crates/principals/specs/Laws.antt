@@ -1,9 +1,10 @@
 -- Laws of hierarchies and of the texts that they are read from.
 -- Source: our own.
-use Rattle.std.specs.Prelude.{ℕ, ◌≤◌, List, length, IsTrue, All, IsUtf8}
+use Rattle.std.specs.Prelude.{◌≡◌, ◌⊎◌, ℕ, ◌≤◌, List, length, IsTrue, All, IsUtf8}
 use Rattle.lexer.specs.Words.{is_name_text}
 use Rattle.principals.specs.ActsFor.{PrincipalHierarchy}
-use Rattle.principals.specs.HierarchyText.{IsHierarchyOf}
+use Rattle.principals.specs.HierarchyText.{IsHierarchyOf, IsRefusedText}
+use Rattle.principals.specs.declared.fault.HierFault.{HierFault}
 
 -- a name in UTF-8, of at most so many bytes
 pub record IsNameWithin (longest : ℕ) (name : List ℕ) : Type 0 where
@@ -16,3 +17,25 @@ abbrev pub NamesAreNames : Type 0
 NamesAreNames =
     (text : List ℕ) (hierarchy : PrincipalHierarchy) → IsUtf8 text → IsHierarchyOf text hierarchy
     → All (IsNameWithin (length text)) hierarchy.names
+
+-- ---- each text has one hierarchy or one refusal, and not both
+
+-- a text is that of one hierarchy at most
+abbrev pub HasOneHierarchy : Type 0
+HasOneHierarchy =
+    (text : List ℕ) (hierarchy other : PrincipalHierarchy) → IsHierarchyOf text hierarchy → IsHierarchyOf text other → hierarchy ≡ other
+
+-- the text of a hierarchy is not refused
+abbrev pub IsNotReadAndRefused : Type 0
+IsNotReadAndRefused =
+    (text : List ℕ) (hierarchy : PrincipalHierarchy) (fault : HierFault) → IsHierarchyOf text hierarchy → IsRefusedText text fault → ⊥
+
+-- a text is refused for one reason at most
+abbrev pub HasOneRefusal : Type 0
+HasOneRefusal = (text : List ℕ) (fault other : HierFault) → IsRefusedText text fault → IsRefusedText text other → fault ≡ other
+
+-- a text is that of a hierarchy, or it is refused
+abbrev pub IsReadOrRefused : Type 0
+IsReadOrRefused =
+    (text : List ℕ) → IsUtf8 text
+    → ((hierarchy : PrincipalHierarchy) × IsHierarchyOf text hierarchy) ⊎ ((fault : HierFault) × IsRefusedText text fault)

@@ -1,7 +1,7 @@
 //! Laws of acts-for, over all lists of pairs, and of the texts of hierarchies.
 
 ghost use Rattle.principals.specs.ActsFor.{ActsFor, acts_for};
-ghost use Rattle.principals.specs.Laws.{NamesAreNames};
+ghost use Rattle.principals.specs.Laws.{HasOneHierarchy, HasOneRefusal, IsNotReadAndRefused, IsReadOrRefused, NamesAreNames};
 ghost use Rattle.std.specs.Prelude.{Bool, Contains, IsTrue, List, ℕ, ◌↔◌};
 
 /// The test and the relation say the same of every list of pairs and every two numbers.
@@ -31,4 +31,12 @@ pub fn acts_for_is_monotone()
 /// The principals of a text have names in UTF-8 that are no longer than the text.
 pub fn names_are_names()
     ensures { NamesAreNames }
+{}
+
+/// Each text in UTF-8 is that of one hierarchy, or has one first refusal, and not both.
+pub fn one_reading()
+    ensures read_or_refused { IsReadOrRefused }
+    ensures one_hierarchy { HasOneHierarchy }
+    ensures not_both { IsNotReadAndRefused }
+    ensures one_refusal { HasOneRefusal }
 {}

@@ -1,0 +1,187 @@
+-- Each text in UTF-8 is that of a hierarchy, or it is refused.
+use Rattle.std.proofs.Common.{◌≡◌, ◌⊎◌, ℕ, ◌≤◌, ◌<◌, Bool, true, false, List, [], ◌∷◌, ◌++◌, length, Option, None, Some, refl, sym, ap, ◌∙◌, subst, inl, inr, ⊎_elim, append_assoc, append-nil}
+use Rattle.std.specs.Prelude.{Contains, bytes_eq, IsUtf8}
+use Rattle.std.proofs.lemmas.Bool.{cases_lt, false≢true}
+use Rattle.std.proofs.lemmas.List.Elements.{All-cons, All-nil}
+use Rattle.std.proofs.lemmas.Option.{slice_get_within}
+use Rattle.std.proofs.lemmas.Slice.Eq.{bytes_eq-Decides}
+use Rattle.lexer.specs.Cut.{IsCut, IsRefused}
+use Rattle.lexer.specs.Terminal.{Terminal, IsTerminated}
+use Rattle.lexer.specs.declared.fault.LexFault.{LexFault}
+use Rattle.lexer.specs.declared.fault.LexFault.TheVariants as lex
+use Rattle.lexer.proofs.Listed.{listed}
+use Rattle.lexer.proofs.Total.{is_cut_or_refused}
+use Rattle.principals.specs.ActsFor.{PrincipalHierarchy, IsHierarchy, AllBelow, AllDifferent}
+use Rattle.principals.specs.HierarchyText.{Entry, Declares, Relates, IsHierarchyForm, IsUnexpectedAt, IsRefusal, Twice, Crowded, UnknownLeft, UnknownRight, IsFirstRefusal, IsSaid, declared, written, greatest_text, Says, IsHierarchyOf, IsRefusedText}
+use Rattle.principals.specs.Laws.{HasOneHierarchy, IsReadOrRefused}
+use Rattle.principals.specs.Reading.{Built, HaveNames, State, Fresh, Ended, next, run, said}
+use Rattle.principals.specs.declared.fault.HierFault.{HierFault}
+use Rattle.principals.specs.declared.fault.HierFault.TheVariants as fault
+use Rattle.principals.proofs.Automaton.{run-push, read_is_open, begins, stops, run_ends}
+use Rattle.principals.proofs.Building.{built_nothing, built_name, built_pair, built_refused, built_said}
+use Rattle.principals.proofs.Closure.{none_in_nil, Contains-cons_cases, Contains-first, Contains-later}
+use Rattle.principals.proofs.Names.{number_contained}
+use Rattle.principals.proofs.Uniqueness.{hierarchy_once}
+
+-- ---- entries
+
+-- a list contains a name or not
+among : (names : List (List ℕ)) (name : List ℕ) → Contains names name ⊎ (Contains names name → ⊥)
+among [] name = inr (none_in_nil name)
+among (first ∷ names) name = by (bytes_eq first name) refl (among names name)
+  where
+    by : (b : Bool) → bytes_eq first name ≡ b → Contains names name ⊎ (Contains names name → ⊥)
+        → Contains (first ∷ names) name ⊎ (Contains (first ∷ names) name → ⊥)
+    by true e rest =
+        inl (subst (λ (n : List ℕ). Contains (first ∷ names) n) ((bytes_eq-Decides first name).0 e) (Contains-first first names))
+    by false e (inl there) = inl (Contains-later first names name there)
+    by false e (inr none) =
+        inr (λ h. ⊎_elim
+        (λ same. false≢true (sym e ∙ (bytes_eq-Decides first name).1 same))
+        none
+        (Contains-cons_cases first names name h))
+
+-- what entries build, or their first refusal
+abbrev Outcome : List Entry → Type 0
+Outcome entries =
+    ((names : List (List ℕ)) × (pairs : List (ℕ × ℕ)) × Built entries names pairs) ⊎ ((f : HierFault) × IsFirstRefusal entries f)
+
+-- one entry more is built, or refused
+record Refused (names : List (List ℕ)) (entry : Entry) : Type 0 where
+  why : HierFault
+  refused : IsRefusal names entry why
+
+one_entry : (es : List Entry) (names : List (List ℕ)) (pairs : List (ℕ × ℕ)) (entry : Entry) → Built es names pairs
+    → ((more : List (List ℕ)) × (others : List (ℕ × ℕ)) × Built (es ++ entry ∷ []) more others) ⊎ Refused names entry
+one_entry es names pairs (Declares name) built = by (among names name.text) (cases_lt (length names) 256)
+  where
+    by : Contains names name.text ⊎ (Contains names name.text → ⊥) → (length names < 256) ⊎ (256 ≤ length names)
+        → ((more : List (List ℕ)) × (others : List (ℕ × ℕ)) × Built (es ++ Declares name ∷ []) more others) ⊎ Refused names (Declares name)
+    by (inl there) room = inr (record { why = fault.DeclaredTwice name.start; refused = Twice name there })
+    by (inr new) (inl room) = inl (names ++ name.text ∷ [], pairs, built_name es names pairs name built new room)
+    by (inr new) (inr full) = inr (record { why = fault.TooManyPrincipals name.start; refused = Crowded name new full })
+one_entry es names pairs (Relates left right) built = by (among names left.text) (among names right.text)
+  where
+    by : Contains names left.text ⊎ (Contains names left.text → ⊥) → Contains names right.text ⊎ (Contains names right.text → ⊥)
+        → ((more : List (List ℕ)) × (others : List (ℕ × ℕ)) × Built (es ++ Relates left right ∷ []) more others) ⊎ Refused names (Relates left right)
+    by (inr none) there = inr (record { why = fault.UnknownPrincipal left.start; refused = UnknownLeft left right none })
+    by (inl first) (inr none) = inr (record { why = fault.UnknownPrincipal right.start; refused = UnknownRight left right first none })
+    by (inl first) (inl second) =
+        let a = number_contained names left.text first in
+        let b = number_contained names right.text second in
+        inl (names, pairs ++ (a.0, b.0) ∷ [], built_pair es names pairs left right a.0 b.0 built a.1 b.1)
+
+build : (es rest : List Entry) (names : List (List ℕ)) (pairs : List (ℕ × ℕ)) → Built es names pairs → Outcome (es ++ rest)
+build es [] names pairs built = inl (names, pairs, subst (λ (x : List Entry). Built x names pairs) (sym (append-nil es)) built)
+build es (entry ∷ rest) names pairs built =
+    ⊎_elim
+    (λ more. subst Outcome (append_assoc es (entry ∷ []) rest) (build (es ++ entry ∷ []) rest more.0 more.1 more.2))
+    (λ r. inr (r.why, built_refused es rest names pairs entry r.why built r.refused))
+    (one_entry es names pairs entry built)
+
+entries_outcome : (es : List Entry) → Outcome es
+entries_outcome es = build [] es [] [] built_nothing
+
+-- ---- what is said is a hierarchy
+
+below : (names : List (List ℕ)) (texts : List (List ℕ × List ℕ)) (pairs : List (ℕ × ℕ)) → HaveNames names texts pairs → AllBelow (length names) pairs
+below names [] [] h = All-nil (λ pair. (pair.0 < length names) × (pair.1 < length names))
+below names [] (pair ∷ pairs) h = absurd h
+below names (text ∷ texts) [] h = absurd h
+below names (text ∷ texts) (pair ∷ pairs) h =
+    All-cons (λ pair. (pair.0 < length names) × (pair.1 < length names)) pair pairs
+    (slice_get_within names pair.0 text.0 h.0.0, slice_get_within names pair.1 text.1 h.0.1)
+    (below names texts pairs h.1)
+
+pub said_is_hierarchy : (es : List Entry) (h : PrincipalHierarchy) → IsSaid es h → IsHierarchy h
+said_is_hierarchy es h is =
+    ⊎_elim
+    (λ built.
+    let same : built.0 ≡ h.names = built.2.same_names ∙ sym is.names in
+    record {
+      few = subst (λ (x : List (List ℕ)). length x ≤ 256) same built.2.few;
+      different = subst AllDifferent same built.2.different;
+      there = below h.names (written es) h.pairs is.pairs;
+    })
+    (λ refused. absurd (is.accepted refused.1.before refused.1.after refused.1.entry refused.0 refused.1.parts refused.1.refused))
+    (entries_outcome es)
+
+-- ---- the form
+
+abbrev Formed : List Terminal → Type 0
+Formed tokens = ((es : List Entry) × IsHierarchyForm tokens es) ⊎ ((at : ℕ) × IsUnexpectedAt tokens at)
+
+walk : (before rest : List Terminal) (s : State) (es : List Entry) → IsTerminated (before ++ rest) → run Fresh before ≡ Some (s, es) → Formed (before ++ rest)
+walk before [] s es terminated h =
+    let whole : run Fresh (before ++ []) ≡ Some (s, es) = ap (run Fresh) (append-nil before) ∙ h in
+    let ended : s ≡ Ended = run_ends (before ++ []) Fresh s es terminated whole in
+    inl (es, read_is_open (before ++ []) Fresh es (whole ∙ ap (λ x. Some (x, es)) ended))
+walk before (t ∷ rest) s es terminated h =
+    by (next s t) refl
+    (λ after e. subst Formed (append_assoc before (t ∷ []) rest)
+    (walk (before ++ t ∷ []) rest after (es ++ said s t)
+    (subst IsTerminated (sym (append_assoc before (t ∷ []) rest)) terminated)
+    (run-push Fresh before t s after es h e)))
+  where
+    by : (o : Option State) → next s t ≡ o → ((after : State) → next s t ≡ Some after → Formed (before ++ t ∷ rest)) → Formed (before ++ t ∷ rest)
+    by None e on =
+        inr (t.start, record {
+          before = before;
+          token = t;
+          after = rest;
+          parts = refl;
+          goes_on = begins before s es h;
+          stops = stops before t s es h e;
+          place = refl;
+        })
+    by (Some after) e on = on after e
+
+form_outcome : (tokens : List Terminal) → IsTerminated tokens → Formed tokens
+form_outcome tokens terminated = walk [] tokens Fresh [] terminated refl
+
+-- ---- the text
+
+abbrev Read : List ℕ → Type 0
+Read text = ((hierarchy : PrincipalHierarchy) × IsHierarchyOf text hierarchy) ⊎ ((f : HierFault) × IsRefusedText text f)
+
+refused_entry : (text : List ℕ) (es : List Entry) (names : List (List ℕ)) (entry : Entry) (f : HierFault) → IsRefusal names entry f
+    → Says text es → IsFirstRefusal es f → IsRefusedText text f
+refused_entry text es names entry f (Twice name h) says first = (es, says, first)
+refused_entry text es names entry f (Crowded name h full) says first = (es, says, first)
+refused_entry text es names entry f (UnknownLeft left right h) says first = (es, says, first)
+refused_entry text es names entry f (UnknownRight left right h k) says first = (es, says, first)
+
+not_lexed : (text : List ℕ) (f : LexFault) → length text ≤ greatest_text → IsRefused text f → Read text
+not_lexed text lex.NoMemory fits r = absurd r.stuck
+not_lexed text (lex.NoToken at) fits r = inr (fault.Syntax at, (fits, inl (lex.NoToken at, r, refl)))
+not_lexed text (lex.LiteralTooLarge at) fits r = inr (fault.Syntax at, (fits, inl (lex.LiteralTooLarge at, r, refl)))
+not_lexed text (lex.UnclosedComment at) fits r = inr (fault.Syntax at, (fits, inl (lex.UnclosedComment at, r, refl)))
+
+lexed : (text : List ℕ) (tokens : List Terminal) → IsUtf8 text → length text ≤ greatest_text → IsCut text tokens → Read text
+lexed text tokens utf8 fits cut =
+    ⊎_elim
+    (λ form.
+    let says : Says text form.0 = record { fits = fits; tokens = tokens; cut = cut; form = form.1 } in
+    ⊎_elim
+    (λ built. inl (
+      record { names = built.0; pairs = built.1 },
+      record { entries = form.0; says = says; said = built_said form.0 (record { names = built.0; pairs = built.1 }) built.2 },
+    ))
+    (λ refused. inr (refused.0, refused_entry text form.0 (declared refused.1.before) refused.1.entry refused.0 refused.1.refused says refused.1))
+    (entries_outcome form.0))
+    (λ at. inr (fault.Syntax at.0, (fits, inr (tokens, cut, at.1))))
+    (form_outcome tokens (listed text tokens utf8 cut).terminated)
+
+pub is_read_or_refused : IsReadOrRefused
+is_read_or_refused text utf8 =
+    ⊎_elim
+    (λ long. inr (fault.TooLong, long))
+    (λ fits. ⊎_elim
+    (λ cut. lexed text cut.0 utf8 fits cut.1)
+    (λ refused. not_lexed text refused.0 fits refused.1)
+    (is_cut_or_refused text utf8))
+    (cases_lt greatest_text (length text))
+
+pub has_one_hierarchy : HasOneHierarchy
+has_one_hierarchy text hierarchy other first second =
+    hierarchy_once text hierarchy other (said_is_hierarchy first.entries hierarchy first.said) first second
