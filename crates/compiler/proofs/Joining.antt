@@ -12,6 +12,7 @@ use Rattle.resolved.specs.Isolated.{Isolated}
 use Rattle.resolved.specs.Program.{Program}
 use Rattle.resolved.specs.StraightLine.{is_straight_line}
 use Rattle.resolved.specs.WellFormed.{well_formed}
+use Rattle.syntax.specs.Tree.{ProgramTree}
 use Rattle.types.specs.Resolution.{resolved_of}
 use Rattle.types.proofs.Channels.{channels_named, channel_labels_canonical}
 use Rattle.types.proofs.Meaning.{names_differ}
@@ -41,7 +42,7 @@ use Rattle.principals.specs.declared.fault.HierFault.{HierFault}
 use Rattle.principals.specs.declared.fault.HierFault.TheVariants as hier
 use Rattle.compiler.specs.declared.fault.Cause.{Cause}
 use Rattle.compiler.specs.declared.fault.Cause.TheVariants as cause
-use Rattle.compiler.specs.Built.{cause_of, IsNoText, IsHierarchyRefused, IsSourceRefused}
+use Rattle.compiler.specs.Built.{cause_of, IsNoText, IsHierarchyRefused, IsSourceRefused, StandsFor}
 use Rattle.compiler.specs.Compiled.{IsCodeOf}
 
 -- ---- names
@@ -63,6 +64,14 @@ pub straight_of : (core : Core) (source : List ℕ) (h : PrincipalHierarchy) (ac
 straight_of core source h accepted resolved =
     let written = tree_written (λ _. Unit {0}) source 1048576 accepted.tree (IsUtf8-from_is_utf8 source accepted.characters) accepted.short (λ at there. tt) accepted.spelled in
     subst (λ p. IsTrue (is_straight_line p)) (sym resolved) (straight_line h accepted.tree written.single accepted.named)
+
+-- two texts stand for the program of the one tree of the second
+pub stands_for : (hierarchy source text : List ℕ) (h : PrincipalHierarchy) (program : Program) → text ≡ source → IsTrue (is_utf8 hierarchy) →
+    IsHierarchyOf hierarchy h → checker.IsAccepted h text → ((tree : ProgramTree) → checker.IsTreeOf text tree → program ≡ resolved_of h tree) →
+    StandsFor hierarchy source program
+stands_for hierarchy source text h program same characters said accepted only =
+    subst (λ (s : List ℕ). StandsFor hierarchy s program) same
+    (record { characters = characters; principals = h; said = said; accepted = accepted; program_is = only accepted.tree accepted.spelled })
 
 -- ---- code
 

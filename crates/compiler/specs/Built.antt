@@ -1,14 +1,14 @@
--- When two texts make a module, what the module's bytes owe to them, and which fault is told where they make none.
+-- When two texts stand for a program, what its bytes are to them, and which fault is reported where they stand for none.
 -- Source: our own.
 use Rattle.std.specs.Prelude.{◌≡◌, ℕ, ◌≤◌, ◌<◌, List, ⊤, IsTrue, length}
 use Rattle.std.specs.Str.{is_utf8}
 use Rattle.principals.specs.ActsFor.{PrincipalHierarchy}
 use Rattle.principals.specs.HierarchyText.{greatest_text, IsHierarchyOf, IsRefusedText}
 use Rattle.principals.specs.declared.fault.HierFault.TheVariants as hier
-use Rattle.syntax.specs.Tree.{ProgramTree}
+use Rattle.resolved.specs.Program.{Program}
 use Rattle.types.specs.Resolution.{resolved_of}
 use Rattle.types.specs.declared.fault.Refusal.TheVariants as names
-use Rattle.checker.specs.Accepted.{greatest_source, IsTreeOf}
+use Rattle.checker.specs.Accepted.{greatest_source}
 use Rattle.checker.specs.Accepted as checker
 use Rattle.checker.specs.Refused.{IsPlaceOf, IsRefusedAt}
 use Rattle.checker.specs.declared.fault.Cause.{Cause as CheckCause}
@@ -21,20 +21,24 @@ use Rattle.compiler.specs.declared.fault.Text.TheVariants as text
 use Rattle.compiler.specs.declared.fault.Fault.{Fault}
 use Rattle.compiler.specs.declared.fault.Fault.TheVariants.{NoMemory, Refused}
 
--- a source is accepted under a hierarchy text: that is the text of a hierarchy, and the source is accepted under it
-pub record IsAccepted (hierarchy source : List ℕ) : Type 0 where
+-- two texts stand for a program: the first is the text of a hierarchy, the second is accepted under that hierarchy, and the program
+-- is what the tree of the second means under it
+pub record StandsFor (hierarchy source : List ℕ) (program : Program) : Type 0 where
   pub characters : IsTrue (is_utf8 hierarchy)
-  pub people : PrincipalHierarchy
-  pub said : IsHierarchyOf hierarchy people
-  pub accepted : checker.IsAccepted people source
+  pub principals : PrincipalHierarchy
+  pub said : IsHierarchyOf hierarchy principals
+  pub accepted : checker.IsAccepted principals source
+  pub program_is : program ≡ resolved_of principals accepted.tree
 
--- bytes are what a hierarchy text and a source are compiled to: they are code of the program that the source stands for
+-- a source is accepted under a hierarchy text: the two stand for a program
+abbrev pub IsAccepted : (hierarchy source : List ℕ) → Type 0
+IsAccepted hierarchy source = (program : Program) × StandsFor hierarchy source program
+
+-- bytes are what a hierarchy text and a source are compiled to: they are code of the program that the two stand for
 pub record IsCompiled (hierarchy source code : List ℕ) : Type 0 where
-  pub people : PrincipalHierarchy
-  pub said : IsHierarchyOf hierarchy people
-  pub tree : ProgramTree
-  pub spelled : IsTreeOf source tree
-  pub code_of : IsCodeOf (resolved_of people tree) code
+  pub program : Program
+  pub stands : StandsFor hierarchy source program
+  pub code_of : IsCodeOf program code
 
 -- ---- faults
 

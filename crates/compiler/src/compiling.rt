@@ -2,7 +2,7 @@
 
 ghost use Rattle.checker.specs.Accepted as checker;
 ghost use Rattle.checker.specs.Accepted.{IsTreeOf};
-ghost use Rattle.compiler.specs.Built.{IsAccepted, IsCompiled, IsHierarchyRefused, IsNoText, IsRefusal, TellsFault, cause_of};
+ghost use Rattle.compiler.specs.Built.{IsAccepted, IsCompiled, IsHierarchyRefused, IsNoText, IsRefusal, StandsFor, TellsFault, cause_of};
 ghost use Rattle.compiler.specs.Compiled.{IsCodeOf};
 ghost use Rattle.compiler.specs.declared.fault.Fault.TheVariants.{NoMemory};
 ghost use Rattle.principals.specs.ActsFor.{PrincipalHierarchy};
@@ -44,7 +44,7 @@ pub fn compile(alloc: Global, hierarchy: &[u8], source: &[u8]) -> Result<Vec<u8>
     ensures accepted { OnOk result (IsAccepted hierarchy.now source.now) }
     ensures refused { IfErr result (λ fault. IsRefusal fault → ¬ IsAccepted hierarchy.now source.now) }
 
-    // The bytes are code of the program that the source stands for.
+    // The bytes are code of the program that the two texts stand for.
     ensures compiled { IfOk result (λ code. IsCompiled hierarchy.now source.now code.items) }
 
     // The fault is the first, at its place.
@@ -88,6 +88,7 @@ fn people(alloc: Global, bytes: &[u8]) -> Result<Hierarchy, Fault>
 fn checked(alloc: Global, people: &Hierarchy, bytes: &[u8]) -> Result<Checked, Fault>
     ensures accepted { OnOk result (checker.IsAccepted people.now bytes.now) }
     ensures program { IfOk result (λ checked. (tree : ProgramTree) → IsTreeOf bytes.now tree → program_of checked.core ≡ resolved_of people.now tree) }
+    ensures stands { IfOk result (λ checked. (hierarchy : List ℕ) → IsTrue (is_utf8 hierarchy) → IsHierarchyOf hierarchy people.now → StandsFor hierarchy bytes.now (program_of checked.core)) }
     ensures isolated { IfOk result (λ checked. Isolated (program_of checked.core)) }
     ensures told { IfErr result (λ fault. (hierarchy : List ℕ) → IsTrue (is_utf8 hierarchy) → IsHierarchyOf hierarchy people.now → TellsFault hierarchy bytes.now fault) }
     ensures refused { IfErr result (λ fault. IsRefusal fault → ¬ checker.IsAccepted people.now bytes.now) }

@@ -1,4 +1,5 @@
 mod Answered
+pub mod Ends
 mod Isolation
 mod Lives
 mod Sessions

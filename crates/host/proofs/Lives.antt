@@ -1,20 +1,20 @@
 -- What becomes of a session while a host answers events.
-use Rattle.std.proofs.Common.{◌≡◌, ℕ, zero, suc, ◌+◌, ◌-◌, ◌<◌, ◌≤◌, ◌⊎◌, ◌==◌, Bool, true, false, not, cond, List, [], ◌∷◌, ◌++◌, take, drop, None, Some, refl, sym, ap, ◌∙◌, subst, inl, inr, ⊎_elim, arith, eq-eqb, eqb-true, ne_eqb}
+use Rattle.std.proofs.Common.{◌≡◌, ℕ, zero, suc, ◌+◌, ◌<◌, ◌≤◌, ◌⊎◌, ◌==◌, Bool, true, false, not, cond, List, [], ◌∷◌, ◌++◌, take, drop, None, Some, refl, sym, ap, ◌∙◌, subst, inl, inr, ⊎_elim, arith, eq-eqb, eqb-true, ne_eqb}
 use Rattle.std.specs.Prelude.{slice_get}
 use Rattle.std.proofs.lemmas.Option.{none-some}
 use Rattle.labels.specs.declared.sent.Pair.{Pair}
 use Rattle.bytecode.specs.Contents.{ModuleContents}
 use Rattle.bytecode.specs.Form.{Spells}
 use Rattle.bytecode.specs.Format.{module_file}
-use Rattle.bytecode.specs.Machine.{Machine, Ended, Ending, Program, exec, program_of, sent_of}
+use Rattle.bytecode.specs.Machine.{Machine, Ending, exec, program_of, sent_of}
 use Rattle.channels.specs.World.{InputNumbers}
 use Rattle.bytecode.specs.Isolated.{seen_of}
 use Rattle.machine.proofs.Told.{exec_more}
 use Rattle.host.specs.Meaning.{SessionContents, HostContents, HostEvent, Open, Turn, View, Close, HostAnswer, Opened, Turned, Viewed, Closed, Refused, Answers, Answered, session_of, with_machine, without, IsOpen, IsNotOpen, first_machine, with_opened}
-use Rattle.machine.specs.Run.{HasEnded, IsTold}
+use Rattle.machine.specs.Run.{HasEnded}
 use Rattle.machine.specs.declared.status.Status.{Status}
-use Rattle.machine.specs.declared.status.Status.TheVariants as status
 use Rattle.host.specs.Laws.{ending_of, moved_by, told_of, steps_told}
+use Rattle.host.proofs.Ends.{still_ended_at, end_of_status}
 
 -- the steps that a session takes, and then more
 steps_join : (s : SessionContents) (taken more : ℕ) → exec (program_of s.program) more (exec (program_of s.program) taken s.machine) ≡ exec (program_of s.program) (taken + more) s.machine
@@ -218,29 +218,6 @@ module _ (places id p : ℕ) (pairs : List Pair) where
 
 -- ---- the end that a turn reports
 
--- a machine that has ended stays so
-ended_stays : (p : Program) (n : ℕ) (ending : Ending) (sent : List Pair) → exec p n (Ended ending sent) ≡ Ended ending sent
-ended_stays p zero ending sent = refl
-ended_stays p (suc n) ending sent = ended_stays p n ending sent
-
-pub still_ended : (p : Program) (n : ℕ) (ending : Ending) (machine : Machine) → HasEnded ending machine → HasEnded ending (exec p n machine)
-still_ended p n ending machine h =
-    let same : exec p n machine ≡ machine = ap (exec p n) h ∙ ended_stays p n ending (sent_of machine) ∙ sym h in
-    subst (HasEnded ending) (sym same) h
-
-still_ended_at : (p : Program) (i j : ℕ) (ending : Ending) (machine : Machine) → i ≤ j → HasEnded ending (exec p i machine) → HasEnded ending (exec p j machine)
-still_ended_at p i j ending machine h ended =
-    let whole : j ≡ i + (j - i) = omega (arith, h) in
-    subst (HasEnded ending) (exec_more p i (j - i) j machine whole) (still_ended p (j - i) ending (exec p i machine) ended)
-
--- what an ending status tells of a machine
-tells_end : (p : Program) (n taken : ℕ) (told : Status) (machine : Machine) (ending : Ending) → ending_of told ≡ Some ending → IsTold p n taken told machine → HasEnded ending machine
-tells_end p n taken status.Running machine ending e h = absurd (none-some ending e)
-tells_end p n taken status.Finished machine ending e h = subst (λ x. HasEnded x machine) (some_is _ ending e) h
-tells_end p n taken (status.Threw exception) machine ending e h = subst (λ x. HasEnded x machine) (some_is _ ending e) h
-tells_end p n taken status.Deep machine ending e h = subst (λ x. HasEnded x machine) (some_is _ ending e) h
-tells_end p n taken status.NoMemory machine ending e h = absurd (none-some ending e)
-
 -- the steps that are reported grow with the list
 steps_grow : (id : ℕ) (events : List HostEvent) (answers : List HostAnswer) (j k : ℕ) → j ≤ k
     → steps_told id (take j events) (take j answers) ≤ steps_told id (take k events) (take k answers)
@@ -278,7 +255,7 @@ module _ (places id steps taken : ℕ) (told : Status) (ending : Ending) (ends :
       ap (λ e. told_of id e answer) (some_is event (Turn id steps) asked) ∙ ap (told_of id (Turn id steps)) (some_is answer (Turned taken told) said)
       ∙ ap (λ b. cond b taken 0) (eq-eqb id id refl) in
       let all : told_of id event answer + 0 ≡ taken = omega (arith, here) in
-      let after : HasEnded ending turned.2.0 = tells_end (program_of turned.0.program) steps taken told turned.2.0 ending ends turned.2.1.told in
+      let after : HasEnded ending turned.2.0 = end_of_status (program_of turned.0.program) steps taken told turned.2.0 ending ends turned.2.1.told in
       subst (HasEnded ending)
       (turned.2.1.machine ∙ ap (λ (x : SessionContents). exec (program_of x.program) taken x.machine) same
       ∙ ap (λ n. exec (program_of s.program) n s.machine) (sym all))

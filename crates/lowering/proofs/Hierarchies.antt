@@ -1,5 +1,5 @@
 -- The hierarchy of a module: its pairs are made by sorting and dropping what stands twice, and its principals act as before.
-use Rattle.std.proofs.Common.{◌≡◌, ℕ, ◌<◌, Bool, true, List, refl, sym, ap, ◌∙◌, IfOk, Result, Ok, Err, ◌&&◌}
+use Rattle.std.proofs.Common.{◌≡◌, ℕ, ◌<◌, Bool, true, List, [], ◌∷◌, length, refl, sym, ap, ◌∙◌, IfOk, IsTrue, Result, Ok, Err, ◌&&◌, arith}
 use Rattle.std.specs.Prelude.{◌==◌}
 use Rattle.std.specs.List.{dedup}
 use Rattle.std.specs.List.Sorted.{IsPermutation, IsSorted}
@@ -9,6 +9,7 @@ use Rattle.std.specs.declared.alloc.AllocError.{AllocError}
 use Rattle.std.specs.declared.cmp.Ordering.{Ordering}
 use Rattle.std.specs.declared.cmp.Ordering.TheVariants.{Less, Equal, Greater}
 use Rattle.std.proofs.Math.Path.{fun_ext}
+use Rattle.std.proofs.lemmas.Bool.{and_parts, eqb-true}
 use Rattle.std.proofs.lemmas.Cmp.{eq_by_cmp_equiv}
 use Rattle.principals.specs.ActsFor.{PrincipalHierarchy, AllBelow}
 use Rattle.principals.proofs.Closure.{ActsFor-monotone}
@@ -18,6 +19,7 @@ use Rattle.labels.proofs.Elements.{All-from_each, each_from_All}
 use Rattle.labels.proofs.Written.{dedup-sorted}
 use Rattle.bytecode.specs.Format.{pair_cmp}
 use Rattle.resolved.specs.Program.{Program}
+use Rattle.resolved.specs.StraightLine.{is_straight_line}
 use Rattle.lowering.specs.Interface.{SameInterface}
 use Rattle.lowering.specs.StraightCode.{hierarchy_contents, module_of}
 use Rattle.lowering.proofs.FittingNames.{pair_cmp-total, pair_cmp-exact}
@@ -59,15 +61,27 @@ hierarchy_made (Ok made) h names pairs n p f g =
     λ i. record { names = first i; pairs = second i }
 hierarchy_made (Err e) h names pairs n p f g = tt
 
+-- a straight-line program declares no exceptions
+no_exceptions : (program : Program) → IsTrue (is_straight_line program) → [] ≡ program.exceptions
+no_exceptions program straight =
+    let parts = and_parts (program.main == 0) _ straight in
+    let rest = and_parts (length program.globals == 0) _ parts.1 in
+    none program.exceptions (eqb-true _ _ (and_parts (length program.exceptions == 0) _ rest.1).0)
+  where
+    none : (names : List (List ℕ)) → length names ≡ 0 → [] ≡ names
+    none [] e = refl
+    none (name ∷ names) e = absurd (omega arith)
+
 -- a module of a straight-line program shows the same
-pub same-interface : (program : Program) → SameInterface program (module_of program)
-same-interface program = record {
+pub same-interface : (program : Program) → IsTrue (is_straight_line program) → SameInterface program (module_of program)
+same-interface program straight = record {
   names = refl;
   acts = λ a b. (
     ActsFor-monotone (ascending_set pair_cmp program.hierarchy.pairs) program.hierarchy.pairs (λ x y. (same (x, y)).0),
     ActsFor-monotone program.hierarchy.pairs (ascending_set pair_cmp program.hierarchy.pairs) (λ x y. (same (x, y)).1),
   );
   channels = refl;
+  exceptions = no_exceptions program straight;
 }
   where
     same : SameSet (ascending_set pair_cmp program.hierarchy.pairs) program.hierarchy.pairs

@@ -5,7 +5,7 @@ use Rattle.compiler.proofs.compiling.compile.Goals as goal
 
 pub returns-in-Err-clause-refused : goal.returns-in-Err-clause-refused
 returns-in-Err-clause-refused c = λ refusal accepted.
-    c.in-Err.ensures.none refusal accepted.people accepted.characters accepted.said
+    c.in-Err.ensures.none refusal accepted.1.principals accepted.1.characters accepted.1.said
 
 pub returns-in-Err-clause-told : goal.returns-in-Err-clause-told
 returns-in-Err-clause-told c = c.in-Err.ensures.told c.args.source.now
@@ -13,7 +13,7 @@ returns-in-Err-clause-told c = c.in-Err.ensures.told c.args.source.now
 pub returns-in-Err-checked-clause-refused : goal.returns-in-Err-checked-clause-refused
 returns-in-Err-checked-clause-refused c = λ refusal accepted.
     c.in-Err-checked.ensures.refused refusal
-    (subst (λ h. checker.IsAccepted h c.args.source.now) (sym (c.in-Ok.ensures.only accepted.people accepted.said)) accepted.accepted)
+    (subst (λ h. checker.IsAccepted h c.args.source.now) (sym (c.in-Ok.ensures.only accepted.1.principals accepted.1.said)) accepted.1.accepted)
 
 pub code_of-requires-clause-straight : goal.code_of-requires-clause-straight
 code_of-requires-clause-straight c =

@@ -44,4 +44,4 @@ returns-clause-kept c =
 
 pub returns-clause-interface : goal.returns-clause-interface
 returns-clause-interface c =
-    subst (SameInterface (program_of c.args.core.now)) (sym (returns-clause-module c)) (same-interface (program_of c.args.core.now))
+    subst (SameInterface (program_of c.args.core.now)) (sym (returns-clause-module c)) (same-interface (program_of c.args.core.now) c.requires.straight)

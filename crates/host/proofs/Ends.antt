@@ -1,0 +1,33 @@
+-- A machine that has ended, and what a status reports of one.
+use Rattle.std.proofs.Common.{◌≡◌, ℕ, zero, suc, ◌+◌, ◌-◌, ◌≤◌, List, Some, refl, sym, ap, ◌∙◌, subst, arith}
+use Rattle.std.proofs.lemmas.Option.{none-some, same_Some}
+use Rattle.labels.specs.declared.sent.Pair.{Pair}
+use Rattle.bytecode.specs.Machine.{Machine, Ended, Ending, Program, exec, sent_of}
+use Rattle.machine.specs.Run.{HasEnded, IsTold}
+use Rattle.machine.specs.declared.status.Status.{Status}
+use Rattle.machine.specs.declared.status.Status.TheVariants as status
+use Rattle.machine.proofs.Told.{exec_more}
+use Rattle.host.specs.Laws.{ending_of}
+
+-- a machine that has ended stays so
+ended_stays : (p : Program) (n : ℕ) (ending : Ending) (sent : List Pair) → exec p n (Ended ending sent) ≡ Ended ending sent
+ended_stays p zero ending sent = refl
+ended_stays p (suc n) ending sent = ended_stays p n ending sent
+
+pub same_at : (p : Program) (i j : ℕ) (ending : Ending) (machine : Machine) → i ≤ j → HasEnded ending (exec p i machine)
+    → exec p j machine ≡ exec p i machine
+same_at p i j ending machine h ended =
+    let whole : j ≡ i + (j - i) = omega (arith, h) in
+    sym (exec_more p i (j - i) j machine whole) ∙ ap (exec p (j - i)) ended ∙ ended_stays p (j - i) ending (sent_of (exec p i machine)) ∙ sym ended
+
+pub still_ended_at : (p : Program) (i j : ℕ) (ending : Ending) (machine : Machine) → i ≤ j → HasEnded ending (exec p i machine)
+    → HasEnded ending (exec p j machine)
+still_ended_at p i j ending machine h ended = subst (HasEnded ending) (sym (same_at p i j ending machine h ended)) ended
+
+-- what a status that reports an end says of a machine
+pub end_of_status : (p : Program) (n taken : ℕ) (told : Status) (machine : Machine) (ending : Ending) → ending_of told ≡ Some ending → IsTold p n taken told machine → HasEnded ending machine
+end_of_status p n taken status.Running machine ending e h = absurd (none-some ending e)
+end_of_status p n taken status.Finished machine ending e h = subst (λ x. HasEnded x machine) (same_Some _ _ e) h
+end_of_status p n taken (status.Threw exception) machine ending e h = subst (λ x. HasEnded x machine) (same_Some _ _ e) h
+end_of_status p n taken status.Deep machine ending e h = subst (λ x. HasEnded x machine) (same_Some _ _ e) h
+end_of_status p n taken status.NoMemory machine ending e h = absurd (none-some ending e)
