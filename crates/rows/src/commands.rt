@@ -1,0 +1,73 @@
+//! Rows that ask the program `flowc` for something.
+
+ghost use Rattle.flowc.specs.Task.{files_of};
+ghost use Rattle.std.specs.Prelude.{◌≡◌, length};
+
+use crate::answer::{write_lines, write_status};
+use crate::fault::LineFault;
+use crate::line::words_of;
+use crate::texts::Texts;
+use channels::Device;
+use flowc::{Done, Task, TaskFault, perform, task};
+use std::alloc::Global;
+
+/// Answers a command line, whose files are texts. The bytes that it leaves for a file become the text of that name.
+pub fn answer_command(
+    texts: &mut Texts,
+    line: &str,
+    answer: &mut Vec<u8>,
+) -> Result<(), LineFault> {
+    let alloc = texts.alloc();
+    match task_of(alloc, line)? {
+        Ok(asked) => answer_task(texts, &asked, answer),
+        Err(TaskFault::Words(text)) => {
+            write_status(alloc, answer, 2)?;
+            write_lines(answer, b'!', text.as_bytes())
+        }
+        Err(TaskFault::OutOfMemory) => Err(LineFault::NoMemory),
+    }
+}
+
+fn task_of(alloc: Global, line: &str) -> Result<Result<Task, TaskFault>, LineFault> {
+    let words = words_of(alloc, line)?;
+    Ok(task(alloc, &words))
+}
+
+fn answer_task(texts: &mut Texts, asked: &Task, answer: &mut Vec<u8>) -> Result<(), LineFault> {
+    let [first, second] = asked.paths();
+    let files = [texts.copy(first)?, texts.copy(second)?];
+    let done = answer_files(texts.alloc(), asked, &files, answer)?;
+    keep(texts, asked, done)
+}
+
+// Does the task, and writes what went to standard output and standard error.
+fn answer_files(
+    alloc: Global,
+    asked: &Task,
+    files: &[Vec<u8>],
+    answer: &mut Vec<u8>,
+) -> Result<Done, LineFault>
+    requires files { length files.now ≡ files_of asked.now }
+{
+    let mut out = Device::new(Vec::new(alloc));
+    let mut err = Device::new(Vec::new(alloc));
+    let done = perform(alloc, asked, files, &mut out, &mut err);
+    write_status(alloc, answer, done.status)?;
+    write_lines(answer, b'>', &out.into_inner())?;
+    write_lines(answer, b'!', &err.into_inner())?;
+    Ok(done)
+}
+
+// A module becomes a text. Where a build makes none, no text has the name.
+fn keep(texts: &mut Texts, asked: &Task, done: Done) -> Result<(), LineFault> {
+    let Task::Build { out, .. } = asked else {
+        return Ok(());
+    };
+    match done.code {
+        Some(code) => texts.put(out, code),
+        None => {
+            texts.forget(out);
+            Ok(())
+        }
+    }
+}

@@ -1,0 +1,64 @@
+//! Rows that ask what a text is cut into.
+
+use crate::answer::{write, write_lines};
+use crate::fault::LineFault;
+use crate::texts::Texts;
+use lexer::{LexFault, Token, lex};
+use std::alloc::Global;
+
+/// `tokens NAME`: the number of tokens, and for each the byte where it begins, what it is, and its text. `count NAME`: the
+/// number alone.
+pub fn answer_tokens(
+    texts: &Texts,
+    name: &str,
+    has_lines: bool,
+    answer: &mut Vec<u8>,
+) -> Result<(), LineFault> {
+    let alloc = texts.alloc();
+    let Ok(text) = str::from_utf8(texts.get(name)?) else {
+        return Err(LineFault::WrongForm);
+    };
+    match lex(alloc, text) {
+        Ok(tokens) => write_tokens(alloc, &tokens, has_lines, answer),
+        Err(LexFault::NoMemory) => Err(LineFault::NoMemory),
+        Err(LexFault::NoToken(at)) => write_refusal(alloc, "no token", at, answer),
+        Err(LexFault::LiteralTooLarge(at)) => {
+            write_refusal(alloc, "literal too large", at, answer)
+        }
+        Err(LexFault::UnclosedComment(at)) => write_refusal(alloc, "open comment", at, answer),
+    }
+}
+
+fn write_tokens(
+    alloc: Global,
+    tokens: &[Token<'_>],
+    has_lines: bool,
+    answer: &mut Vec<u8>,
+) -> Result<(), LineFault> {
+    let count = tokens.len();
+    let line = format!(in alloc; "= {count}\n")?;
+    write(answer, line.as_bytes())?;
+    if !has_lines {
+        return Ok(());
+    }
+    for token in tokens {
+        write_token(alloc, token, answer)?;
+    }
+    Ok(())
+}
+
+fn write_token(alloc: Global, token: &Token<'_>, answer: &mut Vec<u8>) -> Result<(), LineFault> {
+    let (at, kind, text) = (token.span.start, token.kind, token.text);
+    let line = format!(in alloc; "{at} {kind:?} {text}\n")?;
+    write_lines(answer, b'>', line.as_bytes())
+}
+
+fn write_refusal(
+    alloc: Global,
+    words: &str,
+    at: usize,
+    answer: &mut Vec<u8>,
+) -> Result<(), LineFault> {
+    let line = format!(in alloc; "= refused\n! {at} {words}\n")?;
+    write(answer, line.as_bytes())
+}

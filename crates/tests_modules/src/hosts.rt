@@ -1,0 +1,103 @@
+//! Hosts whose growths are refused, and the laws of hosts.
+//!
+//! Undisturbed these tests show that the calls answer; `tools/refused-memory` runs them with each allocation refused in turn.
+
+use bytecode::decode;
+use channels::World;
+use host::{Event, Host, HostFault, Id, laws};
+use machine::Status;
+use std::alloc::Global;
+use std::test::Fail;
+
+// Alice, Bob and Carol, who acts for Bob; an input `s` and an output `a` for Alice, an output `pub` for all. The code is
+// PUSH 1, SEND pub, RECV s, STORE 0, LOAD 0, PUSH 1, ADD, SEND a, RET.
+const MODULE: [u8; 176] = [
+    70, 76, 79, 66, 0, 0, 0, 1, 0, 0, 0, 3, 0, 0, 0, 5, 65, 108, 105, 99, 101, 0, 0, 0, 3, 66, 111,
+    98, 0, 0, 0, 5, 67, 97, 114, 111, 108, 0, 0, 0, 1, 0, 0, 0, 2, 0, 0, 0, 1, 0, 0, 0, 0, 0, 0, 0,
+    3, 0, 0, 0, 0, 1, 115, 0, 0, 0, 1, 0, 0, 0, 0, 0, 0, 0, 0, 1, 0, 0, 0, 1, 97, 0, 0, 0, 1, 0, 0,
+    0, 0, 0, 0, 0, 0, 1, 0, 0, 0, 3, 112, 117, 98, 0, 0, 0, 0, 0, 0, 0, 0, 0, 0, 0, 1, 0, 0, 0, 0,
+    0, 0, 0, 0, 1, 0, 0, 0, 0, 0, 0, 0, 0, 37, 1, 0, 0, 0, 1, 38, 0, 0, 0, 2, 37, 0, 0, 0, 0, 5, 0,
+    0, 0, 0, 4, 0, 0, 0, 0, 1, 0, 0, 0, 1, 16, 38, 0, 0, 0, 1, 35, 0, 0, 0, 0, 0, 0, 0, 0,
+];
+
+#[test]
+fn the_laws_are_called(_rt: HostRuntime) {
+    laws::sessions_are_fresh_runs();
+    laws::sessions_are_isolated();
+    laws::ids_are_never_given_again();
+}
+
+// The world that has 4 for the input `s`, or none where memory is refused.
+fn world_once(alloc: Global) -> Option<World> {
+    let module = decode(alloc, &MODULE).ok()?;
+    World::read(alloc, &module, "s = 4").ok()
+}
+
+// The same, made anew where memory is refused.
+fn world_of(alloc: Global) -> Result<World, Fail> {
+    if let Some(world) = world_once(alloc) {
+        return Ok(world);
+    }
+    Ok(world_once(alloc).ok_or("no world")?)
+}
+
+// Opens a session, and tries again where memory is refused.
+fn opened(alloc: Global, host: &mut Host) -> Result<Id, Fail> {
+    match host.open(&MODULE, world_of(alloc)?) {
+        Err(HostFault::NoMemory) => Ok(host.open(&MODULE, world_of(alloc)?)?),
+        other => Ok(other?),
+    }
+}
+
+// Turns a session to its end, again where memory is refused.
+fn turned(host: &mut Host, id: Id) -> Result<(u64, Status), Fail> {
+    let (taken, status) = host.turn(id, 1000)?;
+    if status != Status::NoMemory {
+        return Ok((taken, status));
+    }
+    let (more, status) = host.turn(id, 1000)?;
+    Ok((taken.saturating_add(more), status))
+}
+
+// How many pairs Alice sees, asked again where memory is refused.
+fn count_of_view(host: &Host, id: Id) -> Result<usize, HostFault> {
+    match host.view(id, 0) {
+        Err(HostFault::NoMemory) => Ok(host.view(id, 0)?.len()),
+        other => Ok(other?.len()),
+    }
+}
+
+// Whichever growth is refused, a call answers want of memory or what it answers undisturbed, and asked again it answers that.
+#[test]
+fn a_refused_growth_changes_nothing(rt: HostRuntime) -> Result<(), Fail> {
+    let mut host = Host::new(rt.alloc());
+    let id = opened(rt.alloc(), &mut host)?;
+    assert_eq!(rt; id, 0);
+    assert_eq!(rt; turned(&mut host, id)?, (9, Status::Finished));
+    assert_eq!(rt; count_of_view(&host, id), Ok(2));
+    assert_eq!(rt; host.close(id), Ok(()));
+    Ok(())
+}
+
+// Two events, or none where memory is refused.
+fn events_of(alloc: Global) -> Option<Vec<Event>> {
+    let bytes = Vec::from_slice(alloc, &MODULE).ok()?;
+    let mut events = Vec::new(alloc);
+    events.push(Event::Open(bytes, world_once(alloc)?)).ok()?;
+    events.push(Event::Turn(0, 9)).ok()?;
+    Some(events)
+}
+
+// Where the list of answers is refused, no event was answered.
+#[test]
+fn a_refused_list_answers_nothing(rt: HostRuntime) -> Result<(), Fail> {
+    let mut host = Host::new(rt.alloc());
+    let Some(events) = events_of(rt.alloc()) else {
+        return Ok(());
+    };
+    match host.run(events) {
+        Ok(answers) => assert_eq!(rt; answers.len(), 2),
+        Err(_) => assert_eq!(rt; host.close(0), Err(HostFault::UnknownId)),
+    }
+    Ok(())
+}

@@ -1,0 +1,13 @@
+//! Tests of `bytecode`, `channels`, `verifier`, `machine` and `host`: what no row of the program `rows` reaches.
+#![tactic(auto)]
+
+#[cfg(test)]
+mod faults;
+#[cfg(test)]
+mod hosts;
+#[cfg(test)]
+mod modules;
+#[cfg(test)]
+mod runs;
+#[cfg(test)]
+mod sinks;

@@ -1,0 +1,113 @@
+//! Modules that are read and written again, and what they lend.
+
+use bytecode::{Arithmetic, Direction, Instruction, Kind, Module, Procedure, Slot, decode, encode, laws};
+use std::test::Fail;
+
+// One output `pub`, and one procedure that sends 7 on it.
+const SENDS: [u8; 76] = [
+    70, 76, 79, 66, 0, 0, 0, 1, 0, 0, 0, 0, 0, 0, 0, 0, 0, 0, 0, 0, 0, 0, 0, 1, 1, 0, 0, 0, 3, 112,
+    117, 98, 0, 0, 0, 0, 0, 0, 0, 0, 0, 0, 0, 1, 0, 0, 0, 0, 0, 0, 0, 0, 0, 0, 0, 0, 11, 1, 0, 0,
+    0, 7, 38, 0, 0, 0, 0, 35, 0, 0, 0, 0, 0, 0, 0, 0,
+];
+
+// A, B and C, who acts for both; an input `q` for everyone and an output `p` with two policies; and one procedure with a
+// slot, which sends what it receives and -43 more.
+const THREE: [u8; 160] = [
+    70, 76, 79, 66, 0, 0, 0, 1, 0, 0, 0, 3, 0, 0, 0, 1, 65, 0, 0, 0, 1, 66, 0, 0, 0, 1, 67, 0, 0,
+    0, 2, 0, 0, 0, 2, 0, 0, 0, 0, 0, 0, 0, 2, 0, 0, 0, 1, 0, 0, 0, 0, 0, 0, 0, 2, 0, 0, 0, 0, 1,
+    113, 0, 0, 0, 0, 1, 0, 0, 0, 1, 112, 0, 0, 0, 2, 0, 0, 0, 0, 0, 0, 0, 2, 0, 0, 0, 1, 0, 0, 0,
+    2, 0, 0, 0, 1, 0, 0, 0, 0, 0, 0, 0, 0, 0, 0, 0, 1, 0, 0, 0, 0, 0, 0, 0, 0, 1, 0, 0, 0, 0, 0, 0,
+    0, 0, 27, 37, 0, 0, 0, 0, 5, 0, 0, 0, 0, 4, 0, 0, 0, 0, 1, 255, 255, 255, 213, 16, 38, 0, 0, 0,
+    1, 35, 0, 0, 0, 0, 0, 0, 0, 0,
+];
+
+#[test]
+fn the_laws_are_called(_rt: HostRuntime) {
+    laws::one_spelling();
+    laws::no_spelling_begins_another();
+    laws::spellings_are_not_refused();
+    laws::refusals_stand_inside();
+}
+
+#[test]
+fn writes_what_it_read(rt: HostRuntime) -> Result<(), Fail> {
+    for bytes in [SENDS.as_slice(), THREE.as_slice()] {
+        let module = decode(rt.alloc(), bytes)?;
+        let written = encode(rt.alloc(), &module)?;
+        assert!(rt; written.as_slice() == bytes);
+    }
+    Ok(())
+}
+
+// How many exceptions, globals, channels and procedures a module has, and where it starts.
+fn counts_of(module: &Module) -> [usize; 5] {
+    let start = module.main() as usize;
+    let (exceptions, globals) = (module.exceptions().len(), module.globals().len());
+    let (channels, procedures) = (module.channels().len(), module.procedures().len());
+    [exceptions, globals, channels, procedures, start]
+}
+
+#[test]
+fn lends_its_lists(rt: HostRuntime) -> Result<(), Fail> {
+    let module = decode(rt.alloc(), &SENDS)?;
+    assert_eq!(rt; counts_of(&module), [0, 0, 1, 1, 0]);
+    assert_eq!(rt; module.hierarchy().count(), 0);
+    for channel in module.channels() {
+        assert!(rt; channel.name() == "pub" && channel.direction() == Direction::Output);
+        assert!(rt; channel.label().is_empty());
+    }
+    Ok(())
+}
+
+// Whether a procedure has no value, parameter, slot and handler, and this code of the first module.
+fn sends_seven(procedure: &Procedure) -> bool {
+    let plain = procedure.returned().is_none() && procedure.parameters() == 0;
+    let bare = procedure.slots().is_empty() && procedure.handlers().is_empty();
+    let code = procedure.code();
+    let wanted = [Instruction::Push(7), Instruction::Send(0), Instruction::Return];
+    plain && bare && code == wanted.as_slice() && code[0].width() == 5
+}
+
+#[test]
+fn lends_its_code(rt: HostRuntime) -> Result<(), Fail> {
+    let module = decode(rt.alloc(), &SENDS)?;
+    for procedure in module.procedures() {
+        assert!(rt; sends_seven(procedure));
+    }
+    Ok(())
+}
+
+// Whether a procedure has one slot, and this code of the second module.
+fn sends_fewer(procedure: &Procedure) -> bool {
+    let wanted = [
+        Instruction::Receive(0),
+        Instruction::Store(0),
+        Instruction::Load(0),
+        Instruction::Push(-43),
+        Instruction::Compute(Arithmetic::Add),
+        Instruction::Send(1),
+        Instruction::Return,
+    ];
+    let slots = [Slot::Scalar(Kind::Int)];
+    procedure.slots() == slots.as_slice() && procedure.code() == wanted.as_slice()
+}
+
+#[test]
+fn lends_names_and_labels(rt: HostRuntime) -> Result<(), Fail> {
+    let module = decode(rt.alloc(), &THREE)?;
+    assert!(rt; module.hierarchy().name(2) == Some("C"));
+    assert_eq!(rt; module.hierarchy().pairs(), [(2, 0), (2, 1)].as_slice());
+    for procedure in module.procedures() {
+        assert!(rt; sends_fewer(procedure));
+    }
+    let [input, output] = module.channels() else {
+        return Err("two channels".into());
+    };
+    assert!(rt; input.direction() == Direction::Input && output.name() == "p");
+    let [first, second] = output.label().policies() else {
+        return Err("two policies".into());
+    };
+    assert_eq!(rt; first.readers(), [1, 2].as_slice());
+    assert_eq!(rt; second.owner(), 1);
+    Ok(())
+}

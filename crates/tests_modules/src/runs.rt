@@ -1,0 +1,109 @@
+//! Runs of a machine, counted step by step.
+
+use bytecode::{Module, decode};
+use channels::{Pair, World};
+use machine::{Machine, NewFault, Status};
+use std::alloc::Global;
+use std::test::Fail;
+use verifier::verify;
+
+// One output `pub`, and one procedure: PUSH 7, SEND 0, RET.
+const SENDS: [u8; 76] = [
+    70, 76, 79, 66, 0, 0, 0, 1, 0, 0, 0, 0, 0, 0, 0, 0, 0, 0, 0, 0, 0, 0, 0, 1, 1, 0, 0, 0, 3, 112,
+    117, 98, 0, 0, 0, 0, 0, 0, 0, 0, 0, 0, 0, 1, 0, 0, 0, 0, 0, 0, 0, 0, 0, 0, 0, 0, 11, 1, 0, 0,
+    0, 7, 38, 0, 0, 0, 0, 35, 0, 0, 0, 0, 0, 0, 0, 0,
+];
+
+// The same with an input `q` before the output.
+const MODULE: [u8; 86] = [
+    70, 76, 79, 66, 0, 0, 0, 1, 0, 0, 0, 0, 0, 0, 0, 0, 0, 0, 0, 0, 0, 0, 0, 3, 0, 0, 0, 0, 1, 113,
+    0, 0, 0, 0, 1, 0, 0, 0, 3, 112, 117, 98, 0, 0, 0, 0, 0, 0, 0, 0, 1, 114, 0, 0, 0, 0, 0, 0, 0,
+    0, 0, 0, 0, 1, 0, 0, 0, 0, 0, 0, 0, 0, 0, 0, 0, 0, 1, 35, 0, 0, 0, 0, 0, 0, 0, 0,
+];
+
+// A module, made anew where memory is refused.
+fn module_of(alloc: Global, bytes: &[u8]) -> Option<Module> {
+    for _ in 0..2 {
+        if let Ok(module) = decode(alloc, bytes) {
+            return Some(module);
+        }
+    }
+    None
+}
+
+// The machine of the first module, or none where memory is refused.
+fn machine_once(alloc: Global) -> Option<Machine> {
+    let module = module_of(alloc, &SENDS)?;
+    let world = World::read(alloc, &module, "").ok()?;
+    let verified = verify(alloc, module).ok()?;
+    Machine::new(alloc, verified, world).ok()
+}
+
+// The same, made anew where memory is refused.
+fn machine_of(alloc: Global) -> Option<Machine> {
+    for _ in 0..4 {
+        if let Some(machine) = machine_once(alloc) {
+            return Some(machine);
+        }
+    }
+    None
+}
+
+#[test]
+fn counts_its_steps(rt: HostRuntime) -> Result<(), Fail> {
+    let mut machine = machine_of(rt.alloc()).ok_or("no machine")?;
+    assert_eq!(rt; machine.module().channels().len(), 1);
+    for (steps, taken, status) in [
+        (0, 0, Status::Running),
+        (2, 2, Status::Running),
+        (5, 1, Status::Finished),
+        (5, 0, Status::Finished),
+        (0, 0, Status::Finished),
+    ] {
+        assert_eq!(rt; machine.run(steps), (taken, status));
+    }
+    let (channel, number) = (0, 7);
+    assert_eq!(rt; machine.sent().pairs(), [Pair { channel, number }].as_slice());
+    Ok(())
+}
+
+// A step that is refused memory changes nothing, and is taken by the next call.
+#[test]
+fn tries_a_refused_step_again(rt: HostRuntime) -> Result<(), Fail> {
+    let mut machine = machine_of(rt.alloc()).ok_or("no machine")?;
+    let (taken, status) = machine.run(5);
+    if status == Status::NoMemory {
+        assert!(rt; taken < 2 && machine.sent().pairs().is_empty());
+        assert_eq!(rt; machine.run(5), (3 - taken, Status::Finished));
+    } else {
+        assert_eq!(rt; (taken, status), (3, Status::Finished));
+    }
+    assert_eq!(rt; machine.sent().pairs().len(), 1);
+    Ok(())
+}
+
+// The fault of a machine of the first module on a world of the second.
+fn fault_of_another_world(alloc: Global) -> Option<NewFault> {
+    let module = module_of(alloc, &SENDS)?;
+    let verified = verify(alloc, module).ok()?;
+    let other = module_of(alloc, &MODULE)?;
+    let world = World::read(alloc, &other, "").ok()?;
+    Machine::new(alloc, verified, world).err()
+}
+
+#[test]
+fn refuses_the_world_of_another_module(rt: HostRuntime) {
+    let mut fault = fault_of_another_world(rt.alloc());
+    if fault.is_none() || fault == Some(NewFault::NoMemory) {
+        fault = fault_of_another_world(rt.alloc());
+    }
+    assert_eq!(rt; fault, Some(NewFault::UnknownChannel));
+}
+
+#[test]
+fn a_verified_module_is_lent(rt: HostRuntime) -> Result<(), Fail> {
+    let module = decode(rt.alloc(), &SENDS)?;
+    let verified = verify(rt.alloc(), module)?;
+    assert_eq!(rt; verified.module().procedures().len(), 1);
+    Ok(())
+}

@@ -1,0 +1,90 @@
+//! Worlds, lists of what was sent, and sinks that fail.
+
+use bytecode::decode;
+use channels::{Device, InputList, Pair, Sent, Sink, SinkFault, World, write_whole};
+use std::io::Cursor;
+use std::test::Fail;
+
+// Two inputs `q` and `r` with an output `pub` between them, and one procedure that returns at once.
+const MODULE: [u8; 86] = [
+    70, 76, 79, 66, 0, 0, 0, 1, 0, 0, 0, 0, 0, 0, 0, 0, 0, 0, 0, 0, 0, 0, 0, 3, 0, 0, 0, 0, 1, 113,
+    0, 0, 0, 0, 1, 0, 0, 0, 3, 112, 117, 98, 0, 0, 0, 0, 0, 0, 0, 0, 1, 114, 0, 0, 0, 0, 0, 0, 0,
+    0, 0, 0, 0, 1, 0, 0, 0, 0, 0, 0, 0, 0, 0, 0, 0, 0, 1, 35, 0, 0, 0, 0, 0, 0, 0, 0,
+];
+
+// Whether these are the inputs `q` and `r` with these numbers.
+fn are_inputs(inputs: &[InputList], first: &[i32], second: &[i32]) -> bool {
+    let [q, r] = inputs else {
+        return false;
+    };
+    q.name() == "q" && r.name() == "r" && q.numbers() == first && r.numbers() == second
+}
+
+#[test]
+fn reads_worlds(rt: HostRuntime) -> Result<(), Fail> {
+    let module = decode(rt.alloc(), &MODULE)?;
+    let cases: [(&str, &[i32], &[i32]); 4] = [
+        ("", &[], &[]),
+        ("\n   \nr  =  -0 007 \n q =\n", &[], &[0, 7]),
+        ("q = -2147483648 2147483647\nr = 5", &[i32::MIN, i32::MAX], &[5]),
+        ("r = 1 2 3\nq = 4 5 6\n", &[4, 5, 6], &[1, 2, 3]),
+    ];
+    for (text, first, second) in cases {
+        let world = World::read(rt.alloc(), &module, text)?;
+        assert!(rt; are_inputs(world.inputs(), first, second), "{text}");
+    }
+    Ok(())
+}
+
+#[test]
+fn gives_its_inputs_away(rt: HostRuntime) -> Result<(), Fail> {
+    let module = decode(rt.alloc(), &MODULE)?;
+    let inputs = World::read(rt.alloc(), &module, "q = 4 2")?.into_inputs();
+    assert!(rt; are_inputs(&inputs, &[4, 2], &[]));
+    Ok(())
+}
+
+#[test]
+fn gives_its_numbers_away(rt: HostRuntime) -> Result<(), Fail> {
+    let alloc = rt.alloc();
+    let input = InputList::new(String::from_str(alloc, "q")?, vec![in alloc; 4, 2]?);
+    assert_eq!(rt; input.into_numbers().as_slice(), [4, 2].as_slice());
+    Ok(())
+}
+
+#[test]
+fn lists_what_was_sent(rt: HostRuntime) -> Result<(), Fail> {
+    let mut sent = Sent::new(rt.alloc());
+    assert!(rt; sent.pairs().is_empty());
+    let (channel, number) = (3, -7);
+    sent.push(Pair { channel, number })?;
+    assert_eq!(rt; sent.pairs(), [Pair { channel, number }].as_slice());
+    Ok(())
+}
+
+// A device over room for two bytes: the write that finds no room is its first failure, and the last thing that it asks for.
+#[test]
+fn a_device_asks_for_nothing_after_a_failure(rt: HostRuntime) {
+    let mut device = Device::new(Cursor::new([0u8; 2]));
+    let cases: [(&[u8], Result<usize, SinkFault>, bool); 5] = [
+        (b"", Ok(0), false),
+        (b"abc", Ok(2), false),
+        (b"c", Ok(0), true),
+        (b"c", Err(SinkFault), true),
+        (b"", Err(SinkFault), true),
+    ];
+    for (bytes, answer, failed) in cases {
+        assert_eq!(rt; device.write(bytes), answer);
+        assert_eq!(rt; device.failed(), failed);
+    }
+}
+
+#[test]
+fn writes_whole_where_there_is_room(rt: HostRuntime) -> Result<(), Fail> {
+    let mut device = Device::new(Vec::new(rt.alloc()));
+    write_whole(&mut device, b"ok")?;
+    assert_eq!(rt; device.into_inner().as_slice(), b"ok".as_slice());
+    let mut small = Device::new(Cursor::new([0u8; 1]));
+    assert_eq!(rt; write_whole(&mut small, b"ok"), Err(SinkFault));
+    Ok(())
+}

@@ -1,0 +1,39 @@
+//! Each law is called: it takes no time and no memory.
+
+use isolation::{confinement, examples, noninterference, runs};
+
+#[test]
+fn laws_of_sources(_rt: HostRuntime) {
+    resolved::laws::values_keep_their_types();
+    runs::ends_are_possible();
+    runs::sent_stays_sent();
+    runs::more_turns_go_on();
+    confinement::statements_are_confined();
+    confinement::possible_ends_are_unread();
+}
+
+#[test]
+fn laws_of_isolation(_rt: HostRuntime) {
+    noninterference::two_runs_agree();
+    noninterference::labelled_programs_are_isolated();
+    noninterference::labelled_programs_stay_isolated();
+    noninterference::flows_are_kept();
+    examples::a_label_decides();
+    examples::lists_may_differ_in_length();
+}
+
+#[test]
+fn laws_of_compiling(_rt: HostRuntime) {
+    types::laws::numbers_read_as_names();
+    types::laws::resolves_to_straight_line();
+    types::laws::places_stay();
+    parser::spelling_laws();
+    lowering::laws::meaning_is_kept();
+}
+
+#[test]
+fn laws_of_the_program(_rt: HostRuntime) {
+    flowc::laws::sessions_mean_the_source();
+    flowc::laws::sessions_are_isolated();
+    flowc::laws::observers_are_told_nothing();
+}
