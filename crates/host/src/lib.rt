@@ -6,7 +6,6 @@ pub mod fault;
 pub mod laws;
 pub mod places;
 mod session;
-mod view;
 
 pub use event::{Answer, Event, Id};
 pub use fault::HostFault;

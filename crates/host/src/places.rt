@@ -6,14 +6,13 @@ ghost use Rattle.std.specs.Prelude.{[], ◌≡◌, ◌+◌, ◌<◌, ◌^◌, If
 use crate::event::{Answer, Event, Id};
 use crate::fault::HostFault;
 use crate::session::{Session, find, first_run, remove};
-use crate::view::seen;
-use channels::{Pair, World};
+use channels::{Pair, World, seen};
 use machine::Status;
 use std::alloc::{AllocError, Global};
 use std::marker::Model;
 
 /// How many sessions a host has open at the most.
-pub const PLACES: usize = 1;
+pub const PLACES: usize = 64;
 
 /// A host of sessions.
 ///
@@ -107,7 +106,7 @@ impl Host {
         if principal >= whole.hierarchy().count() {
             return Err(HostFault::UnknownPrincipal);
         }
-        let Ok(pairs) = seen(self.alloc, whole, principal, session.sent()) else {
+        let Ok(pairs) = seen(self.alloc, session.sent(), whole, principal) else {
             return Err(HostFault::NoMemory);
         };
         Ok(pairs)

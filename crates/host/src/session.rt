@@ -7,7 +7,7 @@ ghost use Rattle.std.specs.Prelude.{◌≡◌, ◌==◌, IfErr, IfOk, filter, no
 use crate::event::Id;
 use crate::fault::HostFault;
 use bytecode::{FormatFault, Module, decode};
-use channels::{Pair, World};
+use channels::{Sent, World};
 use machine::{Machine, NewFault, Status};
 use std::alloc::Global;
 use std::marker::Model;
@@ -48,10 +48,10 @@ impl Session {
     }
 
     /// What the run has sent so far.
-    pub fn sent(&self) -> &[Pair]
+    pub fn sent(&self) -> &Sent
         ensures { result.now ≡ sent_of (machine_of self.now.run) }
     {
-        self.machine.sent().pairs()
+        self.machine.sent()
     }
 
     /// Takes at most so many steps, and tells how many it took and how the run then stands.

@@ -11,8 +11,8 @@ use Rattle.host.proofs.places.Host.open.Goals.{After-first_run}
 
 room : (c : After-first_run) → HasRoom PLACES (host_of c.args.self.now)
 room c =
-    let inside : length c.self.inside.sessions.items < 1 = omega arith in
-    has_room 1 c.args.self.now c.self.inside.next c.self.inside.sessions.items c.self.view_is c.in-Some.id c.in-Some.is c.following-after.ensures.within inside
+    let inside : length c.self.inside.sessions.items < PLACES = omega arith in
+    has_room PLACES c.args.self.now c.self.inside.next c.self.inside.sessions.items c.self.view_is c.in-Some.id c.in-Some.is c.following-after.ensures.within inside
 
 pub returns-in_err-run : goal.returns-in_err-run
 returns-in_err-run c =
