@@ -1,24 +1,22 @@
 -- Private, and only until the constraints of a program are gathered and solved: from what the walk says, whatever the labels that
 -- are not written, to what is reported of a program that is refused.
-use Rattle.std.proofs.Common.{◌≡◌, refl, sym, ap, ◌∙◌, subst, ℕ, Bool, true, false, not, List, [], ◌∷◌, ◌++◌, map, Result, Ok, Err}
-use Rattle.std.specs.Prelude.{Some, None, find, Contains, IsTrue, IfErr, ◌||◌, if◌then◌else◌}
-use Rattle.std.specs.List.{list_all}
+use Rattle.std.proofs.Common.{◌≡◌, refl, sym, ap, ◌∙◌, subst, Bool, true, false, not, List, [], ◌∷◌, ◌++◌, map, Result, Ok, Err}
+use Rattle.std.specs.Prelude.{Some, None, find, Contains, IfErr, if◌then◌else◌}
 use Rattle.principals.specs.ActsFor.{PrincipalHierarchy}
 use Rattle.labels.specs.Label.{Label, Covers, flows}
 use Rattle.labels.specs.Constraints.{Atom, Written, Unknown, is_written, value, join_of, holds, first_unmet, label_lattice}
 use Rattle.resolved.specs.Program.{Program}
 use Rattle.resolved.specs.Labelled.{Unwritten, OfLocal, OfLoop, Demand, Labelling, chosen, program_demands}
 use Rattle.resolved.specs.Before as old
-use Rattle.resolved.specs.Flow.{IsRefused}
 use Rattle.resolved.specs.declared.program.Core.{Core}
 use Rattle.resolved.specs.CoreOf.{program_of}
 use Rattle.resolved.proofs.Parts.{program_parts}
-use Rattle.resolved.proofs.Faithful.{ev, Are, OwnLabelsOf, of_number, program-are, own-labels}
+use Rattle.resolved.proofs.Faithful.{ev, OwnLabelsOf, of_number, program-are, own-labels}
 use Rattle.resolved.proofs.Flow.{least_labels, labels-least, refused-by, first-is_written, chain-refuses}
 use Rattle.checker.specs.declared.refusal.UnmetDemand.{UnmetDemand}
 use Rattle.checker.specs.declared.refusal.FlowRefusal.{FlowRefusal}
 use Rattle.checker.specs.declared.refusal.FlowRefusal.TheVariants.{NoMemory, Unmet}
-use Rattle.checker.specs.FirstDemand.{ReportsUnmet, ReportsRefusal, RulesOut, rule_number}
+use Rattle.checker.specs.FirstDemand.{ReportsUnmet, ReportsRefusal, RulesOut}
 use Rattle.checker.specs.Way.{TellsFirstDemand, Tells}
 
 find-ev : (labelling : Labelling) (h : PrincipalHierarchy) (ds : List Demand) (d' : old.Demand) →

@@ -1,18 +1,16 @@
 -- The answers on a whole program.
 use Rattle.std.proofs.Common.{◌≡◌, refl, sym, ap, ◌∙◌, subst, ℕ, List, [], ◌∷◌, ◌++◌, length, append-nil, Bool, true, false, Result, Ok, Err}
-use Rattle.std.specs.Prelude.{IfErr, if◌then◌else◌, Some, None}
+use Rattle.std.specs.Prelude.{IfErr, if◌then◌else◌}
 use Rattle.labels.specs.Label.{Label}
 use Rattle.resolved.specs.declared.program.Core.{Core}
 use Rattle.resolved.specs.declared.tables.Procedure.{Procedure}
-use Rattle.resolved.specs.Program.{Program}
 use Rattle.resolved.specs.ProgramOf.{procedure_entry}
 use Rattle.resolved.specs.CoreOf.{program_of}
 use Rattle.resolved.specs.TreeOf.{block_of}
 use Rattle.resolved.specs.Before.{Labelling, Labelled, ExitLabels, Demand, Fits, block_demands, block_exits, procedure_demands, demands_from, program_demands}
 use Rattle.checker.specs.declared.refusal.FlowRefusal.{FlowRefusal}
-use Rattle.checker.specs.declared.refusal.FlowRefusal.TheVariants.{NoMemory, Unmet}
 use Rattle.checker.specs.Way.{StandsFor, StandsForEnds, leaving_demands, scope_of, receives, way_through, is_block_of, TellsFirst, TellsFirstDemand}
-use Rattle.checker.proofs.Told.{no-first, fits-both, tells-before, tells-behind}
+use Rattle.checker.proofs.Told.{fits-both, tells-before, tells-behind}
 use Rattle.checker.proofs.ExitLabels.{ends-demanded, stands-ends}
 
 -- labels for what has none

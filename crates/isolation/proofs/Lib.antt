@@ -3,6 +3,7 @@ pub mod Calls
 pub mod Closed
 pub mod Confined
 pub mod Declared
+pub mod Valued
 pub mod Grows
 pub mod Isolated
 pub mod Kept

@@ -1,16 +1,20 @@
 -- What the laws of runs say: which ends a statement comes to, and how a run goes on with more turns.
 -- Source: our own.
-use Rattle.std.specs.Prelude.{◌≡◌, ℕ, ◌≤◌, List, [], ◌∷◌, IsTrue}
+use Rattle.std.specs.Prelude.{◌≡◌, ℕ, ◌≤◌, List, [], ◌∷◌, Some, None, IsTrue, slice_get}
 use Rattle.labels.specs.Sent.{Begins}
+use Rattle.resolved.specs.declared.expression.Base.{Base}
 use Rattle.resolved.specs.declared.expression.Value.{Value}
 use Rattle.resolved.specs.declared.statement.Exit.{Exit}
-use Rattle.resolved.specs.declared.statement.Exit.TheVariants.{Normal}
+use Rattle.resolved.specs.declared.statement.Exit.TheVariants.{Normal, Return, Break, Continue, Throw}
 use Rattle.resolved.specs.Tree.{Statement, Block}
-use Rattle.resolved.specs.Program.{Program, procedure_at}
+use Rattle.resolved.specs.Program.{Program, ProcedureEntry, ResultEntry, procedure_at}
+use Rattle.resolved.specs.Value.{base_of}
 use Rattle.resolved.specs.State.{World, State}
 use Rattle.resolved.specs.Meaning.{Outcome, Ended, Stopped, OutOfTurns, Deep, state_after, statement_meaning, block_meaning, calls_with, run_within, sent_by}
 use Rattle.resolved.specs.Ends.{has_end, thrown_ends, declared_by, statement_ends, block_ends}
 use Rattle.resolved.specs.EndFaults.{end_faults}
+use Rattle.resolved.specs.WellFormed.{parameters_of, well_formed}
+use Rattle.resolved.specs.Kinds.{ArgumentsFit, StateFits}
 
 -- the end that was reached, if one was, is one of these
 abbrev pub EndsAmong : List Exit → Outcome → Type 0
@@ -33,6 +37,26 @@ abbrev pub CallsEndAsDeclared : Program → Type 0
 CallsEndAsDeclared program =
     end_faults program ≡ [] → (frames k f : ℕ) (arguments : List Value) (s : State)
     → EndsAmong (Normal ∷ thrown_ends (declared_by (procedure_at program f).throws)) (calls_with program k frames f arguments s)
+
+-- a call that ended normally gave a value of this base type
+abbrev pub GivesValue : Base → Outcome → Type 0
+GivesValue base (Ended Normal (Some v) s) = base_of v ≡ base
+GivesValue base (Ended Normal None s) = ⊥
+GivesValue base (Ended Return returned s) = Unit {0}
+GivesValue base (Ended Break returned s) = Unit {0}
+GivesValue base (Ended Continue returned s) = Unit {0}
+GivesValue base (Ended (Throw exception) returned s) = Unit {0}
+GivesValue base (Stopped stop s) = Unit {0}
+
+-- so does each call of a procedure with a value, with arguments that fit its parameters, from a state that fits some caller, in a
+-- well-formed program without a fault of its ends
+abbrev pub CallsGiveTheirValue : Program → Type 0
+CallsGiveTheirValue program =
+    IsTrue (well_formed program) → end_faults program ≡ []
+    → (f : ℕ) (callee : ProcedureEntry) (value : ResultEntry) → slice_get program.procedures f ≡ Some callee → callee.result ≡ Some value
+    → (caller : ProcedureEntry) (s : State) → StateFits program caller s
+    → (arguments : List Value) → ArgumentsFit (parameters_of callee) arguments
+    → (frames k : ℕ) → GivesValue value.base (calls_with program k frames f arguments s)
 
 -- what was sent before a statement stays sent, and what it sends comes after it
 abbrev pub SentStaysSent : Program → Type 0

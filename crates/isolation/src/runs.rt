@@ -1,6 +1,6 @@
 //! Laws of runs: how they end, and how they go on with more turns.
 
-ghost use Rattle.isolation.specs.Runs.{BlocksEndAsTheyMay, CallsEndAsDeclared, RunsGoOn, SentOnlyGrows, SentStaysSent, StatementsEndAsTheyMay};
+ghost use Rattle.isolation.specs.Runs.{BlocksEndAsTheyMay, CallsEndAsDeclared, CallsGiveTheirValue, RunsGoOn, SentOnlyGrows, SentStaysSent, StatementsEndAsTheyMay};
 ghost use Rattle.resolved.specs.Program.{Program};
 
 /// Each way out that the meaning gives a statement or a block is one of its possible ends, in every program without a fault of its
@@ -10,6 +10,12 @@ pub fn ends_are_possible()
     ensures statements { (program : Program) → StatementsEndAsTheyMay program }
     ensures blocks { (program : Program) → BlocksEndAsTheyMay program }
     ensures calls { (program : Program) → CallsEndAsDeclared program }
+{}
+
+/// A call of a procedure with a value that ends normally gives one, of the procedure's base type, in every well-formed program without
+/// a fault of its ends, with every number of turns and of frames.
+pub fn calls_give_their_value()
+    ensures { (program : Program) → CallsGiveTheirValue program }
 {}
 
 /// Nothing that was sent is taken back: what was sent before a statement begins what is sent after it.

@@ -1,13 +1,12 @@
 -- Constraints over a lattice: least values are there and are least, a chain rules out every choice of values, and where the least
 -- values do not fit there is a chain.
-use Rattle.std.proofs.Common.{append_assoc, ◌≡◌, refl, sym, ap, ◌∙◌, subst, ℕ, Bool, true, false, not, List, [], ◌∷◌, ◌++◌, ◌||◌, ◌&&◌, ◌⊎◌, inl, inr, ⊎_elim, ◌↔◌}
-use Rattle.std.specs.Prelude.{IsTrue, IsFalse, Contains, Option, Some, None, find, if◌then◌else◌}
+use Rattle.std.proofs.Common.{append_assoc, ◌≡◌, refl, sym, ap, ◌∙◌, subst, Bool, true, false, not, List, [], ◌∷◌, ◌++◌, ◌||◌, ◌&&◌, ◌⊎◌, inl, inr, ⊎_elim}
+use Rattle.std.specs.Prelude.{IsTrue, IsFalse, Contains, Some, None, find, if◌then◌else◌}
 use Rattle.std.specs.List.{list_all}
 use Rattle.std.proofs.lemmas.Bool.{and_parts, and_from, or_left, or_right, or_cases}
 use Rattle.std.proofs.lemmas.List.Elements.{Contains-append_cases, Contains-append_left, Contains-append_right}
 use Rattle.principals.proofs.Closure.{none_in_nil, Contains-cons_cases, Contains-later, Contains-first}
-use Rattle.labels.specs.Lattice.{IsLattice}
-use Rattle.labels.specs.Constraints.{Lattice, LatticeLaws, Atom, Written, Unknown, Constraint, is_written, value, join_of, holds, FitsAll, FitsUnknowns, IsLeast, first_unmet, Reaches, directly, onward, Linked, ends, goes_on, IsChain, IsRefusedAt, Occurs, renamed, StandsFor, OneByOne, IsGathered}
+use Rattle.labels.specs.Constraints.{Lattice, LatticeLaws, Atom, Written, Unknown, Constraint, is_written, value, join_of, holds, FitsAll, FitsUnknowns, IsLeast, first_unmet, Reaches, directly, onward, Linked, ends, goes_on, IsChain, IsRefusedAt, Occurs}
 
 -- ---- tests over lists
 pub each-of : {X : Type 0} (test : X → Bool) (xs : List X) → IsTrue (list_all test xs) → (x : X) → Contains xs x → IsTrue (test x)

@@ -1,12 +1,11 @@
 -- What holds of constraints with inner unknowns holds of those that they stand for: which values fit, which are the least, what
 -- reaches an unknown, which is the first that does not hold, and which chain ends there.
-use Rattle.std.proofs.Common.{◌≡◌, refl, sym, ap, ◌∙◌, subst, ℕ, Bool, true, false, not, List, [], ◌∷◌, ◌++◌, ◌||◌, ◌&&◌, ◌⊎◌, inl, inr, ⊎_elim}
-use Rattle.std.specs.Prelude.{IsTrue, IsFalse, Contains, Option, Some, None, find, if◌then◌else◌}
-use Rattle.std.specs.List.{list_all}
+use Rattle.std.proofs.Common.{◌≡◌, refl, sym, ap, ◌∙◌, subst, ℕ, Bool, true, false, not, List, [], ◌∷◌, ◌||◌, ◌&&◌, ◌⊎◌, inl, inr, ⊎_elim}
+use Rattle.std.specs.Prelude.{IsTrue, IsFalse, Contains, Option, Some, None, if◌then◌else◌}
 use Rattle.std.proofs.lemmas.Bool.{or_left, or_right}
 use Rattle.principals.proofs.Closure.{none_in_nil, Contains-cons_cases, Contains-later, Contains-first}
-use Rattle.labels.specs.Constraints.{Lattice, LatticeLaws, Atom, Written, Unknown, Constraint, is_written, value, join_of, holds, FitsAll, FitsUnknowns, IsLeast, first_unmet, Reaches, directly, onward, Linked, ends, goes_on, IsChain, IsRefusedAt, Occurs, renamed, is_inner, outer, Feeds, itself, through, LeftStandsFor, StandsFor, OneByOne, IsGathered, reported_steps, reported_gathered}
-use Rattle.labels.proofs.Constraints.{each-of, all-from, join_of-above, join_of-least, part-below, unknown-holds, reaching, reaching-only, least_values, least_values-least, join_all, join_all-least}
+use Rattle.labels.specs.Constraints.{Lattice, LatticeLaws, Atom, Written, Unknown, Constraint, is_written, value, join_of, holds, FitsAll, FitsUnknowns, IsLeast, first_unmet, Reaches, directly, onward, Linked, ends, goes_on, IsRefusedAt, Occurs, renamed, is_inner, outer, Feeds, itself, through, StandsFor, OneByOne, IsGathered, reported_steps, reported_gathered}
+use Rattle.labels.proofs.Constraints.{each-of, all-from, join_of-above, join_of-least, part-below, unknown-holds, reaching, reaching-only, least_values, least_values-least, join_all-least}
 
 by_test : {P : Type 0} (b : Bool) → (b ≡ true → P) → (b ≡ false → P) → P
 by_test true held fails = held refl
@@ -175,8 +174,8 @@ module _ {U : Type 0} (eq : U → U → Bool) (eq-same : (a b : U) → eq a b �
     extended-fits_inner c h e =
         let found = inner-unknown inner c.right e in
         let held : IsTrue (holds l least_inner (pinned c)) =
-          unknown-holds l laws (all_pinned cs) least_inner (least_values-least eq eq-same eq-itself l laws (all_pinned cs)).fits (pinned c) found.0
-          (all_pinned-has cs c h) (fixed-inner c.right e ∙ found.1) in
+        unknown-holds l laws (all_pinned cs) least_inner (least_values-least eq eq-same eq-itself l laws (all_pinned cs)).fits (pinned c) found.0
+        (all_pinned-has cs c h) (fixed-inner c.right e ∙ found.1) in
         subst IsTrue (sym (ap (λ x. l.leq x (value extended c.right)) (join_of-extended c.left) ∙ ap (λ x. l.leq (join_of l.join l.least least_inner (all_fixed c.left)) x) (value-extended c.right))) held
 
     -- each value that reaches an inner unknown is that of what feeds it
@@ -443,9 +442,11 @@ module _ {N U W V : Type 0} (ds : List (Constraint N U V)) (cs : List (Constrain
           (d : Constraint N U V) × (first_unmet l ds (pulled gathered.number w) ≡ Some d) × StandsFor gathered.number gathered.inner cs d c × Contains ds d
       first-same w least c e =
           first-along l gathered.number gathered.inner cs w ds (outer gathered.inner cs) c gathered.one_by_one
-          (λ d x h is. rw (written-same l laws gathered.number gathered.inner cs w d x is,
-          holds-same l laws gathered.number gathered.inner cs w d x is (outer-only gathered.inner cs x h).0 (fits-inner gathered.inner cs l laws w least.fits)
-          (least-tight eq eq-same eq-itself l laws gathered.inner cs w least)) refl)
+          (λ d x h is. rw (
+            written-same l laws gathered.number gathered.inner cs w d x is,
+            holds-same l laws gathered.number gathered.inner cs w d x is (outer-only gathered.inner cs x h).0 (fits-inner gathered.inner cs l laws w least.fits)
+                (least-tight eq eq-same eq-itself l laws gathered.inner cs w least),
+          ) refl)
           (sym (first-outer l gathered.inner w cs) ∙ e)
 
     abbrev OccursAtom : Atom U V → Type 0
@@ -499,9 +500,11 @@ module _ {N U W V : Type 0} (ds : List (Constraint N U V)) (cs : List (Constrain
     pub linked-same : (b : Atom W V) (chain : List (Constraint (Option N) W V)) (last : Constraint (Option N) W V) → Linked cs b chain last →
         (a : Atom U V) → OccursAtom a → Feeds gathered.inner cs (renamed gathered.number a) b → (d : Constraint N U V) → Contains ds d →
         StandsFor gathered.number gathered.inner cs d last → IsFalse (is_inner gathered.inner last.right) → Along a chain d
-    linked-same b chain last (ends _ c h part) a occurs fed d k is e =
-        (d ∷ [], ends a d k (fed-by d c k is b part a occurs fed),
-        subst (λ x. OneByOne gathered.number gathered.inner cs (d ∷ []) x) (sym (outer_first c [] e)) (is, tt))
+    linked-same b chain last (ends _ c h part) a occurs fed d k is e = (
+      d ∷ [],
+      ends a d k (fed-by d c k is b part a occurs fed),
+      subst (λ x. OneByOne gathered.number gathered.inner cs (d ∷ []) x) (sym (outer_first c [] e)) (is, tt),
+    )
     linked-same b chain last (goes_on _ c u rest _ h part right more) a occurs fed d k is e =
         by_inner (is_inner gathered.inner c.right) refl (λ x y z. linked-same (Unknown u) rest last more x y z d k is e)
       where
@@ -514,9 +517,11 @@ module _ {N U W V : Type 0} (ds : List (Constraint N U V)) (cs : List (Constrain
             let first = origin c h f in
             let x = right-unknown first.0 c first.2 u right in
             let found = next (Unknown x.0) (first.0, first.1, inr x.1)
-            (itself (Unknown u) (subst (λ y. IsFalse (gathered.inner y)) (sym x.2) (subst (λ y. IsFalse (is_inner gathered.inner y)) right f)) (ap (λ y. Unknown y) x.2)) in
-            (first.0 ∷ found.0, goes_on a first.0 x.0 found.0 d first.1 (fed-by first.0 c first.1 first.2 b part a occurs fed) x.1 found.1,
-            subst (λ y. OneByOne gathered.number gathered.inner cs (first.0 ∷ found.0) y) (sym (outer_first c rest f)) (first.2, found.2))
+            (itself (Unknown u) (subst (λ y. IsFalse (gathered.inner y)) (sym x.2) (subst (λ y. IsFalse (is_inner gathered.inner y)) right f)) (ap (λ y. Unknown y) x.2)) in (
+              first.0 ∷ found.0,
+              goes_on a first.0 x.0 found.0 d first.1 (fed-by first.0 c first.1 first.2 b part a occurs fed) x.1 found.1,
+              subst (λ y. OneByOne gathered.number gathered.inner cs (first.0 ∷ found.0) y) (sym (outer_first c rest f)) (first.2, found.2),
+            )
 
     module _ (eq : W → W → Bool) (eq-same : (a b : W) → eq a b ≡ true → a ≡ b) (eq-itself : (a : W) → eq a a ≡ true) where
       -- so where the solver refuses, the others are refused too, at the one that its last stands for
@@ -526,18 +531,23 @@ module _ {N U W V : Type 0} (ds : List (Constraint N U V)) (cs : List (Constrain
       refused-same from chain last refused =
           let first = first-same eq eq-same eq-itself refused.values refused.least last refused.first in
           let found = linked-same (Written from) chain last refused.chained.linked (Written from) tt (itself (Written from) refl refl) first.0 first.3 first.2
-          (ap (is_inner gathered.inner) refused.chained.right_is) in
-          (first.0, found.0, record {
-            values = pulled gathered.number refused.values;
-            least = least-same eq eq-same eq-itself refused.values refused.least;
-            first = first.1;
-            chained = record {
-              linked = found.1;
-              to = refused.chained.to;
-              right_is = written-right first.0.right (sym first.2.right_is ∙ refused.chained.right_is);
-              not_below = refused.chained.not_below;
-            };
-          }, first.2, found.2)
+          (ap (is_inner gathered.inner) refused.chained.right_is) in (
+            first.0,
+            found.0,
+            record {
+              values = pulled gathered.number refused.values;
+              least = least-same eq eq-same eq-itself refused.values refused.least;
+              first = first.1;
+              chained = record {
+                linked = found.1;
+                to = refused.chained.to;
+                right_is = written-right first.0.right (sym first.2.right_is ∙ refused.chained.right_is);
+                not_below = refused.chained.not_below;
+              };
+            },
+            first.2,
+            found.2,
+          )
         where
           written-right : (r : Atom U V) → renamed gathered.number r ≡ Written refused.chained.to → r ≡ Written refused.chained.to
           written-right (Written v) e = let same : v ≡ refused.chained.to = cc in ap (λ x. Written x) same
@@ -582,9 +592,12 @@ module _ {N U W V : Type 0} (ds : List (Constraint N U V)) (cs : List (Constrain
         by_inner true e = (a, occurs, carries, through c part (Unknown y) fed h left right (subst (λ x. IsTrue (is_inner gathered.inner x)) right e))
         by_inner false e =
             let d = origin c h e in
-            let x = right-unknown d.0 c d.2 y right in
-            (Unknown x.0, (d.0, d.1, inr x.1), carried-on ds v d.0 a x.0 d.1 (fed-by d.0 c d.1 d.2 part left a occurs fed) x.1 carries,
-            itself (Unknown y) (subst (λ z. IsFalse (gathered.inner z)) (sym x.2) (subst (λ z. IsFalse (is_inner gathered.inner z)) right e)) (ap (λ z. Unknown z) x.2))
+            let x = right-unknown d.0 c d.2 y right in (
+              Unknown x.0,
+              (d.0, d.1, inr x.1),
+              carried-on ds v d.0 a x.0 d.1 (fed-by d.0 c d.1 d.2 part left a occurs fed) x.1 carries,
+              itself (Unknown y) (subst (λ z. IsFalse (gathered.inner z)) (sym x.2) (subst (λ z. IsFalse (is_inner gathered.inner z)) right e)) (ap (λ z. Unknown z) x.2),
+            )
 
     pub comes : (v : V) (y : W) → Reaches cs v y → ComesTo v (Unknown y)
     comes v y (directly c _ h left right) = comes-on v c (Written v) y h left right (Written v, tt, refl, itself (Written v) refl refl)

@@ -1,7 +1,7 @@
 -- Constraints with unknowns over a lattice: what a choice of values for the unknowns must fit, the least such choice, which
 -- written values reach an unknown, and the chain that shows why none fits; and constraints that were gathered from others.
 -- Source: our own; constraints with a least solution after Volpano, Smith and Irvine 1996.
-use Rattle.std.specs.Prelude.{◌≡◌, ℕ, List, [], ◌∷◌, ◌++◌, Bool, true, false, not, ◌&&◌, ◌||◌, Option, Some, None, find, if◌then◌else◌, IsTrue, IsFalse, Contains, ◌↔◌, ◌⊎◌}
+use Rattle.std.specs.Prelude.{◌≡◌, ℕ, List, [], ◌∷◌, ◌++◌, Bool, true, false, not, ◌&&◌, ◌||◌, Option, Some, None, find, if◌then◌else◌, IsTrue, IsFalse, Contains, ◌⊎◌}
 use Rattle.std.specs.List.{list_all}
 use Rattle.principals.specs.ActsFor.{PrincipalHierarchy}
 use Rattle.labels.specs.Label.{Label, flows}

@@ -22,8 +22,8 @@ pub fn what_reaches_lies_below<N, U, V>()
 
 /// Where any values fit all constraints, the least do.
 pub fn least_values_fit_if_any_do<N, U, V>()
-    ensures { (l : Lattice V) → LatticeLaws l → (cs : List (Constraint N U V)) (values others : U → V) →
-        IsLeast l cs values → FitsAll l cs others → FitsAll l cs values }
+    ensures { (l : Lattice V) → LatticeLaws l → (cs : List (Constraint N U V))
+        (values others : U → V) → IsLeast l cs values → FitsAll l cs others → FitsAll l cs values }
 {}
 
 /// A chain rules out every choice of values.
@@ -50,7 +50,8 @@ pub fn gathered_constraints_fit_alike<N, U, W, V>()
         (cs : List (Constraint (Option N) W V)) (gathered : IsGathered ds cs) (values : W → V) →
         FitsAll l cs values → FitsAll l ds (λ u. values (gathered.number u)) }
     ensures up { (same : W → W → Bool) → DecidesSame same → (l : Lattice V) → LatticeLaws l →
-        (ds : List (Constraint N U V)) (cs : List (Constraint (Option N) W V)) (gathered : IsGathered ds cs)
+        (ds : List (Constraint N U V)) (cs : List (Constraint (Option N) W V))
+        (gathered : IsGathered ds cs)
         (values : U → V) → FitsAll l ds values → (others : W → V) × FitsAll l cs others
         × ((u : U) → Occurs ds u → values u ≡ others (gathered.number u)) }
 {}
@@ -59,7 +60,8 @@ pub fn gathered_constraints_fit_alike<N, U, W, V>()
 /// written values reach an unknown.
 pub fn gathered_constraints_have_the_same_least_values<N, U, W, V>()
     ensures least { (same : W → W → Bool) → DecidesSame same → (l : Lattice V) → LatticeLaws l →
-        (ds : List (Constraint N U V)) (cs : List (Constraint (Option N) W V)) (gathered : IsGathered ds cs)
+        (ds : List (Constraint N U V)) (cs : List (Constraint (Option N) W V))
+        (gathered : IsGathered ds cs)
         (values : W → V) → IsLeast l cs values → IsLeast l ds (λ u. values (gathered.number u)) }
     ensures reached { (ds : List (Constraint N U V)) (cs : List (Constraint (Option N) W V))
         (gathered : IsGathered ds cs) (v : V) (u : U) → Occurs ds u →
@@ -71,22 +73,24 @@ pub fn gathered_constraints_have_the_same_least_values<N, U, W, V>()
 /// what is reported of the steps of either chain is the same.
 pub fn gathered_constraints_are_refused_alike<N, U, W, V, T>()
     ensures refused { (same : W → W → Bool) → DecidesSame same → (l : Lattice V) → LatticeLaws l →
-        (ds : List (Constraint N U V)) (cs : List (Constraint (Option N) W V)) (gathered : IsGathered ds cs)
+        (ds : List (Constraint N U V)) (cs : List (Constraint (Option N) W V))
+        (gathered : IsGathered ds cs)
         (from : V) (chain : List (Constraint (Option N) W V)) (last : Constraint (Option N) W V) →
         IsRefusedAt l cs from chain last →
         (d : Constraint N U V) × (there : List (Constraint N U V)) × IsRefusedAt l ds from there d
         × StandsFor gathered.number gathered.inner cs d last
         × OneByOne gathered.number gathered.inner cs there (outer gathered.inner chain) }
     ensures first { (same : W → W → Bool) → DecidesSame same → (l : Lattice V) → LatticeLaws l →
-        (ds : List (Constraint N U V)) (cs : List (Constraint (Option N) W V)) (gathered : IsGathered ds cs)
+        (ds : List (Constraint N U V)) (cs : List (Constraint (Option N) W V))
+        (gathered : IsGathered ds cs)
         (values : W → V) → IsLeast l cs values → (c : Constraint (Option N) W V) →
         first_unmet l cs values ≡ Some c → (d : Constraint N U V)
         × (first_unmet l ds (λ u. values (gathered.number u)) ≡ Some d)
         × StandsFor gathered.number gathered.inner cs d c }
     ensures reported { (report : ℕ → ℕ → N → List T) (ds : List (Constraint N U V))
         (cs : List (Constraint (Option N) W V)) (gathered : IsGathered ds cs) (from : Atom W V)
-        (chain : List (Constraint (Option N) W V)) (last : Constraint (Option N) W V) → Linked cs from chain last →
-        (there : List (Constraint N U V)) →
+        (chain : List (Constraint (Option N) W V)) (last : Constraint (Option N) W V) →
+        Linked cs from chain last → (there : List (Constraint N U V)) →
         OneByOne gathered.number gathered.inner cs there (outer gathered.inner chain) →
         reported_gathered report chain ≡ reported_steps report there }
 {}

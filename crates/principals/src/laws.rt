@@ -2,23 +2,30 @@
 
 ghost use Rattle.principals.specs.ActsFor.{ActsFor, acts_for};
 ghost use Rattle.principals.specs.Laws.{HasOneHierarchy, HasOneRefusal, IsNotReadAndRefused, IsReadOrRefused, NamesAreNames};
-ghost use Rattle.std.specs.Prelude.{Bool, Contains, IsTrue, List, ℕ, ◌↔◌};
+ghost use Rattle.std.specs.Prelude.{Contains, IsTrue, List, ℕ, ◌↔◌};
 
 /// The test and the relation say the same of every list of pairs and every two numbers.
 pub fn acts_for_decides()
     ensures { (pairs : List (ℕ × ℕ)) (a b : ℕ) → IsTrue (acts_for pairs a b) ↔ ActsFor pairs a b }
 {}
 
-/// Acts-for is reflexive and transitive and contains the written pairs, and each such relation contains it.
-pub fn acts_for_is_least()
+/// A relation on the numbers of principals.
+pub trait Relation {
+    ghost related: { ℕ → ℕ → Type 0 };
+}
+
+/// Acts-for is reflexive and transitive and contains the written pairs, and each such relation contains it, decidable or not.
+pub fn acts_for_is_least<R: Relation>()
     ensures reflexive { (pairs : List (ℕ × ℕ)) (a : ℕ) → ActsFor pairs a a }
-    ensures transitive { (pairs : List (ℕ × ℕ)) (a b c : ℕ) → ActsFor pairs a b → ActsFor pairs b c → ActsFor pairs a c }
-    ensures contains { (pairs : List (ℕ × ℕ)) (a b : ℕ) → Contains pairs (a, b) → ActsFor pairs a b }
-    ensures least { (pairs : List (ℕ × ℕ)) (related : ℕ → ℕ → Bool) →
-        ((a : ℕ) → IsTrue (related a a)) →
-        ((a b c : ℕ) → IsTrue (related a b) → IsTrue (related b c) → IsTrue (related a c)) →
-        ((a b : ℕ) → Contains pairs (a, b) → IsTrue (related a b)) →
-        (a b : ℕ) → ActsFor pairs a b → IsTrue (related a b) }
+    ensures transitive { (pairs : List (ℕ × ℕ)) (a b c : ℕ) →
+        ActsFor pairs a b → ActsFor pairs b c → ActsFor pairs a c }
+    ensures contains { (pairs : List (ℕ × ℕ)) (a b : ℕ) →
+        Contains pairs (a, b) → ActsFor pairs a b }
+    ensures least { (pairs : List (ℕ × ℕ)) →
+        ((a : ℕ) → R.related a a) →
+        ((a b c : ℕ) → R.related a b → R.related b c → R.related a c) →
+        ((a b : ℕ) → Contains pairs (a, b) → R.related a b) →
+        (a b : ℕ) → ActsFor pairs a b → R.related a b }
 {}
 
 /// More written pairs take no answer away.

@@ -67,7 +67,6 @@ fn reads_three_principals(rt: HostRuntime) -> Result<(), Fail> {
         assert_eq!(rt; copy.acts_for(a, b), want, "at {a} and {b}");
     }
     laws::acts_for_decides();
-    laws::acts_for_is_least();
     laws::acts_for_is_monotone();
     laws::names_are_names();
     Ok(())

@@ -1,7 +1,7 @@
 -- Private to `resolved` and `checker`, and only until the constraints of a program are gathered and solved: the symbolic rules,
 -- evaluated under a labelling, are the rules with evaluated left sides of `specs/Before`.
 use Rattle.std.proofs.Common.{arith, ◌==◌, ◌≡◌, refl, sym, ap, ◌∙◌, subst, ℕ, zero, suc, ◌+◌, ◌<◌, length, List, [], ◌∷◌, ◌++◌, map, flat_map, append-nil, Bool, true, false, not, ◌&&◌, ◌||◌}
-use Rattle.std.specs.Prelude.{Option, Some, None, if◌then◌else◌, IsTrue, slice_get, slice_index_or}
+use Rattle.std.specs.Prelude.{Option, Some, None, if◌then◌else◌, slice_get, slice_index_or}
 use Rattle.std.specs.List.{list_all, list_any}
 use Rattle.std.proofs.lemmas.Bool.{and_parts}
 use Rattle.resolved.specs.WellFormed.{throws_fit, is_exception, label_fits, procedure_fits}
@@ -17,8 +17,8 @@ use Rattle.resolved.specs.declared.statement.Exit.{Exit}
 use Rattle.resolved.specs.declared.statement.Exit.TheVariants.{Normal, Return, Break, Continue, Throw}
 use Rattle.resolved.specs.Tree.{Expression, Integer, Logical, Read, Element, Unary, Binary, Short, Statement, Assign, Clear, Store, Receive, Send, Call, If, While, Leave, ReturnWith, Try, Nested, Block, Empty, Then, Handlers, NoMore, Catch}
 use Rattle.resolved.specs.Program.{Program, ProcedureEntry, ResultEntry, ThrownEntry, slot_at, procedure_at}
-use Rattle.resolved.specs.Ends.{same_exit, has_end, one_end, index_can_raise, divisor_can_raise, is_division, raises, thrown_ends, leaves_loop, passes, statement_ends, block_ends}
-use Rattle.resolved.specs.Labelled.{Scope, here, result_label, Join, LabelAtom, one, OfLocal, written_or, Target, ToVariable, ToChannel, ToBegin, ToParameter, ToValue, ToEnd, ToThrown, ToLoop, label_of, parameter_label, thrown_label, variable_label, value_label, label_if, any_of, raise_label, raise_labels, ExitLabels, at_ends, own_label, raised_exits, call_exits, loop_exits, statement_rule, block_rule, handlers_rule, statement_exits, block_exits, Demand, demand, target_demand, argument_demands, statement_demands, block_demands, handlers_demands, as_one_end, end_demands, procedure_demands, demands_from, program_demands, Labelled, Labelling, chosen, label_under, join_under}
+use Rattle.resolved.specs.Ends.{same_exit, has_end, one_end, index_can_raise, divisor_can_raise, is_division, raises, thrown_ends, passes, statement_ends, block_ends}
+use Rattle.resolved.specs.Labelled.{Scope, here, result_label, Join, LabelAtom, one, OfLocal, written_or, Target, ToVariable, ToChannel, ToBegin, ToParameter, ToValue, ToEnd, ToThrown, ToLoop, label_of, parameter_label, thrown_label, variable_label, value_label, label_if, any_of, raise_label, raise_labels, ExitLabels, at_ends, own_label, raised_exits, call_exits, loop_exits, statement_rule, block_rule, handlers_rule, Demand, demand, target_demand, argument_demands, statement_demands, block_demands, handlers_demands, as_one_end, end_demands, procedure_demands, demands_from, program_demands, Labelled, Labelling, chosen, label_under, join_under}
 use Rattle.resolved.specs.Before as old
 
 module _ (labelling : Labelling) where
@@ -357,9 +357,10 @@ OwnLabelsOf program = (f : ℕ) → OwnLabels (record { locals = λ f n. []; loo
 
 pub labelled-before : (program : Program) → OwnLabelsOf program → Labelled program → old.Labelled program
 labelled-before program own labelled =
-    let lab : Labelling = record { locals = labelled.0; loops = labelled.1.0 } in
-    (λ f. record { local_label = labelled.0 f; loop_label = labelled.1.0 f },
-      sym (fits-are lab program.hierarchy (program_demands program) _ (program-are lab program own)) ∙ labelled.1.1)
+    let lab : Labelling = record { locals = labelled.0; loops = labelled.1.0 } in (
+      λ f. record { local_label = labelled.0 f; loop_label = labelled.1.0 f },
+      sym (fits-are lab program.hierarchy (program_demands program) _ (program-are lab program own)) ∙ labelled.1.1,
+    )
 
 pub labelled-after : (program : Program) → OwnLabelsOf program → old.Labelled program → Labelled program
 labelled-after program own labelled =

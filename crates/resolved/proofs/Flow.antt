@@ -1,20 +1,20 @@
 -- Every program is labelled or refused, and not both.
 use Rattle.std.proofs.Common.{◌≡◌, refl, sym, ap, ◌∙◌, subst, ℕ, Bool, true, false, not, ◌&&◌, ◌==◌, ◌||◌, List, [], ◌∷◌, ◌++◌, ◌⊎◌, inl, inr, ⊎_elim, ◌↔◌, arith}
-use Rattle.std.specs.Prelude.{IsTrue, IsFalse, Contains, Option, Some, None, find, All}
+use Rattle.std.specs.Prelude.{IsTrue, IsFalse, Contains, Some, None, find}
 use Rattle.std.specs.List.{list_all}
-use Rattle.std.proofs.lemmas.Bool.{and_parts, and_from}
+use Rattle.std.proofs.lemmas.Bool.{and_parts}
 use Rattle.principals.specs.ActsFor.{PrincipalHierarchy}
 use Rattle.std.proofs.lemmas.List.Elements.{Contains-append_cases}
-use Rattle.principals.proofs.Closure.{Contains-later, Contains-first, Contains-cons_cases, none_in_nil}
+use Rattle.principals.proofs.Closure.{Contains-later, Contains-first, none_in_nil}
 use Rattle.labels.specs.Label.{ReaderPolicy, Label, Covers, covers, flows}
-use Rattle.labels.specs.Constraints.{Written, Unknown, Atom, Constraint, LatticeLaws, is_written, value, join_of, holds, FitsAll, IsLeast, first_unmet, IsChain, IsRefusedAt, StandsFor, Linked, ends, label_lattice, renamed, reported_steps, reported_gathered}
+use Rattle.labels.specs.Constraints.{Written, Unknown, Atom, is_written, value, join_of, holds, FitsAll, first_unmet, IsRefusedAt, StandsFor, OneByOne, outer, Linked, ends, label_lattice, renamed, reported_steps, reported_gathered}
 use Rattle.labels.proofs.Constraints.{found-or, least-fits, all-from, least_values, least_values-least, unknown-holds, unmet-chain, chain-rules_out, join_all, reaching, reaching-only, linked-from_reaching}
 use Rattle.labels.proofs.Gathered.{fits-up, fits-down, refused-same, reported-same}
 use Rattle.labels.proofs.FlowTests.{IsLattice-flows}
 use Rattle.labels.proofs.Tests.{flows-decides, covers-decides}
 use Rattle.labels.proofs.Elements.{each_from_All}
 use Rattle.resolved.specs.Program.{Program}
-use Rattle.resolved.specs.Labelled.{Unwritten, OfLocal, OfLoop, Demand, Labelling, chosen, Labelled, program_demands}
+use Rattle.resolved.specs.Labelled.{Unwritten, OfLocal, OfLoop, Demand, chosen, Labelled, program_demands}
 use Rattle.resolved.specs.Flow.{IsFlowChain, IsRefused, AreLeast, Gathered, AreGathered, IsUncovered, reported_step}
 
 pub same_unwritten : Unwritten → Unwritten → Bool
@@ -71,8 +71,13 @@ uncovered h (policy ∷ rest) to e = go (covers h to policy) refl (uncovered h r
 
 -- labels for what has no written one make a labelling
 pub labelled-from : (program : Program) (labels : Unwritten → Label) → FitsAll (label_lattice program.hierarchy) (program_demands program) labels → Labelled program
-labelled-from program labels fits = (λ f n. labels (OfLocal f n), (λ f n. labels (OfLoop f n),
-    subst (λ (l : Unwritten → Label). FitsAll (label_lattice program.hierarchy) (program_demands program) l) (λ i u. same u i) fits))
+labelled-from program labels fits = (
+  λ f n. labels (OfLocal f n),
+  (
+    λ f n. labels (OfLoop f n),
+    subst (λ (l : Unwritten → Label). FitsAll (label_lattice program.hierarchy) (program_demands program) l) (λ i u. same u i) fits,
+  ),
+)
   where
     same : (u : Unwritten) → labels u ≡ chosen (record { locals = λ f n. labels (OfLocal f n); loops = λ f n. labels (OfLoop f n) }) u
     same (OfLocal f n) = refl
@@ -109,20 +114,24 @@ labelled-or_refused program =
         by_right (Written to) is parts =
             let found = unmet-chain same_unwritten unwritten-same unwritten-itself (label_lattice program.hierarchy) (IsLattice-flows program.hierarchy)
             (program_demands program) last to there is (fails _ parts.1) in
-            let policy = uncovered program.hierarchy found.0 found.2.to found.2.not_below in
-            (policy.0, found.1, last, record {
-              labels = least_labels program;
-              least = labels-least program;
-              first = first;
-              chained = record {
-                from = found.0;
-                policy_of = policy.1;
-                linked = found.2.linked;
-                to = found.2.to;
-                right_is = found.2.right_is;
-                not_covered = policy.2;
-              };
-            })
+            let policy = uncovered program.hierarchy found.0 found.2.to found.2.not_below in (
+              policy.0,
+              found.1,
+              last,
+              record {
+                labels = least_labels program;
+                least = labels-least program;
+                first = first;
+                chained = record {
+                  from = found.0;
+                  policy_of = policy.1;
+                  linked = found.2.linked;
+                  to = found.2.to;
+                  right_is = found.2.right_is;
+                  not_covered = policy.2;
+                };
+              },
+            )
 
     labelled : ((d : Demand) → Contains (program_demands program) d → IsFalse (is_written d.right && not (holds (label_lattice program.hierarchy) (least_labels program) d))) → Labelled program
     labelled none = labelled-from program (least_labels program)
@@ -169,12 +178,15 @@ refused-by program last policy to first there is policy_of uncovered =
   where
     made : (from : Label) (chain : List Demand) → Contains from policy → Linked (program_demands program) (Written from) chain last →
         (chain : List Demand) × IsRefused program policy chain last
-    made from chain k linked = (chain, record {
-      labels = least_labels program;
-      least = labels-least program;
-      first = first;
-      chained = record { from = from; policy_of = k; linked = linked; to = to; right_is = is; not_covered = uncovered };
-    })
+    made from chain k linked = (
+      chain,
+      record {
+        labels = least_labels program;
+        least = labels-least program;
+        first = first;
+        chained = record { from = from; policy_of = k; linked = linked; to = to; right_is = is; not_covered = uncovered };
+      },
+    )
 
     by_part : (atom : Atom Unwritten Label) → Contains last.left atom → Contains (value (least_labels program) atom) policy →
         (chain : List Demand) × IsRefused program policy chain last
@@ -222,9 +234,9 @@ module _ (program : Program) (cs : List Gathered) (gathered : AreGathered progra
   pub gathered-labelled : Labelled program ↔ ((labels : ℕ → Label) × FitsAll (label_lattice program.hierarchy) cs labels)
   gathered-labelled = (
     λ labelled.
-    let up = fits-up (program_demands program) cs gathered (label_lattice program.hierarchy) (IsLattice-flows program.hierarchy)
-    (λ (a b : ℕ). a == b) (λ a b e. grind (arith, e)) (λ a. grind arith) (chosen (record { locals = labelled.0; loops = labelled.1.0 })) labelled.1.1 in
-    (up.0, up.1),
+        let up = fits-up (program_demands program) cs gathered (label_lattice program.hierarchy) (IsLattice-flows program.hierarchy)
+        (λ (a b : ℕ). a == b) (λ a b e. grind (arith, e)) (λ a. grind arith) (chosen (record { locals = labelled.0; loops = labelled.1.0 })) labelled.1.1 in
+        (up.0, up.1),
     λ found. labelled-from program (λ u. found.0 (gathered.number u))
         (fits-down (program_demands program) cs gathered (label_lattice program.hierarchy) (IsLattice-flows program.hierarchy) found.0 found.1),
   )
@@ -236,19 +248,29 @@ module _ (program : Program) (cs : List Gathered) (gathered : AreGathered progra
   gathered-refused from chain last policy refused policy_of uncovered =
       let found = refused-same (program_demands program) cs gathered (label_lattice program.hierarchy) (IsLattice-flows program.hierarchy)
       (λ (a b : ℕ). a == b) (λ a b e. grind (arith, e)) (λ a. grind arith) from chain last refused in
-      let is = found.2 in
-      let right : last.right ≡ Written is.chained.to = found.3.right_is ∙ ap (renamed gathered.number) is.chained.right_is in
-      (found.1, found.0, record {
-        labels = is.values;
-        least = is.least;
-        first = is.first;
-        chained = record {
-          from = from;
-          policy_of = policy_of;
-          linked = is.chained.linked;
-          to = is.chained.to;
-          right_is = is.chained.right_is;
-          not_covered = subst (λ (r : Atom ℕ Label). IsUncovered program.hierarchy r policy) right uncovered;
-        };
-      }, found.3,
-      reported-same (program_demands program) cs gathered reported_step (Written from) chain last refused.chained.linked found.1 found.4)
+      made found.0 found.1 found.2 found.3 found.4
+    where
+      made : (d : Demand) (there : List Demand) → IsRefusedAt (label_lattice program.hierarchy) (program_demands program) from there d →
+          StandsFor gathered.number gathered.inner cs d last → OneByOne gathered.number gathered.inner cs there (outer gathered.inner chain) →
+          (there : List Demand) × (d : Demand) × IsRefused program policy there d × StandsFor gathered.number gathered.inner cs d last
+          × (reported_gathered reported_step chain ≡ reported_steps reported_step there)
+      made d there is stands one = (
+        there,
+        d,
+        record {
+          labels = is.values;
+          least = is.least;
+          first = is.first;
+          chained = record {
+            from = from;
+            policy_of = policy_of;
+            linked = is.chained.linked;
+            to = is.chained.to;
+            right_is = is.chained.right_is;
+            not_covered = subst (λ (r : Atom ℕ Label). IsUncovered program.hierarchy r policy)
+                (stands.right_is ∙ ap (renamed gathered.number) is.chained.right_is) uncovered;
+          };
+        },
+        stands,
+        reported-same (program_demands program) cs gathered reported_step (Written from) chain last refused.chained.linked there one,
+      )

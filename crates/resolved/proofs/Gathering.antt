@@ -1,15 +1,14 @@
 -- A gathering over the tree whose size is that of the program: the way to a statement is one atom, an inner unknown where the way
 -- has grown, and each way out that is asked for flows to an inner unknown that its taker made.
 use Rattle.std.proofs.Common.{◌≡◌, refl, sym, ap, ◌∙◌, subst, ℕ, zero, suc, ◌+◌, length, length-append, Bool, true, false, not, ◌&&◌, ◌||◌, List, [], ◌∷◌, ◌++◌, ◌⊎◌, inl, inr, ⊎_elim, arith}
-use Rattle.std.specs.Prelude.{IsTrue, IsFalse, Contains, Option, Some, None, if◌then◌else◌, ◌==◌, filter, map, flat_map}
-use Rattle.std.specs.List.{list_any, list_all}
+use Rattle.std.specs.Prelude.{IsTrue, IsFalse, Contains, Option, Some, None, if◌then◌else◌, ◌==◌, filter, map, flat_map, is_some, slice_index_or}
+use Rattle.std.specs.List.{list_all}
 use Rattle.std.proofs.lemmas.Bool.{and_parts, or_left, or_right, or_cases, eq-eqb}
 use Rattle.std.proofs.lemmas.List.Elements.{Contains-append_cases, Contains-append_left, Contains-append_right}
 use Rattle.std.proofs.lemmas.Map.Views.{any-filter_same}
-use Rattle.std.proofs.lemmas.List.Folds.{list_any-append}
 use Rattle.principals.proofs.Closure.{none_in_nil, Contains-cons_cases, Contains-later, Contains-first}
 use Rattle.labels.specs.Label.{Label}
-use Rattle.labels.specs.Constraints.{Atom, Written, Unknown, Constraint, renamed, is_inner, outer, Feeds, itself, through, LeftStandsFor, StandsFor, OneByOne, IsGathered}
+use Rattle.labels.specs.Constraints.{Atom, Written, Unknown, Constraint, renamed, is_inner, outer, Feeds, itself, through, LeftStandsFor, OneByOne, IsGathered}
 use Rattle.resolved.specs.declared.expression.Variable.{Variable}
 use Rattle.resolved.specs.declared.expression.Variable.TheVariants.{Local}
 use Rattle.resolved.specs.declared.statement.Exit.{Exit}
@@ -17,8 +16,8 @@ use Rattle.resolved.specs.declared.statement.Exit.TheVariants.{Normal, Return, B
 use Rattle.resolved.specs.Tree.{Expression, Statement, Assign, Clear, Store, Receive, Send, Call, If, While, Leave, ReturnWith, Try, Nested, Block, Empty, Then, Handlers, NoMore, Catch, place_of}
 use Rattle.resolved.specs.Program.{Program, ProcedureEntry, ThrownEntry, procedure_at}
 use Rattle.resolved.specs.Ends.{same_exit, has_end, one_end, raises, thrown_ends, leaves_loop, then_ends, index_can_raise, handles, passes, statement_ends, block_ends, handlers_ends}
-use Rattle.resolved.specs.EndFaults.{EndRefusal, EndFault, OutsideLoop, Unreachable, NeverRaised, fault_unless, may_stand, inner_faults, block_faults, handlers_faults}
-use Rattle.resolved.specs.Labelled.{Unwritten, OfLocal, OfLoop, Scope, Join, LabelAtom, one, Target, ToVariable, ToChannel, ToBegin, ToParameter, ToValue, ToEnd, ToThrown, ToLoop, label_of, value_label, raise_label, raise_labels, label_if, any_of, call_exits, argument_demands, ExitLabels, at_ends, own_label, raised_exits, loop_exits, statement_rule, block_rule, handlers_rule, statement_exits, block_exits, Demand, demand, target_demand, statement_demands, block_demands, handlers_demands, here, as_one_end, end_demands, procedure_demands, demands_from, program_demands}
+use Rattle.resolved.specs.EndFaults.{EndRefusal, EndFault, OutsideLoop, Unreachable, NeverRaised, NoValueReturned, Undeclared, fault_unless, may_stand, may_end, inner_faults, block_faults, handlers_faults, procedure_faults, end_faults}
+use Rattle.resolved.specs.Labelled.{Unwritten, OfLoop, Scope, Join, LabelAtom, one, Target, ToVariable, ToChannel, ToBegin, ToParameter, ToValue, ToEnd, ToThrown, ToLoop, label_of, value_label, raise_label, raise_labels, label_if, any_of, call_exits, argument_demands, ExitLabels, at_ends, raised_exits, loop_exits, statement_rule, block_rule, handlers_rule, statement_exits, block_exits, Demand, demand, target_demand, statement_demands, block_demands, handlers_demands, here, as_one_end, end_demands, procedure_demands, demands_from, program_demands}
 
 -- ---- the gathering
 -- an unknown of what is gathered: a label that is not written, or an inner one by its number
@@ -584,7 +583,7 @@ module _ (m : ℕ → Join) where
           let q : List Wire = ((p ++ wires (raise_label scope index)) ++ wires (raise_label scope e)) ++ wires c in
           let j : Join = ((pc ++ raise_label scope index) ++ raise_label scope e) ++ c in
           let q_below : Below q j = grown-below ((p ++ wires (raise_label scope index)) ++ wires (raise_label scope e)) ((pc ++ raise_label scope index) ++ raise_label scope e) c
-            (grown-below (p ++ wires (raise_label scope index)) (pc ++ raise_label scope index) (raise_label scope e) (grown-below p pc (raise_label scope index) below)) in
+          (grown-below (p ++ wires (raise_label scope index)) (pc ++ raise_label scope index) (raise_label scope e) (grown-below p pc (raise_label scope index) below)) in
           let ends : List Exit = statement_ends scope.program (Store at array len index e) in
           closed-append (rule_con scope at 3 ((q ++ wires (value_label scope index)) ++ wires (value_label scope e)) (ToVariable scope.number array)) (flows q takers ends)
           (closed-rule_con scope at 3 ((q ++ wires (value_label scope index)) ++ wires (value_label scope e)) (ToVariable scope.number array))
@@ -1017,7 +1016,7 @@ module _ (cs : List Con) where
           let first : List Con = single (one_end ends) p inside ends ++ walk scope p (within_single (one_end ends) inside) (n + count handlers) block in
           let second : List Con = walk_handlers scope number takers ((n + count handlers) + made_in block) handlers in
           let gives : GivesAll inside x = fed-block ends p inside pc (block_rule scope pc block) (λ t. walk scope p t (n + count handlers) block)
-            (within-left first second within) fed (λ t w. fed-walk block p pc t (n + count handlers) part.0 fed w) in
+          (within-left first second within) fed (λ t w. fed-walk block p pc t (n + count handlers) part.0 fed w) in
           ⊎_elim
           (λ t. past handlers number takers x gives y k is a t)
           (λ t. fed-handlers handlers number x takers ((n + count handlers) + made_in block) part.1
@@ -1041,7 +1040,7 @@ module _ (cs : List Con) where
           let third : List Con = walk scope (onward_wires (has_end ends Normal) (one_end ends) p n) takers (suc n + made s) rest in
           let after : Within (second ++ third) = within-right first (second ++ third) within in
           let gives : Gives ends (within_single (one_end ends) (with_normal (Some n) takers)) exits =
-            fed-gathered s p pc (within_single (one_end ends) (with_normal (Some n) takers)) (suc n) part.0 fed (within-left second third after) in
+          fed-gathered s p pc (within_single (one_end ends) (with_normal (Some n) takers)) (suc n) part.0 fed (within-left second third after) in
           ⊎_elim
           (λ t. ⊎_elim
           (λ same. absurd (none_in_nil a (sub-same (label_if (not (same_exit Normal y)) (x y)) [] (ap (λ z. label_if (not (same_exit Normal z)) (x z)) (sym same)) a t)))
@@ -1258,7 +1257,7 @@ module _ (cs : List Con) where
             let branches : Within cs (third ++ fourth) = within-right cs second (third ++ fourth) after in
             let b_below : Below m (inner_wire n) branch = below-inner m n branch agrees.0 in
             let b_fed : Fed cs (inner_wire n) branch = fed-inner_wire cs n branch (fed-inner_con cs (q ++ wires v) n branch (within-left cs first (second ++ (third ++ fourth)) within)
-              (fed-append cs q (wires v) (pc ++ r) v (fed-append cs p (wires r) pc r fed (fed-wires cs r)) (fed-wires cs v))) in
+            (fed-append cs q (wires v) (pc ++ r) v (fed-append cs p (wires r) pc r fed (fed-wires cs r)) (fed-wires cs v))) in
             let yes_demands : List Demand = block_demands scope branch yes_block in
             let no_demands : List Demand = block_demands scope branch no_block in
             one-append [] (yes_demands ++ no_demands) first (second ++ (third ++ fourth)) tt
@@ -1293,11 +1292,11 @@ module _ (cs : List Con) where
             let in_entry : Within cs entry = within-left cs entry (out ++ raising) (within-left cs second (third ++ fourth) after) in
             let b_below : Below m (inner_wire n) b = below-inner m n b agrees.0 in
             let b_fed : Fed cs (inner_wire n) b = fed-inner_wire cs n b (fed-inner_con cs (q ++ wires v) n b in_entry
-              (fed-append cs q (wires v) (l ++ r) v (fed-append cs (wires l) (wires r) l r (fed-wires cs l) (fed-wires cs r)) (fed-wires cs v))) in
+            (fed-append cs q (wires v) (l ++ r) v (fed-append cs (wires l) (wires r) l r (fed-wires cs l) (fed-wires cs r)) (fed-wires cs v))) in
             let gives : GivesAll cs (in_loop (suc n) takers) x = fed-block cs ends (inner_wire n) (in_loop (suc n) takers) b (block_rule scope b body) (λ t. walk scope (inner_wire n) t (suc (suc n)) body)
-              in_third b_fed (λ t w. fed-walk cs scope body (inner_wire n) b t (suc (suc n)) part b_fed w) in
+            in_third b_fed (λ t w. fed-walk cs scope body (inner_wire n) b t (suc (suc n)) part b_fed w) in
             let back : Fed cs (inner_wire (suc n)) (x Normal ++ x Continue) = fed-inner_wire cs (suc n) (x Normal ++ x Continue) (λ a there. ⊎_elim
-              (λ t. gives Normal (suc n) refl a t) (λ t. gives Continue (suc n) refl a t) (Contains-append_cases (x Normal) (x Continue) a there)) in
+            (λ t. gives Normal (suc n) refl a t) (λ t. gives Continue (suc n) refl a t) (Contains-append_cases (x Normal) (x Continue) a there)) in
             let last : List Demand = demand scope.program at 8 (x Normal ++ x Continue) (ToLoop scope.number loop) in
             one-append (demand scope.program at 8 pc (ToLoop scope.number loop)) (block_demands scope b body ++ last) first (second ++ (third ++ fourth))
             (one-rule scope at 8 p pc (ToLoop scope.number loop) below fed)
@@ -1321,7 +1320,7 @@ module _ (cs : List Con) where
             let second : List Con = walk_handlers scope number takers ((n + count handlers) + made_in block) handlers in
             let in_first : Within cs (own ++ walked) = within-left cs (own ++ walked) second within in
             let gives : GivesAll cs inside x = fed-block cs ends p inside pc (block_rule scope pc block) (λ t. walk scope p t (n + count handlers) block)
-              in_first fed (λ t w. fed-walk cs scope block p pc t (n + count handlers) part.0 fed w) in
+            in_first fed (λ t w. fed-walk cs scope block p pc t (n + count handlers) part.0 fed w) in
             one-append (block_demands scope pc block) (handlers_demands scope x handlers) (own ++ walked) second
             (one-append [] (block_demands scope pc block) own walked (one-single (one_end ends) p inside ends)
             (one-walk block p pc (within_single (one_end ends) inside) (n + count handlers) part.0 agrees.1 below fed (within-right cs own walked in_first)))
@@ -1426,9 +1425,10 @@ module _ (m : ℕ → Join) where
   starts-where : (js : List Join) (n : ℕ) → ((i : ℕ) → m (n + i) ≡ nth js i) → Starts n js
   starts-where [] n each = tt
   starts-where (j ∷ js) n each =
-      let e : n + 0 ≡ n = omega arith in
-      (subst (λ k. m k ≡ j) e (each 0),
-      starts-where js (suc n) (λ i. let f : n + suc i ≡ suc n + i = omega arith in subst (λ k. m k ≡ nth js i) f (each (suc i))))
+      let e : n + 0 ≡ n = omega arith in (
+        subst (λ k. m k ≡ j) e (each 0),
+        starts-where js (suc n) (λ i. let f : n + suc i ≡ suc n + i = omega arith in subst (λ k. m k ≡ nth js i) f (each (suc i))),
+      )
 
 module _ (scope : Scope) where
   abbrev mutual
@@ -1521,10 +1521,12 @@ module _ (scope : Scope) where
       agrees-from (Send at channel e) n pc h = tt
       agrees-from (Call at procedure arguments target) n pc h = tt
       agrees-from (If at e yes_block no_block) n pc h =
-          let branch : Join = (pc ++ raise_label scope e) ++ value_label scope e in
-          (h.0, agrees_in-from yes_block (suc n) branch (starts-left m (suc n) (meanings_in branch yes_block) (meanings_in branch no_block) h.1),
-          agrees_in-from no_block (suc n + made_in yes_block) branch (subst (λ k. Starts m (suc n + k) (meanings_in branch no_block)) (meanings_in-made yes_block branch)
-          (starts-right m (suc n) (meanings_in branch yes_block) (meanings_in branch no_block) h.1)))
+          let branch : Join = (pc ++ raise_label scope e) ++ value_label scope e in (
+            h.0,
+            agrees_in-from yes_block (suc n) branch (starts-left m (suc n) (meanings_in branch yes_block) (meanings_in branch no_block) h.1),
+            agrees_in-from no_block (suc n + made_in yes_block) branch (subst (λ k. Starts m (suc n + k) (meanings_in branch no_block)) (meanings_in-made yes_block branch)
+                (starts-right m (suc n) (meanings_in branch yes_block) (meanings_in branch no_block) h.1)),
+          )
       agrees-from (While at loop e body) n pc h =
           (h.0, h.1.0, agrees_in-from body (suc (suc n)) ((one (label_of scope.program (ToLoop scope.number loop)) ++ raise_label scope e) ++ value_label scope e) h.1.1)
       agrees-from (Leave at exit) n pc h = tt
@@ -1532,29 +1534,33 @@ module _ (scope : Scope) where
       agrees-from (Try at block handlers) n pc h =
           let x : ExitLabels = block_exits scope pc block in
           let after : Starts m (n + count handlers) (meanings_in pc block ++ meanings_by x handlers) =
-            subst (λ k. Starts m (n + k) (meanings_in pc block ++ meanings_by x handlers)) (handled-count handlers x)
-            (starts-right m n (handled_at x handlers) (meanings_in pc block ++ meanings_by x handlers) h) in
-          (handled-named handlers x n (starts-left m n (handled_at x handlers) (meanings_in pc block ++ meanings_by x handlers) h),
-          agrees_in-from block (n + count handlers) pc (starts-left m (n + count handlers) (meanings_in pc block) (meanings_by x handlers) after),
-          agrees_by-from handlers ((n + count handlers) + made_in block) x (subst (λ k. Starts m ((n + count handlers) + k) (meanings_by x handlers)) (meanings_in-made block pc)
-          (starts-right m (n + count handlers) (meanings_in pc block) (meanings_by x handlers) after)))
+          subst (λ k. Starts m (n + k) (meanings_in pc block ++ meanings_by x handlers)) (handled-count handlers x)
+          (starts-right m n (handled_at x handlers) (meanings_in pc block ++ meanings_by x handlers) h) in (
+            handled-named handlers x n (starts-left m n (handled_at x handlers) (meanings_in pc block ++ meanings_by x handlers) h),
+            agrees_in-from block (n + count handlers) pc (starts-left m (n + count handlers) (meanings_in pc block) (meanings_by x handlers) after),
+            agrees_by-from handlers ((n + count handlers) + made_in block) x (subst (λ k. Starts m ((n + count handlers) + k) (meanings_by x handlers)) (meanings_in-made block pc)
+                (starts-right m (n + count handlers) (meanings_in pc block) (meanings_by x handlers) after)),
+          )
       agrees-from (Nested at block) n pc h = agrees_in-from block n pc h
 
       agrees_in-from : (block : Block) (n : ℕ) (pc : Join) → Starts m n (meanings_in pc block) → AgreesIn scope m n pc block
       agrees_in-from Empty n pc h = tt
       agrees_in-from (Then s rest) n pc h =
-          let after : Join = statement_exits scope pc s Normal in
-          (h.0, agrees-from s (suc n) pc (starts-left m (suc n) (meanings pc s) (meanings_in after rest) h.1),
-          agrees_in-from rest (suc n + made s) after (subst (λ k. Starts m (suc n + k) (meanings_in after rest)) (meanings-made s pc)
-          (starts-right m (suc n) (meanings pc s) (meanings_in after rest) h.1)))
+          let after : Join = statement_exits scope pc s Normal in (
+            h.0,
+            agrees-from s (suc n) pc (starts-left m (suc n) (meanings pc s) (meanings_in after rest) h.1),
+            agrees_in-from rest (suc n + made s) after (subst (λ k. Starts m (suc n + k) (meanings_in after rest)) (meanings-made s pc)
+                (starts-right m (suc n) (meanings pc s) (meanings_in after rest) h.1)),
+          )
 
       agrees_by-from : (handlers : Handlers) (n : ℕ) (x : ExitLabels) → Starts m n (meanings_by x handlers) → AgreesBy scope m n x handlers
       agrees_by-from NoMore n x h = tt
       agrees_by-from (Catch at handled body rest) n x h =
-          let own : List Join = meanings_in (x (Throw handled)) body in
-          (agrees_in-from body n (x (Throw handled)) (starts-left m n own (meanings_by x rest) h),
-          agrees_by-from rest (n + made_in body) x (subst (λ k. Starts m (n + k) (meanings_by x rest)) (meanings_in-made body (x (Throw handled)))
-          (starts-right m n own (meanings_by x rest) h)))
+          let own : List Join = meanings_in (x (Throw handled)) body in (
+            agrees_in-from body n (x (Throw handled)) (starts-left m n own (meanings_by x rest) h),
+            agrees_by-from rest (n + made_in body) x (subst (λ k. Starts m (n + k) (meanings_by x rest)) (meanings_in-made body (x (Throw handled)))
+                (starts-right m n own (meanings_by x rest) h)),
+          )
 
 -- so a body of the part is gathered, whatever it is
 pub part-gathered : (scope : Scope) (begin : Join) (body : Block) → PartIn scope.program body →
@@ -1701,7 +1707,7 @@ module _ (m : ℕ → Join) where
     one-thrown scope number x [] each = tt
     one-thrown scope number x (entry ∷ rest) each =
         let own : Below m (inner_wire (number entry.exception)) (x (Throw entry.exception)) × Fed cs (inner_wire (number entry.exception)) (x (Throw entry.exception)) =
-          each entry.exception (or_left (entry.exception == entry.exception) (declares rest entry.exception) (eq-eqb entry.exception entry.exception refl)) in
+        each entry.exception (or_left (entry.exception == entry.exception) (declares rest entry.exception) (eq-eqb entry.exception entry.exception refl)) in
         one-append cs (demand scope.program (here scope).at 13 (x (Throw entry.exception)) (ToThrown scope.number entry.exception))
         (flat_map (λ (entry : ThrownEntry). demand scope.program (here scope).at 13 (x (Throw entry.exception)) (ToThrown scope.number entry.exception)) rest)
         (rule_con scope (here scope).at 13 (inner_wire (number entry.exception)) (ToThrown scope.number entry.exception)) (thrown_cons scope number rest)
@@ -1736,8 +1742,8 @@ module _ (m : ℕ → Join) where
         let walked : List Con = walk scope p (within_single (one_end ends) takers) (first_within scope n) (here scope).body in
         let in_body : Within cs (own ++ walked) = within-left cs (own ++ walked) (end_cons scope n) within in
         let gives : GivesAll cs takers (exits_of scope) = fed-block cs ends p takers (begin_of scope) (block_rule scope (begin_of scope) (here scope).body)
-          (λ t. walk scope p t (first_within scope n) (here scope).body) in_body (fed-wires cs (begin_of scope))
-          (λ t w. fed-walk cs scope (here scope).body p (begin_of scope) t (first_within scope n) part (fed-wires cs (begin_of scope)) w) in
+        (λ t. walk scope p t (first_within scope n) (here scope).body) in_body (fed-wires cs (begin_of scope))
+        (λ t w. fed-walk cs scope (here scope).body p (begin_of scope) t (first_within scope n) part (fed-wires cs (begin_of scope)) w) in
         one-append cs (block_demands scope (begin_of scope) (here scope).body) (end_demands scope ends (exits_of scope)) (own ++ walked) (end_cons scope n)
         (one-append cs [] (block_demands scope (begin_of scope) (here scope).body) own walked (one-single cs (one_end ends) p takers ends)
         (one-walk cs m closed scope (here scope).body p (begin_of scope) (within_single (one_end ends) takers) (first_within scope n) part agrees.2
@@ -1809,18 +1815,21 @@ module _ (m : ℕ → Join) where
   agrees_of-from : (scope : Scope) (n : ℕ) → Starts m n (meanings_of scope) → AgreesOf m scope n
   agrees_of-from scope n h =
       let xs : List Join = thrown_at (exits_of scope) (here scope).throws in
-      let ys : List Join = meanings_in scope (begin_of scope) (here scope).body in
-      (h.0, thrown-named (here scope).throws (exits_of scope) (suc n) (starts-left m (suc n) xs ys h.1),
-      agrees_in-from scope m (here scope).body (first_within scope n) (begin_of scope)
-      (subst (λ k. Starts m (suc n + k) ys) (thrown-length (exits_of scope) (here scope).throws) (starts-right m (suc n) xs ys h.1)))
+      let ys : List Join = meanings_in scope (begin_of scope) (here scope).body in (
+        h.0,
+        thrown-named (here scope).throws (exits_of scope) (suc n) (starts-left m (suc n) xs ys h.1),
+        agrees_in-from scope m (here scope).body (first_within scope n) (begin_of scope)
+            (subst (λ k. Starts m (suc n + k) ys) (thrown-length (exits_of scope) (here scope).throws) (starts-right m (suc n) xs ys h.1)),
+      )
 
   agrees_from-from : (program : Program) (f n : ℕ) (ps : List ProcedureEntry) → Starts m n (meanings_from program f ps) → AgreesFrom m program f n ps
   agrees_from-from program f n [] h = tt
   agrees_from-from program f n (procedure ∷ rest) h =
-      let scope : Scope = record { program = program; number = f } in
-      (agrees_of-from scope n (starts-left m n (meanings_of scope) (meanings_from program (suc f) rest) h),
-      agrees_from-from program (suc f) (n + made_of scope) rest
-      (subst (λ k. Starts m (n + k) (meanings_from program (suc f) rest)) (meanings_of-made scope) (starts-right m n (meanings_of scope) (meanings_from program (suc f) rest) h)))
+      let scope : Scope = record { program = program; number = f } in (
+        agrees_of-from scope n (starts-left m n (meanings_of scope) (meanings_from program (suc f) rest) h),
+        agrees_from-from program (suc f) (n + made_of scope) rest
+            (subst (λ k. Starts m (n + k) (meanings_from program (suc f) rest)) (meanings_of-made scope) (starts-right m n (meanings_of scope) (meanings_from program (suc f) rest) h)),
+      )
 
 -- a program of which each statement is reached is gathered
 pub all-gathered : (program : Program) → PartsFrom program 0 program.procedures → IsGathered (program_demands program) (program_cons program)
@@ -1881,16 +1890,42 @@ module _ (program : Program) where
         let a : List EndFault = fault_unless (may_stand loop s) OutsideLoop (place_of s) in
         let r : List EndFault = fault_unless b Unreachable (place_of s) in
         let own : List EndFault = inner_faults program loop s in
-        let more : List EndFault = block_faults program loop (has_end (statement_ends program s) Normal) rest in
-        (part-from s loop (none-right (a ++ r) own (none-left ((a ++ r) ++ own) more none)),
-        goes-on loop s rest (none-right ((a ++ r) ++ own) more none),
-        part_in-from rest loop (has_end (statement_ends program s) Normal) (none-right ((a ++ r) ++ own) more none))
+        let more : List EndFault = block_faults program loop (has_end (statement_ends program s) Normal) rest in (
+          part-from s loop (none-right (a ++ r) own (none-left ((a ++ r) ++ own) more none)),
+          goes-on loop s rest (none-right ((a ++ r) ++ own) more none),
+          part_in-from rest loop (has_end (statement_ends program s) Normal) (none-right ((a ++ r) ++ own) more none),
+        )
 
     part_by-from : (handlers : Handlers) (loop : Bool) (ends : List Exit) → handlers_faults program loop ends handlers ≡ [] → PartBy program handlers
     part_by-from NoMore loop ends none = tt
     part_by-from (Catch at handled body rest) loop ends none =
         let a : List EndFault = fault_unless (has_end ends (Throw handled)) NeverRaised at in
         let own : List EndFault = block_faults program loop true body in
-        let more : List EndFault = handlers_faults program loop (filter (λ exit. not (same_exit (Throw handled) exit)) ends) rest in
-        (part_in-from body loop true (none-right a own (none-left (a ++ own) more none)),
-        part_by-from rest loop (filter (λ exit. not (same_exit (Throw handled) exit)) ends) (none-right (a ++ own) more none))
+        let more : List EndFault = handlers_faults program loop (filter (λ exit. not (same_exit (Throw handled) exit)) ends) rest in (
+          part_in-from body loop true (none-right a own (none-left (a ++ own) more none)),
+          part_by-from rest loop (filter (λ exit. not (same_exit (Throw handled) exit)) ends) (none-right (a ++ own) more none),
+        )
+
+procedure-part : (program : Program) (procedure : ProcedureEntry) → procedure_faults program procedure ≡ [] → PartIn program procedure.body
+procedure-part program procedure none =
+    let ends : List Exit = block_ends program procedure.body in
+    let own : List EndFault = block_faults program false true procedure.body in
+    let valued : List EndFault = fault_unless (not (is_some procedure.result && has_end ends Normal)) NoValueReturned procedure.at in
+    let declared : List EndFault = fault_unless (list_all (may_end procedure) ends) Undeclared procedure.at in
+    part_in-from program procedure.body false true (none-left own valued (none-left (own ++ valued) declared none))
+
+each-part : (program : Program) (absent : ProcedureEntry) → PartIn program absent.body → (ps : List ProcedureEntry) →
+    flat_map (procedure_faults program) ps ≡ [] → (f : ℕ) → PartIn program (slice_index_or ps f absent).body
+each-part program absent part [] none f = part
+each-part program absent part (p ∷ ps) none zero =
+    procedure-part program p (none-left (procedure_faults program p) (flat_map (procedure_faults program) ps) none)
+each-part program absent part (p ∷ ps) none (suc f) =
+    each-part program absent part ps (none-right (procedure_faults program p) (flat_map (procedure_faults program) ps) none) f
+
+pub faultless-parts : (program : Program) → end_faults program ≡ [] → (f : ℕ) (ps : List ProcedureEntry) → PartsFrom program f ps
+faultless-parts program none f [] = tt
+faultless-parts program none f (p ∷ ps) = (each-part program _ tt program.procedures none f, faultless-parts program none (suc f) ps)
+
+-- so a program without a fault of its ends is gathered
+pub faultless-gathered : (program : Program) → end_faults program ≡ [] → IsGathered (program_demands program) (program_cons program)
+faultless-gathered program none = all-gathered program (faultless-parts program none 0 program.procedures)

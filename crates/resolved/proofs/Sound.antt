@@ -3,3 +3,4 @@ pub mod Values
 pub mod States
 pub mod Meanings
 pub mod Runs
+pub mod Returning

@@ -1,6 +1,6 @@
 -- What the states of a well-formed program hold: in each variable as many cells as it has, each with a value of its base type.
 -- Source: type soundness as in Milner 1978, for our own language.
-use Rattle.std.specs.Prelude.{◌≡◌, ℕ, List, [], length, All, Option, Some, None, IsTrue, ◌&&◌}
+use Rattle.std.specs.Prelude.{◌≡◌, ℕ, List, [], ◌∷◌, length, All, Option, Some, None, IsTrue, ◌&&◌}
 use Rattle.resolved.specs.declared.expression.Base.{Base}
 use Rattle.resolved.specs.declared.expression.Value.{Value}
 use Rattle.resolved.specs.declared.expression.Variable.{Variable}
@@ -8,7 +8,7 @@ use Rattle.resolved.specs.declared.statement.Exit.{Exit}
 use Rattle.resolved.specs.declared.statement.Exit.TheVariants.{Return}
 use Rattle.resolved.specs.Ends.{same_exit}
 use Rattle.resolved.specs.Tree.{Expression, Block}
-use Rattle.resolved.specs.Program.{Program, ProcedureEntry, ResultEntry, procedure_at}
+use Rattle.resolved.specs.Program.{Program, ProcedureEntry, ResultEntry, SlotEntry, procedure_at}
 use Rattle.resolved.specs.Value.{Evaluated, Gives, Raises, base_of}
 use Rattle.resolved.specs.State.{World, State, cells, value_of}
 use Rattle.resolved.specs.Meaning.{Outcome, Ended, Stopped, state_after, block_meaning, calls_with, entering, first_state}
@@ -22,6 +22,13 @@ pub record CellsFit (type : VariableType) (values : List Value) : Type 0 where
 -- a state in which each variable of a procedure has the cells of its type
 pub record StateFits (program : Program) (procedure : ProcedureEntry) (s : State) : Type 0 where
   pub fits : (x : Variable) (type : VariableType) → variable_type program procedure x ≡ Some type → CellsFit type (cells s x)
+
+-- arguments for parameters: as many, and each of its base type
+abbrev pub ArgumentsFit : (parameters : List SlotEntry) → (arguments : List Value) → Type 0
+ArgumentsFit [] [] = Unit {0}
+ArgumentsFit [] (v ∷ rest) = ⊥
+ArgumentsFit (parameter ∷ parameters) [] = ⊥
+ArgumentsFit (parameter ∷ parameters) (v ∷ rest) = (base_of v ≡ parameter.base) × ArgumentsFit parameters rest
 
 -- a value of a base type, where evaluation gives a value
 abbrev pub GivesBase : Base → Evaluated Value → Type 0

@@ -14,4 +14,5 @@ pub mod WellFormed
 pub mod StraightLine
 pub mod Kinds
 pub mod Before
+pub mod Precise
 pub mod Flow

@@ -1,5 +1,6 @@
--- Well-formed programs: each number of the tree is in its table and means what its place wants, each expression has the base
--- type that is wanted, and the limits of the language are kept.
+-- Well-formed programs: each expression has the base type that is wanted, each number of the tree is in its table and means what
+-- its place wants, and the limits of the language are kept. In that order, and each clause under the number of the refusal that a
+-- source gets which breaks it; those without a number are kept by whatever makes a program.
 -- Source: our own.
 use Rattle.std.specs.Prelude.{ℕ, suc, ◌+◌, List, [], ◌∷◌, ◌++◌, Bool, true, false, not, ◌==◌, ◌&&◌, ◌||◌, Option, Some, None, is_none, length, take, sum_by, slice_get, nat_lt, nat_le}
 use Rattle.std.specs.List.{list_all, list_any}
@@ -14,35 +15,25 @@ use Rattle.resolved.specs.declared.expression.Variable.TheVariants.{Global, Loca
 use Rattle.resolved.specs.declared.expression.Prefix.{Prefix}
 use Rattle.resolved.specs.declared.expression.Prefix.TheVariants.{Negate, Not}
 use Rattle.resolved.specs.declared.expression.Operator.{Operator}
-use Rattle.resolved.specs.declared.expression.Operator.TheVariants.{Add, Subtract, Multiply, Divide, Remainder, Same, Different}
+use Rattle.resolved.specs.declared.expression.Operator.TheVariants.{Add, Subtract, Multiply, Divide, Remainder, LessThan, AtMost, GreaterThan, AtLeast, Equal, Unequal, Same, Different}
 use Rattle.resolved.specs.declared.tables.Direction.{Direction}
 use Rattle.resolved.specs.declared.tables.Direction.TheVariants.{Input, Output}
 use Rattle.resolved.specs.declared.statement.Exit.{Exit}
-use Rattle.resolved.specs.declared.statement.Exit.TheVariants.{Break, Continue, Throw}
+use Rattle.resolved.specs.declared.statement.Exit.TheVariants.{Normal, Return, Break, Continue, Throw}
 use Rattle.resolved.specs.Tree.{Expression, Integer, Logical, Read, Element, Unary, Binary, Short, Statement, Assign, Clear, Store, Receive, Send, Call, If, While, Leave, ReturnWith, Try, Nested, Block, Empty, Then, Handlers, NoMore, Catch}
 use Rattle.resolved.specs.Program.{Program, ProcedureEntry, SlotEntry, ResultEntry, ThrownEntry, ChannelEntry, GlobalEntry}
 use Rattle.resolved.specs.Value.{base_of, is_zero}
 
--- the limits of the language
+-- the greatest literal
 abbrev pub literal_limit : ℕ
 literal_limit = 2147483647
 
-abbrev pub array_limit : ℕ
-array_limit = 65536
-
-abbrev pub cell_limit : ℕ
-cell_limit = 1048576
-
-abbrev pub principal_limit : ℕ
-principal_limit = 256
-
-abbrev pub node_limit : ℕ
-node_limit = 1048576
-
+-- ---- types
 abbrev pub same_base : Base → Base → Bool
 same_base Int Int = true
+same_base Int Boolean = false
+same_base Boolean Int = false
 same_base Boolean Boolean = true
-same_base _ _ = false
 
 -- the base types of operands and results
 abbrev pub prefix_base : Prefix → Base
@@ -50,9 +41,19 @@ prefix_base Negate = Int
 prefix_base Not = Boolean
 
 abbrev pub operand_base : Operator → Base
+operand_base Add = Int
+operand_base Subtract = Int
+operand_base Multiply = Int
+operand_base Divide = Int
+operand_base Remainder = Int
+operand_base LessThan = Int
+operand_base AtMost = Int
+operand_base GreaterThan = Int
+operand_base AtLeast = Int
+operand_base Equal = Int
+operand_base Unequal = Int
 operand_base Same = Boolean
 operand_base Different = Boolean
-operand_base _ = Int
 
 abbrev pub result_base : Operator → Base
 result_base Add = Int
@@ -60,9 +61,16 @@ result_base Subtract = Int
 result_base Multiply = Int
 result_base Divide = Int
 result_base Remainder = Int
-result_base _ = Boolean
+result_base LessThan = Boolean
+result_base AtMost = Boolean
+result_base GreaterThan = Boolean
+result_base AtLeast = Boolean
+result_base Equal = Boolean
+result_base Unequal = Boolean
+result_base Same = Boolean
+result_base Different = Boolean
 
--- what a variable is: a base type, and a length if it is an array
+-- 301 unknown name, 403 wrong use: what a variable is that is there, a base type, and a length if it is an array
 pub record VariableType : Type 0 where
   pub base : Base
   pub size : Option ℕ
@@ -92,7 +100,7 @@ abbrev pub array_by : Option VariableType → (length : ℕ) → (Base → Bool)
 array_by None length test = false
 array_by (Some type) length test = has_length type.size length && test type.base
 
--- an expression of a base type
+-- 401 wrong type: an expression of a base type. Its variables are there (301), of the kind that is wanted (403)
 abbrev pub has_base : Program → ProcedureEntry → Base → Expression → Bool
 has_base program procedure base (Integer n) = same_base Int base && nat_le n literal_limit
 has_base program procedure base (Logical b) = same_base Boolean base
@@ -107,58 +115,64 @@ has_base program procedure base (Binary operator d e) =
 has_base program procedure base (Short connective d e) =
     same_base Boolean base && has_base program procedure Boolean d && has_base program procedure Boolean e
 
--- an expression of the base type of a procedure's value
+-- 401 wrong type: a base type for the value of a procedure that has one
 abbrev pub has_result : Option ResultEntry → (Base → Bool) → Bool
 has_result None test = false
 has_result (Some entry) test = test entry.base
 
--- a target that takes a value whose base type passes a test, if there is a target
+-- 401 wrong type: a target that takes a value whose base type passes a test, if there is a target
 abbrev pub target_by : Program → ProcedureEntry → Option Variable → (Base → Bool) → Bool
 target_by program procedure None test = true
 target_by program procedure (Some x) test = scalar_by (variable_type program procedure x) test
 
--- a channel of this direction
+-- 301 unknown name, 403 wrong use: a channel of this direction
 abbrev pub same_direction : Direction → Direction → Bool
 same_direction Input Input = true
+same_direction Input Output = false
+same_direction Output Input = false
 same_direction Output Output = true
-same_direction _ _ = false
 
 abbrev pub channel_is : Option ChannelEntry → Direction → Bool
 channel_is None direction = false
 channel_is (Some entry) direction = same_direction entry.direction direction
 
--- arguments for the parameters of a procedure: as many, and each of its base type
+-- 402 wrong argument count: arguments for the parameters of a procedure, as many, and each of its base type (401)
 abbrev pub arguments_match : Program → ProcedureEntry → List SlotEntry → List Expression → Bool
 arguments_match program procedure [] [] = true
+arguments_match program procedure [] (e ∷ rest) = false
+arguments_match program procedure (parameter ∷ parameters) [] = false
 arguments_match program procedure (parameter ∷ parameters) (e ∷ rest) =
     has_base program procedure parameter.base e && arguments_match program procedure parameters rest
-arguments_match program procedure _ _ = false
 
 abbrev pub parameters_of : ProcedureEntry → List SlotEntry
 parameters_of procedure = take procedure.parameters procedure.slots
 
--- a call of a procedure that is there, with its arguments and a target for its value, if there is a target
+-- 301 unknown name, 403 wrong use: a call of a procedure that is there, with its arguments, and with a target that takes its value,
+-- if there is a target (401)
 abbrev pub call_matches : Program → ProcedureEntry → Option ProcedureEntry → List Expression → Option Variable → Bool
 call_matches program procedure None arguments target = false
 call_matches program procedure (Some callee) arguments target =
     arguments_match program procedure (parameters_of callee) arguments
     && target_by program procedure target (λ base. has_result callee.result (same_base base))
 
+-- 301 unknown name, 403 wrong use: an exception that is there, built in or declared
 abbrev pub is_exception : Program → ℕ → Bool
 is_exception program exception = nat_lt exception (3 + length program.exceptions)
 
 -- what `break`, `continue` and `throw` may take
 abbrev pub may_leave_by : Program → Exit → Bool
+may_leave_by program Normal = false
+may_leave_by program Return = false
 may_leave_by program Break = true
 may_leave_by program Continue = true
 may_leave_by program (Throw exception) = is_exception program exception
-may_leave_by program _ = false
 
 abbrev pub is_array : Option VariableType → Bool
 is_array None = false
 is_array (Some type) = not (is_none type.size)
 
--- statements, blocks and handlers that fit where they stand
+-- statements, blocks and handlers that fit where they stand: their expressions (401), names (301, 403), arguments (402), and a value
+-- that is returned where there is one to return, and only there (401)
 abbrev mutual
   pub statement_fits : Program → ProcedureEntry → Statement → Bool
   statement_fits program procedure (Assign at x e) =
@@ -195,14 +209,22 @@ abbrev mutual
   handlers_fit program procedure (Catch at handled body rest) =
       is_exception program handled && block_fits program procedure body && handlers_fit program procedure rest
 
--- the numbers of the loops, in the order of the text
+-- ---- numbers
+-- no refusal: the numbers of the loops, in the order of the text
 abbrev mutual
   pub statement_loops : Statement → List ℕ
+  statement_loops (Assign at x e) = []
+  statement_loops (Clear at slot) = []
+  statement_loops (Store at array length index e) = []
+  statement_loops (Receive at channel target) = []
+  statement_loops (Send at channel e) = []
+  statement_loops (Call at callee arguments target) = []
   statement_loops (If at e yes_block no_block) = block_loops yes_block ++ block_loops no_block
   statement_loops (While at loop e body) = loop ∷ block_loops body
+  statement_loops (Leave at exit) = []
+  statement_loops (ReturnWith at e) = []
   statement_loops (Try at block handlers) = block_loops block ++ handlers_loops handlers
   statement_loops (Nested at block) = block_loops block
-  statement_loops _ = []
 
   pub block_loops : Block → List ℕ
   block_loops Empty = []
@@ -217,16 +239,7 @@ abbrev pub counts_from : (n : ℕ) → List ℕ → Bool
 counts_from n [] = true
 counts_from n (m ∷ rest) = m == n && counts_from (suc n) rest
 
--- the cells of a variable, and a length that an array may have
-abbrev pub cell_count : Option ℕ → ℕ
-cell_count None = 1
-cell_count (Some length) = length
-
-abbrev pub size_fits : Option ℕ → Bool
-size_fits None = true
-size_fits (Some length) = nat_lt 0 length && nat_le length array_limit
-
--- a label of the principals that there are
+-- 303 unknown principal: a label of the principals that there are
 abbrev pub policy_fits : PrincipalHierarchy → ReaderPolicy → Bool
 policy_fits h policy =
     nat_lt policy.owner (length h.names) && list_all (λ reader. nat_lt reader (length h.names)) policy.readers
@@ -242,11 +255,11 @@ abbrev pub result_fits : PrincipalHierarchy → Option ResultEntry → Bool
 result_fits h None = true
 result_fits h (Some entry) = label_fits h entry.label
 
--- a parameter is a scalar with a written label
+-- no refusal: a parameter is a scalar with a written label
 abbrev pub parameter_fits : SlotEntry → Bool
 parameter_fits slot = is_none slot.size && not (is_none slot.written)
 
--- exceptions that are there, each named once
+-- 302 declared twice: exceptions that are there (301, 403), each named once
 abbrev pub throws_fit : Program → List ThrownEntry → Bool
 throws_fit program [] = true
 throws_fit program (entry ∷ rest) =
@@ -255,21 +268,7 @@ throws_fit program (entry ∷ rest) =
     && not (list_any (λ (other : ThrownEntry). other.exception == entry.exception) rest)
     && throws_fit program rest
 
-abbrev pub procedure_fits : Program → ProcedureEntry → Bool
-procedure_fits program procedure =
-    nat_le procedure.parameters (length procedure.slots)
-    && list_all parameter_fits (parameters_of procedure)
-    && list_all (λ (slot : SlotEntry). size_fits slot.size && written_fits program.hierarchy slot.written) procedure.slots
-    && nat_le (sum_by (λ (slot : SlotEntry). cell_count slot.size) procedure.slots) cell_limit
-    && result_fits program.hierarchy procedure.result
-    && label_fits program.hierarchy procedure.begin_label
-    && label_fits program.hierarchy procedure.end_label
-    && throws_fit program procedure.throws
-    && block_fits program procedure procedure.body
-    && counts_from 0 (block_loops procedure.body)
-    && length (block_loops procedure.body) == procedure.loops
-
--- a global: its cells hold values of its base type at first, and those of an array 0 or `false`
+-- 401 wrong type: the first value of a global is of its base type, and that of an array is 0 or `false`
 abbrev pub is_zero_value : Value → Bool
 is_zero_value (Number z) = is_zero z
 is_zero_value (Truth b) = not b
@@ -277,25 +276,45 @@ is_zero_value (Truth b) = not b
 abbrev pub first_fits : GlobalEntry → Bool
 first_fits entry = same_base (base_of entry.first) entry.base && (is_none entry.size || is_zero_value entry.first)
 
-abbrev pub globals_fit : Program → Bool
-globals_fit program =
-    list_all (λ (entry : GlobalEntry). size_fits entry.size && label_fits program.hierarchy entry.label && first_fits entry)
-    program.globals
-    && nat_le (sum_by (λ (entry : GlobalEntry). cell_count entry.size) program.globals) cell_limit
-
--- a procedure at which a run can begin
+-- 304 no proper main: a procedure at which a run can begin, without parameters and a value
 abbrev pub main_fits : Option ProcedureEntry → Bool
 main_fits None = false
 main_fits (Some procedure) = procedure.parameters == 0 && is_none procedure.result
 
--- how many nodes a program has: its expressions, statements and handlers, and the entries of its tables with the policies and
+-- ---- limits
+-- the greatest length of an array; the cells of the globals, and those of a frame; the principals; the nodes of a tree
+abbrev pub array_limit : ℕ
+array_limit = 65536
+
+abbrev pub cell_limit : ℕ
+cell_limit = 1048576
+
+abbrev pub principal_limit : ℕ
+principal_limit = 256
+
+abbrev pub node_limit : ℕ
+node_limit = 1048576
+
+-- the cells of a variable
+abbrev pub cell_count : Option ℕ → ℕ
+cell_count None = 1
+cell_count (Some length) = length
+
+-- 703 array size: a length that an array may have
+abbrev pub size_fits : Option ℕ → Bool
+size_fits None = true
+size_fits (Some length) = nat_lt 0 length && nat_le length array_limit
+
+-- no refusal, since a source is short: how many nodes a program has, its expressions, statements and handlers, and the entries of its tables with the policies and
 -- readers of channels
 abbrev pub expression_nodes : Expression → ℕ
+expression_nodes (Integer n) = 1
+expression_nodes (Logical b) = 1
+expression_nodes (Read x) = 1
 expression_nodes (Element array length index) = 1 + expression_nodes index
 expression_nodes (Unary prefix e) = 1 + expression_nodes e
 expression_nodes (Binary operator d e) = 1 + expression_nodes d + expression_nodes e
 expression_nodes (Short connective d e) = 1 + expression_nodes d + expression_nodes e
-expression_nodes _ = 1
 
 abbrev pub some_nodes : Option Expression → ℕ
 some_nodes None = 0
@@ -334,6 +353,29 @@ abbrev pub program_nodes : Program → ℕ
 program_nodes program =
     sum_by (λ (entry : ChannelEntry). 1 + label_nodes entry.label) program.channels
     + length program.exceptions + length program.globals + sum_by procedure_nodes program.procedures
+
+-- ---- procedures, globals and programs
+-- 704 too many cells: those of a frame
+abbrev pub procedure_fits : Program → ProcedureEntry → Bool
+procedure_fits program procedure =
+    nat_le procedure.parameters (length procedure.slots)
+    && list_all parameter_fits (parameters_of procedure)
+    && list_all (λ (slot : SlotEntry). size_fits slot.size && written_fits program.hierarchy slot.written) procedure.slots
+    && nat_le (sum_by (λ (slot : SlotEntry). cell_count slot.size) procedure.slots) cell_limit
+    && result_fits program.hierarchy procedure.result
+    && label_fits program.hierarchy procedure.begin_label
+    && label_fits program.hierarchy procedure.end_label
+    && throws_fit program procedure.throws
+    && block_fits program procedure procedure.body
+    && counts_from 0 (block_loops procedure.body)
+    && length (block_loops procedure.body) == procedure.loops
+
+-- 704 too many cells: those of all globals
+abbrev pub globals_fit : Program → Bool
+globals_fit program =
+    list_all (λ (entry : GlobalEntry). size_fits entry.size && label_fits program.hierarchy entry.label && first_fits entry)
+    program.globals
+    && nat_le (sum_by (λ (entry : GlobalEntry). cell_count entry.size) program.globals) cell_limit
 
 -- a well-formed program
 abbrev pub well_formed : Program → Bool

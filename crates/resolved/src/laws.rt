@@ -4,6 +4,7 @@ ghost use Rattle.labels.specs.Label.{Label, ReaderPolicy};
 ghost use Rattle.resolved.specs.Flow.{AreGathered, AreLeast, FlowBothWays, Gathered, IsFlowChain, IsRefused, IsUncovered, reported_step};
 ghost use Rattle.resolved.specs.Kinds.{MeaningKeepsTypes, RunsBeginTyped, ValuesHaveTheirTypes};
 ghost use Rattle.resolved.specs.Labelled.{Demand, Labelled, Unwritten, program_demands};
+ghost use Rattle.resolved.specs.Precise.{IsAcceptable, handler_of_one, raising_argument, short_circuit, two_normal_ends};
 ghost use Rattle.resolved.specs.Program.{Program};
 ghost use Rattle.std.specs.Prelude.{Contains, List, ℕ, ◌≡◌, ◌↔◌, ◌⊎◌};
 
@@ -26,11 +27,12 @@ pub fn programs_are_labelled_or_refused()
     ensures unique { (program : Program) (labels others : Unwritten → Label) →
         AreLeast program labels → AreLeast program others → FlowBothWays program labels others }
     ensures tried { (program : Program) (labels : Unwritten → Label) → AreLeast program labels →
-        Labelled program ↔ FitsAll (label_lattice program.hierarchy) (program_demands program) labels }
+        Labelled program
+        ↔ FitsAll (label_lattice program.hierarchy) (program_demands program) labels }
     ensures either { (program : Program) → Labelled program ⊎ ((policy : ReaderPolicy)
         × (chain : List Demand) × (last : Demand) × IsRefused program policy chain last) }
-    ensures ruled_out { (program : Program) (policy : ReaderPolicy) (chain : List Demand) (last : Demand) →
-        IsFlowChain program policy chain last → Labelled program → ⊥ }
+    ensures ruled_out { (program : Program) (policy : ReaderPolicy) (chain : List Demand)
+        (last : Demand) → IsFlowChain program policy chain last → Labelled program → ⊥ }
 {}
 
 /// What was gathered from a program's demands decides it: the program is labelled where some labels fit all that was gathered, and
@@ -38,7 +40,8 @@ pub fn programs_are_labelled_or_refused()
 /// same steps are reported.
 pub fn gathered_constraints_decide()
     ensures labelled { (program : Program) (cs : List Gathered) → AreGathered program cs →
-        Labelled program ↔ ((labels : ℕ → Label) × FitsAll (label_lattice program.hierarchy) cs labels) }
+        Labelled program
+        ↔ ((labels : ℕ → Label) × FitsAll (label_lattice program.hierarchy) cs labels) }
     ensures refused { (program : Program) (cs : List Gathered) (gathered : AreGathered program cs)
         (from : Label) (chain : List Gathered) (last : Gathered) (policy : ReaderPolicy) →
         IsRefusedAt (label_lattice program.hierarchy) cs from chain last → Contains from policy →
@@ -46,4 +49,15 @@ pub fn gathered_constraints_decide()
         (there : List Demand) × (d : Demand) × IsRefused program policy there d
         × StandsFor gathered.number gathered.inner cs d last
         × (reported_gathered reported_step chain ≡ reported_steps reported_step there) }
+{}
+
+/// What an over-strict rule would refuse is accepted: a short circuit whose right side raises nothing and a send after it; a call with
+/// an argument that raises, of a procedure with an end label and without exceptions; a procedure that ends normally or by a return,
+/// which a secret decides; and a handler that sends, of an exception that one public statement of a block raises which throws another
+/// one by a secret.
+pub fn precise_programs_are_accepted()
+    ensures short_circuit { IsAcceptable short_circuit }
+    ensures raising_argument { IsAcceptable raising_argument }
+    ensures two_normal_ends { IsAcceptable two_normal_ends }
+    ensures handler_of_one { IsAcceptable handler_of_one }
 {}

@@ -16,9 +16,9 @@ use Rattle.resolved.specs.Value.{Evaluated, Gives, Raises, base_of, checked_inde
 use Rattle.resolved.specs.State.{State, cells, assigned, stored, value_of, values_of, updated}
 use Rattle.resolved.specs.Meaning.{Outcome, Ended, Stopped, Calls, normally, after, evaluated, looped, turns, caught, received, kept_in, sending, leaving, returned_to, entering, calls_with, statement_meaning, block_meaning, handlers_meaning}
 use Rattle.resolved.specs.WellFormed.{VariableType, variable_type, scalar_by, array_by, has_length, has_base, has_result, same_base, target_by, statement_fits, block_fits, handlers_fit, channel_is, is_exception, call_matches, arguments_match, parameters_of, well_formed}
-use Rattle.resolved.specs.Kinds.{StateFits, GivesBase, OutcomeFits, MeaningKeepsTypes, ValuesHaveTheirTypes}
+use Rattle.resolved.specs.Kinds.{StateFits, GivesBase, OutcomeFits, MeaningKeepsTypes, ValuesHaveTheirTypes, ArgumentsFit}
 use Rattle.resolved.proofs.Parts.{ProcedureParts, procedure_there, procedure_at_is}
-use Rattle.resolved.proofs.Sound.Values.{both, same_base_is, same_base_itself, value_fits, values_match, ValuesMatch, GivesMatch}
+use Rattle.resolved.proofs.Sound.Values.{both, same_base_is, same_base_itself, value_fits, values_match, GivesMatch}
 use Rattle.resolved.proofs.Sound.States.{some_same, same_variables, assigned_fits, stored_fits, cleared_fits, entering_fits, back_fits}
 
 not_true : ◌≡◌ {A = Bool} false true → ⊥
@@ -172,8 +172,8 @@ base_given base (Gives w) v e h = ap base_of (sym (same_value w v e)) ∙ h
 base_given base (Raises exception) v e h = cc
 
 match_given : (parameters : List SlotEntry) (result : Evaluated (List Value)) (values : List Value) → result ≡ Gives values
-    → GivesMatch parameters result → ValuesMatch parameters values
-match_given parameters (Gives others) values e h = subst (ValuesMatch parameters) (same_values others values e) h
+    → GivesMatch parameters result → ArgumentsFit parameters values
+match_given parameters (Gives others) values e h = subst (ArgumentsFit parameters) (same_values others values e) h
   where
     same_values : (others values : List Value) → ◌≡◌ {A = Evaluated (List Value)} (Gives others) (Gives values) → others ≡ values
     same_values others values e = cc
@@ -183,7 +183,7 @@ match_given parameters (Raises exception) values e h = cc
 -- the procedure's base type
 abbrev pub CallsKeep : Program → Calls → Type 0
 CallsKeep program calls = (caller : ProcedureEntry) (f : ℕ) (callee : ProcedureEntry) → slice_get program.procedures f ≡ Some callee
-    → (values : List Value) → ValuesMatch (parameters_of callee) values → (s : State) → StateFits program caller s
+    → (values : List Value) → ArgumentsFit (parameters_of callee) values → (s : State) → StateFits program caller s
     → OutcomeFits program caller Normal callee.result (calls f values s)
 
 module _ (program : Program) (procedure : ProcedureEntry) (calls : Calls) (keep : CallsKeep program calls) (k : ℕ) where

@@ -10,9 +10,9 @@ use Rattle.resolved.specs.Value.{base_of}
 use Rattle.resolved.specs.State.{World, cells}
 use Rattle.resolved.specs.Meaning.{entering, first_state, global_cells}
 use Rattle.resolved.specs.WellFormed.{VariableType, variable_type, global_type, same_base, size_fits, label_fits, first_fits, main_fits, well_formed}
-use Rattle.resolved.specs.Kinds.{CellsFit, StateFits, RunsBeginTyped}
+use Rattle.resolved.specs.Kinds.{CellsFit, StateFits, RunsBeginTyped, ArgumentsFit}
 use Rattle.resolved.proofs.Parts.{ProcedureParts, program_parts, procedure_there, procedure_at_is, passes_at}
-use Rattle.resolved.proofs.Sound.Values.{both, same_base_is, ValuesMatch}
+use Rattle.resolved.proofs.Sound.Values.{both, same_base_is}
 use Rattle.resolved.proofs.Sound.States.{some_same, cells_of_fit, entering_fits}
 
 -- the frame of nobody
@@ -48,7 +48,7 @@ runs_begin_typed program h world = go (slice_get program.procedures program.main
         → StateFits program main (entering main [] (first_state program world))
     begin_fits main none parts =
         entering_fits program (no_slots main) main (first_state program world) [] (first_state_fits program main world h)
-        (subst (λ n. ValuesMatch (take n main.slots) []) (sym none) tt) parts.parameters_written
+        (subst (λ n. ArgumentsFit (take n main.slots) []) (sym none) tt) parts.parameters_written
 
     go : (main : Option ProcedureEntry) → slice_get program.procedures program.main ≡ main → main_fits main ≡ true
         → StateFits program (procedure_at program program.main)

@@ -15,8 +15,8 @@ use Rattle.resolved.specs.Value.{base_of, zero_value}
 use Rattle.resolved.specs.State.{State, cells, with_cells, assigned, stored, cleared}
 use Rattle.resolved.specs.Meaning.{entering, cells_of, slot_cells}
 use Rattle.resolved.specs.WellFormed.{VariableType, variable_type, slot_type, cell_count, parameter_fits, parameters_of}
-use Rattle.resolved.specs.Kinds.{CellsFit, StateFits}
-use Rattle.resolved.proofs.Sound.Values.{both, ValuesMatch}
+use Rattle.resolved.specs.Kinds.{CellsFit, StateFits, ArgumentsFit}
+use Rattle.resolved.proofs.Sound.Values.{both}
 
 -- a state with the same variables
 pub same_variables : (program : Program) (procedure : ProcedureEntry) (s t : State) → ((x : Variable) → cells t x ≡ cells s x)
@@ -103,7 +103,7 @@ cells_of_fit base (Some length) v e = record { count = length-replicate length v
 
 -- an argument and its parameter
 argument_matches : (m : ℕ) (slots : List SlotEntry) (values : List Value) (n : ℕ) (slot : SlotEntry) (v : Value)
-    → ValuesMatch (take m slots) values → list_all parameter_fits (take m slots) ≡ true
+    → ArgumentsFit (take m slots) values → list_all parameter_fits (take m slots) ≡ true
     → slice_get slots n ≡ Some slot → slice_get values n ≡ Some v → (is_none slot.size ≡ true) × (base_of v ≡ slot.base)
 argument_matches zero slots [] n slot v matches fit e e' = cc
 argument_matches zero slots (w ∷ values) n slot v matches fit e e' = absurd matches
@@ -120,7 +120,7 @@ argument_matches (suc m) (parameter ∷ slots) (w ∷ values) (suc n) slot v mat
 
 -- a call begins in a state that fits its procedure
 pub entering_fits : (program : Program) (caller callee : ProcedureEntry) (s : State) (values : List Value)
-    → StateFits program caller s → ValuesMatch (parameters_of callee) values → list_all parameter_fits (parameters_of callee) ≡ true
+    → StateFits program caller s → ArgumentsFit (parameters_of callee) values → list_all parameter_fits (parameters_of callee) ≡ true
     → StateFits program callee (entering callee values s)
 entering_fits program caller callee s values state matches fit = record { fits = go }
   where

@@ -19,7 +19,7 @@ use Rattle.resolved.specs.Program.{Program, ProcedureEntry, SlotEntry}
 use Rattle.resolved.specs.Value.{Evaluated, Gives, Raises, then_with, base_of, operator_value, prefix_value, checked_index, number_in, in_range, position_of, is_zero, decides, bounds_exception}
 use Rattle.resolved.specs.State.{State, cells, cell_at, value_of, values_of}
 use Rattle.resolved.specs.WellFormed.{VariableType, variable_type, scalar_by, array_by, has_length, cell_count, same_base, prefix_base, result_base, has_base, arguments_match}
-use Rattle.resolved.specs.Kinds.{CellsFit, StateFits, GivesBase}
+use Rattle.resolved.specs.Kinds.{CellsFit, StateFits, GivesBase, ArgumentsFit}
 
 -- ---- tests
 pub both : (a b : Bool) → (a && b) ≡ true → (a ≡ true) × (b ≡ true)
@@ -167,14 +167,9 @@ module _ (program : Program) (procedure : ProcedureEntry) (s : State) (state : S
       let is : Boolean ≡ base = same_base_is Boolean base inner.0 in
       connective_gives base connective (value_of s d) (value_of s e) is (value_fits Boolean d inner.1) (value_fits Boolean e outer.1)
 
--- arguments have the base types of the parameters
-abbrev pub ValuesMatch : List SlotEntry → List Value → Type 0
-ValuesMatch [] [] = Unit {0}
-ValuesMatch (parameter ∷ parameters) (v ∷ values) = (base_of v ≡ parameter.base) × ValuesMatch parameters values
-ValuesMatch _ _ = ⊥
-
+-- the values of arguments, where they have them, fit the parameters
 abbrev pub GivesMatch : List SlotEntry → Evaluated (List Value) → Type 0
-GivesMatch parameters (Gives values) = ValuesMatch parameters values
+GivesMatch parameters (Gives values) = ArgumentsFit parameters values
 GivesMatch parameters (Raises exception) = Unit {0}
 
 more_match : (parameter : SlotEntry) (parameters : List SlotEntry) (first : Evaluated Value) (rest : Evaluated (List Value))
