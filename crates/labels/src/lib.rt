@@ -3,6 +3,7 @@
 
 pub mod joins;
 pub mod label_sets;
+pub mod lattices;
 pub mod laws;
 pub mod policies;
 pub mod printed;
@@ -11,6 +12,7 @@ pub mod sent;
 
 pub use joins::join;
 pub use label_sets::Label;
+pub use lattices::{LabelLattice, Lattice};
 pub use policies::Policy;
 pub use printed::PrintedLabel;
 pub use rules::{flows, may_read};
