@@ -17,6 +17,12 @@ pub record Lattice (V : Type 0) : Type 0 where
 abbrev pub LatticeLaws : {V : Type 0} → Lattice V → Type 0
 LatticeLaws l = IsLattice (λ a b. IsTrue (l.leq a b)) l.join l.least
 
+-- what is above both of two values, and below all that are: their join, or the same up to the order
+pub record IsJoin {V : Type 0} (l : Lattice V) (a b c : V) : Type 0 where
+  pub above_left : IsTrue (l.leq a c)
+  pub above_right : IsTrue (l.leq b c)
+  pub least_above : (d : V) → IsTrue (l.leq a d) → IsTrue (l.leq b d) → IsTrue (l.leq c d)
+
 -- that of labels under a hierarchy
 abbrev pub label_lattice : PrincipalHierarchy → Lattice Label
 label_lattice h = record { leq = flows h; join = λ a b. a ++ b; least = [] }

@@ -4,6 +4,7 @@
 pub mod constraint_laws;
 pub mod joins;
 pub mod label_sets;
+pub mod lattices;
 pub mod laws;
 pub mod policies;
 pub mod printed;
@@ -12,6 +13,7 @@ pub mod sent;
 
 pub use joins::join;
 pub use label_sets::Label;
+pub use lattices::{LabelLattice, Lattice};
 pub use policies::Policy;
 pub use printed::PrintedLabel;
 pub use rules::{flows, may_read};

@@ -1,0 +1,4 @@
+pub mod Broken
+pub mod Links
+pub mod Reach
+pub mod System

@@ -1,0 +1,98 @@
+-- What a written element reaches along edges, and the ways to it, as a search finds them.
+-- Source: our own.
+use Rattle.std.specs.Prelude.{◌≡◌, ℕ, zero, suc, ◌<◌, ◌≤◌, ◌⊎◌, List, [], ◌∷◌, ◌++◌, length, set, map, Bool, true, false, IsTrue, Contains, slice_index_or}
+use Rattle.std.specs.Global.{Global}
+use Rattle.std.specs.declared.vec.Vec.{Vec}
+use Rattle.solver.specs.Links.{row_at}
+use Rattle.solver.specs.declared.edges.Edge.{Edge}
+use Rattle.solver.specs.declared.edges.Edges.{Edges}
+use Rattle.solver.specs.declared.search.Found.{Found}
+use Rattle.solver.specs.declared.system.Atom.{Atom}
+use Rattle.solver.specs.declared.system.Atom.TheVariants.{Unknown, Written}
+
+-- the edges from an atom, and one of them
+abbrev pub row_of : Edges → Atom → List Edge
+row_of edges (Written n) = row_at edges.written.items n
+row_of edges (Unknown u) = row_at edges.unknown.items u
+
+abbrev pub edge : ℕ → Atom → Edge
+edge by to = record { by = by; to = to }
+
+abbrev pub Leads : Edges → Atom → ℕ → Atom → Type 0
+Leads edges from by to = Contains (row_of edges from) (edge by to)
+
+-- the unknowns to which edges lead lie below a count
+abbrev pub StayInside : ℕ → List Edge → Type 0
+StayInside count edges = (by u : ℕ) → Contains edges (edge by (Unknown u)) → u < count
+
+abbrev pub StaysInside : Edges → Type 0
+StaysInside edges = (from : Atom) → StayInside (length edges.unknown.items) (row_of edges from)
+
+-- a written element reaches an unknown along edges
+pub data ReachesBy (edges : Edges) (n : ℕ) : ℕ → Type 0 where
+  directly : (by u : ℕ) → Leads edges (Written n) by (Unknown u) → ReachesBy edges n u
+  onward : (by w u : ℕ) → ReachesBy edges n w → Leads edges (Unknown w) by (Unknown u) → ReachesBy edges n u
+
+abbrev pub nothing_found : Found
+nothing_found = record { unknown = 0; by = 0; parent = 0 }
+
+-- where the way to what was found goes on from: the written element, or an unknown found earlier
+pub data CameFrom (n : ℕ) (found : List Found) (before : ℕ) : ℕ → Atom → Type 0 where
+  itself : CameFrom n found before 0 (Written n)
+  earlier : (p u : ℕ) → p < before → (slice_index_or found p nothing_found).unknown ≡ u → CameFrom n found before (suc p) (Unknown u)
+
+-- each thing found was found along an edge, from what was found before it
+pub record IsStep (edges : Edges) (n : ℕ) (found : List Found) (k : ℕ) : Type 0 where
+  pub from : Atom
+  pub came : CameFrom n found k (slice_index_or found k nothing_found).parent from
+  pub leads : Leads edges from (slice_index_or found k nothing_found).by (Unknown (slice_index_or found k nothing_found).unknown)
+
+abbrev pub IsTrail : Edges → ℕ → List Found → Type 0
+IsTrail edges n found = (k : ℕ) → k < length found → IsStep edges n found k
+
+-- some thing found is this unknown
+abbrev pub Has : List Found → ℕ → Type 0
+Has found u = (k : ℕ) × (k < length found) × ((slice_index_or found k nothing_found).unknown ≡ u)
+
+-- all that a written element reaches, and no more
+pub record IsTrace (edges : Edges) (n : ℕ) (found : List Found) : Type 0 where
+  pub trail : IsTrail edges n found
+  pub complete : (u : ℕ) → ReachesBy edges n u → Has found u
+
+-- ---- while it searches: more is found along these edges, from one parent
+pub data Grows (edges : List Edge) (parent : ℕ) (marks : List Bool) (found : List Found) : List Bool → List Found → Type 0 where
+  same : Grows edges parent marks found marks found
+  more : (marks' : List Bool) (found' : List Found) (by u : ℕ) → Grows edges parent marks found marks' found' →
+      Contains edges (edge by (Unknown u)) → u < length marks' → slice_index_or marks' u false ≡ false →
+      Grows edges parent marks found (set marks' u true) (found' ++ record { unknown = u; by = by; parent = parent } ∷ [])
+
+-- all unknowns to which these edges lead are found
+abbrev pub AllMarked : List Edge → List Bool → Type 0
+AllMarked edges marks = (by u : ℕ) → Contains edges (edge by (Unknown u)) → IsTrue (slice_index_or marks u false)
+
+-- ---- ways back: what was found came from what was found before it
+abbrev pub ParentsFall : List Found → Type 0
+ParentsFall found = (k : ℕ) → k < length found → (slice_index_or found k nothing_found).parent ≤ k
+
+-- a constraint with this right side is entered from a parent
+pub record EndsAt (edges : Edges) (n : ℕ) (found : List Found) (parent last : ℕ) (to : Atom) : Type 0 where
+  pub from : Atom
+  pub came : CameFrom n found (length found) parent from
+  pub leads : Leads edges from last to
+
+-- edges joined one to the next by these constraints, from an atom to a last right side
+pub data LeadsOn (edges : Edges) : Atom → List ℕ → (last : ℕ) → Atom → Type 0 where
+  ends : (from to : Atom) (by : ℕ) → Leads edges from by to → LeadsOn edges from (by ∷ []) by to
+  goes_on : (from to : Atom) (by u last : ℕ) (rest : List ℕ) → Leads edges from by (Unknown u) → LeadsOn edges (Unknown u) rest last to →
+      LeadsOn edges from (by ∷ rest) last to
+
+-- what was found for a written element, of those of all
+abbrev pub found_at : List (Vec Found Global) → ℕ → List Found
+found_at [] n = []
+found_at (found ∷ rest) zero = found.items
+found_at (found ∷ rest) (suc n) = found_at rest n
+
+-- each is all that its written element reaches
+pub record AreTraces (edges : Edges) (reached : List (Vec Found Global)) : Type 0 where
+  pub all : length reached ≡ length edges.written.items
+  pub each : (n : ℕ) → n < length reached → IsTrace edges n (found_at reached n)

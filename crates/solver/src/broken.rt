@@ -1,0 +1,136 @@
+//! The first constraint with a written right side that some written element breaks: it reaches the left side, and does not lie below
+//! the right side.
+ghost use Rattle.solver.specs.Broken.{AllRightsInside, FoundInside, RightsInside, broken_by, candidates, earliest, found_candidates, is_below, precedes, value_candidates};
+ghost use Rattle.solver.specs.Reach.{row_of};
+ghost use Rattle.solver.specs.declared.system.Atom.TheVariants.{Written};
+ghost use Rattle.std.specs.Prelude.{All, None, [], length, ◌++◌, ◌<◌, ◌∷◌, ◌≡◌};
+
+use crate::edges::{Edge, Edges};
+use crate::search::Found;
+use crate::system::Atom;
+use labels::Lattice;
+
+/// A constraint that a written element breaks.
+#[derive(Clone, Copy, Debug, PartialEq, Eq, Drop)]
+pub struct Broken {
+    /// The constraint, by its index, and its written right side.
+    pub by: usize,
+    pub to: u32,
+    /// The written element that breaks it, and where it comes from, as for what was found.
+    pub value: usize,
+    pub parent: usize,
+}
+
+// Whether a written element lies below another one.
+fn lies_below<L: Lattice>(lattice: &L, written: &[L::Elem], value: usize, to: usize) -> bool
+    requires value { value < length written.now }
+    requires to { to < length written.now }
+    ensures { result ≡ is_below (L.order lattice.now) written.now value to }
+{
+    lattice.leq(&written[value], &written[to])
+}
+
+// Whether a constraint stands before the one that was found so far.
+fn comes_before(by: usize, best: &Option<Broken>) -> bool
+    ensures { result ≡ precedes by best.now }
+{
+    match best {
+        None => true,
+        Some(broken) => by < broken.by,
+    }
+}
+
+// The earlier of what was found so far and of the constraint of this edge, if the written element breaks it.
+fn earlier_of_edge<L: Lattice>(
+    lattice: &L,
+    written: &[L::Elem],
+    edge: Edge,
+    value: usize,
+    parent: usize,
+    best: Option<Broken>,
+) -> Option<Broken>
+    requires value { value < length written.now }
+    requires inside { RightsInside (length written.now) (edge ∷ []) }
+    ensures { result ≡ earliest best (broken_by (is_below (L.order lattice.now) written.now) value parent edge.by edge.to) }
+{
+    let Atom::Written(to) = edge.to else {
+        return best;
+    };
+    if lies_below(lattice, written, value, to as usize) {
+        return best;
+    }
+    if !comes_before(edge.by, &best) {
+        return best;
+    }
+    Some(Broken {
+        by: edge.by,
+        to,
+        value,
+        parent,
+    })
+}
+
+// The same of all these edges.
+fn earlier_of_edges<L: Lattice>(
+    lattice: &L,
+    written: &[L::Elem],
+    edges: &[Edge],
+    value: usize,
+    parent: usize,
+    best: Option<Broken>,
+) -> Option<Broken>
+    requires value { value < length written.now }
+    requires inside { RightsInside (length written.now) edges.now }
+    ensures { result ≡ earliest best (candidates (is_below (L.order lattice.now) written.now) value parent edges.now) }
+{
+    let mut best = best;
+    for edge in edges {
+        best = earlier_of_edge(lattice, written, *edge, value, parent, best);
+    }
+    best
+}
+
+// The same of the edges from a written element and from all that it reaches.
+fn earlier_of_value<L: Lattice>(
+    lattice: &L,
+    written: &[L::Elem],
+    edges: &Edges,
+    found: &[Found],
+    value: usize,
+    best: Option<Broken>,
+) -> Option<Broken>
+    requires value { value < length written.now }
+    requires row { value < length edges.now.written.items }
+    requires inside { AllRightsInside (length written.now) edges.now }
+    requires found { FoundInside (length edges.now.unknown.items) found.now }
+    ensures { result ≡ earliest best (candidates (is_below (L.order lattice.now) written.now) value 0 (row_of edges.now (Written value))
+        ++ found_candidates edges.now (is_below (L.order lattice.now) written.now) value 0 found.now) }
+{
+    let row = edges.written[value].as_slice();
+    let mut best = earlier_of_edges(lattice, written, row, value, 0, best);
+    for (k, step) in found.iter().enumerate() {
+        let row = edges.unknown[step.unknown as usize].as_slice();
+        best = earlier_of_edges(lattice, written, row, value, k + 1, best);
+    }
+    best
+}
+
+/// The first constraint that a written element breaks, given what each of them reaches.
+pub fn first_broken<L: Lattice>(
+    lattice: &L,
+    written: &[L::Elem],
+    edges: &Edges,
+    reached: &[Vec<Found>],
+) -> Option<Broken>
+    requires values { length reached.now ≡ length written.now }
+    requires rows { length edges.now.written.items ≡ length written.now }
+    requires inside { AllRightsInside (length written.now) edges.now }
+    requires found { All (λ found. FoundInside (length edges.now.unknown.items) found.items) reached.now }
+    ensures { result ≡ earliest None (value_candidates edges.now (is_below (L.order lattice.now) written.now) 0 reached.now) }
+{
+    let mut best = None;
+    for (value, found) in reached.iter().enumerate() {
+        best = earlier_of_value(lattice, written, edges, found.as_slice(), value, best);
+    }
+    best
+}
