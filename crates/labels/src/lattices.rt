@@ -1,5 +1,5 @@
 //! What the solver asks of labels: a lattice, and labels under a hierarchy as one.
-ghost use Rattle.labels.specs.Constraints.{IsJoin, Keeps, Lattice as LatticeOf, label_lattice};
+ghost use Rattle.labels.specs.Constraints.{IsJoin, LatticeLaws, Lattice as LatticeOf, label_lattice};
 ghost use Rattle.std.specs.Prelude.{IfOk, ◌≡◌};
 
 use crate::joins::join;
@@ -31,7 +31,7 @@ pub trait Lattice {
     /// The laws: the order is reflexive and transitive, the join is a least upper bound, and the least element lies below all.
     /// It does nothing when it runs.
     fn keep_laws(&self)
-        ensures { Keeps (order self.now) };
+        ensures { LatticeLaws (order self.now) };
 }
 
 /// The labels under a hierarchy of principals, ordered by flow (Myers and Liskov 2000).

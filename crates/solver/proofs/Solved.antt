@@ -8,14 +8,14 @@ use Rattle.std.specs.declared.vec.Vec.{Vec}
 use Rattle.std.proofs.lemmas.Bool.{eqb-true, eq-eqb, or_left, or_right, or_cases}
 use Rattle.std.proofs.lemmas.List.Elements.{All-contains, Contains-append_left, Contains-append_right, Contains-append_cases}
 use Rattle.principals.proofs.Closure.{none_in_nil, Contains-cons_cases, Contains-later, Contains-first}
-use Rattle.labels.specs.Constraints.{FitsAll, FitsUnknowns, IsChain, IsLeast, IsRefusedAt, Joined, Keeps, Lattice, Occurs, Reaches, first_unmet, holds, is_written, total, value}
+use Rattle.labels.specs.Constraints.{FitsAll, FitsUnknowns, IsChain, IsLeast, IsRefusedAt, Linked, LatticeLaws, Lattice, Occurs, Reaches, first_unmet, holds, is_written, join_of, value}
 use Rattle.labels.specs.Constraints as formal
-use Rattle.labels.proofs.Constraints.{all-from, join_all, join_all-above, join_all-least, not_below-one, not_below-part, part-below, reaches-below, total-least}
+use Rattle.labels.proofs.Constraints.{all-from, join_all, join_all-above, join_all-least, not_below-one, not_below-part, part-below, reaches-below, join_of-least}
 use Rattle.solver.specs.Broken.{AllRightsInside, FoundInside, candidates, earliest, found_candidates, is_below, value_candidates, written_at}
 use Rattle.solver.specs.Links.{AreBelow, InRange, IsBelow, edges_at, links_of, row_at}
 use Rattle.solver.specs.Reach as reach
 use Rattle.solver.specs.Reach.{AreTraces, CameFrom, EndsAt, Has, IsStep, IsTrail, Leads, LeadsOn, ReachesBy, StaysInside, edge, found_at, nothing_found, row_of}
-use Rattle.solver.specs.System.{Picks, atom_of, constraint_of, join_of, rows_with, values_of}
+use Rattle.solver.specs.System.{Picks, atom_of, constraint_of, row_join, rows_with, values_of}
 use Rattle.solver.specs.declared.broken.Broken.{Broken}
 use Rattle.solver.specs.declared.edges.Edges.{Edges}
 use Rattle.solver.specs.declared.search.Found.{Found}
@@ -141,7 +141,7 @@ found-all_inside edges reached traces inside k d h =
     subst (λ (fs : List Found). FoundInside (length edges.unknown.items) fs) (sym (found_at-read reached k d h))
     (λ i lt. found-inside edges k (found_at reached k) i (traces.each k h).trail inside lt)
 
-module _ {T V : Type 0} (l : Lattice V) (laws : Keeps l) (table : List V) (cs : List (Constraint T)) (edges : Edges) (are : AreEdges cs edges) (unknowns : ℕ)
+module _ {T V : Type 0} (l : Lattice V) (laws : LatticeLaws l) (table : List V) (cs : List (Constraint T)) (edges : Edges) (are : AreEdges cs edges) (unknowns : ℕ)
     (range : InRange (length table) unknowns cs) (reached : List (Vec Found Global)) (traces : AreTraces edges reached) (count : length reached ≡ length table) where
   abbrev all_meant : List (formal.Constraint T ℕ V)
   all_meant = map (constraint_of l table) cs
@@ -159,7 +159,7 @@ module _ {T V : Type 0} (l : Lattice V) (laws : Keeps l) (table : List V) (cs : 
   one_meant = constraint_of l table
 
   -- the join of the written elements that reach an unknown
-  join-is : (ns : List ℕ) → join_of l table ns ≡ join_all l (map (written_at l table) ns)
+  join-is : (ns : List ℕ) → row_join l table ns ≡ join_all l (map (written_at l table) ns)
   join-is [] = refl
   join-is (n ∷ ns) = ap (λ x. l.join (written_at l table n) x) (join-is ns)
 
@@ -205,8 +205,8 @@ module _ {T V : Type 0} (l : Lattice V) (laws : Keeps l) (table : List V) (cs : 
 
   unknown-fits : (i : ℕ) (c : Constraint T) (u : ℕ) → slice_get cs i ≡ Some c → c.right ≡ Unknown u → IsTrue (holds l vals (one_meant c))
   unknown-fits i c u at right =
-      subst (λ r. IsTrue (l.leq (total l.join l.least vals (map (atom_of l table) c.left.items)) (value vals (atom_of l table r)))) (sym right)
-      (total-least l laws vals (map (atom_of l table) c.left.items) (vals u) (λ atom h.
+      subst (λ r. IsTrue (l.leq (join_of l.join l.least vals (map (atom_of l table) c.left.items)) (value vals (atom_of l table r)))) (sym right)
+      (join_of-least l laws vals (map (atom_of l table) c.left.items) (vals u) (λ atom h.
       let source = Contains-map_only (atom_of l table) c.left.items atom h in
       subst (λ x. IsTrue (l.leq (value vals x) (vals u))) source.2 (part-fits i c u at right source.0 source.1)))
 
@@ -311,7 +311,7 @@ module _ {T V : Type 0} (l : Lattice V) (laws : Keeps l) (table : List V) (cs : 
   unbroken-holds i c (Written to) at right none =
       by_test (holds l vals (one_meant c)) (λ e. e) (λ fails.
       let part = not_below-part l laws vals (map (atom_of l table) c.left.items) (written_at l table to)
-      (subst (λ r. IsFalse (l.leq (total l.join l.least vals (map (atom_of l table) c.left.items)) (value vals (atom_of l table r)))) right fails) in
+      (subst (λ r. IsFalse (l.leq (join_of l.join l.least vals (map (atom_of l table) c.left.items)) (value vals (atom_of l table r)))) right fails) in
       let source = Contains-map_only (atom_of l table) c.left.items part.0 part.1 in
       let found = unbroken-part i c to at right source.0 source.1 (subst (λ x. IsFalse (l.leq (value vals x) (written_at l table to))) (sym source.2) part.2) in
       absurd (none found.0 found.1 found.2))
@@ -347,7 +347,7 @@ module _ {T V : Type 0} (l : Lattice V) (laws : Keeps l) (table : List V) (cs : 
 
   -- ---- the chain
   leads-joined : (from : Atom) (chain : List ℕ) (last : ℕ) (to : Atom) → LeadsOn edges from chain last to → (c : Constraint T) → slice_get cs last ≡ Some c →
-      (picked : List (formal.Constraint T ℕ V)) × Picks all_meant chain picked × Joined all_meant (atom_of l table from) picked (one_meant c)
+      (picked : List (formal.Constraint T ℕ V)) × Picks all_meant chain picked × Linked all_meant (atom_of l table from) picked (one_meant c)
   leads-joined _ _ _ _ (reach.ends from to by leads) c at =
       let part = leads-part cs edges are from by to leads in
       let same_c : part.constraint ≡ c = some-same part.constraint c (sym part.at ∙ at) in
@@ -390,7 +390,7 @@ module _ {T V : Type 0} (l : Lattice V) (laws : Keeps l) (table : List V) (cs : 
               let held : holds l vals d ≡ true = subst (λ (x : formal.Constraint T ℕ V). IsTrue (holds l vals x)) source.2
               (unbroken-holds j source.0 source.0.right source.1 refl (λ other in' e. let after : b.by ≤ other.by = first.first other in' in absurd (omega (arith, after, e, before)))) in
               holding-fails (is_written d.right) (holds l vals d) held);
-          chained = record { joined = joined.2; to = written_at l table b.to; right_is = right; not_below = is.fails };
+          chained = record { linked = joined.2; to = written_at l table b.to; right_is = right; not_below = is.fails };
         };
       }
     where

@@ -36,13 +36,13 @@ rows_with n [] u = []
 rows_with n (row ∷ rows) u = if list_any (λ w. w == u) row then (n ∷ rows_with (suc n) rows u) else rows_with (suc n) rows u
 
 -- the join of written elements
-abbrev pub join_of : {V : Type 0} → Lattice V → List V → List ℕ → V
-join_of l table [] = l.least
-join_of l table (n ∷ ns) = l.join (written_at l table n) (join_of l table ns)
+abbrev pub row_join : {V : Type 0} → Lattice V → List V → List ℕ → V
+row_join l table [] = l.least
+row_join l table (n ∷ ns) = l.join (written_at l table n) (row_join l table ns)
 
 -- the values that a solution stands for, where it has for each written element the unknowns that this reaches
 abbrev pub values_of : {V : Type 0} → Lattice V → List V → List (List ℕ) → ℕ → V
-values_of l table reached u = join_of l table (rows_with 0 reached u)
+values_of l table reached u = row_join l table (rows_with 0 reached u)
 
 -- the constraints at these indices
 abbrev pub Picks : {X : Type 0} → List X → List ℕ → List X → Type 0
