@@ -1,6 +1,6 @@
 -- What a written element reaches along edges, and the ways to it, as a search finds them.
 -- Source: our own.
-use Rattle.std.specs.Prelude.{◌≡◌, ℕ, zero, suc, ◌<◌, ◌≤◌, ◌⊎◌, List, [], ◌∷◌, ◌++◌, length, set, map, Bool, true, false, IsTrue, Contains, slice_index_or}
+use Rattle.std.specs.Prelude.{◌≡◌, ℕ, zero, suc, ◌<◌, ◌≤◌, List, [], ◌∷◌, ◌++◌, length, set, Bool, true, false, IsTrue, Contains, slice_index_or}
 use Rattle.std.specs.Global.{Global}
 use Rattle.std.specs.declared.vec.Vec.{Vec}
 use Rattle.solver.specs.Links.{row_at}

@@ -1,6 +1,6 @@
 -- What stored constraints mean: constraints over the lattice's elements, the least values that a solution stands for, and a refusal.
 -- Source: our own.
-use Rattle.std.specs.Prelude.{◌≡◌, ℕ, zero, suc, List, [], ◌∷◌, map, Bool, true, false, Option, Some, if◌then◌else◌, ◌==◌, slice_get}
+use Rattle.std.specs.Prelude.{◌≡◌, ℕ, suc, List, [], ◌∷◌, map, Some, if◌then◌else◌, ◌==◌, slice_get}
 use Rattle.std.specs.List.{list_any}
 use Rattle.labels.specs.Constraints.{FitsAll, IsLeast, IsRefusedAt, Lattice}
 use Rattle.labels.specs.Constraints as formal

@@ -35,9 +35,19 @@ pub fn solve<L: Lattice, T>(
 {
     lattice.keep_laws();
     let count = system.written.len();
-    let edges = edges_of(alloc, system.constraints.as_slice(), count, system.unknowns as usize)?;
+    let edges = edges_of(
+        alloc,
+        system.constraints.as_slice(),
+        count,
+        system.unknowns as usize,
+    )?;
     let reached = trace_all(alloc, &edges, count)?;
-    match first_broken(lattice, system.written.as_slice(), &edges, reached.as_slice()) {
+    match first_broken(
+        lattice,
+        system.written.as_slice(),
+        &edges,
+        reached.as_slice(),
+    ) {
         None => Ok(Solution::of(reached)),
         Some(broken) => Err(SolveFault::Unmet(refusal(alloc, reached.as_slice(), broken)?)),
     }

@@ -1,4 +1,4 @@
-use Rattle.std.proofs.Common.{◌≡◌, sym, ap, subst, length, ◌≤◌}
+use Rattle.std.proofs.Common.{◌≡◌, sym, subst, length, ◌≤◌}
 use Rattle.solver.specs.Reach.{EndsAt, IsTrail, ParentsFall, found_at}
 use Rattle.solver.specs.declared.search.Found.{Found}
 use Rattle.std.specs.Prelude.{List}

@@ -1,4 +1,4 @@
-use Rattle.std.proofs.Common.{◌≡◌, ◌<◌, ◌∷◌, ◌++◌, [], sym, ap, ◌∙◌, subst, length, ◌+◌, arith, ℕ}
+use Rattle.std.proofs.Common.{◌<◌, sym, ap, ◌∙◌, subst, length, ◌+◌, arith, ℕ}
 use Rattle.std.specs.Prelude.{List}
 use Rattle.std.specs.Global.{Global}
 use Rattle.std.specs.declared.vec.Vec.{Vec}
