@@ -1,6 +1,7 @@
 pub mod Cut
 pub mod Promises
 pub mod Refusals
+pub mod Sessions
 pub mod Settled
 pub mod Telling
 pub mod Views

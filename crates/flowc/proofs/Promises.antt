@@ -1,12 +1,14 @@
 -- What compiled bytes promise, from what is known of compiling, of hosts and of the program.
-use Rattle.std.proofs.Common.{◌≡◌, ℕ, ◌+◌, ◌-◌, ◌≤◌, List, [], Option, Some, None, refl, sym, ap, ◌∙◌, subst, arith, ⊎_elim, inl, inr}
+use Rattle.std.proofs.Common.{◌≡◌, ℕ, ◌+◌, ◌-◌, ◌≤◌, List, [], ◌∷◌, Option, Some, None, refl, sym, ap, ◌∙◌, subst, arith, ⊎_elim, inl, inr}
 use Rattle.std.specs.Str.{IsUtf8}
+use Rattle.std.proofs.lemmas.Bool.{cases_lt}
 use Rattle.std.specs.String.{string_bytes}
 use Rattle.principals.specs.ActsFor.{PrincipalHierarchy, AllDifferent, HasName}
 use Rattle.principals.proofs.Names.{one_number}
 use Rattle.labels.specs.declared.sent.Pair.{Pair}
-use Rattle.labels.specs.Sent.{Begins}
+use Rattle.labels.specs.Sent.{Begins, seen}
 use Rattle.labels.proofs.Begins.{Begins-itself, Begins-of-two, Begins-through, seen-begins}
+use Rattle.resolved.specs.Labelled as labels
 use Rattle.resolved.specs.Meaning.{sent_by}
 use Rattle.resolved.specs.State.{World}
 use Rattle.bytecode.specs.Contents.{ModuleContents}
@@ -15,17 +17,22 @@ use Rattle.bytecode.specs.Form.{Fits, Spells}
 use Rattle.bytecode.specs.Format.{contents, hierarchy, module_file}
 use Rattle.bytecode.specs.Isolated.{Agree, IsIsolated, OneBegins, channel_label, seen_of}
 use Rattle.bytecode.proofs.Facts.{principals-different}
-use Rattle.bytecode.specs.Machine.{Machine, after_steps, program_of, sent_after, sent_of}
-use Rattle.channels.specs.World.{input_names, numbers_of_channel}
+use Rattle.bytecode.specs.Machine.{Machine, Ending, after_steps, program_of, sent_after, sent_of}
+use Rattle.channels.specs.World.{InputNumbers, input_names, numbers_of_channel}
+use Rattle.compiler.specs.Built.{IsCompiled}
 use Rattle.channels.specs.WorldText.{IsWorldText, lines_of}
 use Rattle.lowering.proofs.Readers.{seen-module}
 use Rattle.lowering.proofs.Sent.{exec-keeps}
 use Rattle.machine.proofs.Told.{exec_more}
+use Rattle.machine.specs.Run.{HasEnded}
 use Rattle.machine.specs.declared.status.Status.{Status}
 use Rattle.verifier.specs.Faults.{HasNoFault}
 use Rattle.host.specs.Laws as sessions
+use Rattle.host.specs.Meaning.{CanOpen}
+use Rattle.host.proofs.Ends.{end_of_status, same_at}
 use Rattle.flowc.specs.Built.{bytes_at}
-use Rattle.flowc.specs.Promises.{ObserversAreToldNothing, RunsShowThemselves, SessionsAreIsolated, SessionsShowNoLess, SessionsShowNoMore, StandardErrorIsFixed, module_in, program_in, seen_by}
+use Rattle.flowc.specs.Lines.{end_line}
+use Rattle.flowc.specs.Promises.{RunsAreIsolated, RunsEndAsTheSource, RunsShowThemselves, SessionsAreIsolated, SessionsEndAsTheSource, SessionsShowNoLess, SessionsShowNoMore, SilentModulesShowLess, SomeSessionsShowAll, StandardErrorIsFixed, module_in, program_in, seen_by}
 use Rattle.flowc.specs.Shown.{CanRun, numbers_in, text_shown}
 use Rattle.flowc.specs.Task.{status_told}
 use Rattle.flowc.specs.Told.{IsModuleLine, IsObserverLine, IsRefusedLine, IsWorldLine, line_told}
@@ -33,6 +40,7 @@ use Rattle.flowc.specs.Told.IsModuleLine.{faulty, refused}
 use Rattle.flowc.specs.Told.IsRefusedLine.{of_module, of_observer, of_world}
 use Rattle.flowc.specs.Told.IsWorldLine.{no_text, wrong}
 use Rattle.flowc.specs.View.{IsObserver, view_text}
+use Rattle.flowc.proofs.Sessions.{opened_for}
 use Rattle.flowc.proofs.Refusals.{told_is_fault, wrong_is_no_world}
 use Rattle.flowc.proofs.Views.{view_text-append}
 
@@ -56,21 +64,83 @@ no_more fresh said source code compiled world p pairs shows =
     (subst (λ (list : List Pair). Begins (seen_of m p (sent_after m numbers n)) list) sees
     (seen-begins m.hierarchy (channel_label m) p (sent_after m numbers n) (sent_by program numbers n) (compiled.code_of.kept.no_more numbers n)))
 
-pub no_less : sessions.SessionsAreFreshRuns → SessionsShowNoLess
-no_less fresh said source code compiled world p turns =
+-- a run that has ended sends no more
+sent-ended : (m : ModuleContents) (numbers : World) (n j : ℕ) (ending : Ending) → HasEnded ending (after_steps m numbers n)
+    → n ≤ j → sent_after m numbers j ≡ sent_after m numbers n
+sent-ended m numbers n j ending ended h =
+    ap sent_of (same_at (program_of m) n j ending (after_steps m numbers 0) h ended)
+
+-- what a session shows, where a fresh run has sent all of a list by the steps that the session has taken
+shown-by : sessions.SessionsAreFreshRuns → (hierarchy source code : List ℕ) (compiled : IsCompiled hierarchy source code) (world : List InputNumbers)
+    (p : ℕ) (sent pairs : List Pair) (shows : sessions.Shows code world p pairs)
+    → Begins sent (sent_after (module_in compiled) (numbers_of_channel (module_in compiled) world) (sessions.steps_of code world p pairs shows))
+    → Begins (seen (program_in compiled).hierarchy (labels.channel_label (program_in compiled)) p sent) pairs
+shown-by fresh said source code compiled world p sent pairs shows later =
+    let m = module_in compiled in
+    let numbers = numbers_of_channel m world in
+    let n = sessions.steps_of code world p pairs shows in
+    subst (λ (list : List Pair). Begins (seen (program_in compiled).hierarchy (labels.channel_label (program_in compiled)) p sent) list)
+    (sym (fresh code world p pairs m compiled.code_of.spelled shows))
+    (subst (λ (list : List Pair). Begins list (seen_of m p (sent_after m numbers n)))
+    (seen-module (program_in compiled) m compiled.code_of.interface p sent)
+    (seen-begins m.hierarchy (channel_label m) p sent (sent_after m numbers n) later))
+
+pub no_less : sessions.SessionsAreFreshRuns → sessions.SessionsEndAsReported → SessionsShowNoLess
+no_less fresh ends said source code compiled world p turns =
+    let m = module_in compiled in
+    let numbers = numbers_of_channel m world in
+    let some = compiled.code_of.kept.no_less numbers turns in
+    let sent = sent_by (program_in compiled) numbers turns in (
+      some.0,
+      λ pairs shows run.
+          let n = sessions.steps_of code world p pairs shows in
+          let long : some.0 ≤ n → Begins sent (sent_after m numbers n) =
+          λ enough. Begins-through sent (sent_after m numbers some.0) (sent_after m numbers n) some.1 (sent-grows m numbers some.0 n enough) in
+          shown-by fresh said source code compiled world p sent pairs shows
+          (⊎_elim long
+          (λ over. ⊎_elim
+          (λ past. subst (λ (list : List Pair). Begins sent list)
+          (sent-ended m numbers n some.0 over.0 (ends code world p pairs m compiled.code_of.spelled shows over.0 over.1) (omega (arith, past))) some.1)
+          long
+          (cases_lt n some.0))
+          run),
+    )
+
+pub ends_as_the_source : sessions.SessionsAreFreshRuns → sessions.SessionsEndAsReported → SessionsEndAsTheSource
+ends_as_the_source fresh ends said source code compiled world p pairs shows ending reports =
     let m = module_in compiled in
     let program = program_in compiled in
     let numbers = numbers_of_channel m world in
-    let some = compiled.code_of.kept.no_less numbers turns in
-    let sent = sent_by program numbers turns in (
-      some.0,
-      λ pairs shows enough.
-          let n = sessions.steps_of code world p pairs shows in
-          let later = Begins-through sent (sent_after m numbers some.0) (sent_after m numbers n) some.1 (sent-grows m numbers some.0 n enough) in
-          subst (λ (list : List Pair). Begins (seen_by program p numbers turns) list) (sym (fresh code world p pairs m compiled.code_of.spelled shows))
-          (subst (λ (list : List Pair). Begins list (seen_of m p (sent_after m numbers n))) (seen-module program m compiled.code_of.interface p sent)
-          (seen-begins m.hierarchy (channel_label m) p sent (sent_after m numbers n) later)),
+    let n = sessions.steps_of code world p pairs shows in
+    let over = ends code world p pairs m compiled.code_of.spelled shows ending reports in
+    let source_ends = compiled.code_of.kept.ends_so numbers n ending (sent_after m numbers n) over in (
+      source_ends.0,
+      fresh code world p pairs m compiled.code_of.spelled shows
+          ∙ ap (λ (list : List Pair). seen_of m p list) (sym source_ends.1)
+          ∙ seen-module program m compiled.code_of.interface p (sent_by program numbers n),
     )
+
+-- a list that is a prefix of nothing is empty
+begins_nothing : (xs : List Pair) → Begins xs [] → xs ≡ []
+begins_nothing [] b = refl
+begins_nothing (x ∷ xs) b = cc b.1
+
+pub some_show_all : sessions.SessionsAreFreshRuns → sessions.SessionsEndAsReported → SomeSessionsShowAll
+some_show_all fresh ends said source code compiled world p turns named there =
+    let m = module_in compiled in
+    let can : CanOpen code world m = record { spelled = compiled.code_of.spelled; faultless = compiled.code_of.faultless; named = named } in
+    let law = no_less fresh ends said source code compiled world p turns in
+    let session = opened_for code world m can compiled.code_of.never_stuck p there law.0 in
+    (session.pairs, session.shows, law.1 session.pairs session.shows session.has_run)
+
+pub silent_show_less : SilentModulesShowLess
+silent_show_less program m code world p turns can never_stuck there silent some less =
+    let law = less world p turns in
+    let session = opened_for code world m can never_stuck p there law.0 in
+    let nothing : session.pairs ≡ [] = session.sees ∙ ap (λ (list : List Pair). seen_of m p list) (silent session.taken) in
+    some (begins_nothing (seen_by program p (numbers_of_channel m world) turns)
+    (subst (λ (list : List Pair). Begins (seen_by program p (numbers_of_channel m world) turns) list) nothing
+    (law.1 session.pairs session.shows session.has_run)))
 
 pub isolated : sessions.SessionsAreIsolated → SessionsAreIsolated
 isolated law said source code compiled p first second agree pairs others shown other_shown =
@@ -94,6 +164,11 @@ no_line_told : (m : ModuleContents) (name : List ℕ) (principal : Option ℕ) (
     → line_told m principal end ≡ []
 no_line_told m name None end is = absurd is
 no_line_told m name (Some p) end is = refl
+
+-- the line of a run without an observer
+operator_line : (m : ModuleContents) (principal : Option ℕ) (end : Status) → IsObserver m.hierarchy None principal
+    → line_told m principal end ≡ end_line m.exceptions end
+operator_line m principal end none = ap (λ (o : Option ℕ). line_told m o end) none
 
 -- the principals of a module that has a spelling have different names
 names_differ : (m : ModuleContents) → Fits module_file m → AllDifferent m.hierarchy.names
@@ -132,8 +207,8 @@ shows_itself code world name steps status old new run = (
 
 -- bytes spell one module at most
 module _ (one : (m n : ModuleContents) (bytes : List ℕ) → Spells module_file m bytes → Spells module_file n bytes → m ≡ n) where
-  pub told_nothing : ObserversAreToldNothing
-  told_nothing said source code compiled name first second agree steps more out other run again =
+  pub runs_isolated : RunsAreIsolated
+  runs_isolated said source code compiled name first second agree steps more out other run again =
       let m = module_in compiled in
       let same = one run.whole m code run.can_run.spelled compiled.code_of.spelled in
       let same_again = one again.whole m code again.can_run.spelled compiled.code_of.spelled in
@@ -141,6 +216,23 @@ module _ (one : (m n : ModuleContents) (bytes : List ℕ) → Spells module_file
       run.begins again.begins
       (texts_begin m compiled.code_of.spelled.0 compiled.code_of.isolated name first second agree run.whole again.whole same same_again
       run.principal again.principal run.can_run.observed again.can_run.observed run.taken again.taken)
+
+  -- ---- ends
+
+  pub run_ends_as_the_source : RunsEndAsTheSource
+  run_ends_as_the_source said source code compiled text steps status line run =
+      let m = module_in compiled in
+      let same : run.whole ≡ m = one run.whole m code run.can_run.spelled compiled.code_of.spelled in
+      let numbers = numbers_in m text in (
+        run.says ∙ operator_line run.whole run.principal run.end run.can_run.observed
+            ∙ ap (λ (w : ModuleContents). end_line w.exceptions run.end) same
+            ∙ ap (λ names. end_line names run.end) compiled.code_of.interface.exceptions,
+        λ ending ends.
+            let over : HasEnded ending (after_steps run.whole (numbers_in run.whole text) run.taken) =
+            end_of_status (program_of run.whole) steps run.taken run.end (after_steps run.whole (numbers_in run.whole text) run.taken) ending ends run.ended in
+            let here = subst (λ (w : ModuleContents). HasEnded ending (after_steps w (numbers_in w text) run.taken)) same over in
+            (compiled.code_of.kept.ends_so numbers run.taken ending (sent_after m numbers run.taken) here).0,
+      )
 
   -- ---- standard error
 

@@ -3,7 +3,6 @@
 use Rattle.std.specs.Prelude.{ℕ, ◌-◌, ◌==◌, if◌then◌else◌, List, [], ◌++◌, slice_get, unwrap_or, codes, Bool, IsTrue}
 use Rattle.std.specs.Fmt.{decimal}
 use Rattle.std.specs.String.{string_bytes}
-use Rattle.bytecode.specs.Contents.{ModuleContents}
 use Rattle.bytecode.specs.Faults.{refusal_number, refusal_words}
 use Rattle.bytecode.specs.declared.fault.Refusal.{Refusal}
 use Rattle.channels.specs.declared.defect.WorldDefect.{WorldDefect}
@@ -80,17 +79,17 @@ IsTrouble IsRefusal out_failed OutOfMemory = Unit {0}
 -- ---- ends of runs
 
 -- the name of an exception: of one of the three that every program has, or of a declared one, which are numbered from 3
-abbrev pub exception_name : ModuleContents → ℕ → List ℕ
-exception_name whole exception =
+abbrev pub exception_name : (declared : List (List ℕ)) → ℕ → List ℕ
+exception_name declared exception =
     if exception == 0 then codes "Arith"
     else (if exception == 1 then codes "Bounds"
     else (if exception == 2 then codes "End"
-    else unwrap_or (slice_get whole.exceptions (exception - 3)) []))
+    else unwrap_or (slice_get declared (exception - 3)) []))
 
 -- how a run ended or stands
-abbrev pub end_line : ModuleContents → Status → List ℕ
-end_line whole status.Finished = codes "finished\n"
-end_line whole (status.Threw exception) = codes "threw " ++ (exception_name whole exception ++ codes "\n")
-end_line whole status.Deep = codes "deep\n"
-end_line whole status.Running = codes "running\n"
-end_line whole status.NoMemory = codes "no memory\n"
+abbrev pub end_line : (declared : List (List ℕ)) → Status → List ℕ
+end_line declared status.Finished = codes "finished\n"
+end_line declared (status.Threw exception) = codes "threw " ++ (exception_name declared exception ++ codes "\n")
+end_line declared status.Deep = codes "deep\n"
+end_line declared status.Running = codes "running\n"
+end_line declared status.NoMemory = codes "no memory\n"

@@ -1,7 +1,7 @@
 -- What the bytes that two texts are compiled to promise: of every session of them that any host opens, and of every run of them
 -- that the program shows. Each joins what is said of compiling with what is said of hosts and of the program.
 -- Source: our own; isolation as noninterference after Volpano, Smith and Irvine 1996.
-use Rattle.std.specs.Prelude.{◌≡◌, ℕ, ◌≤◌, ◌⊎◌, List, [], Bool, Option, Some, String}
+use Rattle.std.specs.Prelude.{◌≡◌, ℕ, ◌<◌, ◌≤◌, ◌⊎◌, List, [], length, Bool, Option, Some, None, String}
 use Rattle.std.specs.String.{string_bytes}
 use Rattle.std.specs.declared.alloc.Global.{Global}
 use Rattle.std.specs.declared.vec.Vec.{Vec}
@@ -9,19 +9,24 @@ use Rattle.principals.specs.ActsFor.{HasName}
 use Rattle.labels.specs.declared.sent.Pair.{Pair}
 use Rattle.labels.specs.Sent.{Begins, seen}
 use Rattle.resolved.specs.Labelled.{channel_label}
-use Rattle.resolved.specs.Meaning.{sent_by}
+use Rattle.resolved.specs.Meaning.{frame_limit, run_within, sent_by}
 use Rattle.resolved.specs.Program.{Program}
 use Rattle.resolved.specs.State.{World}
-use Rattle.types.specs.Resolution.{resolved_of}
 use Rattle.bytecode.specs.Contents.{ModuleContents}
 use Rattle.bytecode.specs.Isolated.{Agree, OneBegins}
-use Rattle.channels.specs.World.{InputNumbers, numbers_of_channel}
+use Rattle.bytecode.specs.Machine.{Ending, sent_after}
+use Rattle.channels.specs.World.{InputNumbers, input_names, numbers_of_channel}
+use Rattle.verifier.specs.Safety.{IsNeverStuck}
+use Rattle.machine.specs.Run.{names_of}
+use Rattle.lowering.specs.Kept.{ending_of}
 use Rattle.compiler.specs.Built.{IsCompiled}
 use Rattle.host.specs.Laws as sessions
+use Rattle.host.specs.Meaning.{CanOpen}
 use Rattle.command_line.specs.declared.request.Task.TheVariants.{Run}
 use Rattle.flowc.specs.Built.{bytes_at}
 use Rattle.flowc.specs.Shown.{CanRun, IsShown, ShowsRun, numbers_in, text_shown}
-use Rattle.flowc.specs.Told.{IsLine, IsTroubleLine}
+use Rattle.flowc.specs.Lines.{end_line}
+use Rattle.flowc.specs.Told.{IsEndLine, IsLine, IsTroubleLine}
 
 -- what a principal sees of what a program sends on a world with so many turns, by the program's own hierarchy and labels
 abbrev pub seen_by : Program → (p : ℕ) → World → (turns : ℕ) → List Pair
@@ -29,32 +34,71 @@ seen_by program p world turns = seen program.hierarchy (channel_label program) p
 
 -- the program that two compiled texts stand for, and the module that their bytes spell
 abbrev pub program_in : {hierarchy source code : List ℕ} → IsCompiled hierarchy source code → Program
-program_in compiled = resolved_of compiled.people compiled.tree
+program_in compiled = compiled.program
 
 abbrev pub module_in : {hierarchy source code : List ℕ} → IsCompiled hierarchy source code → ModuleContents
 module_in compiled = compiled.code_of.whole
 
 -- ---- sessions
 
--- whatever a session of the bytes shows to a principal begins what it sees of the source, with as many turns as the session was
--- told steps
+-- whatever a session of the bytes shows to a principal is a prefix of what it sees of the source, with as many turns as the session
+-- has taken steps, by the answers to its own turns
 abbrev pub SessionsShowNoMore : Type 0
 SessionsShowNoMore =
     (hierarchy source code : List ℕ) (compiled : IsCompiled hierarchy source code) (world : List InputNumbers) (p : ℕ)
     (pairs : List Pair) (shows : sessions.Shows code world p pairs)
     → Begins pairs (seen_by (program_in compiled) p (numbers_of_channel (module_in compiled) world) (sessions.steps_of code world p pairs shows))
 
--- and whatever a principal sees of the source, with any number of turns, begins what every session of the bytes shows to it that
--- was told enough steps
+-- before its view a session has taken so many steps, or has answered that its run has ended
+abbrev pub HasRun : {code : List ℕ} {world : List InputNumbers} {p : ℕ} {pairs : List Pair}
+    → sessions.Shows code world p pairs → (steps : ℕ) → Type 0
+HasRun {code} {world} {p} {pairs} shows steps =
+    (steps ≤ sessions.steps_of code world p pairs shows) ⊎ ((ending : Ending) × sessions.ReportsEnd shows ending)
+
+-- whatever a principal sees of a program, with any number of turns, is a prefix of what every session of the bytes shows to it that
+-- has taken enough steps, or has answered that its run has ended
+abbrev pub ShowNoLess : Program → ModuleContents → (code : List ℕ) → Type 0
+ShowNoLess program m code =
+    (world : List InputNumbers) (p turns : ℕ)
+    → (enough : ℕ) × ((pairs : List Pair) (shows : sessions.Shows code world p pairs) → HasRun shows enough
+    → Begins (seen_by program p (numbers_of_channel m world) turns) pairs)
+
 abbrev pub SessionsShowNoLess : Type 0
 SessionsShowNoLess =
+    (hierarchy source code : List ℕ) (compiled : IsCompiled hierarchy source code)
+    → ShowNoLess (program_in compiled) (module_in compiled) code
+
+-- and there are such sessions: on each world for the inputs of the bytes, some session shows a principal all that it sees of the
+-- source with so many turns
+abbrev pub SomeSessionsShowAll : Type 0
+SomeSessionsShowAll =
     (hierarchy source code : List ℕ) (compiled : IsCompiled hierarchy source code) (world : List InputNumbers) (p turns : ℕ)
-    → (enough : ℕ) × ((pairs : List Pair) (shows : sessions.Shows code world p pairs)
-    → enough ≤ sessions.steps_of code world p pairs shows
-    → Begins (seen_by (program_in compiled) p (numbers_of_channel (module_in compiled) world) turns) pairs)
+    → names_of world ≡ input_names (module_in compiled) → p < length (module_in compiled).hierarchy.names
+    → (pairs : List Pair) × sessions.Shows code world p pairs
+    × Begins (seen_by (program_in compiled) p (numbers_of_channel (module_in compiled) world) turns) pairs
+
+-- a module that never sends anything shows less: it does not meet `ShowNoLess` for a program of which some principal sees something
+-- on a world on which its bytes can be opened
+abbrev pub SilentModulesShowLess : Type 0
+SilentModulesShowLess =
+    (program : Program) (m : ModuleContents) (code : List ℕ) (world : List InputNumbers) (p turns : ℕ)
+    → CanOpen code world m → IsNeverStuck m → p < length m.hierarchy.names
+    → ((steps : ℕ) → sent_after m (numbers_of_channel m world) steps ≡ [])
+    → ¬ (seen_by program p (numbers_of_channel m world) turns ≡ []) → ¬ ShowNoLess program m code
+
+-- where a session has answered that its run has ended, the source ends so with as many turns as the session has taken steps, and
+-- the session shows just what the principal sees of the source
+abbrev pub SessionsEndAsTheSource : Type 0
+SessionsEndAsTheSource =
+    (hierarchy source code : List ℕ) (compiled : IsCompiled hierarchy source code) (world : List InputNumbers) (p : ℕ)
+    (pairs : List Pair) (shows : sessions.Shows code world p pairs) (ending : Ending) → sessions.ReportsEnd shows ending
+    → let numbers = numbers_of_channel (module_in compiled) world in
+    let steps = sessions.steps_of code world p pairs shows in
+    (ending_of (run_within frame_limit (program_in compiled) numbers steps) ≡ Some ending)
+    × (pairs ≡ seen_by (program_in compiled) p numbers steps)
 
 -- isolation: two sessions of the bytes, opened by any hosts among any events, on worlds that agree for a principal, show it lists
--- of which one begins the other
+-- of which one is a prefix of the other
 abbrev pub SessionsAreIsolated : Type 0
 SessionsAreIsolated =
     (hierarchy source code : List ℕ) (compiled : IsCompiled hierarchy source code) (p : ℕ) (first second : List InputNumbers)
@@ -77,9 +121,9 @@ RunsShowThemselves =
     → (status ≡ 0) × IsShown code world (Some name) steps (text_of run)
 
 -- isolation: where bytes are run twice for one observer, with any bounds on the steps, on texts of worlds that agree for it, one
--- of the two texts that went out begins the other, also where a stream failed
-abbrev pub ObserversAreToldNothing : Type 0
-ObserversAreToldNothing =
+-- of the two texts that went out is a prefix of the other, also where a stream failed
+abbrev pub RunsAreIsolated : Type 0
+RunsAreIsolated =
     (hierarchy source code : List ℕ) (compiled : IsCompiled hierarchy source code) (name first second : List ℕ)
     → ((p : ℕ) → HasName (module_in compiled).hierarchy p name
     → Agree (module_in compiled) p (numbers_in (module_in compiled) first) (numbers_in (module_in compiled) second))
@@ -87,8 +131,18 @@ ObserversAreToldNothing =
     → IsShown code first (Some name) steps out → IsShown code second (Some name) more other
     → OneBegins out other
 
--- nothing can be told on standard error of a run for an observer that can be run: with status 0 it has no line, and with another one
--- of the two fixed lines of status 3
+-- the line of a run without an observer says how the source ends, by the source's own names of exceptions: where the run has ended,
+-- the source ends so with as many turns as the run has taken steps
+abbrev pub RunsEndAsTheSource : Type 0
+RunsEndAsTheSource =
+    (hierarchy source code : List ℕ) (compiled : IsCompiled hierarchy source code) (text : List ℕ) (steps status : ℕ) (line : List ℕ)
+    (run : IsEndLine code text None steps status line)
+    → (line ≡ end_line (program_in compiled).exceptions run.end)
+    × ((ending : Ending) → sessions.ending_of run.end ≡ Some ending
+    → ending_of (run_within frame_limit (program_in compiled) (numbers_in (module_in compiled) text) run.taken) ≡ Some ending)
+
+-- on standard error a run for an observer that can be run has no line with status 0, and with another one of the two fixed lines of
+-- status 3
 abbrev pub StandardErrorIsFixed : Type 0
 StandardErrorIsFixed =
     (file world observer : String Global) (steps : ℕ) (files : List (Vec ℕ Global)) (whole : ModuleContents) (principal : Option ℕ)

@@ -85,7 +85,7 @@ IsTroubleLine status out_failed line = (status ≡ 3) × ((IsTrue out_failed × 
 
 -- the line of the end of a run, which an observer is not told
 abbrev pub line_told : ModuleContents → (principal : Option ℕ) → Status → List ℕ
-line_told whole None end = end_line whole end
+line_told whole None end = end_line whole.exceptions end
 line_told whole (Some principal) end = []
 
 -- the line tells the end that a run had come to after at most so many steps, and to an observer nothing

@@ -186,7 +186,7 @@ fn told_end(
 
 // The name of an exception: of one that every program has, or of a declared one.
 fn exception_name(whole: &Module, exception: u32) -> &str
-    ensures { result.now ≡ lines.exception_name whole.now exception }
+    ensures { result.now ≡ lines.exception_name whole.now.exceptions exception }
 {
     match exception {
         0 => "Arith",

@@ -257,7 +257,7 @@ fn tests_the_module_and_the_world_before_the_observer(rt: HostRuntime) -> Result
 fn laws_take_no_time_and_no_memory(_rt: HostRuntime) {
     laws::sessions_mean_the_source();
     laws::sessions_are_isolated();
-    laws::observers_are_told_nothing();
+    laws::runs_are_isolated();
 }
 
 #[test]

@@ -1,11 +1,11 @@
-use Rattle.flowc.proofs.Promises.{error_is_fixed, shows_itself, told_nothing}
-use Rattle.flowc.proofs.laws.observers_are_told_nothing.Goals as goal
+use Rattle.flowc.proofs.Promises.{error_is_fixed, runs_isolated, shows_itself}
+use Rattle.flowc.proofs.laws.runs_are_isolated.Goals as goal
 
 pub returns-clause-shown : goal.returns-clause-shown
 returns-clause-shown c = shows_itself
 
 pub returns-clause-isolated : goal.returns-clause-isolated
-returns-clause-isolated c = told_nothing c.one_spelling.ensures.contents
+returns-clause-isolated c = runs_isolated c.one_spelling.ensures.contents
 
 pub returns-clause-fixed : goal.returns-clause-fixed
 returns-clause-fixed c = error_is_fixed c.one_spelling.ensures.contents c.spellings_are_not_refused.ensures

@@ -1,0 +1,191 @@
+-- A session of bytes that can be opened, by a host with one place, which shows what the bytes send within so many steps.
+use Rattle.std.proofs.Common.{◌≡◌, ℕ, zero, suc, ◌≤◌, ◌<◌, ◌⊎◌, List, [], ◌∷◌, length, Some, refl, sym, ap, ◌∙◌, subst, inl, inr, ⊎_elim, arith}
+use Rattle.labels.specs.declared.sent.Pair.{Pair}
+use Rattle.bytecode.specs.Contents.{ModuleContents}
+use Rattle.bytecode.specs.Isolated.{seen_of}
+use Rattle.bytecode.specs.Machine as machine
+use Rattle.bytecode.specs.Machine.{Machine, Running, Ended, Stuck, Ending, Program, exec, program_of, sent_after, sent_of, step}
+use Rattle.channels.specs.World.{InputNumbers, numbers_of_channel}
+use Rattle.verifier.specs.Safety.{HasRow, IsNeverStuck}
+use Rattle.machine.specs.Run.{IsRunning, IsTold, WasRunning}
+use Rattle.machine.specs.declared.status.Status.{Status}
+use Rattle.machine.specs.declared.status.Status.TheVariants as status
+use Rattle.host.specs.Laws.{Shows, ending_of}
+use Rattle.host.specs.Meaning.{Answered, CanOpen, HostAnswer, HostContents, HostEvent, Open, Opened, SessionContents, Turn, Turned, View, Viewed, first_machine, view_of, with_opened}
+use Rattle.flowc.specs.Promises.{HasRun}
+
+-- ---- a run for at most so many steps
+
+-- where a run stands after so many steps, or at its end before that
+record Stop (p : Program) (n : ℕ) (from : Machine) : Type 0 where
+  taken : ℕ
+  told : Status
+  within : taken ≤ n
+  running : WasRunning p taken from
+  is : IsTold p n taken told (exec p taken from)
+  far : (taken ≡ n) ⊎ ((ending : Ending) × (ending_of told ≡ Some ending))
+
+one_more : (p : Program) (n taken : ℕ) (told : Status) (machine : Machine) → IsTold p n taken told machine → IsTold p (suc n) (suc taken) told machine
+one_more p n taken status.Running machine is = (ap suc is.0, is.1)
+one_more p n taken status.Finished machine is = is
+one_more p n taken (status.Threw exception) machine is = is
+one_more p n taken status.Deep machine is = is
+one_more p n taken status.NoMemory machine is = (omega (arith, is.0), is.1, is.2)
+
+-- the first step ends the run
+ends_now : (p : Program) (n : ℕ) (from : Machine) (ending : Ending) (sent : List Pair) → IsRunning from → step p from ≡ Ended ending sent → Stop p (suc n) from
+ends_now p n from ending sent running e = by ending e
+  where
+    first : WasRunning p (suc zero) from
+    first zero below = running
+    first (suc k) below = absurd (omega (arith, below))
+
+    by : (ending : Ending) → step p from ≡ Ended ending sent → Stop p (suc n) from
+    by machine.Finished e = record {
+      taken = suc zero;
+      told = status.Finished;
+      within = omega arith;
+      running = first;
+      is = e ∙ ap (λ (m : Machine). Ended machine.Finished (sent_of m)) (sym e);
+      far = inr (machine.Finished, refl);
+    }
+    by (machine.Threw exception) e = record {
+      taken = suc zero;
+      told = status.Threw exception;
+      within = omega arith;
+      running = first;
+      is = e ∙ ap (λ (m : Machine). Ended (machine.Threw exception) (sent_of m)) (sym e);
+      far = inr (machine.Threw exception, refl);
+    }
+    by machine.Deep e = record {
+      taken = suc zero;
+      told = status.Deep;
+      within = omega arith;
+      running = first;
+      is = e ∙ ap (λ (m : Machine). Ended machine.Deep (sent_of m)) (sym e);
+      far = inr (machine.Deep, refl);
+    }
+
+goes_on : (p : Program) (n : ℕ) (from : Machine) → IsRunning from → Stop p n (step p from) → Stop p (suc n) from
+goes_on p n from running rest = record {
+  taken = suc rest.taken;
+  told = rest.told;
+  within = omega (arith, rest.within);
+  running = before;
+  is = one_more p n rest.taken rest.told (exec p rest.taken (step p from)) rest.is;
+  far = ⊎_elim (λ e. inl (ap suc e)) (λ over. inr over) rest.far;
+}
+  where
+    before : WasRunning p (suc rest.taken) from
+    before zero below = running
+    before (suc k) below = rest.running k (omega (arith, below))
+
+stop : (p : Program) (n : ℕ) (from : Machine) → ((k : ℕ) → HasRow (exec p k from)) → IsRunning from → Stop p n from
+stop p zero from rows running = record {
+  taken = zero;
+  told = status.Running;
+  within = omega arith;
+  running = λ k below. absurd (omega (arith, below));
+  is = (refl, running);
+  far = inl refl;
+}
+stop p (suc n) from rows running = by (step p from) refl (λ live. stop p n (step p from) (λ k. rows (suc k)) live)
+  where
+    by : (next : Machine) → step p from ≡ next → (IsRunning (step p from) → Stop p n (step p from)) → Stop p (suc n) from
+    by (Running s) e rest = goes_on p n from running (rest (subst IsRunning (sym e) tt))
+    by (Ended ending sent) e rest = ends_now p n from ending sent running e
+    by (Stuck sent) e rest = absurd (subst HasRow e (rows (suc zero)))
+
+-- ---- the session
+
+-- a session that has taken so many steps or has answered that its run has ended, and what it shows
+pub record Session (code : List ℕ) (world : List InputNumbers) (m : ModuleContents) (p steps : ℕ) : Type 0 where
+  pub pairs : List Pair
+  pub shows : Shows code world p pairs
+  pub has_run : HasRun shows steps
+  pub taken : ℕ
+  pub sees : pairs ≡ seen_of m p (sent_after m (numbers_of_channel m world) taken)
+
+module _ (code : List ℕ) (world : List InputNumbers) (m : ModuleContents) (can : CanOpen code world m) (never_stuck : IsNeverStuck m)
+    (p : ℕ) (there : p < length m.hierarchy.names) (n : ℕ) where
+  run : Stop (program_of m) n (first_machine m world)
+  run = stop (program_of m) n (first_machine m world) (never_stuck (numbers_of_channel m world)) tt
+
+  abbrev empty : HostContents
+  empty = record { next = 0; sessions = [] }
+
+  abbrev fresh : SessionContents
+  fresh = record { id = 0; program = m; machine = first_machine m world }
+
+  after : Machine
+  after = exec (program_of m) run.taken (first_machine m world)
+
+  abbrev moved : SessionContents
+  moved = record { id = 0; program = m; machine = after }
+
+  abbrev opened : HostContents
+  opened = with_opened empty m world
+
+  abbrev turned : HostContents
+  turned = record opened { sessions = moved ∷ [] }
+
+  abbrev events : List HostEvent
+  events = Open code world ∷ Turn 0 n ∷ View 0 p ∷ []
+
+  abbrev answers : List HostAnswer
+  answers = Opened 0 ∷ Turned run.taken run.told ∷ Viewed (view_of moved p) ∷ []
+
+  answered : Answered 1 empty events answers turned
+  unfolding after
+  answered = (
+    opened,
+    (record { place_left = omega arith; id_left = omega arith }, refl, (m, can, refl)),
+    (
+      turned,
+      (fresh, refl, (after, record { within = run.within; running = run.running; machine = refl; told = run.is }, refl)),
+      (turned, (moved, refl, there, refl, refl), refl),
+    ),
+  )
+
+  shows : Shows code world p (view_of moved p)
+  shows = record {
+    places = 1;
+    old = empty;
+    events = events;
+    answers = answers;
+    new = turned;
+    answered = answered;
+    id = 0;
+    opened = 0;
+    viewed = 2;
+    later = omega arith;
+    opens = refl;
+    opened_so = refl;
+    views = refl;
+    viewed_so = refl;
+  }
+
+  has_run : HasRun shows n
+  unfolding shows
+  has_run =
+      ⊎_elim
+      (λ all. inl (omega (arith, all)))
+      (λ over. inr (
+        over.0,
+        record {
+          turn = 1;
+          steps = n;
+          taken = run.taken;
+          status = run.told;
+          later = omega arith;
+          before = omega arith;
+          asks = refl;
+          answers = refl;
+          ended = over.1;
+        },
+      ))
+      run.far
+
+  pub opened_for : Session code world m p n
+  unfolding after
+  opened_for = record { pairs = view_of moved p; shows = shows; has_run = has_run; taken = run.taken; sees = refl }
