@@ -14,6 +14,3 @@ pub use labels::Pair;
 pub use sent::Sent;
 pub use sink::{Device, Sink, SinkFault, write_whole};
 pub use world::{InputList, World};
-
-#[cfg(test)]
-mod tests;

@@ -11,6 +11,3 @@ mod view;
 pub use event::{Answer, Event, Id};
 pub use fault::HostFault;
 pub use places::{Host, PLACES};
-
-#[cfg(test)]
-mod tests;
