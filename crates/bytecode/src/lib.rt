@@ -29,6 +29,3 @@ pub use instruction::{Arithmetic, Comparison, Instruction};
 pub use parts::{Direction, Global, Handler, Kind, Slot};
 pub use procedure::Procedure;
 pub use whole::Module;
-
-#[cfg(test)]
-mod tests;

@@ -16,6 +16,3 @@ pub use sent::Sent;
 pub use sink::{Device, Sink, SinkFault, write_whole};
 pub use view::{ViewFault, seen, write_view};
 pub use world::{InputList, World};
-
-#[cfg(test)]
-mod tests;

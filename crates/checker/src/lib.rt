@@ -13,8 +13,3 @@ pub use fault::{Cause, Fault};
 pub use flows::check_flows;
 pub use phases::{Checked, GREATEST_SOURCE, check};
 pub use refusal::{EndDefect, EndRefusal, FlowRefusal, LabelRule, UnmetDemand};
-
-#[cfg(test)]
-mod tests;
-#[cfg(test)]
-mod tests_check;

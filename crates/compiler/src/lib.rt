@@ -6,6 +6,3 @@ pub mod fault;
 
 pub use compiling::compile;
 pub use fault::{Cause, Fault, Text};
-
-#[cfg(test)]
-mod tests;

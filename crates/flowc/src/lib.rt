@@ -4,10 +4,6 @@
 mod done;
 pub mod laws;
 mod running;
-#[cfg(test)]
-mod tests;
-#[cfg(test)]
-mod tests_compile;
 mod told;
 mod trouble;
 mod view;

@@ -10,6 +10,3 @@ mod session;
 pub use event::{Answer, Event, Id};
 pub use fault::HostFault;
 pub use places::{Host, PLACES};
-
-#[cfg(test)]
-mod tests;

@@ -18,6 +18,3 @@ pub use policies::Policy;
 pub use printed::PrintedLabel;
 pub use rules::{flows, may_read};
 pub use sent::Pair;
-
-#[cfg(test)]
-mod examples;

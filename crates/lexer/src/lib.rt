@@ -16,6 +16,3 @@ pub use lexing::{lex, one_reading};
 pub use names::is_name;
 pub use places::place;
 pub use token::{Kind, Place, Span, Token};
-
-#[cfg(test)]
-mod tests;

@@ -8,6 +8,3 @@ pub mod laws;
 pub mod whole;
 
 pub use whole::emit;
-
-#[cfg(test)]
-mod tests;

@@ -10,6 +10,3 @@ pub mod status;
 pub use fault::NewFault;
 pub use run::Machine;
 pub use status::Status;
-
-#[cfg(test)]
-mod tests;

@@ -10,6 +10,3 @@ mod statement;
 
 pub use fault::ParseFault;
 pub use program::{MAX_LEVELS, parse, spelling_laws};
-
-#[cfg(test)]
-mod tests;

@@ -163,6 +163,3 @@ impl Hierarchy {
         }
     }
 }
-
-#[cfg(test)]
-mod tests;

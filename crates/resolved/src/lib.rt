@@ -7,5 +7,3 @@ pub mod lookup;
 pub mod program;
 pub mod statement;
 pub mod tables;
-#[cfg(test)]
-mod tests;

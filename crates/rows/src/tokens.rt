@@ -49,7 +49,11 @@ fn write_tokens(
 
 fn write_token(alloc: Global, token: &Token<'_>, answer: &mut Vec<u8>) -> Result<(), LineFault> {
     let (at, kind, text) = (token.span.start, token.kind, token.text);
-    let line = format!(in alloc; "{at} {kind:?} {text}\n")?;
+    let line = if text.is_empty() {
+        format!(in alloc; "{at} {kind:?}\n")?
+    } else {
+        format!(in alloc; "{at} {kind:?} {text}\n")?
+    };
     write_lines(answer, b'>', line.as_bytes())
 }
 

@@ -7,6 +7,3 @@ pub use tree::{
     BinaryOperator, Block, Channel, Direction, Expression, Item, Name, Procedure, Program,
     RightSide, Statement, Thrown, WrittenLabel, WrittenPolicy,
 };
-
-#[cfg(test)]
-mod tests;

@@ -16,7 +16,10 @@ fn refusals_of_bytes(rt: HostRuntime) {
         (Refusal::NotCanonical, 805, "not canonical"),
         (Refusal::Trailing, 806, "trailing bytes"),
     ] {
-        assert!(rt; refusal.number() == number && refusal.words() == words, "{number}");
+        assert!(rt;
+            refusal.number() == number && refusal.words() == words,
+            "{number}"
+        );
     }
 }
 
@@ -29,7 +32,10 @@ fn defects_of_code(rt: HostRuntime) {
         (Defect::SlotOrIndex, 814, "slot or index"),
         (Defect::FallsOffEnd, 815, "falls off the end"),
     ] {
-        assert!(rt; defect.number() == number && defect.words() == words, "{number}");
+        assert!(rt;
+            defect.number() == number && defect.words() == words,
+            "{number}"
+        );
     }
 }
 
@@ -41,7 +47,10 @@ fn defects_of_worlds(rt: HostRuntime) {
         (WorldDefect::RepeatedChannel, 853, "repeated channel"),
         (WorldDefect::NumberOutOfRange, 854, "number out of range"),
     ] {
-        assert!(rt; defect.number() == number && defect.words() == words, "{number}");
+        assert!(rt;
+            defect.number() == number && defect.words() == words,
+            "{number}"
+        );
     }
 }
 
@@ -58,10 +67,17 @@ fn faults_of_a_host(rt: HostRuntime) -> Result<(), Fail> {
         (HostFault::UnknownId, Some(902), "unknown id"),
         (HostFault::UnknownPrincipal, Some(153), "unknown principal"),
         (HostFault::UnknownChannel, Some(852), "unknown channel"),
-        (HostFault::Bytes(Refusal::Trailing, 9), Some(806), "trailing bytes"),
+        (
+            HostFault::Bytes(Refusal::Trailing, 9),
+            Some(806),
+            "trailing bytes",
+        ),
         (HostFault::Code(fault), Some(815), "falls off the end"),
     ] {
-        assert!(rt; fault.number() == number && fault.words() == words, "{words}");
+        assert!(rt;
+            fault.number() == number && fault.words() == words,
+            "{words}"
+        );
         let shown = format!(in rt.alloc(); "{fault}")?;
         assert!(rt; shown.as_str() == words);
     }

@@ -1,6 +1,8 @@
 //! Modules that are read and written again, and what they lend.
 
-use bytecode::{Arithmetic, Direction, Instruction, Kind, Module, Procedure, Slot, decode, encode, laws};
+use bytecode::{
+    Arithmetic, Direction, Instruction, Kind, Module, Procedure, Slot, decode, encode, laws,
+};
 use std::test::Fail;
 
 // One output `pub`, and one procedure that sends 7 on it.
@@ -64,8 +66,15 @@ fn sends_seven(procedure: &Procedure) -> bool {
     let plain = procedure.returned().is_none() && procedure.parameters() == 0;
     let bare = procedure.slots().is_empty() && procedure.handlers().is_empty();
     let code = procedure.code();
-    let wanted = [Instruction::Push(7), Instruction::Send(0), Instruction::Return];
-    plain && bare && code == wanted.as_slice() && code[0].width() == 5
+    let is_wanted = matches!(
+        code,
+        [
+            Instruction::Push(7),
+            Instruction::Send(0),
+            Instruction::Return
+        ]
+    );
+    plain && bare && is_wanted && code.iter().map(|one| one.width()).max() == Some(5)
 }
 
 #[test]
@@ -79,17 +88,20 @@ fn lends_its_code(rt: HostRuntime) -> Result<(), Fail> {
 
 // Whether a procedure has one slot, and this code of the second module.
 fn sends_fewer(procedure: &Procedure) -> bool {
-    let wanted = [
-        Instruction::Receive(0),
-        Instruction::Store(0),
-        Instruction::Load(0),
-        Instruction::Push(-43),
-        Instruction::Compute(Arithmetic::Add),
-        Instruction::Send(1),
-        Instruction::Return,
-    ];
+    let is_wanted = matches!(
+        procedure.code(),
+        [
+            Instruction::Receive(0),
+            Instruction::Store(0),
+            Instruction::Load(0),
+            Instruction::Push(-43),
+            Instruction::Compute(Arithmetic::Add),
+            Instruction::Send(1),
+            Instruction::Return
+        ]
+    );
     let slots = [Slot::Scalar(Kind::Int)];
-    procedure.slots() == slots.as_slice() && procedure.code() == wanted.as_slice()
+    is_wanted && procedure.slots() == slots.as_slice()
 }
 
 #[test]

@@ -63,7 +63,10 @@ fn counts_its_steps(rt: HostRuntime) -> Result<(), Fail> {
         assert_eq!(rt; machine.run(steps), (taken, status));
     }
     let (channel, number) = (0, 7);
-    assert_eq!(rt; machine.sent().pairs(), [Pair { channel, number }].as_slice());
+    assert_eq!(rt;
+        machine.sent().pairs(),
+        [Pair { channel, number }].as_slice()
+    );
     Ok(())
 }
 

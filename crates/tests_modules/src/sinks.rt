@@ -26,7 +26,11 @@ fn reads_worlds(rt: HostRuntime) -> Result<(), Fail> {
     let cases: [(&str, &[i32], &[i32]); 4] = [
         ("", &[], &[]),
         ("\n   \nr  =  -0 007 \n q =\n", &[], &[0, 7]),
-        ("q = -2147483648 2147483647\nr = 5", &[i32::MIN, i32::MAX], &[5]),
+        (
+            "q = -2147483648 2147483647\nr = 5",
+            &[i32::MIN, i32::MAX],
+            &[5],
+        ),
         ("r = 1 2 3\nq = 4 5 6\n", &[4, 5, 6], &[1, 2, 3]),
     ];
     for (text, first, second) in cases {

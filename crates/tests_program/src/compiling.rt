@@ -32,7 +32,10 @@ fn has_a_number_and_words_for_each_cause(rt: HostRuntime) -> Result<(), Fail> {
         (Cause::TooManyCells, 704, "too many cells"),
     ];
     for (cause, number, words) in causes {
-        assert!(rt; cause.number() == number && cause.words() == words, "{number}");
+        assert!(rt;
+            cause.number() == number && cause.words() == words,
+            "{number}"
+        );
         let shown = format!(in rt.alloc(); "{cause}")?;
         assert!(rt; shown.as_str() == words, "{number}");
     }

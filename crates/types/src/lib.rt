@@ -12,6 +12,3 @@ mod top;
 
 pub use fault::{Refusal, TypeFault};
 pub use program::{MAX_CELLS, resolve};
-
-#[cfg(test)]
-mod tests;

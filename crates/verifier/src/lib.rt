@@ -6,6 +6,3 @@ pub mod verified;
 
 pub use fault::{Defect, Fault, VerifyFault};
 pub use verified::{Verified, verify};
-
-#[cfg(test)]
-mod tests;

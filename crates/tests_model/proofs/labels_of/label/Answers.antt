@@ -1,6 +1,6 @@
 use Rattle.std.proofs.lemmas.List.Elements.{All-push}
 use Rattle.labels.specs.Canonical.{IsCanonicalPolicy}
-use Rattle.labels.proofs.examples.label.Goals as goal
+use Rattle.tests_model.proofs.labels_of.label.Goals as goal
 
 pub each-preserved : goal.each-preserved
 each-preserved c =
