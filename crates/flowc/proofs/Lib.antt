@@ -4,4 +4,3 @@ pub mod Refusals
 pub mod Sessions
 pub mod Settled
 pub mod Telling
-pub mod Views

@@ -42,7 +42,7 @@ use Rattle.flowc.specs.Told.IsWorldLine.{no_text, wrong}
 use Rattle.flowc.specs.View.{IsObserver, view_text}
 use Rattle.flowc.proofs.Sessions.{opened_for}
 use Rattle.flowc.proofs.Refusals.{told_is_fault, wrong_is_no_world}
-use Rattle.flowc.proofs.Views.{view_text-append}
+use Rattle.channels.proofs.Views.{view_text-append}
 
 -- ---- sessions
 

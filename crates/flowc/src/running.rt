@@ -20,7 +20,7 @@ ghost use Rattle.verifier.specs.Faults.{HasNoFault};
 
 use crate::told::{encoding_line, fault_line, observer_line, refusal_line, world_line};
 use crate::trouble::Trouble;
-use crate::view::write_view;
+use crate::view::show;
 use bytecode::{FormatFault, Module, decode};
 use channels::{Sink, World, WorldDefect, WorldFault};
 use machine::{Machine, NewFault, Status};
@@ -62,7 +62,7 @@ pub fn run<O: Sink>(
     let principal = principal_of(alloc, machine.module().hierarchy(), observer)?;
     let (_, status) = machine.run(steps);
     let whole = machine.module();
-    write_view(alloc, whole, principal, machine.sent().pairs(), out)?;
+    show(alloc, whole, principal, machine.sent(), out)?;
     told_end(alloc, whole, principal, status)
 }
 

@@ -4,21 +4,21 @@ use Rattle.flowc.proofs.Cut.{appended_whole, can_run, cut_off, on_err}
 use Rattle.flowc.proofs.Telling.{observer_told, start_told}
 use Rattle.flowc.proofs.running.run.Goals as goal
 
-pub returns-in_err-write_view-clause-some : goal.returns-in_err-write_view-clause-some
-returns-in_err-write_view-clause-some g c =
+pub returns-in_err-show-clause-some : goal.returns-in_err-show-clause-some
+returns-in_err-show-clause-some g c =
     let m = c.in_ok-machine.machine.program in
     let can = can_run _ _ _ m c.in_ok-principal.principal c.hierarchy.result.now c.in_ok-machine.ensures.spelled c.in_ok-machine.ensures.faultless c.in_ok-machine.ensures.encoded c.in_ok-machine.ensures.right c.in_ok-principal.ensures.found
     (c.hierarchy.ensures.hierarchy ∙ ap (λ (w : ModuleContents). w.hierarchy) c.module.ensures) in
-    on_err _ _ (cut_off _ _ _ c.args.steps _ _ m c.module-whole.result.now c.in_ok-principal.principal c.run-status.result.0 c.pairs.result.now _ _ can c.run-status.ensures.within
-    (c.module-whole.ensures ∙ c.run-status.ensures.kept) c.in_ok-machine.ensures.first c.run-status.ensures.after (c.pairs.ensures ∙ c.sent.ensures) c.in_err-write_view.ensures.beginning)
+    on_err _ _ (cut_off _ _ _ c.args.steps _ _ m c.module-whole.result.now c.in_ok-principal.principal c.run-status.result.0 c.sent.result.now _ _ can c.run-status.ensures.within
+    (c.module-whole.ensures ∙ c.run-status.ensures.kept) c.in_ok-machine.ensures.first c.run-status.ensures.after c.sent.ensures c.in_err-show.ensures.beginning)
 
 pub returns-clause-some : goal.returns-clause-some
 returns-clause-some g c =
     let m = c.in_ok-machine.machine.program in
     let can = can_run _ _ _ m c.in_ok-principal.principal c.hierarchy.result.now c.in_ok-machine.ensures.spelled c.in_ok-machine.ensures.faultless c.in_ok-machine.ensures.encoded c.in_ok-machine.ensures.right c.in_ok-principal.ensures.found
     (c.hierarchy.ensures.hierarchy ∙ ap (λ (w : ModuleContents). w.hierarchy) c.module.ensures) in
-    on_err c.told_end.result _ (cut_off _ _ _ c.args.steps _ _ m c.module-whole.result.now c.in_ok-principal.principal c.run-status.result.0 c.pairs.result.now _ _ can c.run-status.ensures.within
-    (c.module-whole.ensures ∙ c.run-status.ensures.kept) c.in_ok-machine.ensures.first c.run-status.ensures.after (c.pairs.ensures ∙ c.sent.ensures) (appended_whole _ _ _ c.in_ok-write_view.ensures.view))
+    on_err c.told_end.result _ (cut_off _ _ _ c.args.steps _ _ m c.module-whole.result.now c.in_ok-principal.principal c.run-status.result.0 c.sent.result.now _ _ can c.run-status.ensures.within
+    (c.module-whole.ensures ∙ c.run-status.ensures.kept) c.in_ok-machine.ensures.first c.run-status.ensures.after c.sent.ensures (appended_whole _ _ _ c.in_ok-show.ensures.view))
 
 pub returns-in_err-machine-clause-told : goal.returns-in_err-machine-clause-told
 returns-in_err-machine-clause-told g c =
