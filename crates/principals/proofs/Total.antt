@@ -125,15 +125,18 @@ walk before (t ∷ rest) s es terminated h =
   where
     by : (o : Option State) → next s t ≡ o → ((after : State) → next s t ≡ Some after → Formed (before ++ t ∷ rest)) → Formed (before ++ t ∷ rest)
     by None e on =
-        inr (t.start, record {
-          before = before;
-          token = t;
-          after = rest;
-          parts = refl;
-          goes_on = begins before s es h;
-          stops = stops before t s es h e;
-          place = refl;
-        })
+        inr (
+          t.start,
+          record {
+            before = before;
+            token = t;
+            after = rest;
+            parts = refl;
+            goes_on = begins before s es h;
+            stops = stops before t s es h e;
+            place = refl;
+          },
+        )
     by (Some after) e on = on after e
 
 form_outcome : (tokens : List Terminal) → IsTerminated tokens → Formed tokens
