@@ -1,18 +1,17 @@
 -- The earliest of the constraints that are broken: over lists put together, and what it is the earliest of.
-use Rattle.std.proofs.Common.{◌≡◌, refl, sym, ap, ◌∙◌, subst, ℕ, zero, suc, ◌<◌, ◌≤◌, ◌+◌, length, get_or, take, List, [], ◌∷◌, ◌++◌, Bool, true, false, arith, add-zero, zero-add, add-one, append_assoc, append-nil, ◌⊎◌, inl, inr, ⊎_elim, Option, Some, None}
-use Rattle.std.specs.Prelude.{Contains, if◌then◌else◌, nat_lt}
+use Rattle.std.proofs.Common.{◌≡◌, refl, sym, ap, ◌∙◌, subst, ℕ, suc, ◌<◌, ◌+◌, length, get_or, take, List, [], ◌∷◌, ◌++◌, Bool, arith, add-zero, zero-add, add-one, append_assoc, append-nil, ⊎_elim, Option}
+use Rattle.std.specs.Prelude.{Contains}
 use Rattle.std.specs.Global.{Global}
 use Rattle.std.specs.declared.vec.Vec.{Vec}
 use Rattle.std.proofs.lemmas.List.{take_more, length-take-le}
-use Rattle.std.proofs.lemmas.List.Elements.{Contains-append_cases, Contains-get_or}
-use Rattle.principals.proofs.Closure.{none_in_nil, Contains-cons_cases, Contains-later, Contains-first}
-use Rattle.solver.specs.Broken.{RightsInside, broken_by, candidates, earlier, earliest, found_candidates, precedes, value_candidates}
+use Rattle.std.proofs.lemmas.List.Elements.{Contains-get_or}
+use Rattle.principals.proofs.Closure.{none_in_nil, Contains-cons_cases}
+use Rattle.solver.specs.Broken.{RightsInside, broken_by, candidates, earlier, earliest, found_candidates, value_candidates}
 use Rattle.solver.specs.Reach.{row_of, edge}
 use Rattle.solver.specs.declared.broken.Broken.{Broken}
 use Rattle.solver.specs.declared.edges.Edge.{Edge}
 use Rattle.solver.specs.declared.edges.Edges.{Edges}
 use Rattle.solver.specs.declared.search.Found.{Found}
-use Rattle.solver.specs.declared.system.Atom.{Atom}
 use Rattle.solver.specs.declared.system.Atom.TheVariants.{Unknown, Written}
 
 pub earliest-append : (best : Option Broken) (a b : List Broken) → earliest best (a ++ b) ≡ earliest (earliest best a) b

@@ -1,12 +1,12 @@
 -- Which constraints are candidates for the first that is broken, and that the earliest is one of them and before all.
-use Rattle.std.proofs.Common.{◌≡◌, refl, sym, ap, ◌∙◌, subst, ℕ, zero, suc, ◌<◌, ◌≤◌, ◌+◌, length, get_or, List, [], ◌∷◌, ◌++◌, Bool, true, false, arith, add-zero, nat_lt, ◌⊎◌, inl, inr, ⊎_elim, Option, Some, None}
-use Rattle.std.specs.Prelude.{Contains, if◌then◌else◌}
+use Rattle.std.proofs.Common.{◌≡◌, refl, sym, ap, subst, ℕ, zero, suc, ◌<◌, ◌≤◌, ◌+◌, length, get_or, List, [], ◌∷◌, ◌++◌, Bool, true, false, arith, add-zero, nat_lt, ⊎_elim, Option, Some, None}
+use Rattle.std.specs.Prelude.{Contains}
 use Rattle.std.specs.Global.{Global}
 use Rattle.std.specs.declared.vec.Vec.{Vec}
 use Rattle.std.proofs.lemmas.Bool.{ltb-true, ltb-false}
 use Rattle.std.proofs.lemmas.List.Elements.{Contains-append_cases, Contains-append_left, Contains-append_right}
 use Rattle.principals.proofs.Closure.{none_in_nil, Contains-cons_cases, Contains-later, Contains-first}
-use Rattle.solver.specs.Broken.{broken_by, candidates, earlier, earliest, found_candidates, precedes, value_candidates}
+use Rattle.solver.specs.Broken.{broken_by, candidates, earliest, found_candidates, value_candidates}
 use Rattle.solver.specs.Reach.{edge, found_at, nothing_found, row_of}
 use Rattle.solver.specs.declared.broken.Broken.{Broken}
 use Rattle.solver.specs.declared.edges.Edge.{Edge}

@@ -1,7 +1,7 @@
 -- The way back along a trail.
-use Rattle.std.proofs.Common.{◌≡◌, refl, sym, ap, ◌∙◌, subst, ℕ, zero, suc, ◌<◌, ◌≤◌, ◌+◌, ◌-◌, length, get_or, List, [], ◌∷◌, ◌++◌, reverse, arith, add-one}
+use Rattle.std.proofs.Common.{◌≡◌, refl, sym, ap, ◌∙◌, subst, ℕ, suc, ◌<◌, ◌≤◌, ◌-◌, length, get_or, List, [], ◌∷◌, ◌++◌, reverse, arith}
 use Rattle.std.proofs.lemmas.List.{reverse-append}
-use Rattle.solver.specs.Reach.{CameFrom, EndsAt, IsStep, IsTrail, Leads, LeadsOn, ParentsFall, earlier, ends, goes_on, itself, nothing_found}
+use Rattle.solver.specs.Reach.{CameFrom, EndsAt, IsTrail, Leads, LeadsOn, ParentsFall, earlier, ends, goes_on, itself, nothing_found}
 use Rattle.solver.specs.declared.edges.Edges.{Edges}
 use Rattle.solver.specs.declared.search.Found.{Found}
 use Rattle.solver.specs.declared.system.Atom.{Atom}

@@ -1,7 +1,7 @@
 -- What links of constraints mean: a link is a part of a left side, and along links a written element reaches what it reaches by the
 -- constraints.
-use Rattle.std.proofs.Common.{◌≡◌, refl, sym, ap, ◌∙◌, subst, ℕ, zero, suc, ◌<◌, ◌≤◌, ◌+◌, length, get_or, map, List, [], ◌∷◌, ◌++◌, Bool, true, false, arith, nat_eq, zero-add, add-zero, ◌⊎◌, inl, inr, ⊎_elim, Option, Some, None}
-use Rattle.std.specs.Prelude.{Contains, All, if◌then◌else◌, slice_get, IsTrue}
+use Rattle.std.proofs.Common.{◌≡◌, refl, sym, ap, ◌∙◌, subst, ℕ, zero, suc, ◌<◌, ◌+◌, length, map, List, [], ◌∷◌, Bool, true, false, arith, zero-add, add-zero, ⊎_elim, Option, Some, None}
+use Rattle.std.specs.Prelude.{Contains, slice_get}
 use Rattle.std.proofs.lemmas.Bool.{eqb-true, eq-eqb}
 use Rattle.std.proofs.lemmas.List.Elements.{Contains-append_cases, Contains-append_left, Contains-append_right, All-contains}
 use Rattle.principals.proofs.Closure.{none_in_nil, Contains-cons_cases, Contains-later, Contains-first}
@@ -116,14 +116,16 @@ links_of-only k [] from by to h = absurd (none_in_nil (link from by to) h)
 links_of-only {T} k (c ∷ cs) from by to h =
     ⊎_elim
     (λ here.
-    let found = Contains-map_only (λ a. link a k c.right) c.left.items (link from by to) here in
-    (0, sym (ap (λ (x : Link). x.by) found.2) ∙ sym (add-zero k),
-    record {
-      constraint = c;
-      at = refl;
-      part = subst (λ a. Contains c.left.items a) (ap (λ (x : Link). x.from) found.2) found.1;
-      right = ap (λ (x : Link). x.to) found.2;
-    }))
+    let found = Contains-map_only (λ a. link a k c.right) c.left.items (link from by to) here in (
+      0,
+      sym (ap (λ (x : Link). x.by) found.2) ∙ sym (add-zero k),
+      record {
+        constraint = c;
+        at = refl;
+        part = subst (λ a. Contains c.left.items a) (ap (λ (x : Link). x.from) found.2) found.1;
+        right = ap (λ (x : Link). x.to) found.2;
+      },
+    ))
     (λ later.
     let found = links_of-only (suc k) cs from by to later in
     (suc found.0, omega (arith, found.1), record { constraint = found.2.constraint; at = found.2.at; part = found.2.part; right = found.2.right }))
@@ -207,9 +209,12 @@ module _ {T V : Type 0} (l : Lattice V) (table : List V) (cs : List (Constraint 
       let number = written-is part.0 v part.2 in
       let here : Contains c.left.items (Written number.0) = subst (λ a. Contains c.left.items a) number.1 part.1 in
       let at = Contains-at cs c source.1 in
-      let right : c.right ≡ Unknown u = unknown-is c.right u (ap (λ (x : formal.Constraint T ℕ V). x.right) source.2 ∙ is) in
-      (number.0, in_table c number.0 source.1 here, number.2,
-      reach.directly at.0 u (subst (λ r. Leads edges (Written number.0) at.0 r) right (part-leads cs edges are at.0 c (Written number.0) at.1 here)))
+      let right : c.right ≡ Unknown u = unknown-is c.right u (ap (λ (x : formal.Constraint T ℕ V). x.right) source.2 ∙ is) in (
+        number.0,
+        in_table c number.0 source.1 here,
+        number.2,
+        reach.directly at.0 u (subst (λ r. Leads edges (Written number.0) at.0 r) right (part-leads cs edges are at.0 c (Written number.0) at.1 here)),
+      )
   reaches-from v u (formal.onward d w _ r h from is) =
       let before = reaches-from v w r in
       let source = Contains-map_only (constraint_of l table) cs d h in
@@ -217,6 +222,9 @@ module _ {T V : Type 0} (l : Lattice V) (table : List V) (cs : List (Constraint 
       let part = Contains-map_only (atom_of l table) c.left.items (formal.Unknown w) (subst (λ (x : formal.Constraint T ℕ V). Contains x.left (formal.Unknown w)) (sym source.2) from) in
       let here : Contains c.left.items (Unknown w) = subst (λ a. Contains c.left.items a) (unknown-is part.0 w part.2) part.1 in
       let at = Contains-at cs c source.1 in
-      let right : c.right ≡ Unknown u = unknown-is c.right u (ap (λ (x : formal.Constraint T ℕ V). x.right) source.2 ∙ is) in
-      (before.0, before.1, before.2,
-      reach.onward at.0 w u before.3 (subst (λ r. Leads edges (Unknown w) at.0 r) right (part-leads cs edges are at.0 c (Unknown w) at.1 here)))
+      let right : c.right ≡ Unknown u = unknown-is c.right u (ap (λ (x : formal.Constraint T ℕ V). x.right) source.2 ∙ is) in (
+        before.0,
+        before.1,
+        before.2,
+        reach.onward at.0 w u before.3 (subst (λ r. Leads edges (Unknown w) at.0 r) right (part-leads cs edges are at.0 c (Unknown w) at.1 here)),
+      )

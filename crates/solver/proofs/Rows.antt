@@ -1,6 +1,5 @@
 -- Rows of edges: reading one after a write, and the edges of links that are put together.
-use Rattle.std.proofs.Common.{◌≡◌, refl, sym, ap, ◌∙◌, subst, ℕ, zero, suc, ◌<◌, ◌+◌, length, set, get_or, List, [], ◌∷◌, ◌++◌, Bool, true, false, nat_eq, arith, take, ◌≢◌, add-one, add-zero, zero-add, append_assoc, append-nil}
-use Rattle.std.specs.Prelude.{if◌then◌else◌, map}
+use Rattle.std.proofs.Common.{◌≡◌, refl, sym, ap, ◌∙◌, ℕ, zero, suc, ◌<◌, ◌+◌, length, set, get_or, List, [], ◌∷◌, ◌++◌, Bool, true, false, nat_eq, arith, take, ◌≢◌, add-zero, zero-add, append_assoc, append-nil}
 use Rattle.std.proofs.lemmas.Bool.{eqb-true, eqb-false}
 use Rattle.std.proofs.lemmas.List.{map-append, take_more, length-take-le}
 use Rattle.std.specs.Global.{Global}

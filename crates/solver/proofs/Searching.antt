@@ -4,7 +4,7 @@ use Rattle.std.specs.Prelude.{if◌then◌else◌, IsTrue, Contains}
 use Rattle.std.proofs.lemmas.Bool.{eqb-true, eqb-false}
 use Rattle.std.proofs.lemmas.List.{get_or_read, length_push, length-replicate, take_more}
 use Rattle.std.proofs.lemmas.List.Elements.{Contains-append_cases, Contains-get_or}
-use Rattle.principals.proofs.Closure.{none_in_nil, Contains-cons_cases, Contains-later, Contains-first}
+use Rattle.principals.proofs.Closure.{none_in_nil, Contains-cons_cases, Contains-first}
 use Rattle.std.specs.Global.{Global}
 use Rattle.std.specs.declared.vec.Vec.{Vec}
 use Rattle.solver.proofs.Rows.{row_at-slice}
@@ -241,18 +241,18 @@ pub searched-start : (edges : Edges) (n : ℕ) (marks : List Bool) (found : List
     count ≡ length edges.unknown.items → row ≡ row_of edges (Written n) → old ≡ replicate count false → none ≡ [] →
     Grows row 0 old none marks found → AllMarked row marks → Searched edges n marks found 0
 searched-start edges n marks found count row old none is row_is old_is none_is any_grows any_marked =
-  let grows : Grows (row_of edges (Written n)) 0 (replicate count false) [] marks found =
-      subst (λ r. Grows r 0 (replicate count false) [] marks found) row_is (subst (λ o. Grows row 0 o [] marks found) old_is (subst (λ z. Grows row 0 old z marks found) none_is any_grows)) in
-  let marked : AllMarked (row_of edges (Written n)) marks = subst (λ r. AllMarked r marks) row_is any_marked in
-  record {
-  inside = grows-length grows ∙ (length-replicate count false ∙ is);
-  counted = grows-count grows (marks_count-none count);
-  named = grows-named grows (λ w m. let i : true ≡ false = sym m ∙ none_marked count w in absurd (cc));
-  trail = grows-trail edges n (row_of edges (Written n)) 0 (replicate count false) [] marks found (Written n) grows itself (λ by u h. h) (λ k h. absurd (omega arith));
-  first = marked;
-  later = λ p h. absurd (omega arith);
-  reached = omega arith;
-}
+    let grows : Grows (row_of edges (Written n)) 0 (replicate count false) [] marks found =
+    subst (λ r. Grows r 0 (replicate count false) [] marks found) row_is (subst (λ o. Grows row 0 o [] marks found) old_is (subst (λ z. Grows row 0 old z marks found) none_is any_grows)) in
+    let marked : AllMarked (row_of edges (Written n)) marks = subst (λ r. AllMarked r marks) row_is any_marked in
+    record {
+      inside = grows-length grows ∙ (length-replicate count false ∙ is);
+      counted = grows-count grows (marks_count-none count);
+      named = grows-named grows (λ w m. let i : true ≡ false = sym m ∙ none_marked count w in absurd (cc));
+      trail = grows-trail edges n (row_of edges (Written n)) 0 (replicate count false) [] marks found (Written n) grows itself (λ by u h. h) (λ k h. absurd (omega arith));
+      first = marked;
+      later = λ p h. absurd (omega arith);
+      reached = omega arith;
+    }
 
 pub searched-step : (edges : Edges) (n : ℕ) (marks : List Bool) (found : List Found) (next : ℕ) (row : List Edge) (marks' : List Bool) (found' : List Found) →
     Searched edges n marks found next → next < length found → row ≡ row_of edges (Unknown (get_or found next nothing_found).unknown) →

@@ -1,8 +1,8 @@
 -- What a search for each written element says of the constraints: the joins of what reaches the unknowns are least, they fit all
 -- constraints where none is broken, and the earliest that is broken is the first that they do not fit, with a chain to it.
-use Rattle.std.proofs.Common.{◌≡◌, refl, sym, ap, ◌∙◌, subst, ℕ, zero, suc, ◌<◌, ◌≤◌, ◌+◌, length, get_or, map, List, [], ◌∷◌, ◌++◌, Bool, true, false, not, ◌&&◌, ◌||◌, arith, nat_eq, zero-add, add-zero, ◌⊎◌, inl, inr, ⊎_elim, Option, Some, None}
-use Rattle.std.specs.Prelude.{All, Contains, if◌then◌else◌, slice_get, IsTrue, IsFalse, find, ◌==◌}
-use Rattle.std.specs.List.{list_any, list_all}
+use Rattle.std.proofs.Common.{◌≡◌, refl, sym, ap, ◌∙◌, subst, ℕ, zero, suc, ◌<◌, ◌≤◌, ◌+◌, length, get_or, map, List, [], ◌∷◌, Bool, true, false, not, ◌&&◌, ◌||◌, arith, zero-add, add-zero, ⊎_elim, Some}
+use Rattle.std.specs.Prelude.{All, Contains, slice_get, IsTrue, IsFalse, find, ◌==◌}
+use Rattle.std.specs.List.{list_any}
 use Rattle.std.specs.Global.{Global}
 use Rattle.std.specs.declared.vec.Vec.{Vec}
 use Rattle.std.proofs.lemmas.Bool.{eqb-true, eq-eqb, or_left, or_right, or_cases}
@@ -11,7 +11,7 @@ use Rattle.principals.proofs.Closure.{none_in_nil, Contains-cons_cases, Contains
 use Rattle.labels.specs.Constraints.{FitsAll, FitsUnknowns, IsChain, IsLeast, IsRefusedAt, Joined, Keeps, Lattice, Occurs, Reaches, first_unmet, holds, is_written, total, value}
 use Rattle.labels.specs.Constraints as formal
 use Rattle.labels.proofs.Constraints.{all-from, join_all, join_all-above, join_all-least, not_below-one, not_below-part, part-below, reaches-below, total-least}
-use Rattle.solver.specs.Broken.{AllRightsInside, FoundInside, candidates, earliest, found_candidates, is_below, value_candidates, written_at}
+use Rattle.solver.specs.Broken.{AllRightsInside, FoundInside, candidates, found_candidates, is_below, value_candidates, written_at}
 use Rattle.solver.specs.Links.{AreBelow, InRange, IsBelow, edges_at, links_of, row_at}
 use Rattle.solver.specs.Reach as reach
 use Rattle.solver.specs.Reach.{AreTraces, CameFrom, EndsAt, Has, IsStep, IsTrail, Leads, LeadsOn, ReachesBy, StaysInside, edge, found_at, nothing_found, row_of}
@@ -22,10 +22,10 @@ use Rattle.solver.specs.declared.search.Found.{Found}
 use Rattle.solver.specs.declared.system.Atom.{Atom}
 use Rattle.solver.specs.declared.system.Atom.TheVariants.{Unknown, Written}
 use Rattle.solver.specs.declared.system.Constraint.{Constraint}
-use Rattle.solver.proofs.Candidates.{IsFirst, IsOfEdge, broken, candidates-has, candidates-only, earliest-first, earliest-none, found_candidates-has, found_candidates-only, of_value, value_candidates-has, value_candidates-only}
+use Rattle.solver.proofs.Candidates.{IsFirst, IsOfEdge, broken, candidates-has, candidates-only, found_candidates-has, found_candidates-only, of_value, value_candidates-has, value_candidates-only}
 use Rattle.solver.proofs.Found.{found_at-read}
 use Rattle.solver.proofs.Searching.{found-inside}
-use Rattle.solver.proofs.Meaning.{AreEdges, Contains-at, Contains-map, Contains-map_only, IsPart, at-contains, at-map, at-map_only, in_table, leads-part, part-leads, reaches-from, reaches-to, some-same}
+use Rattle.solver.proofs.Meaning.{AreEdges, Contains-at, Contains-map, Contains-map_only, at-contains, at-map, at-map_only, in_table, leads-part, part-leads, reaches-to, some-same}
 
 by_test : {P : Type 0} (b : Bool) → (b ≡ true → P) → (b ≡ false → P) → P
 by_test true held fails = held refl
@@ -175,9 +175,10 @@ module _ {T V : Type 0} (l : Lattice V) (laws : Keeps l) (table : List V) (cs : 
       let found = rows_with-only 0 reached u n h in
       let is : found.0 ≡ n = sym (found.1 ∙ zero-add found.0) in
       let trace = traces.each found.0 found.2 in
-      let k = found.3.0 in
-      (omega (arith, is, found.2, count),
-      subst (λ m. ReachesBy edges m u) is (subst (λ w. ReachesBy edges found.0 w) found.3.2 (found-sound edges found.0 (found_at reached found.0) trace.trail k found.3.1)))
+      let k = found.3.0 in (
+        omega (arith, is, found.2, count),
+        subst (λ m. ReachesBy edges m u) is (subst (λ w. ReachesBy edges found.0 w) found.3.2 (found-sound edges found.0 (found_at reached found.0) trace.trail k found.3.1)),
+      )
 
   vals-least : (u : ℕ) (b : V) → ((n : ℕ) → n < length table → ReachesBy edges n u → IsTrue (l.leq (written_at l table n) b)) → IsTrue (l.leq (vals u) b)
   vals-least u b each =
@@ -230,12 +231,13 @@ module _ {T V : Type 0} (l : Lattice V) (laws : Keeps l) (table : List V) (cs : 
       value_candidates-has edges below 0 reached n b (omega (arith, h, count)) (subst (λ m. Contains (of_value edges below m (found_at reached n)) b) (sym (zero-add n)) in')
 
   direct-candidate : (n i to : ℕ) → n < length table → Leads edges (Written n) i (Written to) → below n to ≡ false → (b : Broken) × Contains all_candidates b × (b.by ≡ i)
-  direct-candidate n i to h leads fails =
-      (broken n 0 i to,
-      value-has n i (broken n 0 i to) h
-      (Contains-append_left (candidates below n 0 (row_of edges (Written n))) (found_candidates edges below n 0 (found_at reached n)) (broken n 0 i to)
-      (candidates-has below n 0 (row_of edges (Written n)) i to leads fails)),
-      refl)
+  direct-candidate n i to h leads fails = (
+    broken n 0 i to,
+    value-has n i (broken n 0 i to) h
+        (Contains-append_left (candidates below n 0 (row_of edges (Written n))) (found_candidates edges below n 0 (found_at reached n)) (broken n 0 i to)
+        (candidates-has below n 0 (row_of edges (Written n)) i to leads fails)),
+    refl,
+  )
 
   onward-candidate : (n i to u : ℕ) → n < length table → ReachesBy edges n u → Leads edges (Unknown u) i (Written to) → below n to ≡ false →
       (b : Broken) × Contains all_candidates b × (b.by ≡ i)
@@ -244,13 +246,14 @@ module _ {T V : Type 0} (l : Lattice V) (laws : Keeps l) (table : List V) (cs : 
       let has = (traces.each n (omega (arith, h, count))).complete u r in
       let k = has.0 in
       let leads' : Leads edges (Unknown (get_or found k nothing_found).unknown) i (Written to) = subst (λ w. Leads edges (Unknown w) i (Written to)) (sym has.2) leads in
-      let b = broken n (suc (0 + k)) i to in
-      (b,
-      value-has n i b h
-      (Contains-append_right (candidates below n 0 (row_of edges (Written n))) (found_candidates edges below n 0 found) b
-      (found_candidates-has edges below n 0 found k b has.1
-      (candidates-has below n (suc (0 + k)) (row_of edges (Unknown (get_or found k nothing_found).unknown)) i to leads' fails))),
-      refl)
+      let b = broken n (suc (0 + k)) i to in (
+        b,
+        value-has n i b h
+            (Contains-append_right (candidates below n 0 (row_of edges (Written n))) (found_candidates edges below n 0 found) b
+            (found_candidates-has edges below n 0 found k b has.1
+            (candidates-has below n (suc (0 + k)) (row_of edges (Unknown (get_or found k nothing_found).unknown)) i to leads' fails))),
+        refl,
+      )
 
   pub record IsBreak (b : Broken) : Type 0 where
     pub inside : b.value < length reached
@@ -336,14 +339,15 @@ module _ {T V : Type 0} (l : Lattice V) (laws : Keeps l) (table : List V) (cs : 
       let right : c.right ≡ Written b.to = ap (λ (x : Constraint T). x.right) (sym same_c) ∙ part.right in
       let here : Contains c.left.items is.entered.from = subst (λ (x : Constraint T). Contains x.left.items is.entered.from) same_c part.part in
       let from_below = came-below b.value (found_at reached b.value) (length (found_at reached b.value)) b.parent is.entered.from (omega (arith, is.inside, count))
-      (traces.each b.value is.inside).trail (omega arith) is.entered.came in
-      (right,
-      by_test (holds l vals (one_meant c)) (λ held.
-      let flows = laws.transitive (written_at l table b.value) (value vals (atom_of l table is.entered.from)) (value vals (atom_of l table c.right)) from_below
-      (part-below l laws all_meant vals (one_meant c) held (atom_of l table is.entered.from) (Contains-map (atom_of l table) c.left.items is.entered.from here)) in
-      let flows_to : l.leq (written_at l table b.value) (written_at l table b.to) ≡ true = subst (λ r. IsTrue (l.leq (written_at l table b.value) (value vals (atom_of l table r)))) right flows in
-      let i : true ≡ false = sym flows_to ∙ is.fails in absurd (cc))
-      (λ e. e))
+      (traces.each b.value is.inside).trail (omega arith) is.entered.came in (
+        right,
+        by_test (holds l vals (one_meant c)) (λ held.
+            let flows = laws.transitive (written_at l table b.value) (value vals (atom_of l table is.entered.from)) (value vals (atom_of l table c.right)) from_below
+            (part-below l laws all_meant vals (one_meant c) held (atom_of l table is.entered.from) (Contains-map (atom_of l table) c.left.items is.entered.from here)) in
+            let flows_to : l.leq (written_at l table b.value) (written_at l table b.to) ≡ true = subst (λ r. IsTrue (l.leq (written_at l table b.value) (value vals (atom_of l table r)))) right flows in
+            let i : true ≡ false = sym flows_to ∙ is.fails in absurd (cc))
+            (λ e. e),
+      )
 
   -- ---- the chain
   leads-joined : (from : Atom) (chain : List ℕ) (last : ℕ) (to : Atom) → LeadsOn edges from chain last to → (c : Constraint T) → slice_get cs last ≡ Some c →
@@ -351,23 +355,26 @@ module _ {T V : Type 0} (l : Lattice V) (laws : Keeps l) (table : List V) (cs : 
   leads-joined _ _ _ _ (reach.ends from to by leads) c at =
       let part = leads-part cs edges are from by to leads in
       let same_c : part.constraint ≡ c = some-same part.constraint c (sym part.at ∙ at) in
-      let here : Contains c.left.items from = subst (λ (x : Constraint T). Contains x.left.items from) same_c part.part in
-      (one_meant c ∷ [], (at-map one_meant cs by c at, tt),
-      formal.ends (atom_of l table from) (one_meant c) (Contains-map one_meant cs c (at-contains cs by c at)) (Contains-map (atom_of l table) c.left.items from here))
+      let here : Contains c.left.items from = subst (λ (x : Constraint T). Contains x.left.items from) same_c part.part in (
+        one_meant c ∷ [],
+        (at-map one_meant cs by c at, tt),
+        formal.ends (atom_of l table from) (one_meant c) (Contains-map one_meant cs c (at-contains cs by c at)) (Contains-map (atom_of l table) c.left.items from here),
+      )
   leads-joined _ _ _ _ (reach.goes_on from to by u last rest leads more) c at =
       let part = leads-part cs edges are from by (Unknown u) leads in
       let d = part.constraint in
-      let onward = leads-joined (Unknown u) rest last to more c at in
-      (one_meant d ∷ onward.0, (at-map one_meant cs by d part.at, onward.1),
-      formal.goes_on (atom_of l table from) (one_meant d) u onward.0 (one_meant c) (Contains-map one_meant cs d (at-contains cs by d part.at))
-      (Contains-map (atom_of l table) d.left.items from part.part) (ap (atom_of l table) part.right) onward.2)
+      let onward = leads-joined (Unknown u) rest last to more c at in (
+        one_meant d ∷ onward.0,
+        (at-map one_meant cs by d part.at, onward.1),
+        formal.goes_on (atom_of l table from) (one_meant d) u onward.0 (one_meant c) (Contains-map one_meant cs d (at-contains cs by d part.at))
+            (Contains-map (atom_of l table) d.left.items from part.part) (ap (atom_of l table) part.right) onward.2,
+      )
 
   pub record IsRefusedBy (b : Broken) (chain : List ℕ) : Type 0 where
     pub picked : List (formal.Constraint T ℕ V)
     pub last : formal.Constraint T ℕ V
     pub picks : Picks all_meant chain picked
     pub refused : IsRefusedAt l all_meant (written_at l table b.value) picked last
-
 
   pub refused-by : (b : Broken) → IsFirst all_candidates b → (chain : List ℕ) → LeadsOn edges (Written b.value) chain b.by (Written b.to) → IsRefusedBy b chain
   refused-by b first chain leads =

@@ -1,6 +1,6 @@
 -- The links of constraints: from each part of a left side, by its constraint, to the right side.
 -- Source: our own.
-use Rattle.std.specs.Prelude.{ℕ, zero, suc, ◌<◌, List, [], ◌∷◌, ◌++◌, map, Bool, true, false, nat_eq, if◌then◌else◌, All}
+use Rattle.std.specs.Prelude.{ℕ, zero, suc, ◌<◌, List, [], ◌∷◌, ◌++◌, map, Bool, false, nat_eq, if◌then◌else◌, All}
 use Rattle.std.specs.Global.{Global}
 use Rattle.std.specs.declared.vec.Vec.{Vec}
 use Rattle.solver.specs.declared.edges.Edge.{Edge}

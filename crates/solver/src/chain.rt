@@ -10,11 +10,17 @@ use std::alloc::{AllocError, Global};
 
 /// The constraints, by their indices, from the written element whose trace this is to a last constraint, which is entered from this
 /// parent: 0 for the written element itself, or one more than the index of what was found.
-pub fn chain_to(alloc: Global, found: &[Found], parent: usize, last: usize) -> Result<Vec<usize>, AllocError>
+pub fn chain_to(
+    alloc: Global,
+    found: &[Found],
+    parent: usize,
+    last: usize,
+) -> Result<Vec<usize>, AllocError>
     requires parent { parent ≤ length found.now }
     requires falls { ParentsFall found.now }
-    ensures { IfOk result (λ chain. (edges : Edges) (n : ℕ) (to : Atom) → IsTrail edges n found.now →
-        EndsAt edges n found.now parent last to → LeadsOn edges (Written n) chain.items last to) }
+    ensures { IfOk result (λ chain. (edges : Edges) (n : ℕ) (to : Atom) →
+        IsTrail edges n found.now → EndsAt edges n found.now parent last to →
+        LeadsOn edges (Written n) chain.items last to) }
 {
     let mut chain = Vec::new(alloc);
     chain.push(last)?;

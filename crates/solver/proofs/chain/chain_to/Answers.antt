@@ -1,4 +1,4 @@
-use Rattle.std.proofs.Common.{◌≡◌, refl, sym, ap, ◌∙◌, subst, ◌∷◌, ◌++◌, [], length, arith, get_or, ◌-◌, ◌≤◌}
+use Rattle.std.proofs.Common.{◌≡◌, refl, sym, ap, ◌∙◌, subst, ◌∷◌, ◌++◌, [], arith, get_or, ◌-◌, ◌≤◌}
 use Rattle.solver.specs.Reach.{LeadsOn, nothing_found}
 use Rattle.solver.specs.declared.system.Atom.TheVariants.{Written}
 use Rattle.solver.proofs.Chains.{Walks, walks-start, walks-step, walks-end}

@@ -1,4 +1,4 @@
-use Rattle.std.proofs.Common.{◌≡◌, ap, ◌∙◌, ◌++◌, ◌∷◌, []}
+use Rattle.std.proofs.Common.{ap, ◌∙◌, ◌++◌, ◌∷◌, []}
 use Rattle.solver.proofs.Rows.{row_at-read, row_at-same, row_at-other}
 use Rattle.solver.proofs.edges.add_edge.Goals as goal
 

@@ -1,4 +1,4 @@
-use Rattle.std.proofs.Common.{◌≡◌, sym, ap, ◌∙◌, ◌++◌, ◌∷◌, [], subst, ◌+◌, length}
+use Rattle.std.proofs.Common.{ap, ◌∙◌, ◌+◌, length}
 use Rattle.std.proofs.lemmas.List.{length_push}
 use Rattle.solver.specs.Links.{row_at}
 use Rattle.solver.proofs.Rows.{row_at-more}

@@ -1,10 +1,7 @@
-use Rattle.std.proofs.Common.{◌≡◌, sym, ap, ◌∙◌, subst, ◌<◌, ◌∷◌, [], length, arith, get_or, ℕ, ◌-◌, ◌+◌, false}
+use Rattle.std.proofs.Common.{◌≡◌, sym, ap, ◌∙◌, subst, ◌<◌, length, arith, get_or, ℕ, ◌-◌, ◌+◌, false}
 use Rattle.std.specs.Prelude.{Contains}
-use Rattle.std.proofs.lemmas.List.{get_or_read, length-replicate}
-use Rattle.solver.specs.Links.{row_at}
-use Rattle.solver.specs.Reach.{Grows, AllMarked, StayInside, edge, nothing_found, row_of}
-use Rattle.solver.specs.declared.edges.Edge.{Edge}
-use Rattle.solver.specs.declared.search.Found.{Found}
+use Rattle.std.proofs.lemmas.List.{length-replicate}
+use Rattle.solver.specs.Reach.{edge, nothing_found, row_of}
 use Rattle.solver.specs.declared.system.Atom.TheVariants.{Unknown, Written}
 use Rattle.solver.proofs.Rows.{row_at-slice}
 use Rattle.solver.proofs.Searching.{next-inside, next-row, searched-smaller, searched-start, searched-step, searched-trace}
@@ -13,7 +10,6 @@ use Rattle.solver.proofs.search.trace.Goals.{After-as_slice}
 
 fewer : (count next : ℕ) → next < count → count - (next + 1) < count - next
 fewer count next h = omega arith
-
 
 -- the first row, and the sizes
 first_row : (c : goal.After-as_slice) → c.as_slice.result.now ≡ row_of c.args.edges.now (Written c.args.value)
@@ -35,7 +31,7 @@ loop-next-init c =
     (c.in_ok-vec.ensures.items_if_clones_equal (λ y e. e)) c.new.ensures.items c.in_ok-follow.ensures.grows c.in_ok-follow.ensures.marked
 
 pub index-requires-in-loop-next-2 : goal.index-requires-in-loop-next-2
-index-requires-in-loop-next-2 c = 
+index-requires-in-loop-next-2 c =
     let inside = next-inside c.args.edges.now c.args.value c.loop-next.search.found.items c.loop-next.next c.index-in-loop-next.result.now c.loop-next.invariant.trail c.requires.inside
     (omega (arith, c.loop-next-test.true, c.len.ensures, c.loop-next.search.found.ok.0)) c.index-in-loop-next.ensures in
     omega (arith, inside, c.args.edges.now.unknown.ok.0)

@@ -1,9 +1,8 @@
-use Rattle.std.proofs.Common.{◌≡◌, sym, ap, subst, ◌∷◌, []}
+use Rattle.std.proofs.Common.{sym, ap, subst, ◌∷◌, []}
 use Rattle.std.specs.Prelude.{Contains}
 use Rattle.principals.proofs.Closure.{Contains-first}
 use Rattle.solver.specs.Reach.{AllMarked, Grows, edge, same}
 use Rattle.solver.specs.declared.edges.Edge.{Edge}
-use Rattle.solver.specs.declared.system.Atom.TheVariants.{Unknown}
 use Rattle.solver.proofs.Searching.{one-grows, one-marked}
 use Rattle.solver.proofs.search.Search.follow_one.Goals as goal
 
