@@ -12,7 +12,7 @@ use std::alloc::{AllocError, Global};
 /// the join, and some element lies below all. Two elements that lie below each other need not be the same one.
 pub trait Lattice {
     /// The elements that are stored.
-    type Elem;
+    type Elem: Drop;
 
     ghost order: { Self → LatticeOf Self.Elem };
 

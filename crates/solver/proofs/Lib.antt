@@ -6,3 +6,4 @@ pub mod Meaning
 pub mod Rows
 pub mod Searching
 pub mod Solved
+pub mod Values

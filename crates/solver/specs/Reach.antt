@@ -1,6 +1,6 @@
 -- What a written element reaches along edges, and the ways to it, as a search finds them.
 -- Source: our own.
-use Rattle.std.specs.Prelude.{◌≡◌, ℕ, zero, suc, ◌<◌, ◌≤◌, List, [], ◌∷◌, ◌++◌, length, set, Bool, true, false, IsTrue, Contains, slice_index_or}
+use Rattle.std.specs.Prelude.{◌≡◌, ℕ, zero, suc, ◌<◌, ◌≤◌, List, [], ◌∷◌, ◌++◌, length, set, map, Bool, true, false, IsTrue, Contains, slice_index_or}
 use Rattle.std.specs.Global.{Global}
 use Rattle.std.specs.declared.vec.Vec.{Vec}
 use Rattle.solver.specs.Links.{row_at}
@@ -91,6 +91,10 @@ abbrev pub found_at : List (Vec Found Global) → ℕ → List Found
 found_at [] n = []
 found_at (found ∷ rest) zero = found.items
 found_at (found ∷ rest) (suc n) = found_at rest n
+
+-- the unknowns that were found, by their numbers
+abbrev pub numbers_of : List (Vec Found Global) → List (List ℕ)
+numbers_of reached = map (λ row. map (λ found. found.unknown) row.items) reached
 
 -- each is all that its written element reaches
 pub record AreTraces (edges : Edges) (reached : List (Vec Found Global)) : Type 0 where

@@ -1,8 +1,8 @@
 -- What stored constraints mean: constraints over the lattice's elements, the least values that a solution stands for, and a refusal.
 -- Source: our own.
-use Rattle.std.specs.Prelude.{◌≡◌, ℕ, suc, List, [], ◌∷◌, map, Some, if◌then◌else◌, ◌==◌, slice_get}
+use Rattle.std.specs.Prelude.{◌≡◌, ℕ, suc, List, [], ◌∷◌, length, map, Bool, true, false, Some, if◌then◌else◌, ◌==◌, slice_get, IsTrue}
 use Rattle.std.specs.List.{list_any}
-use Rattle.labels.specs.Constraints.{FitsAll, IsLeast, IsRefusedAt, Lattice}
+use Rattle.labels.specs.Constraints.{FitsAll, IsJoin, IsLeast, IsRefusedAt, Lattice}
 use Rattle.labels.specs.Constraints as formal
 use Rattle.solver.specs.Broken.{written_at}
 use Rattle.solver.specs.declared.fault.Refusal.{Refusal}
@@ -30,10 +30,14 @@ constraint_of l table c = record {
 abbrev pub constraints_of : {T V : Type 0} → Lattice V → System V T → List (formal.Constraint T ℕ V)
 constraints_of l system = map (constraint_of l system.written.items) system.constraints.items
 
+-- whether an unknown is among these
+abbrev pub is_among : ℕ → List ℕ → Bool
+is_among u us = list_any (λ w. w == u) us
+
 -- the numbers, from one on, of the rows in which an unknown stands
 abbrev pub rows_with : ℕ → List (List ℕ) → ℕ → List ℕ
 rows_with n [] u = []
-rows_with n (row ∷ rows) u = if list_any (λ w. w == u) row then (n ∷ rows_with (suc n) rows u) else rows_with (suc n) rows u
+rows_with n (row ∷ rows) u = if is_among u row then (n ∷ rows_with (suc n) rows u) else rows_with (suc n) rows u
 
 -- the join of written elements
 abbrev pub row_join : {V : Type 0} → Lattice V → List V → List ℕ → V
@@ -43,6 +47,16 @@ row_join l table (n ∷ ns) = l.join (written_at l table n) (row_join l table ns
 -- the values that a solution stands for, where it has for each written element the unknowns that this reaches
 abbrev pub values_of : {V : Type 0} → Lattice V → List V → List (List ℕ) → ℕ → V
 values_of l table reached u = row_join l table (rows_with 0 reached u)
+
+-- two values that lie below each other
+pub record AreAlike {V : Type 0} (l : Lattice V) (a b : V) : Type 0 where
+  pub to : IsTrue (l.leq a b)
+  pub from : IsTrue (l.leq b a)
+
+-- the join with an element, or the value itself
+abbrev pub JoinTo : {V : Type 0} → Lattice V → Bool → V → V → V → Type 0
+JoinTo l true value element result = IsJoin l value element result
+JoinTo l false value element result = result ≡ value
 
 -- the constraints at these indices
 abbrev pub Picks : {X : Type 0} → List X → List ℕ → List X → Type 0
@@ -62,7 +76,8 @@ abbrev pub Refuses : {T V : Type 0} → Lattice V → System V T → SolveFault 
 Refuses l system NoMemory = Unit {0}
 Refuses l system (Unmet refusal) = IsRefusal l system refusal
 
--- a solution: these values fit all constraints, and are least
+-- a solution: for each written element what it reaches, and so values that fit all constraints and are least
 pub record IsSolution {T V : Type 0} (l : Lattice V) (system : System V T) (reached : List (List ℕ)) : Type 0 where
+  pub rows : length reached ≡ length system.written.items
   pub fits : FitsAll l (constraints_of l system) (values_of l system.written.items reached)
   pub least : IsLeast l (constraints_of l system) (values_of l system.written.items reached)

@@ -27,7 +27,9 @@ fn lies_below<L: Lattice>(lattice: &L, written: &[L::Elem], value: usize, to: us
     requires to { to < length written.now }
     ensures { result ≡ is_below (L.order lattice.now) written.now value to }
 {
-    lattice.leq(&written[value], &written[to])
+    lattice.keep_laws();
+    // Equal labels share a number, so that a great one is seldom compared with itself.
+    value == to || lattice.leq(&written[value], &written[to])
 }
 
 // Whether a constraint stands before the one that was found so far.
@@ -51,7 +53,8 @@ fn earlier_of_edge<L: Lattice>(
 ) -> Option<Broken>
     requires value { value < length written.now }
     requires inside { RightsInside (length written.now) (edge ∷ []) }
-    ensures { result ≡ earliest best (broken_by (is_below (L.order lattice.now) written.now) value parent edge.by edge.to) }
+    ensures { result ≡ earliest best (broken_by
+        (is_below (L.order lattice.now) written.now) value parent edge.by edge.to) }
 {
     let Atom::Written(to) = edge.to else {
         return best;
@@ -81,7 +84,8 @@ fn earlier_of_edges<L: Lattice>(
 ) -> Option<Broken>
     requires value { value < length written.now }
     requires inside { RightsInside (length written.now) edges.now }
-    ensures { result ≡ earliest best (candidates (is_below (L.order lattice.now) written.now) value parent edges.now) }
+    ensures { result ≡ earliest best (candidates
+        (is_below (L.order lattice.now) written.now) value parent edges.now) }
 {
     let mut best = best;
     for edge in edges {
@@ -103,8 +107,10 @@ fn earlier_of_value<L: Lattice>(
     requires row { value < length edges.now.written.items }
     requires inside { AllRightsInside (length written.now) edges.now }
     requires found { FoundInside (length edges.now.unknown.items) found.now }
-    ensures { result ≡ earliest best (candidates (is_below (L.order lattice.now) written.now) value 0 (row_of edges.now (Written value))
-        ++ found_candidates edges.now (is_below (L.order lattice.now) written.now) value 0 found.now) }
+    ensures { result ≡ earliest best (candidates
+        (is_below (L.order lattice.now) written.now) value 0 (row_of edges.now (Written value))
+        ++ found_candidates edges.now
+        (is_below (L.order lattice.now) written.now) value 0 found.now) }
 {
     let row = edges.written[value].as_slice();
     let mut best = earlier_of_edges(lattice, written, row, value, 0, best);
@@ -125,8 +131,10 @@ pub fn first_broken<L: Lattice>(
     requires values { length reached.now ≡ length written.now }
     requires rows { length edges.now.written.items ≡ length written.now }
     requires inside { AllRightsInside (length written.now) edges.now }
-    requires found { All (λ found. FoundInside (length edges.now.unknown.items) found.items) reached.now }
-    ensures { result ≡ earliest None (value_candidates edges.now (is_below (L.order lattice.now) written.now) 0 reached.now) }
+    requires found { All (λ found. FoundInside (length
+        edges.now.unknown.items) found.items) reached.now }
+    ensures { result ≡ earliest None (value_candidates edges.now
+        (is_below (L.order lattice.now) written.now) 0 reached.now) }
 {
     let mut best = None;
     for (value, found) in reached.iter().enumerate() {

@@ -18,8 +18,9 @@ pub fn chain_to(
 ) -> Result<Vec<usize>, AllocError>
     requires parent { parent ≤ length found.now }
     requires falls { ParentsFall found.now }
-    ensures { IfOk result (λ chain. (edges : Edges) (n : ℕ) (to : Atom) → IsTrail edges n found.now →
-        EndsAt edges n found.now parent last to → LeadsOn edges (Written n) chain.items last to) }
+    ensures { IfOk result (λ chain. (edges : Edges) (n : ℕ) (to : Atom) →
+        IsTrail edges n found.now → EndsAt edges n found.now parent last to →
+        LeadsOn edges (Written n) chain.items last to) }
 {
     let mut chain = Vec::new(alloc);
     chain.push(last)?;

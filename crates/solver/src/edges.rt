@@ -29,8 +29,10 @@ pub fn edges_of<T>(
     unknowns: usize,
 ) -> Result<Edges, AllocError>
     requires { InRange written unknowns constraints.now }
-    ensures written { IfOk result (λ edges. (k : ℕ) → row_at edges.written.items k ≡ edges_at (Written k) (links_of 0 constraints.now)) }
-    ensures unknown { IfOk result (λ edges. (k : ℕ) → row_at edges.unknown.items k ≡ edges_at (Unknown k) (links_of 0 constraints.now)) }
+    ensures written { IfOk result (λ edges. (k : ℕ) → row_at edges.written.items k
+        ≡ edges_at (Written k) (links_of 0 constraints.now)) }
+    ensures unknown { IfOk result (λ edges. (k : ℕ) → row_at edges.unknown.items k
+        ≡ edges_at (Unknown k) (links_of 0 constraints.now)) }
     ensures written_count { IfOk result (λ edges. length edges.written.items ≡ written) }
     ensures unknown_count { IfOk result (λ edges. length edges.unknown.items ≡ unknowns) }
 {
@@ -59,10 +61,14 @@ fn empty_rows(alloc: Global, count: usize) -> Result<Vec<Vec<Edge>>, AllocError>
 // Adds the edges from the parts of a left side to the right side.
 fn add_left(edges: &mut Edges, left: &[Atom], by: usize, to: Atom) -> Result<(), AllocError>
     requires { AreBelow (length edges.old.written.items) (length edges.old.unknown.items) left.now }
-    ensures written { OnOk result ((k : ℕ) → row_at edges.new.written.items k ≡ row_at edges.old.written.items k ++ edges_at (Written k) (left_links by to left.now)) }
-    ensures unknown { OnOk result ((k : ℕ) → row_at edges.new.unknown.items k ≡ row_at edges.old.unknown.items k ++ edges_at (Unknown k) (left_links by to left.now)) }
-    ensures written_count { OnOk result (length edges.new.written.items ≡ length edges.old.written.items) }
-    ensures unknown_count { OnOk result (length edges.new.unknown.items ≡ length edges.old.unknown.items) }
+    ensures written { OnOk result ((k : ℕ) → row_at edges.new.written.items k
+        ≡ row_at edges.old.written.items k ++ edges_at (Written k) (left_links by to left.now)) }
+    ensures unknown { OnOk result ((k : ℕ) → row_at edges.new.unknown.items k
+        ≡ row_at edges.old.unknown.items k ++ edges_at (Unknown k) (left_links by to left.now)) }
+    ensures written_count { OnOk result (length edges.new.written.items
+        ≡ length edges.old.written.items) }
+    ensures unknown_count { OnOk result (length edges.new.unknown.items
+        ≡ length edges.old.unknown.items) }
 {
     for atom in left {
         add(edges, *atom, Edge { by, to })?;
@@ -73,10 +79,16 @@ fn add_left(edges: &mut Edges, left: &[Atom], by: usize, to: Atom) -> Result<(),
 // Adds an edge from a part.
 fn add(edges: &mut Edges, from: Atom, edge: Edge) -> Result<(), AllocError>
     requires { IsBelow (length edges.old.written.items) (length edges.old.unknown.items) from }
-    ensures written { OnOk result ((k : ℕ) → row_at edges.new.written.items k ≡ row_at edges.old.written.items k ++ edges_at (Written k) (link from edge.by edge.to ∷ [])) }
-    ensures unknown { OnOk result ((k : ℕ) → row_at edges.new.unknown.items k ≡ row_at edges.old.unknown.items k ++ edges_at (Unknown k) (link from edge.by edge.to ∷ [])) }
-    ensures written_count { OnOk result (length edges.new.written.items ≡ length edges.old.written.items) }
-    ensures unknown_count { OnOk result (length edges.new.unknown.items ≡ length edges.old.unknown.items) }
+    ensures written { OnOk result ((k : ℕ) → row_at edges.new.written.items k
+        ≡ row_at edges.old.written.items k ++ edges_at (Written k)
+        (link from edge.by edge.to ∷ [])) }
+    ensures unknown { OnOk result ((k : ℕ) → row_at edges.new.unknown.items k
+        ≡ row_at edges.old.unknown.items k ++ edges_at (Unknown k)
+        (link from edge.by edge.to ∷ [])) }
+    ensures written_count { OnOk result (length edges.new.written.items
+        ≡ length edges.old.written.items) }
+    ensures unknown_count { OnOk result (length edges.new.unknown.items
+        ≡ length edges.old.unknown.items) }
 {
     match from {
         Atom::Written(n) => add_edge(&mut edges.written, n as usize, edge),
@@ -87,8 +99,10 @@ fn add(edges: &mut Edges, from: Atom, edge: Edge) -> Result<(), AllocError>
 // Adds an edge to a row.
 fn add_edge(rows: &mut Vec<Vec<Edge>>, at: usize, edge: Edge) -> Result<(), AllocError>
     requires { at < length rows.old.items }
-    ensures row { OnOk result (row_at rows.new.items at ≡ row_at rows.old.items at ++ edge ∷ []) }
-    ensures others { OnOk result ((k : ℕ) → k ≢ at → row_at rows.new.items k ≡ row_at rows.old.items k) }
+    ensures row { OnOk result (row_at rows.new.items at
+        ≡ row_at rows.old.items at ++ edge ∷ []) }
+    ensures others { OnOk result ((k : ℕ) → k ≢ at → row_at rows.new.items k
+        ≡ row_at rows.old.items k) }
     ensures count { OnOk result (length rows.new.items ≡ length rows.old.items) }
 {
     rows[at].push(edge)?;

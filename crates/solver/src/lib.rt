@@ -2,15 +2,16 @@
 //! rules out every solution.
 #![tactic(auto)]
 
-pub mod broken;
-pub mod chain;
-pub mod edges;
+mod broken;
+mod chain;
+mod edges;
 pub mod fault;
-pub mod search;
+mod search;
 pub mod solution;
-pub mod solve;
+pub mod solving;
 pub mod system;
 
 pub use fault::{Refusal, SolveFault};
 pub use solution::Solution;
+pub use solving::solve;
 pub use system::{Atom, Constraint, System};

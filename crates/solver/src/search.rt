@@ -28,8 +28,11 @@ impl Search {
     // Finds an unknown, unless it was found before.
     fn find(&mut self, found: Found) -> Result<(), AllocError>
         requires { found.unknown < length self.old.marks.items }
-        ensures marks { OnOk result (self.new.marks.items ≡ set self.old.marks.items found.unknown true) }
-        ensures found { OnOk result (self.new.found.items ≡ (if slice_index_or self.old.marks.items found.unknown false then self.old.found.items else (self.old.found.items ++ found ∷ []))) }
+        ensures marks { OnOk result (self.new.marks.items ≡ set
+            self.old.marks.items found.unknown true) }
+        ensures found { OnOk result (self.new.found.items ≡ (if slice_index_or
+            self.old.marks.items found.unknown false then self.old.found.items else
+            (self.old.found.items ++ found ∷ []))) }
     {
         if self.marks[found.unknown as usize] {
             return Ok(());
@@ -42,7 +45,8 @@ impl Search {
     // Finds the unknown to which an edge leads, if it leads to one.
     fn follow_one(&mut self, edge: Edge, parent: usize) -> Result<(), AllocError>
         requires { StayInside (length self.old.marks.items) (edge ∷ []) }
-        ensures grows { OnOk result (Grows (edge ∷ []) parent self.old.marks.items self.old.found.items self.new.marks.items self.new.found.items) }
+        ensures grows { OnOk result (Grows (edge ∷ []) parent
+            self.old.marks.items self.old.found.items self.new.marks.items self.new.found.items) }
         ensures marked { OnOk result (AllMarked (edge ∷ []) self.new.marks.items) }
     {
         if let Atom::Unknown(unknown) = edge.to {
@@ -59,7 +63,8 @@ impl Search {
     // Finds the unknowns to which these edges lead.
     fn follow(&mut self, edges: &[Edge], parent: usize) -> Result<(), AllocError>
         requires { StayInside (length self.old.marks.items) edges.now }
-        ensures grows { OnOk result (Grows edges.now parent self.old.marks.items self.old.found.items self.new.marks.items self.new.found.items) }
+        ensures grows { OnOk result (Grows edges.now parent
+            self.old.marks.items self.old.found.items self.new.marks.items self.new.found.items) }
         ensures marked { OnOk result (AllMarked edges.now self.new.marks.items) }
     {
         for edge in edges {

@@ -19,8 +19,8 @@ use std::alloc::{AllocError, Global};
 
 /// The least values of the unknowns that fit the constraints whose right side is an unknown, if they fit all constraints. Otherwise
 /// the first constraint in order, with a written right side, that they do not fit, and a chain to it that no values fit: so the
-/// constraints are refused exactly where no values fit them all. The caller owes numbers of written elements and of unknowns that
-/// are there.
+/// constraints are refused exactly where no values fit them all. It is a precondition that the numbers of written elements and of
+/// unknowns are in range.
 ///
 /// It takes time in proportion to the constraints for each written element, and looks at a constraint again only when one more
 /// written element reaches its left side.
@@ -29,7 +29,8 @@ pub fn solve<L: Lattice, T>(
     lattice: &L,
     system: &System<L::Elem, T>,
 ) -> Result<Solution, SolveFault>
-    requires { InRange (length system.now.written.items) system.now.unknowns system.now.constraints.items }
+    requires { InRange (length system.now.written.items) system.now.unknowns
+        system.now.constraints.items }
     ensures solved { IfOk result (IsSolution (L.order lattice.now) system.now) }
     ensures refused { IfErr result (Refuses (L.order lattice.now) system.now) }
 {
@@ -72,8 +73,10 @@ fn refusal(alloc: Global, reached: &[Vec<Found>], broken: Broken) -> Result<Refu
     requires parent { broken.parent ≤ length (found_at reached.now broken.value) }
     requires falls { ParentsFall (found_at reached.now broken.value) }
     ensures from { IfOk result (λ refusal. refusal.from ≡ broken.value) }
-    ensures chain { IfOk result (λ refusal. (edges : Edges) (n : ℕ) (to : Atom) → IsTrail edges n (found_at reached.now broken.value) →
-        EndsAt edges n (found_at reached.now broken.value) broken.parent broken.by to → LeadsOn edges (Written n) refusal.chain.items broken.by to) }
+    ensures chain { IfOk result (λ refusal. (edges : Edges) (n : ℕ) (to : Atom)
+        → IsTrail edges n (found_at reached.now broken.value) →
+        EndsAt edges n (found_at reached.now broken.value) broken.parent broken.by to →
+        LeadsOn edges (Written n) refusal.chain.items broken.by to) }
 {
     let found = reached[broken.value].as_slice();
     Ok(Refusal {

@@ -3,7 +3,7 @@ use Rattle.solver.specs.Reach.{EndsAt, IsTrail, ParentsFall, found_at}
 use Rattle.solver.specs.declared.search.Found.{Found}
 use Rattle.std.specs.Prelude.{List}
 use Rattle.solver.proofs.Found.{found_at-slice}
-use Rattle.solver.proofs.solve.refusal.Goals as goal
+use Rattle.solver.proofs.solving.refusal.Goals as goal
 
 found_is : (c : goal.After-as_slice-found) → c.as_slice-found.result.now ≡ found_at c.args.reached.now c.args.broken.value
 found_is c = found_at-slice c.args.reached.now c.args.broken.value c.index-reached-broken.result c.as_slice-found.result.now c.requires.value c.index-reached-broken.is c.as_slice-found.ensures.value

@@ -1,6 +1,6 @@
 use Rattle.std.proofs.Common.{◌≡◌, ◌<◌, ℕ, length}
 use Rattle.solver.specs.Reach.{IsTrace, found_at}
-use Rattle.solver.proofs.solve.trace_all.Given as goal
+use Rattle.solver.proofs.solving.trace_all.Given as goal
 
 abbrev pub invariant-loop-value : goal.invariant-loop-value
 invariant-loop-value l = record {

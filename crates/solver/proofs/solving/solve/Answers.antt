@@ -1,4 +1,5 @@
-use Rattle.std.proofs.Common.{sym, ap, ◌∙◌, subst, length, arith, ◌<◌, ◌≤◌, None, List}
+use Rattle.std.proofs.Common.{sym, ap, ◌∙◌, subst, length, arith, ◌<◌, ◌≤◌, None, List, map}
+use Rattle.std.proofs.lemmas.List.{length-map}
 use Rattle.std.specs.Prelude.{All}
 use Rattle.std.specs.Global.{Global}
 use Rattle.std.specs.declared.vec.Vec.{Vec}
@@ -11,7 +12,7 @@ use Rattle.solver.specs.declared.system.Atom.TheVariants.{Written}
 use Rattle.solver.proofs.Candidates.{earliest-first, earliest-none}
 use Rattle.solver.proofs.Chains.{trail-falls}
 use Rattle.solver.proofs.Solved.{are-edges, candidate-breaks, found-all_inside, refused-by, rights-inside, solved-fits, solved-least, unknowns-inside}
-use Rattle.solver.proofs.solve.solve.Goals as goal
+use Rattle.solver.proofs.solving.solve.Goals as goal
 
 pub trace_all-requires-clause-inside : goal.trace_all-requires-clause-inside
 trace_all-requires-clause-inside g c =
@@ -33,6 +34,8 @@ pub returns-in-None-clause-solved : goal.returns-in-None-clause-solved
 returns-in-None-clause-solved g c =
     subst (λ rows. IsSolution (g.L.Lattice.order c.args.lattice.now) c.args.system.now rows) (sym c.of.ensures)
     (record {
+      rows = length-map c.in_ok-reached.reached.items (λ (row : Vec Found Global). map (λ (found : Found). found.unknown) row.items)
+          ∙ (omega (arith, c.in_ok-reached.ensures.all, c.in_ok-edges.ensures.written_count, c.len-count.ensures, c.args.system.now.written.ok.0));
       fits = solved-fits (g.L.Lattice.order c.args.lattice.now) c.keep_laws.ensures c.args.system.now.written.items c.args.system.now.constraints.items c.in_ok-edges.edges (are-edges c.args.system.now.constraints.items c.as_slice.result.now c.in_ok-edges.edges c.as_slice.ensures.value c.in_ok-edges.ensures.written c.in_ok-edges.ensures.unknown)
           c.args.system.now.unknowns c.requires c.in_ok-reached.reached.items c.in_ok-reached.ensures (omega (arith, c.in_ok-reached.ensures.all, c.in_ok-edges.ensures.written_count, c.len-count.ensures, c.args.system.now.written.ok.0))
           (earliest-none (value_candidates c.in_ok-edges.edges (is_below (g.L.Lattice.order c.args.lattice.now) c.args.system.now.written.items) 0 c.in_ok-reached.reached.items) ((ap (λ t. earliest None (value_candidates c.in_ok-edges.edges (is_below (g.L.Lattice.order c.args.lattice.now) t) 0 c.in_ok-reached.reached.items)) (sym c.as_slice-2.ensures.value)

@@ -6,7 +6,7 @@ use Rattle.std.proofs.lemmas.List.{length_push}
 use Rattle.solver.specs.Reach.{IsTrace, found_at}
 use Rattle.solver.specs.declared.search.Found.{Found}
 use Rattle.solver.proofs.Found.{traces-push}
-use Rattle.solver.proofs.solve.trace_all.Goals as goal
+use Rattle.solver.proofs.solving.trace_all.Goals as goal
 
 pub loop-value-preserved : goal.loop-value-preserved
 loop-value-preserved c =
