@@ -7,7 +7,7 @@ use Rattle.std.specs.declared.vec.Vec.{Vec}
 use Rattle.std.proofs.lemmas.List.{length-map, length-take-le, map-append, take_more}
 use Rattle.std.proofs.lemmas.List.Elements.{Contains-append_cases, Contains-append_left, Contains-append_right}
 use Rattle.principals.proofs.Closure.{none_in_nil, Contains-cons_cases, Contains-later, Contains-first}
-use Rattle.labels.specs.Constraints.{Keeps, Lattice}
+use Rattle.labels.specs.Constraints.{LatticeLaws, Lattice}
 use Rattle.solver.specs.Broken.{written_at}
 use Rattle.solver.specs.System.{AreAlike, JoinTo, is_among, row_join, rows_with}
 use Rattle.solver.specs.declared.search.Found.{Found}
@@ -41,7 +41,7 @@ pub record IsLeastAbove {V : Type 0} (l : Lattice V) (table : List V) (value : V
   pub above : (n : ℕ) → Contains ns n → IsTrue (l.leq (written_at l table n) value)
   pub least : (b : V) → ((n : ℕ) → Contains ns n → IsTrue (l.leq (written_at l table n) b)) → IsTrue (l.leq value b)
 
-module _ {V : Type 0} (l : Lattice V) (laws : Keeps l) (table : List V) where
+module _ {V : Type 0} (l : Lattice V) (laws : LatticeLaws l) (table : List V) where
   pub least-above_none : (value : V) → value ≡ l.least → IsLeastAbove l table value []
   least-above_none value e = record {
     above = λ n h. absurd (none_in_nil n h);
