@@ -4,8 +4,8 @@ use crate::answer::{write, write_lines};
 use crate::fault::LineFault;
 use crate::line::{number_of, words_of};
 use crate::texts::Texts;
-use bytecode::decode;
-use channels::{Pair, World};
+use bytecode::{FormatFault, decode};
+use channels::{Pair, World, WorldFault};
 use flowc::{Answer, Event, HostFault};
 use machine::Status;
 use std::alloc::Global;
@@ -42,12 +42,15 @@ fn world_of(alloc: Global, module: &[u8], text: &[u8]) -> Result<World, LineFaul
     let Ok(text) = str::from_utf8(text) else {
         return Err(LineFault::NoWorld);
     };
-    let Ok(whole) = decode(alloc, module) else {
-        return Err(LineFault::NoModule);
+    let whole = match decode(alloc, module) {
+        Ok(whole) => whole,
+        Err(FormatFault::NoMemory) => return Err(LineFault::NoMemory),
+        Err(FormatFault::Refused(..)) => return Err(LineFault::NoModule),
     };
     match World::read(alloc, &whole, text) {
         Ok(world) => Ok(world),
-        Err(_) => Err(LineFault::NoWorld),
+        Err(WorldFault::NoMemory) => Err(LineFault::NoMemory),
+        Err(WorldFault::Line { .. }) => Err(LineFault::NoWorld),
     }
 }
 

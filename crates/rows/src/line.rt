@@ -1,6 +1,7 @@
 //! The words of a line.
 
 use crate::fault::LineFault;
+use hex::FromHexError;
 use std::alloc::Global;
 
 /// The first word of a line, and what stands behind the space that follows it.
@@ -48,6 +49,7 @@ pub fn bytes_of(alloc: Global, digits: &str) -> Result<Vec<u8>, LineFault> {
 fn add_hex(alloc: Global, bytes: &mut Vec<u8>, word: &str) -> Result<(), LineFault> {
     match hex::decode(alloc, word) {
         Ok(more) => Ok(bytes.extend_from_slice(&more)?),
+        Err(FromHexError::OutOfMemory) => Err(LineFault::NoMemory),
         Err(_) => Err(LineFault::WrongForm),
     }
 }
