@@ -4,19 +4,20 @@
 use channels::{Device, write_whole};
 use flowc::{Task, TaskFault, perform, task};
 use std::alloc::{AllocError, AllocFailed};
+use std::io::ErrorKind;
 use std::process::ExitCode;
 use std::rt::Files;
 use std::{env, fs};
 
-// Why the program stops but for what its task tells.
+// Why the program stops, apart from what its task reports.
 #[derive(Debug, Drop)]
 enum Failure {
-    // Wrong words, or a wish for help: the text that says so.
+    // Wrong words, or words that ask for help: the text that says so.
     Words(String),
     // A file that cannot be read or written: the line that says so.
     File(String),
-    // The words of the command line cannot be had.
-    NoWords,
+    // A word of the command line is no text.
+    NoText,
     OutOfMemory,
 }
 
@@ -42,16 +43,19 @@ impl From<TaskFault> for Failure {
 }
 
 fn main(rt: HostRuntime) -> ExitCode {
-    match done(&rt) {
+    match perform_words(&rt) {
         Ok(status) => ExitCode::from(status),
-        Err(failure) => ExitCode::from(told(&rt, &failure)),
+        Err(failure) => ExitCode::from(report(&rt, &failure)),
     }
 }
 
 // Does the task that the words ask for, and answers its status.
-fn done(rt: &HostRuntime) -> Result<u8, Failure> {
-    let Ok(words) = env::args(rt) else {
-        return Err(Failure::NoWords);
+fn perform_words(rt: &HostRuntime) -> Result<u8, Failure> {
+    let words = match env::args(rt) {
+        Ok(words) => words,
+        // The words are there unless memory ran out or one of them is not UTF-8.
+        Err(error) if error.kind() == ErrorKind::OutOfMemory => return Err(Failure::OutOfMemory),
+        Err(_) => return Err(Failure::NoText),
     };
     let mut owned = Vec::new(rt.alloc());
     for word in words {
@@ -80,6 +84,7 @@ fn done(rt: &HostRuntime) -> Result<u8, Failure> {
 fn read(rt: &HostRuntime, path: &str) -> Result<Vec<u8>, Failure> {
     match fs::read(rt, path) {
         Ok(bytes) => Ok(bytes),
+        Err(error) if error.kind() == ErrorKind::OutOfMemory => Err(Failure::OutOfMemory),
         Err(_) => {
             let line = format!(in rt.alloc(); "flowc: {path}: cannot read\n")?;
             Err(Failure::File(line))
@@ -98,15 +103,15 @@ fn write(rt: &HostRuntime, path: &str, bytes: &[u8]) -> Result<(), Failure> {
     }
 }
 
-// Tells a failure on standard error, and answers the status that stands for it.
-fn told(rt: &HostRuntime, failure: &Failure) -> u8 {
+// Reports a failure on standard error, and answers the status that stands for it.
+fn report(rt: &HostRuntime, failure: &Failure) -> u8 {
     let (line, status) = match failure {
         Failure::Words(text) => (text.as_str(), 2),
         Failure::File(line) => (line.as_str(), 3),
-        Failure::NoWords => ("flowc: cannot read the command line\n", 3),
+        Failure::NoText => ("error: a word of the command line is not UTF-8\n", 2),
         Failure::OutOfMemory => ("flowc: no memory\n", 3),
     };
-    // Where standard error fails too, nothing is left to tell it on.
+    // Where standard error fails too, nothing is left to report it on.
     let _ = write_whole(&mut Device::new(rt.stderr()), line.as_bytes());
     status
 }
