@@ -1,17 +1,26 @@
 //! Lookups by number and by name in a hierarchy, and the laws of acts-for.
 
+use principals::laws::Relation;
 use principals::{GREATEST_TEXT, HierFault, Hierarchy, laws};
 use std::alloc::Global;
 use std::test::Fail;
 
 const THREE: &str = "principal Alice, Bob, Carol;\nCarol actsfor Bob;";
 
+// Everybody is related to everybody.
+struct Everybody;
+
+impl Relation for Everybody {
+    ghost related = { λ _ _. Unit {0} };
+}
+
 #[test]
 fn the_laws_are_called(_rt: HostRuntime) {
     laws::acts_for_decides();
-    laws::acts_for_is_least();
+    laws::acts_for_is_least::<Everybody>();
     laws::acts_for_is_monotone();
     laws::names_are_names();
+    laws::one_reading();
 }
 
 #[test]

@@ -3,7 +3,7 @@
 ghost use Rattle.labels.specs.Canonical.{IsCanonicalPolicy};
 ghost use Rattle.std.specs.Prelude.{IfOk};
 
-use labels::{Label, Pair, Policy, PrintedLabel, flows, join, laws, may_read};
+use labels::{Label, Pair, Policy, PrintedLabel, constraint_laws, flows, join, laws, may_read};
 use principals::Hierarchy;
 use std::alloc::{AllocError, Global};
 use std::cmp::Ordering;
@@ -276,4 +276,16 @@ fn the_laws_are_called(rt: HostRuntime) {
     laws::written_label_keeps_its_policies();
     let pair = |number| Pair { channel: 1, number };
     assert!(rt; pair(7) == pair(7) && pair(7) != pair(8));
+}
+
+#[test]
+fn the_laws_of_constraints_are_called(_rt: HostRuntime) {
+    constraint_laws::least_values_are_unique::<u8, u32, u32>();
+    constraint_laws::what_reaches_lies_below::<u8, u32, u32>();
+    constraint_laws::least_values_fit_if_any_do::<u8, u32, u32>();
+    constraint_laws::a_chain_rules_out_all_values::<u8, u32, u32>();
+    constraint_laws::constraints_fit_or_are_refused::<u8, u32, u32>();
+    constraint_laws::gathered_constraints_fit_alike::<u8, u32, u32, u32>();
+    constraint_laws::gathered_constraints_have_the_same_least_values::<u8, u32, u32, u32>();
+    constraint_laws::gathered_constraints_are_refused_alike::<u8, u32, u32, u32, u8>();
 }

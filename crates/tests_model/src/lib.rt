@@ -1,9 +1,11 @@
-//! Tests of `lexer`, `principals` and `labels`: what no row of the program `rows` reaches.
+//! Tests of `lexer`, `principals`, `labels` and `solver`: what no row of the program `rows` reaches.
 #![tactic(auto)]
 
 #[cfg(test)]
 mod hierarchies;
 #[cfg(test)]
 mod labels_of;
+#[cfg(test)]
+mod solving;
 #[cfg(test)]
 mod texts;

@@ -24,6 +24,8 @@ const MODULE: [u8; 176] = [
 fn the_laws_are_called(_rt: HostRuntime) {
     laws::sessions_are_fresh_runs();
     laws::sessions_are_isolated();
+    laws::sessions_go_on();
+    laws::transcripts_join();
     laws::ids_are_never_given_again();
 }
 
@@ -67,7 +69,7 @@ fn count_of_view(host: &Host, id: Id) -> Result<usize, HostFault> {
     }
 }
 
-// Whichever growth is refused, a call answers want of memory or what it answers undisturbed, and asked again it answers that.
+// Whichever growth is refused, a call answers out of memory or what it answers undisturbed, and asked again it answers that.
 #[test]
 fn a_refused_growth_changes_nothing(rt: HostRuntime) -> Result<(), Fail> {
     let mut host = Host::new(rt.alloc());

@@ -5,7 +5,11 @@ use isolation::{confinement, examples, noninterference, runs};
 #[test]
 fn laws_of_sources(_rt: HostRuntime) {
     resolved::laws::values_keep_their_types();
+    resolved::laws::programs_are_labelled_or_refused();
+    resolved::laws::gathered_constraints_decide();
+    resolved::laws::precise_programs_are_accepted();
     runs::ends_are_possible();
+    runs::calls_give_their_value();
     runs::sent_stays_sent();
     runs::more_turns_go_on();
     confinement::statements_are_confined();
@@ -35,5 +39,7 @@ fn laws_of_compiling(_rt: HostRuntime) {
 fn laws_of_the_program(_rt: HostRuntime) {
     flowc::laws::sessions_mean_the_source();
     flowc::laws::sessions_are_isolated();
-    flowc::laws::observers_are_told_nothing();
+    flowc::laws::silent_modules_show_less();
+    flowc::laws::runs_are_isolated();
+    flowc::laws::runs_end_as_the_source();
 }

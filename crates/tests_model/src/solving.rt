@@ -1,0 +1,70 @@
+//! Constraints over labels, solved and refused.
+
+ghost use Rattle.solver.specs.Links.{InRange};
+ghost use Rattle.std.specs.Prelude.{IfOk, [], length, ◌∷◌, ◌<◌, ◌≡◌};
+
+use labels::{Label, LabelLattice, Policy};
+use principals::Hierarchy;
+use solver::{Atom, Constraint, SolveFault, System, solve};
+use std::alloc::{AllocError, Global};
+use std::test::Fail;
+
+// The label that Alice alone may read.
+fn secret(alloc: Global) -> Result<Label, AllocError> {
+    let policies = vec![in alloc; Policy::written(0, Vec::new(alloc))]?;
+    Ok(Label::written(policies))
+}
+
+// What is on the left flows to what is on the right.
+fn flow(alloc: Global, left: Atom, right: Atom) -> Result<Constraint<u8>, AllocError>
+    ensures left { IfOk result (λ c. c.left.items ≡ left ∷ []) }
+    ensures right { IfOk result (λ c. c.right ≡ right) }
+{
+    Ok(Constraint {
+        at: 0,
+        rule: 1,
+        left: vec![in alloc; left]?,
+        target: 0,
+        right,
+    })
+}
+
+// The secret flows to an unknown, and that to the secret or to everybody.
+fn system(alloc: Global, to: u32) -> Result<System<Label, u8>, AllocError>
+    requires { to < 2 }
+    ensures { IfOk result (λ system. InRange (length system.written.items) system.unknowns system.constraints.items) }
+{
+    let first = flow(alloc, Atom::Written(0), Atom::Unknown(0))?;
+    let second = flow(alloc, Atom::Unknown(0), Atom::Written(to))?;
+    Ok(System {
+        written: vec![in alloc; secret(alloc)?, Label::least(alloc)]?,
+        unknowns: 1,
+        constraints: vec![in alloc; first, second]?,
+    })
+}
+
+#[test]
+fn solves(rt: HostRuntime) -> Result<(), Fail> {
+    let alloc = rt.alloc();
+    let hierarchy = Hierarchy::read(alloc, "principal Alice;")?;
+    let lattice = LabelLattice {
+        hierarchy: &hierarchy,
+    };
+    let system = system(alloc, 0)?;
+    let solution = solve(alloc, &lattice, &system)?;
+    assert!(rt; solution.value(alloc, &lattice, &system.written, 0).is_ok());
+    Ok(())
+}
+
+#[test]
+fn refuses(rt: HostRuntime) -> Result<(), Fail> {
+    let alloc = rt.alloc();
+    let hierarchy = Hierarchy::read(alloc, "principal Alice;")?;
+    let lattice = LabelLattice {
+        hierarchy: &hierarchy,
+    };
+    let system = system(alloc, 1)?;
+    let answer = solve(alloc, &lattice, &system);
+    assert!(rt; matches!(&answer, Err(SolveFault::Unmet(_))));
+    Ok(())
+}
