@@ -183,11 +183,7 @@ pub fn write_view<S: Sink>(
 }
 
 // The pairs of a list that the observer is shown.
-fn shown_pairs(
-    alloc: Global,
-    observer: &Observer,
-    sent: &[Pair],
-) -> Result<Vec<Pair>, AllocError>
+fn shown_pairs(alloc: Global, observer: &Observer, sent: &[Pair]) -> Result<Vec<Pair>, AllocError>
     ensures { IfOk result (λ pairs. pairs.items ≡ filter (is_shown observer.now.program.now observer.now.principal) sent.now) }
 {
     let mut pairs = Vec::new(alloc);

@@ -21,7 +21,12 @@ pub trait Lattice {
         ensures { result ≡ (order self.now).leq left.now right.now };
 
     /// The join: above both, and below all that are above both. It fails only where memory was refused.
-    fn join(&self, alloc: Global, left: &Self::Elem, right: &Self::Elem) -> Result<Self::Elem, AllocError>
+    fn join(
+        &self,
+        alloc: Global,
+        left: &Self::Elem,
+        right: &Self::Elem,
+    ) -> Result<Self::Elem, AllocError>
         ensures { IfOk result (IsJoin (order self.now) left.now right.now) };
 
     /// The element that lies below all. It takes no memory.
