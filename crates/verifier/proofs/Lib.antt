@@ -1,6 +1,4 @@
+pub mod Laws
 pub mod Offsets
-pub mod Straight
-pub mod Whole
-pub mod Flow
-pub mod Loops
-pub mod Told
+pub mod Reaching
+pub mod Shared

@@ -1,4 +1,8 @@
 pub mod Faults
+pub mod Fixed
+pub mod Flow
+pub mod Operands
 pub mod Safety
-pub mod Straight
+pub mod Search
+pub mod Verified
 pub mod Words
