@@ -1,4 +1,6 @@
+pub mod FixedFaults
 pub mod Laws
+pub mod Marks
 pub mod Offsets
 pub mod Reaching
 pub mod Shared

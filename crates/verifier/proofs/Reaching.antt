@@ -278,7 +278,7 @@ pub edge_jump : (m : ModuleContents) (p : ProcedureContents) (s : Search) (at to
 edge_jump m p s at to i after h is = record { kinds = h.kinds; has = h.has; edge = jumps i to after h.there h.effect is }
 
 pub edge_caught : (m : ModuleContents) (p : ProcedureContents) (s : Search) (at : ℕ) (kinds : List Kind) (i : Instruction) (h : Handler) → table s at ≡ Some kinds → instruction_at p.code at ≡ Some i → Contains p.handlers h → h.start ≤ at → at < h.end → IsAtEdge m p s at h.target []
-edge_caught m p s at kinds i h has is c l m = record { kinds = kinds; has = has; edge = caught i h is c l m }
+edge_caught m p s at kinds i h has is inside low high = record { kinds = kinds; has = has; edge = caught i h is inside low high }
 
 -- what an instruction of this procedure makes of kinds
 effect_own : (m : ModuleContents) (p : ProcedureContents) (i : Instruction) (kinds : List Kind) → is_own p i ≡ true → effect m p i kinds ≡ exchanged (signature m p i) kinds

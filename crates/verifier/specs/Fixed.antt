@@ -74,12 +74,16 @@ instruction_defect m procedure OtherBoolean = None
 instruction_defect m procedure Return = None
 instruction_defect m procedure ReturnValue = None
 
+-- whether a range may end at an offset: at an instruction's first byte or at the end of the code
+abbrev pub is_end : ProcedureContents → ℕ → Bool
+is_end procedure offset = is_start procedure offset || offset == code_length procedure.code
+
 -- whether the offsets of a handler are right: its start and target are instructions' first bytes, its end is one or the code's
 -- length, and the start stands before the end
 abbrev pub has_right_offsets : ProcedureContents → Handler → Bool
 has_right_offsets procedure handler =
     is_start procedure handler.start && (is_start procedure handler.target
-    && ((is_start procedure handler.end || handler.end == code_length procedure.code) && nat_lt handler.start handler.end))
+    && (is_end procedure handler.end && nat_lt handler.start handler.end))
 
 -- what is wrong with a handler
 abbrev pub handler_defect : ModuleContents → ProcedureContents → Handler → Option Defect

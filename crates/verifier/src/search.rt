@@ -85,18 +85,19 @@ impl Search {
         ensures effect { IfOk result (λ r. HasEffect body.now.program.now body.now.procedure.now self.new at instruction (list_of self.new.operands r)) }
         ensures err { IfErr result (λ stop. IsStop body.now.program.now body.now.procedure.now stop) }
     {
-        if !is_own(body.procedure, instruction) {
-            return Err(Stop::Wrong(at, Defect::OperandKind));
-        }
-        match pops(&self.operands, body, instruction, list) {
-            Err(defect) => Err(Stop::Wrong(at, defect)),
-            Ok(rest) => match pushes(body, instruction) {
-                None => Ok(rest),
-                Some(kind) => match self.operands.push(rest, kind) {
-                    Ok(above) => Ok(above),
-                    Err(_) => Err(Stop::NoMemory),
+        if is_own(body.procedure, instruction) {
+            match pops(&self.operands, body, instruction, list) {
+                Err(defect) => Err(Stop::Wrong(at, defect)),
+                Ok(rest) => match pushes(body, instruction) {
+                    None => Ok(rest),
+                    Some(kind) => match self.operands.push(rest, kind) {
+                        Ok(above) => Ok(above),
+                        Err(_) => Err(Stop::NoMemory),
+                    },
                 },
-            },
+            }
+        } else {
+            Err(Stop::Wrong(at, Defect::OperandKind))
         }
     }
 

@@ -1,5 +1,5 @@
 use Rattle.std.proofs.Common.{rules, ◌≡◌, ◌≢◌, ◌+◌, ◌<◌, ◌≤◌, ℕ, ◌∷◌, [], length, get_or, List, Option, Some, None, arith, refl, sym, ap, subst, ◌∙◌}
-use Rattle.verifier.specs.Flow.{IsPlace}
+use Rattle.verifier.specs.Search.{IsPlace}
 use Rattle.verifier.specs.Operands.{list_of}
 use Rattle.verifier.specs.Search.{row}
 use Rattle.verifier.proofs.Shared.{any_default}
@@ -38,4 +38,4 @@ pub returns-in-Err-clause-err : goal.returns-in-Err-clause-err
 returns-in-Err-clause-err c =
     let l = place_inside c.args.body.now.program.now c.args.body.now.procedure.now c.args.self.now (c.args.at ∷ []) c.args.place c.requires.going c.requires.place (λ e. c.if-place-len.false (omega (arith, e, c.len.ensures, c.args.self.now.shapes.ok.0))) in
     let there : get_or c.args.self.now.shapes.items c.args.place None ≡ Some c.in-Some.other = any_default c.args.self.now.shapes.items c.args.place None c.index.result.now l ∙ sym c.index.ensures ∙ c.in-Some.is in
-    meets_at c.args.body.now.program.now c.args.body.now.procedure.now c.args.self.now (c.args.at ∷ []) c.args.at c.args.place _ (list_of c.args.self.now.operands c.in-Some.other) c.in-Err.defect c.requires.going c.requires.edge (ap (λ o. row c.args.self.now.operands o) there) c.in-Err.ensures.differ c.in-Err.ensures.err
+    meets_at c.args.body.now.program.now c.args.body.now.procedure.now c.args.self.now (c.args.at ∷ []) c.args.at c.args.place _ (list_of c.args.self.now.operands c.in-Some.other) c.in-Err.defect c.requires.going c.requires.edge (λ e. c.if-place-len.false (omega (arith, e, c.requires.going.sized, c.len.ensures, c.args.self.now.shapes.ok.0))) (ap (λ o. row c.args.self.now.operands o) there) c.in-Err.ensures.differ c.in-Err.ensures.err
