@@ -115,7 +115,9 @@ procedures_right m number (x ∷ procedures) e zero p is =
     let parts = append_nothing (instruction_faults m number x 0 x.code ++ handler_faults m number x x.handlers) (procedure_faults m (number + 1) procedures) e in
     let own = append_nothing (instruction_faults m number x 0 x.code) (handler_faults m number x x.handlers) parts.0 in
     let same : x ≡ p = cc in
-    subst (λ (q : ProcedureContents). (instruction_faults m number q 0 q.code ≡ []) × (handler_faults m number q q.handlers ≡ [])) same own
+    let at : number ≡ number + 0 = omega arith in
+    subst (λ (n : ℕ). (instruction_faults m n p 0 p.code ≡ []) × (handler_faults m n p p.handlers ≡ [])) at
+    (subst (λ (q : ProcedureContents). (instruction_faults m number q 0 q.code ≡ []) × (handler_faults m number q q.handlers ≡ [])) same own)
 procedures_right m number (x ∷ procedures) e (suc k) p is =
     let parts = append_nothing (instruction_faults m number x 0 x.code ++ handler_faults m number x x.handlers) (procedure_faults m (number + 1) procedures) e in
     let there = procedures_right m (number + 1) procedures parts.1 k p is in
@@ -123,14 +125,14 @@ procedures_right m number (x ∷ procedures) e (suc k) p is =
     subst (λ (n : ℕ). (instruction_faults m n p 0 p.code ≡ []) × (handler_faults m n p p.handlers ≡ [])) at there
 
 -- an instruction that is found is one of the code
+later : (x : Instruction) (code : List Instruction) (at : ℕ) (i : Instruction) → (instruction_at code (at - width_of x) ≡ Some i → (k : ℕ) × (slice_get code k ≡ Some i)) → (first before : Bool) → (if first then Some x else if before then None else instruction_at code (at - width_of x)) ≡ Some i → (k : ℕ) × (slice_get (x ∷ code) k ≡ Some i)
+later x code at i more true before e = (0, e)
+later x code at i more false true e = absurd (let no : None ≡ Some i = e in cc)
+later x code at i more false false e = let h = more e in (suc h.0, h.1)
+
 index_of : (code : List Instruction) (at : ℕ) (i : Instruction) → instruction_at code at ≡ Some i → (k : ℕ) × (slice_get code k ≡ Some i)
 index_of [] at i e = absurd (let no : None ≡ Some i = e in cc)
-index_of (x ∷ code) at i e = split (at == 0) (nat_lt at (width_of x)) e
-  where
-    split : (first before : Bool) → (if first then Some x else if before then None else instruction_at code (at - width_of x)) ≡ Some i → (k : ℕ) × (slice_get (x ∷ code) k ≡ Some i)
-    split true before e = (0, e)
-    split false true e = absurd (let no : None ≡ Some i = e in cc)
-    split false false e = let h = index_of code (at - width_of x) i e in (suc h.0, h.1)
+index_of (x ∷ code) at i e = later x code at i (λ h. index_of code (at - width_of x) i h) (at == 0) (nat_lt at (width_of x)) e
 
 -- a procedure whose instructions and handlers have no defect by themselves
 pub record IsRight (m : ModuleContents) (p : ProcedureContents) : Type 0 where
@@ -180,3 +182,16 @@ placed m p right = record {
   inr (started (instruction_at p.code h.target) (and_parts (is_start p h.target) (is_end p h.end && nat_lt h.start h.end) parts.1).0);
   first = first_place p p.code refl;
 }
+
+-- ---- the loop over procedures, step by step
+
+pub drop_none : {A : Type 0} (xs : List A) (k : ℕ) → length xs ≤ k → drop k xs ≡ []
+drop_none [] zero h = refl
+drop_none [] (suc k) h = refl
+drop_none (x ∷ xs) zero h = absurd (omega arith)
+drop_none (x ∷ xs) (suc k) h = drop_none xs k (omega arith)
+
+pub get_at : {A : Type 0} (xs : List A) (k : ℕ) (d : A) → k < length xs → slice_get xs k ≡ Some (get_or xs k d)
+get_at [] k d h = absurd (omega arith)
+get_at (x ∷ xs) zero d h = refl
+get_at (x ∷ xs) (suc k) d h = get_at xs k d (omega arith)

@@ -1,3 +1,4 @@
+pub mod Arguments
 pub mod FixedFaults
 pub mod Laws
 pub mod Marks

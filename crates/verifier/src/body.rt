@@ -1,7 +1,7 @@
 //! A procedure as the search for faults looks at it.
 
 ghost use Rattle.bytecode.specs.Code.{code_length, instruction_at};
-ghost use Rattle.std.specs.Prelude.{IfOk, ◌<◌, ◌^◌, ◌≡◌};
+ghost use Rattle.std.specs.Prelude.{IfOk, slice_get, slice_index_or, ◌<◌, ◌^◌, ◌≡◌};
 ghost use Rattle.verifier.specs.Search.{IsBody, marks_from};
 
 use bytecode::{Instruction, Module, Procedure};
@@ -40,13 +40,28 @@ impl<'a> Body<'a> {
         requires { IsBody self.now }
         ensures { result ≡ instruction_at self.now.procedure.now.code offset }
     {
-        match self.marks.get(offset as usize) {
-            Some(Some(index)) => match self.procedure.code().get(*index as usize) {
-                Some(instruction) => Some(*instruction),
-                None => None,
-            },
-            _ => None,
+        match mark_at(&self.marks, offset) {
+            Some(index) => instruction_in(self.procedure.code(), index),
+            None => None,
         }
+    }
+}
+
+fn mark_at(marks: &[Option<u32>], offset: u32) -> Option<u32>
+    ensures { result ≡ slice_index_or marks.now offset None }
+{
+    match marks.get(offset as usize) {
+        Some(mark) => *mark,
+        None => None,
+    }
+}
+
+fn instruction_in(code: &[Instruction], index: u32) -> Option<Instruction>
+    ensures { result ≡ slice_get code.now index }
+{
+    match code.get(index as usize) {
+        Some(instruction) => Some(*instruction),
+        None => None,
     }
 }
 

@@ -1,7 +1,18 @@
 use Rattle.std.proofs.Common.{rules, ◌≡◌, ◌+◌, ◌∷◌, [], Some, arith, refl, sym, ap, ◌∙◌}
+use Rattle.verifier.specs.Flow.{Leaves}
 use Rattle.verifier.specs.Operands.{list_of}
 use Rattle.verifier.proofs.Reaching.{all_followed}
 use Rattle.verifier.proofs.search.Search.visit.Goals as goal
+
+pub jump-requires-clause-effect : goal.jump-requires-clause-effect
+jump-requires-clause-effect c =
+    let e = c.in_ok-after.ensures.effect in
+    record {
+      there = e.there;
+      kinds = e.kinds;
+      has = c.in_ok-go_on.ensures.ok.keeps c.args.at e.kinds e.has;
+      effect = e.effect ∙ ap Leaves (ap (λ ls. list_of ls c.in_ok-after.after) (sym c.in_ok-go_on.ensures.ok.same));
+    }
 
 pub raise-requires-clause-there : goal.raise-requires-clause-there
 raise-requires-clause-there c =
