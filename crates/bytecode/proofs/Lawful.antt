@@ -7,16 +7,16 @@ use Rattle.std.proofs.lemmas.Int.{of_z-to_z}
 use Rattle.std.proofs.lemmas.Nat.{be_bytes_4}
 use Rattle.bytecode.specs.declared.instruction.Instruction.{Instruction}
 use Rattle.bytecode.specs.declared.instruction.Instruction.TheVariants.{PushBoolean}
-use Rattle.bytecode.specs.declared.parts.Kind.{Kind}
-use Rattle.bytecode.specs.declared.parts.Kind.TheVariants as kind
-use Rattle.bytecode.specs.declared.parts.Slot.TheVariants as slot
-use Rattle.bytecode.specs.declared.parts.Global.TheVariants as global
+use Rattle.bytecode.specs.declared.value.Kind.{Kind}
+use Rattle.bytecode.specs.declared.value.Kind.TheVariants as kind
+use Rattle.bytecode.specs.declared.declaration.Slot.TheVariants as slot
+use Rattle.bytecode.specs.declared.declaration.Global.TheVariants as global
 use Rattle.bytecode.specs.declared.fault.Refusal.TheVariants.{BadValue}
 use Rattle.bytecode.specs.Contents.{ProcedureContents}
 use Rattle.bytecode.specs.Code.{width_of}
 use Rattle.bytecode.specs.Form.{Form, Number, Checked, Fits}
 use Rattle.bytecode.specs.Opcodes.{opcode_of, operand_of, number_operand, numbered, plain, with_opcode, instruction_of, instructions}
-use Rattle.bytecode.specs.Format.{name_after, number_below, principals, pair_after, hierarchy, exceptions, direction_of, direction_byte, direction, reader_after, policy_after, label, channel_after, channels, kind_of, kind_byte, variable_kind, of_scalar, first_value, global_of, global_parts, global_after, globals, slot_parts, slot_kind, slot_after, slots, returned_of, returned_byte, returned, parameters, handler, handlers, procedure, procedures, main, declared, program, contents, module_file}
+use Rattle.bytecode.specs.Format.{name_after, number_below, principals, pair_after, hierarchy, exceptions, direction_of, direction_byte, direction, reader_after, policy_after, label, channel_after, channels, kind_of, kind_byte, variable_kind, of_scalar, first_value, global_of, global_fields, global_after, globals, slot_fields, slot_kind, slot_after, slots, returned_of, returned_byte, returned, parameters, handler, handlers, procedure, procedures, main, declared, program, contents, module_file}
 use Rattle.bytecode.proofs.Steps.{IsBytes}
 use Rattle.bytecode.proofs.Coherent.{IsLawful, Coherent}
 
@@ -153,25 +153,25 @@ first_value-coherent : (kind : Kind) (size : ℕ) → Coherent (first_value kind
 first_value-coherent kind.Int size = of_scalar-coherent (eqb size 0) _ tt
 first_value-coherent kind.Boolean size = of_scalar-coherent (eqb size 0) _ tt
 
-abbrev global_parts_are : Kind → ℕ → ℕ → Kind × (ℕ × ℕ)
-global_parts_are kind size first = (kind, (size, first))
+abbrev global_fields_are : Kind → ℕ → ℕ → Kind × (ℕ × ℕ)
+global_fields_are kind size first = (kind, (size, first))
 
-int_back : (size first : ℕ) (b : Bool) → eqb size 0 ≡ b → Fits (of_scalar b Number) first → global_parts (cond b (global.Int (cast_signed w32 first)) (global.Array kind.Int size)) ≡ (kind.Int, (size, first))
+int_back : (size first : ℕ) (b : Bool) → eqb size 0 ≡ b → Fits (of_scalar b Number) first → global_fields (cond b (global.Int (cast_signed w32 first)) (global.Array kind.Int size)) ≡ (kind.Int, (size, first))
 int_back size first true h fits =
-    let made = λ (s f : ℕ). global_parts_are kind.Int s f in
+    let made = λ (s f : ℕ). global_fields_are kind.Int s f in
     ap (made 0) (of_z-to_z w32 first fits) ∙ ap (λ (s : ℕ). made s first) (sym (eqb-true size 0 h))
-int_back size first false h fits = ap (global_parts_are kind.Int size) (sym fits)
+int_back size first false h fits = ap (global_fields_are kind.Int size) (sym fits)
 
 boolean-back : (n : ℕ) → ltb n 2 ≡ true → cond (eqb n 1) 1 0 ≡ n
 boolean-back n e = elim (byte_back n e) [ inl h ↦ rw h refl | inr h ↦ rw h refl ]
 
-boolean_back : (size first : ℕ) (b : Bool) → eqb size 0 ≡ b → Fits (of_scalar b (Checked BadValue (λ n. ltb n 2) Number)) first → global_parts (cond b (global.Boolean (eqb first 1)) (global.Array kind.Boolean size)) ≡ (kind.Boolean, (size, first))
+boolean_back : (size first : ℕ) (b : Bool) → eqb size 0 ≡ b → Fits (of_scalar b (Checked BadValue (λ n. ltb n 2) Number)) first → global_fields (cond b (global.Boolean (eqb first 1)) (global.Array kind.Boolean size)) ≡ (kind.Boolean, (size, first))
 boolean_back size first true h fits =
-    let made = λ (s f : ℕ). global_parts_are kind.Boolean s f in
+    let made = λ (s f : ℕ). global_fields_are kind.Boolean s f in
     ap (made 0) (boolean-back first fits.1) ∙ ap (λ (s : ℕ). made s first) (sym (eqb-true size 0 h))
-boolean_back size first false h fits = ap (global_parts_are kind.Boolean size) (sym fits)
+boolean_back size first false h fits = ap (global_fields_are kind.Boolean size) (sym fits)
 
-global-back : (kind : Kind) (size first : ℕ) → Fits (first_value kind size) first → global_parts (global_of (kind, (size, first))) ≡ (kind, (size, first))
+global-back : (kind : Kind) (size first : ℕ) → Fits (first_value kind size) first → global_fields (global_of (kind, (size, first))) ≡ (kind, (size, first))
 global-back kind.Int size first fits = int_back size first (eqb size 0) refl fits
 global-back kind.Boolean size first fits = boolean_back size first (eqb size 0) refl fits
 
@@ -179,11 +179,11 @@ pub globals-coherent : Coherent globals
 unfolding globals global_after variable_kind
 globals-coherent = λ before. (((tt, λ byte fits. kind-back byte fits.1), λ kind. (tt, λ size. first_value-coherent kind size)), λ parts fits. global-back parts.0 parts.1.0 parts.1.1 fits.1.1)
 
-abbrev slot_parts_are : Kind → ℕ → Kind × ℕ
-slot_parts_are kind size = (kind, size)
+abbrev slot_fields_are : Kind → ℕ → Kind × ℕ
+slot_fields_are kind size = (kind, size)
 
-slot-back : (kind : Kind) (size : ℕ) (b : Bool) → eqb size 0 ≡ b → slot_parts (cond b (slot.Scalar kind) (slot.Array kind size)) ≡ (kind, size)
-slot-back kind size true h = ap (slot_parts_are kind) (sym (eqb-true size 0 h))
+slot-back : (kind : Kind) (size : ℕ) (b : Bool) → eqb size 0 ≡ b → slot_fields (cond b (slot.Scalar kind) (slot.Array kind size)) ≡ (kind, size)
+slot-back kind size true h = ap (slot_fields_are kind) (sym (eqb-true size 0 h))
 slot-back kind size false h = refl
 
 int_kind-back : (n : ℕ) → eqb n 0 ≡ true → kind_byte (kind_of n) ≡ n
