@@ -8,7 +8,7 @@ use Rattle.std.proofs.lemmas.List.Sums.{sum_by-cons}
 use Rattle.std.specs.Global.{Global as Allocator}
 use Rattle.std.specs.Prelude.{String, string_bytes}
 use Rattle.bytecode.specs.Reading.{texts}
-use Rattle.bytecode.proofs.Straight.{spelled-width}
+use Rattle.bytecode.proofs.Spelling.{spelled-width}
 use Rattle.labels.specs.Label.{ReaderPolicy, Label}
 use Rattle.principals.specs.ActsFor.{PrincipalHierarchy}
 use Rattle.bytecode.specs.declared.instruction.Instruction.{Instruction}
@@ -22,7 +22,7 @@ use Rattle.bytecode.specs.Contents.{ChannelContents, ProcedureContents, ModuleCo
 use Rattle.bytecode.specs.Code.{width_of}
 use Rattle.bytecode.specs.Form.{Form, Number, Checked, Fits, FitEach, spelled, spelled_each, spelled_code}
 use Rattle.bytecode.specs.Opcodes.{instructions}
-use Rattle.bytecode.specs.Format.{direction_byte, kind_byte, returned_byte, magic, version, is_built_in, is_among, channel_names, name_after, number_below, principals, pair_after, hierarchy, exceptions, direction, reader_after, policy_after, label, channel_after, channels, declared, of_scalar, global_after, globals, slot_after, slots, slot_kind, variable_kind, returned, parameters, handler, handlers, procedure, procedures, main, program, contents, module_file}
+use Rattle.bytecode.specs.Format.{direction_byte, kind_byte, returned_byte, magic, version, is_built_in, is_among, channel_names, name_after, number_below, principals, pair_after, hierarchy, exceptions, direction, reader_after, policy_after, label, channel_after, channels, declared, of_scalar, global_after, globals, slot_after, slots, variable_kind, returned, handler, handlers, procedure, procedures, main, program, contents, module_file}
 use Rattle.bytecode.specs.Writing.{number_bytes, list_bytes, text_bytes, pair_bytes, policy_bytes, channel_bytes, variable_bytes, slot_bytes, handler_bytes, instruction_bytes, code_bytes, procedure_bytes, module_bytes, IsShort, PolicyFits, ChannelFits, ProcedureFits, ModuleFits}
 
 -- ---- lists
@@ -132,7 +132,7 @@ global-bytes before (global.Array kind.Int size) h = ap (λ (bytes : List ℕ). 
 global-bytes before (global.Array kind.Boolean size) h = ap (λ (bytes : List ℕ). (kind_byte kind.Boolean ∷ []) ++ (number_bytes size ++ bytes)) (boolean_array size (eqb size 0) h.1)
 
 slot-bytes : (count : ℕ) (before : List Slot) (x : Slot) → Fits (slot_after count before) x → spelled (slot_after count before) x ≡ slot_bytes x
-unfolding slot_after slot_kind
+unfolding slot_after variable_kind
 slot-bytes count before x h = refl
 
 handler-bytes : (before : List Handler) (x : Handler) → Fits handler x → spelled handler x ≡ handler_bytes x
@@ -145,7 +145,7 @@ code-bytes [] = refl
 code-bytes (x ∷ xs) = ap (λ (bytes : List ℕ). instruction_bytes x ++ bytes) (code-bytes xs)
 
 procedure-bytes : (before : List ProcedureContents) (x : ProcedureContents) → Fits procedure x → spelled procedure x ≡ procedure_bytes x
-unfolding procedure procedure_bytes returned parameters slots handlers
+unfolding procedure procedure_bytes returned slots handlers
 procedure-bytes before x h =
     after (returned_byte x.returned ∷ []) (after (number_bytes x.parameters) (two (counted_bytes (slot_after x.parameters) slot_bytes (slot-bytes x.parameters) x.slots h.0.1.1.0.2)
     (two (ap (λ (bytes : List ℕ). number_bytes (length bytes) ++ bytes) (code-bytes x.code)) (counted_bytes (λ _. handler) handler_bytes handler-bytes x.handlers h.0.1.1.1.1.2))))
