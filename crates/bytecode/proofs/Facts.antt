@@ -151,7 +151,7 @@ readers-read count owner bytes rest readers after fits e f =
     }
 
 -- the names of a hierarchy, which are few and differ, and its pairs, whose principals are there
-pub record IsPeople (names : List (List ℕ)) (pairs : List (ℕ × ℕ)) : Type 0 where
+pub record IsHierarchy (names : List (List ℕ)) (pairs : List (ℕ × ℕ)) : Type 0 where
   pub few : length names ≤ 256
   pub different : AllDifferent names
   pub there : AllBelow (length names) pairs
@@ -159,8 +159,8 @@ pub record IsPeople (names : List (List ℕ)) (pairs : List (ℕ × ℕ)) : Type
 pub names-read : (bytes : List ℕ) (names : List (List ℕ)) (rest : List ℕ) → IsBytes bytes → read principals bytes ≡ Ok (names, rest) → length names ≤ 256
 names-read bytes names rest fits e = principals-few names (taken principals principals-coherent bytes names rest fits e).fits
 
-pub people-read : (bytes : List ℕ) (names : List (List ℕ)) (rest : List ℕ) (pairs : List (ℕ × ℕ)) (after : List ℕ) → IsBytes bytes → read principals bytes ≡ Ok (names, rest) → read (Counted any (pair_after (length names))) rest ≡ Ok (pairs, after) → IsPeople names pairs
-people-read bytes names rest pairs after fits e f =
+pub pairs-read : (bytes : List ℕ) (names : List (List ℕ)) (rest : List ℕ) (pairs : List (ℕ × ℕ)) (after : List ℕ) → IsBytes bytes → read principals bytes ≡ Ok (names, rest) → read (Counted any (pair_after (length names))) rest ≡ Ok (pairs, after) → IsHierarchy names pairs
+pairs-read bytes names rest pairs after fits e f =
     let t = taken principals principals-coherent bytes names rest fits e in
     let u = taken (Counted any (pair_after (length names))) (λ before. pair_after-coherent (length names) before) rest pairs after t.after f in
     record {
@@ -178,5 +178,5 @@ hierarchy-read bytes names rest pairs after h e f n p =
 
 pub hierarchy-fails : (e : ReadError) (bytes : List ℕ) (names : List (List ℕ)) (rest : List ℕ) → read principals bytes ≡ Ok (names, rest) → Fails e (read (Counted any (pair_after (length names))) rest) → Fails e (read hierarchy bytes)
 unfolding hierarchy
-hierarchy-fails errors.Memory bytes names rest e f = tt
+hierarchy-fails errors.NoMemory bytes names rest e f = tt
 hierarchy-fails (errors.Stop stop) bytes names rest e f = rw (e, f) refl

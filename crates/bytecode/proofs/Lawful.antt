@@ -1,22 +1,25 @@
 -- The module file is coherent: its two laws hold.
 use Rattle.std.proofs.Common.{◌≡◌, ℕ, zero, suc, ◌+◌, ◌^◌, ◌<◌, Bool, true, false, cond, ltb, eqb, List, [], ◌∷◌, length, Option, Some, None, refl, sym, ap, subst, ◌∙◌, arith, inl, inr, ◌⊎◌, ◌&&◌, lit<}
-use Rattle.std.specs.Int.{w32, cast_signed, cast_unsigned, from_be_bytes}
+use Rattle.std.specs.Int.{w32, cast_signed, cast_unsigned, from_be_bytes, to_be_bytes}
 use Rattle.std.specs.List.{find, AllByRecursion}
+use Rattle.std.specs.Option.{option_map}
 use Rattle.std.proofs.lemmas.Bool.{ltb-true, eqb-true}
 use Rattle.std.proofs.lemmas.Int.{of_z-to_z}
 use Rattle.std.proofs.lemmas.Nat.{be_bytes_4}
 use Rattle.bytecode.specs.declared.instruction.Instruction.{Instruction}
 use Rattle.bytecode.specs.declared.instruction.Instruction.TheVariants.{PushBoolean}
-use Rattle.bytecode.specs.declared.parts.Kind.{Kind}
-use Rattle.bytecode.specs.declared.parts.Kind.TheVariants as kind
-use Rattle.bytecode.specs.declared.parts.Slot.TheVariants as slot
-use Rattle.bytecode.specs.declared.parts.Global.TheVariants as global
+use Rattle.bytecode.specs.declared.value.Kind.{Kind}
+use Rattle.bytecode.specs.declared.value.Kind.TheVariants as kind
+use Rattle.bytecode.specs.declared.declaration.Slot.TheVariants as slot
+use Rattle.bytecode.specs.declared.declaration.Global.TheVariants as global
 use Rattle.bytecode.specs.declared.fault.Refusal.TheVariants.{BadValue}
 use Rattle.bytecode.specs.Contents.{ProcedureContents}
 use Rattle.bytecode.specs.Code.{width_of}
 use Rattle.bytecode.specs.Form.{Form, Number, Checked, Fits}
-use Rattle.bytecode.specs.Opcodes.{opcode_of, operand_of, number_operand, numbered, plain, with_opcode, instruction_of, instructions}
-use Rattle.bytecode.specs.Format.{name_after, number_below, principals, pair_after, hierarchy, exceptions, direction_of, direction_byte, direction, reader_after, policy_after, label, channel_after, channels, kind_of, kind_byte, variable_kind, of_scalar, first_value, global_of, global_parts, global_after, globals, slot_parts, slot_kind, slot_after, slots, returned_of, returned_byte, returned, parameters, handler, handlers, procedure, procedures, main, declared, program, contents, module_file}
+use Rattle.bytecode.specs.declared.opcode.Operand.{Operand}
+use Rattle.bytecode.specs.declared.opcode.Operand.TheVariants.{Absent, Int, Boolean, Number as Numbered}
+use Rattle.bytecode.specs.Opcodes.{row_of, opcode_of, operand_of, operand_width, numbered, plain, with_opcode, instruction_of, examples, width_after, instructions}
+use Rattle.bytecode.specs.Format.{name_after, number_below, principals, pair_after, hierarchy, exceptions, direction_of, direction_byte, direction, reader_after, policy_after, label, channel_after, channels, kind_of, kind_byte, variable_kind, of_scalar, first_value, global_of, global_fields, global_after, globals, slot_fields, slot_after, slots, returned_of, returned_byte, returned, handler, handlers, procedure, procedures, main, declared, program, contents, module_file}
 use Rattle.bytecode.proofs.Steps.{IsBytes}
 use Rattle.bytecode.proofs.Coherent.{IsLawful, Coherent}
 
@@ -54,8 +57,8 @@ four_has : (byte : ℕ) (operand : List ℕ) (x : Instruction) → length operan
 four_has byte operand x len fits e =
     let n = from_be_bytes w32 operand in
     let small : n < 2 ^ 32 = omega (arith, fits.below 0, fits.below 1, fits.below 2, fits.below 3) in
-    let here : number_operand n ≡ operand = be_bytes_4 operand n len fits.below refl in
-    let int : number_operand (cast_unsigned w32 (cast_signed w32 n)) ≡ operand = ap number_operand (of_z-to_z w32 n small) ∙ here in
+    let here : to_be_bytes w32 n ≡ operand = be_bytes_4 operand n len fits.below refl in
+    let int : to_be_bytes w32 (cast_unsigned w32 (cast_signed w32 n)) ≡ operand = ap (to_be_bytes w32) (of_z-to_z w32 n small) ∙ here in
     with_operand byte operand (numbered n) x (int, (here, (here, (here, (here, (here, (here, (here, (here, (here, (here, (here, (here, (here, (here, (here, tt)))))))))))))))) e
 
 spelled_by : (byte : ℕ) (operand : List ℕ) (x : Instruction) → IsBytes operand → (length operand ≡ 0) ⊎ ((length operand ≡ 1) ⊎ (length operand ≡ 4)) → instruction_of byte operand ≡ Some x → Has byte operand x
@@ -86,18 +89,24 @@ width_by byte (a ∷ b ∷ c ∷ []) x size e = absurd (elim size [ inl h ↦ om
 width_by byte (a ∷ b ∷ c ∷ d ∷ []) x size e = with_width byte 5 (numbered (from_be_bytes w32 (a ∷ b ∷ c ∷ d ∷ []))) x (refl, (refl, (refl, (refl, (refl, (refl, (refl, (refl, (refl, (refl, (refl, (refl, (refl, (refl, (refl, (refl, tt)))))))))))))))) e
 width_by byte (a ∷ b ∷ c ∷ d ∷ f ∷ rest) x size e = absurd (elim size [ inl h ↦ omega arith | inr more ↦ elim more [ inl h ↦ omega arith | inr h ↦ omega arith ] ])
 
-pub one_width : (admitted four one none : Bool) (n : ℕ) → cond admitted (cond four (Some 4) (cond one (Some 1) (cond none (Some 0) None))) None ≡ Some n → (n ≡ 0) ⊎ ((n ≡ 1) ⊎ (n ≡ 4))
-one_width true true one none n e = inr (inr cc)
-one_width true false true none n e = inr (inl cc)
-one_width true false false true n e = inl cc
-one_width true false false false n e = absurd cc
-one_width false four one none n e = absurd cc
+three_widths : (operand : Operand) (n : ℕ) → operand_width operand ≡ n → (n ≡ 0) ⊎ ((n ≡ 1) ⊎ (n ≡ 4))
+three_widths Absent n e = inl (sym e)
+three_widths (Boolean b) n e = inr (inl (sym e))
+three_widths (Int z) n e = inr (inr (sym e))
+three_widths (Numbered k) n e = inr (inr (sym e))
+
+width_found : (example : Option Instruction) (n : ℕ) → option_map (λ x. operand_width (row_of x).operand) example ≡ Some n → (n ≡ 0) ⊎ ((n ≡ 1) ⊎ (n ≡ 4))
+width_found None n e = absurd cc
+width_found (Some x) n e = three_widths (row_of x).operand n cc
+
+pub one_width : (byte n : ℕ) → width_after byte ≡ Some n → (n ≡ 0) ⊎ ((n ≡ 1) ⊎ (n ≡ 4))
+one_width byte n e = width_found (with_opcode byte examples) n e
 
 pub instructions-lawful : IsLawful instructions
 unfolding instructions
 instructions-lawful = record {
-  opcode = λ byte operand x fits width e. (spelled_by byte operand x fits (one_width _ _ _ _ (length operand) width) e).0;
-  operand = λ byte operand x fits width e. (spelled_by byte operand x fits (one_width _ _ _ _ (length operand) width) e).1;
+  opcode = λ byte operand x fits width e. (spelled_by byte operand x fits (one_width byte (length operand) width) e).0;
+  operand = λ byte operand x fits width e. (spelled_by byte operand x fits (one_width byte (length operand) width) e).1;
 }
 
 -- ---- the module file
@@ -131,7 +140,7 @@ pair_after-coherent count before = (number_below-coherent count, λ _. number_be
 
 pub hierarchy-coherent : Coherent hierarchy
 unfolding hierarchy
-hierarchy-coherent = ((principals-coherent, λ names before. pair_after-coherent (length names) before), λ parts fits. refl)
+hierarchy-coherent = ((principals-coherent, λ names before. pair_after-coherent (length names) before), λ fields fits. refl)
 
 pub exceptions-coherent : Coherent exceptions
 unfolding exceptions
@@ -139,11 +148,11 @@ exceptions-coherent = name_after-coherent _
 
 pub label-coherent : (count : ℕ) → Coherent (label count)
 unfolding label policy_after reader_after
-label-coherent count = λ before. ((number_below-coherent count, λ owner readers. number_below-coherent count), λ parts fits. refl)
+label-coherent count = λ before. ((number_below-coherent count, λ owner readers. number_below-coherent count), λ fields fits. refl)
 
 pub channels-coherent : (count : ℕ) (declared : List (List ℕ)) → Coherent (channels count declared)
 unfolding channels channel_after direction
-channels-coherent count declared = λ before. (((tt, λ byte fits. direction-back byte fits.1), λ _. (name_after-coherent _ _, λ _. label-coherent count)), λ parts fits. refl)
+channels-coherent count declared = λ before. (((tt, λ byte fits. direction-back byte fits.1), λ _. (name_after-coherent _ _, λ _. label-coherent count)), λ fields fits. refl)
 
 of_scalar-coherent : (b : Bool) (form : Form ℕ) → Coherent form → Coherent (of_scalar b form)
 of_scalar-coherent true form h = h
@@ -153,59 +162,52 @@ first_value-coherent : (kind : Kind) (size : ℕ) → Coherent (first_value kind
 first_value-coherent kind.Int size = of_scalar-coherent (eqb size 0) _ tt
 first_value-coherent kind.Boolean size = of_scalar-coherent (eqb size 0) _ tt
 
-abbrev global_parts_are : Kind → ℕ → ℕ → Kind × (ℕ × ℕ)
-global_parts_are kind size first = (kind, (size, first))
+abbrev global_fields_are : Kind → ℕ → ℕ → Kind × (ℕ × ℕ)
+global_fields_are kind size first = (kind, (size, first))
 
-int_back : (size first : ℕ) (b : Bool) → eqb size 0 ≡ b → Fits (of_scalar b Number) first → global_parts (cond b (global.Int (cast_signed w32 first)) (global.Array kind.Int size)) ≡ (kind.Int, (size, first))
+int_back : (size first : ℕ) (b : Bool) → eqb size 0 ≡ b → Fits (of_scalar b Number) first → global_fields (cond b (global.Int (cast_signed w32 first)) (global.Array kind.Int size)) ≡ (kind.Int, (size, first))
 int_back size first true h fits =
-    let made = λ (s f : ℕ). global_parts_are kind.Int s f in
+    let made = λ (s f : ℕ). global_fields_are kind.Int s f in
     ap (made 0) (of_z-to_z w32 first fits) ∙ ap (λ (s : ℕ). made s first) (sym (eqb-true size 0 h))
-int_back size first false h fits = ap (global_parts_are kind.Int size) (sym fits)
+int_back size first false h fits = ap (global_fields_are kind.Int size) (sym fits)
 
 boolean-back : (n : ℕ) → ltb n 2 ≡ true → cond (eqb n 1) 1 0 ≡ n
 boolean-back n e = elim (byte_back n e) [ inl h ↦ rw h refl | inr h ↦ rw h refl ]
 
-boolean_back : (size first : ℕ) (b : Bool) → eqb size 0 ≡ b → Fits (of_scalar b (Checked BadValue (λ n. ltb n 2) Number)) first → global_parts (cond b (global.Boolean (eqb first 1)) (global.Array kind.Boolean size)) ≡ (kind.Boolean, (size, first))
+boolean_back : (size first : ℕ) (b : Bool) → eqb size 0 ≡ b → Fits (of_scalar b (Checked BadValue (λ n. ltb n 2) Number)) first → global_fields (cond b (global.Boolean (eqb first 1)) (global.Array kind.Boolean size)) ≡ (kind.Boolean, (size, first))
 boolean_back size first true h fits =
-    let made = λ (s f : ℕ). global_parts_are kind.Boolean s f in
+    let made = λ (s f : ℕ). global_fields_are kind.Boolean s f in
     ap (made 0) (boolean-back first fits.1) ∙ ap (λ (s : ℕ). made s first) (sym (eqb-true size 0 h))
-boolean_back size first false h fits = ap (global_parts_are kind.Boolean size) (sym fits)
+boolean_back size first false h fits = ap (global_fields_are kind.Boolean size) (sym fits)
 
-global-back : (kind : Kind) (size first : ℕ) → Fits (first_value kind size) first → global_parts (global_of (kind, (size, first))) ≡ (kind, (size, first))
+global-back : (kind : Kind) (size first : ℕ) → Fits (first_value kind size) first → global_fields (global_of (kind, (size, first))) ≡ (kind, (size, first))
 global-back kind.Int size first fits = int_back size first (eqb size 0) refl fits
 global-back kind.Boolean size first fits = boolean_back size first (eqb size 0) refl fits
 
 pub globals-coherent : Coherent globals
 unfolding globals global_after variable_kind
-globals-coherent = λ before. (((tt, λ byte fits. kind-back byte fits.1), λ kind. (tt, λ size. first_value-coherent kind size)), λ parts fits. global-back parts.0 parts.1.0 parts.1.1 fits.1.1)
+globals-coherent = λ before. (((tt, λ byte fits. kind-back byte fits.1), λ kind. (tt, λ size. first_value-coherent kind size)), λ fields fits. global-back fields.0 fields.1.0 fields.1.1 fits.1.1)
 
-abbrev slot_parts_are : Kind → ℕ → Kind × ℕ
-slot_parts_are kind size = (kind, size)
+abbrev slot_fields_are : Kind → ℕ → Kind × ℕ
+slot_fields_are kind size = (kind, size)
 
-slot-back : (kind : Kind) (size : ℕ) (b : Bool) → eqb size 0 ≡ b → slot_parts (cond b (slot.Scalar kind) (slot.Array kind size)) ≡ (kind, size)
-slot-back kind size true h = ap (slot_parts_are kind) (sym (eqb-true size 0 h))
+slot-back : (kind : Kind) (size : ℕ) (b : Bool) → eqb size 0 ≡ b → slot_fields (cond b (slot.Scalar kind) (slot.Array kind size)) ≡ (kind, size)
+slot-back kind size true h = ap (slot_fields_are kind) (sym (eqb-true size 0 h))
 slot-back kind size false h = refl
 
-int_kind-back : (n : ℕ) → eqb n 0 ≡ true → kind_byte (kind_of n) ≡ n
-int_kind-back n h = rw (eqb-true n 0 h) refl
-
 pub slots-coherent : (count : ℕ) → Coherent (slots count)
-unfolding slots slot_after slot_kind
-slots-coherent count = λ before. (((tt, λ byte fits. int_kind-back byte fits.1), λ kind. tt), λ parts fits. slot-back parts.0 parts.1 (eqb parts.1 0) refl)
+unfolding slots slot_after variable_kind
+slots-coherent count = λ before. (((tt, λ byte fits. kind-back byte fits.1), λ kind. tt), λ fields fits. slot-back fields.0 fields.1 (eqb fields.1 0) refl)
 
-three_back : (n : ℕ) (b : Bool) → ltb n 3 ≡ b → (other : Bool) → (b && other) ≡ true → returned_byte (returned_of n) ≡ n
-three_back zero b below other h = refl
-three_back (suc zero) b below other h = refl
-three_back (suc (suc zero)) b below other h = refl
-three_back (suc (suc (suc n))) true below other h = absurd (omega (arith, ltb-true _ _ below))
-three_back (suc (suc (suc n))) false below other h = absurd cc
-
-returned-back : (n : ℕ) → (ltb n 3 && eqb n 0) ≡ true → returned_byte (returned_of n) ≡ n
-returned-back n h = three_back n (ltb n 3) refl (eqb n 0) h
+returned-back : (n : ℕ) → ltb n 3 ≡ true → returned_byte (returned_of n) ≡ n
+returned-back zero below = refl
+returned-back (suc zero) below = refl
+returned-back (suc (suc zero)) below = refl
+returned-back (suc (suc (suc n))) below = absurd (omega (arith, ltb-true _ _ below))
 
 pub procedures-coherent : Coherent procedures
-unfolding procedures procedure returned parameters handlers handler
-procedures-coherent = λ before. (((tt, λ byte fits. returned-back byte fits.1), λ _. (tt, λ count. (slots-coherent count, λ _. (instructions-lawful, λ _ before. ((tt, λ _. (tt, λ _. (tt, λ _. tt))), λ parts fits. refl))))), λ parts fits. refl)
+unfolding procedures procedure returned handlers handler
+procedures-coherent = λ before. (((tt, λ byte fits. returned-back byte fits.1), λ _. (tt, λ count. (slots-coherent count, λ _. (instructions-lawful, λ _ before. ((tt, λ _. (tt, λ _. (tt, λ _. tt))), λ fields fits. refl))))), λ fields fits. refl)
 
 main-coherent : (all : List ProcedureContents) → Coherent (main all)
 unfolding main
@@ -221,4 +223,4 @@ program-coherent = (globals-coherent, λ _. (procedures-coherent, main-coherent)
 
 pub module_file-coherent : Coherent module_file
 unfolding module_file contents
-module_file-coherent = (lit< tt, (lit< tt, ((hierarchy-coherent, λ h. (declared-coherent (length h.names), λ _. program-coherent)), λ parts fits. refl)))
+module_file-coherent = (lit< tt, (lit< tt, ((hierarchy-coherent, λ h. (declared-coherent (length h.names), λ _. program-coherent)), λ fields fits. refl)))

@@ -4,7 +4,7 @@ pub mod Taken
 pub mod Again
 pub mod Lawful
 pub mod Loop
-pub mod Straight
+pub mod Spelling
 pub mod Widths
 pub mod NewNames
 pub mod Facts

@@ -16,7 +16,7 @@ each_goes_on {A} one count i before bytes x after total lt read so_far =
 -- a value that was not read
 pub each_fails : {A : Type 0} (e : ReadError) (one : List A → List ℕ → Read A) (count i : ℕ) (before : List A) (bytes : List ℕ) (total : Read (List A)) → i < count → Fails e (one before bytes)
     → each_at one (count - i) before bytes ≡ total → Fails e total
-each_fails errors.Memory one count i before bytes total lt fails so_far = tt
+each_fails errors.NoMemory one count i before bytes total lt fails so_far = tt
 each_fails {A} (errors.Stop stop) one count i before bytes total lt fails so_far =
     let left : count - i ≡ suc (count - (i + 1)) = omega arith in
     let goes = λ (r : Read A). r >>= λ y. each_at one (count - (i + 1)) (before ++ y.0 ∷ []) y.1 in

@@ -153,7 +153,7 @@ declared-read count taken bytes names rest all after e same f =
 pub declared-fails : (e : ReadError) (count : ℕ) (taken : List ℕ → Bool) (bytes : List ℕ) (names : List (List ℕ)) (rest : List ℕ) → read exceptions bytes ≡ Ok (names, rest)
     → ((q : List ℕ) → taken q ≡ (is_built_in q || is_among names q)) → Fails e (counted_channels count taken rest) → Fails e (read (declared count) bytes)
 unfolding declared
-declared-fails errors.Memory count taken bytes names rest e same f = tt
+declared-fails errors.NoMemory count taken bytes names rest e same f = tt
 declared-fails (errors.Stop stop) count taken bytes names rest e same f =
     let found : read (channels count names) rest ≡ Err stop = same_channels count taken names rest same ∙ f in
     rw (e, found) refl

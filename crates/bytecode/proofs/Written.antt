@@ -8,21 +8,21 @@ use Rattle.std.proofs.lemmas.List.Sums.{sum_by-cons}
 use Rattle.std.specs.Global.{Global as Allocator}
 use Rattle.std.specs.Prelude.{String, string_bytes}
 use Rattle.bytecode.specs.Reading.{texts}
-use Rattle.bytecode.proofs.Straight.{spelled-width}
+use Rattle.bytecode.proofs.Spelling.{spelled-width}
 use Rattle.labels.specs.Label.{ReaderPolicy, Label}
 use Rattle.principals.specs.ActsFor.{PrincipalHierarchy}
 use Rattle.bytecode.specs.declared.instruction.Instruction.{Instruction}
-use Rattle.bytecode.specs.declared.parts.Kind.TheVariants as kind
-use Rattle.bytecode.specs.declared.parts.Slot.{Slot}
-use Rattle.bytecode.specs.declared.parts.Global.{Global}
-use Rattle.bytecode.specs.declared.parts.Global.TheVariants as global
-use Rattle.bytecode.specs.declared.parts.Handler.{Handler}
+use Rattle.bytecode.specs.declared.value.Kind.TheVariants as kind
+use Rattle.bytecode.specs.declared.declaration.Slot.{Slot}
+use Rattle.bytecode.specs.declared.declaration.Global.{Global}
+use Rattle.bytecode.specs.declared.declaration.Global.TheVariants as global
+use Rattle.bytecode.specs.declared.declaration.Handler.{Handler}
 use Rattle.bytecode.specs.declared.fault.Refusal.TheVariants.{BadValue}
 use Rattle.bytecode.specs.Contents.{ChannelContents, ProcedureContents, ModuleContents}
 use Rattle.bytecode.specs.Code.{width_of}
 use Rattle.bytecode.specs.Form.{Form, Number, Checked, Fits, FitEach, spelled, spelled_each, spelled_code}
 use Rattle.bytecode.specs.Opcodes.{instructions}
-use Rattle.bytecode.specs.Format.{direction_byte, kind_byte, returned_byte, magic, version, is_built_in, is_among, channel_names, name_after, number_below, principals, pair_after, hierarchy, exceptions, direction, reader_after, policy_after, label, channel_after, channels, declared, of_scalar, global_after, globals, slot_after, slots, slot_kind, variable_kind, returned, parameters, handler, handlers, procedure, procedures, main, program, contents, module_file}
+use Rattle.bytecode.specs.Format.{direction_byte, kind_byte, returned_byte, magic, version, is_built_in, is_among, channel_names, name_after, number_below, principals, pair_after, hierarchy, exceptions, direction, reader_after, policy_after, label, channel_after, channels, declared, of_scalar, global_after, globals, slot_after, slots, variable_kind, returned, handler, handlers, procedure, procedures, main, program, contents, module_file}
 use Rattle.bytecode.specs.Writing.{number_bytes, list_bytes, text_bytes, pair_bytes, policy_bytes, channel_bytes, variable_bytes, slot_bytes, handler_bytes, instruction_bytes, code_bytes, procedure_bytes, module_bytes, IsShort, PolicyFits, ChannelFits, ProcedureFits, ModuleFits}
 
 -- ---- lists
@@ -132,7 +132,7 @@ global-bytes before (global.Array kind.Int size) h = ap (λ (bytes : List ℕ). 
 global-bytes before (global.Array kind.Boolean size) h = ap (λ (bytes : List ℕ). (kind_byte kind.Boolean ∷ []) ++ (number_bytes size ++ bytes)) (boolean_array size (eqb size 0) h.1)
 
 slot-bytes : (count : ℕ) (before : List Slot) (x : Slot) → Fits (slot_after count before) x → spelled (slot_after count before) x ≡ slot_bytes x
-unfolding slot_after slot_kind
+unfolding slot_after variable_kind
 slot-bytes count before x h = refl
 
 handler-bytes : (before : List Handler) (x : Handler) → Fits handler x → spelled handler x ≡ handler_bytes x
@@ -145,7 +145,7 @@ code-bytes [] = refl
 code-bytes (x ∷ xs) = ap (λ (bytes : List ℕ). instruction_bytes x ++ bytes) (code-bytes xs)
 
 procedure-bytes : (before : List ProcedureContents) (x : ProcedureContents) → Fits procedure x → spelled procedure x ≡ procedure_bytes x
-unfolding procedure procedure_bytes returned parameters slots handlers
+unfolding procedure procedure_bytes returned slots handlers
 procedure-bytes before x h =
     after (returned_byte x.returned ∷ []) (after (number_bytes x.parameters) (two (counted_bytes (slot_after x.parameters) slot_bytes (slot-bytes x.parameters) x.slots h.0.1.1.0.2)
     (two (ap (λ (bytes : List ℕ). number_bytes (length bytes) ++ bytes) (code-bytes x.code)) (counted_bytes (λ _. handler) handler_bytes handler-bytes x.handlers h.0.1.1.1.1.2))))
@@ -169,14 +169,14 @@ unfolding module_file contents module_bytes
 module-bytes m h =
     after (number_bytes magic) (after (number_bytes version) (two (hierarchy-bytes m.hierarchy h.0.0) (two (declared-bytes (length m.hierarchy.names) m.exceptions m.channels h.0.1.0) (program-bytes m.globals m.procedures m.main h.0.1.1))))
 
-record PeopleFits (h : PrincipalHierarchy) : Type 0 where
+record HierarchyFits (h : PrincipalHierarchy) : Type 0 where
   names : IsShort h.names
   each : All IsShort h.names
   pairs : IsShort h.pairs
 
-people_fits : (h : PrincipalHierarchy) → Fits hierarchy h → PeopleFits h
+hierarchy_fits : (h : PrincipalHierarchy) → Fits hierarchy h → HierarchyFits h
 unfolding hierarchy principals
-people_fits h f = record { names = f.0.0.0; each = all_have (name_after (λ _. false)) IsShort (name_short (λ _. false)) h.names f.0.0.2; pairs = f.0.1.0 }
+hierarchy_fits h f = record { names = f.0.0.0; each = all_have (name_after (λ _. false)) IsShort (name_short (λ _. false)) h.names f.0.0.2; pairs = f.0.1.0 }
 
 record DeclaredFits (names : List (List ℕ)) (all : List ChannelContents) : Type 0 where
   names_short : IsShort names
@@ -205,7 +205,7 @@ program_fits g ps n h = record { globals_short = h.0.0; procedures_short = h.1.0
 pub module_fits : (m : ModuleContents) → Fits module_file m → ModuleFits m
 unfolding module_file contents
 module_fits m h =
-    let p = people_fits m.hierarchy h.0.0 in
+    let p = hierarchy_fits m.hierarchy h.0.0 in
     let d = declared_fits (length m.hierarchy.names) m.exceptions m.channels h.0.1.0 in
     let q = program_fits m.globals m.procedures m.main h.0.1.1 in
     record {
@@ -254,12 +254,12 @@ pub module_written : (m : ModuleContents) (o0 o1 o2 o3 o4 o5 o6 o7 o8 : List ℕ
     → o6 ≡ o5 ++ list_bytes variable_bytes m.globals → o7 ≡ o6 ++ list_bytes procedure_bytes m.procedures → o8 ≡ o7 ++ number_bytes m.main → o8 ≡ o0 ++ module_bytes m
 unfolding module_bytes
 module_written m o0 o1 o2 o3 o4 o5 o6 o7 o8 e1 e2 e3 e4 e5 e6 e7 e8 =
-    let people = list_bytes text_bytes m.hierarchy.names ++ list_bytes pair_bytes m.hierarchy.pairs in
+    let authority = list_bytes text_bytes m.hierarchy.names ++ list_bytes pair_bytes m.hierarchy.pairs in
     e8 ∙ (λ i. e7 i ++ number_bytes m.main)
     ∙ (λ i. (e6 i ++ list_bytes procedure_bytes m.procedures) ++ number_bytes m.main)
     ∙ (λ i. ((e5 i ++ list_bytes variable_bytes m.globals) ++ list_bytes procedure_bytes m.procedures) ++ number_bytes m.main)
     ∙ (λ i. (((e4 i ++ list_bytes channel_bytes m.channels) ++ list_bytes variable_bytes m.globals) ++ list_bytes procedure_bytes m.procedures) ++ number_bytes m.main)
     ∙ (λ i. ((((e3 i ++ list_bytes text_bytes m.exceptions) ++ list_bytes channel_bytes m.channels) ++ list_bytes variable_bytes m.globals) ++ list_bytes procedure_bytes m.procedures) ++ number_bytes m.main)
-    ∙ (λ i. (((((e2 i ++ people) ++ list_bytes text_bytes m.exceptions) ++ list_bytes channel_bytes m.channels) ++ list_bytes variable_bytes m.globals) ++ list_bytes procedure_bytes m.procedures) ++ number_bytes m.main)
-    ∙ (λ i. ((((((e1 i ++ number_bytes version) ++ people) ++ list_bytes text_bytes m.exceptions) ++ list_bytes channel_bytes m.channels) ++ list_bytes variable_bytes m.globals) ++ list_bytes procedure_bytes m.procedures) ++ number_bytes m.main)
-    ∙ regroup o0 (number_bytes magic) (number_bytes version) people (list_bytes text_bytes m.exceptions) (list_bytes channel_bytes m.channels) (list_bytes variable_bytes m.globals) (list_bytes procedure_bytes m.procedures) (number_bytes m.main)
+    ∙ (λ i. (((((e2 i ++ authority) ++ list_bytes text_bytes m.exceptions) ++ list_bytes channel_bytes m.channels) ++ list_bytes variable_bytes m.globals) ++ list_bytes procedure_bytes m.procedures) ++ number_bytes m.main)
+    ∙ (λ i. ((((((e1 i ++ number_bytes version) ++ authority) ++ list_bytes text_bytes m.exceptions) ++ list_bytes channel_bytes m.channels) ++ list_bytes variable_bytes m.globals) ++ list_bytes procedure_bytes m.procedures) ++ number_bytes m.main)
+    ∙ regroup o0 (number_bytes magic) (number_bytes version) authority (list_bytes text_bytes m.exceptions) (list_bytes channel_bytes m.channels) (list_bytes variable_bytes m.globals) (list_bytes procedure_bytes m.procedures) (number_bytes m.main)

@@ -4,11 +4,11 @@ use Rattle.std.specs.Prelude.{ℕ, List, Option}
 use Rattle.principals.specs.ActsFor.{PrincipalHierarchy}
 use Rattle.labels.specs.Label.{Label}
 use Rattle.bytecode.specs.declared.instruction.Instruction.{Instruction}
-use Rattle.bytecode.specs.declared.parts.Kind.{Kind}
-use Rattle.bytecode.specs.declared.parts.Slot.{Slot}
-use Rattle.bytecode.specs.declared.parts.Global.{Global}
-use Rattle.bytecode.specs.declared.parts.Handler.{Handler}
-use Rattle.bytecode.specs.declared.parts.Direction.{Direction}
+use Rattle.bytecode.specs.declared.value.Kind.{Kind}
+use Rattle.bytecode.specs.declared.declaration.Slot.{Slot}
+use Rattle.bytecode.specs.declared.declaration.Global.{Global}
+use Rattle.bytecode.specs.declared.declaration.Handler.{Handler}
+use Rattle.bytecode.specs.declared.declaration.Direction.{Direction}
 
 -- a channel: which way numbers go on it, its name as bytes, and the label of what it carries
 pub record ChannelContents : Type 0 where

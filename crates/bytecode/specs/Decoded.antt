@@ -18,12 +18,12 @@ refusal_of bytes (Err stop) = Some (stop.refusal, length bytes - stop.left)
 abbrev pub first_refusal : List ℕ → Option (Refusal × ℕ)
 first_refusal bytes = refusal_of bytes (read_all module_file bytes)
 
--- a fault tells a refusal and its offset, or the want of memory
-abbrev pub Tells : FormatFault → Option (Refusal × ℕ) → Type 0
-Tells NoMemory refusal = Unit {0}
-Tells (Refused refusal offset) found = found ≡ Some (refusal, offset)
+-- a fault reports a refusal and its offset, or that memory ran out
+abbrev pub Reports : FormatFault → Option (Refusal × ℕ) → Type 0
+Reports NoMemory refusal = Unit {0}
+Reports (Refused refusal offset) found = found ≡ Some (refusal, offset)
 
--- the answer is the module, or the want of memory
+-- the answer is the module, or that memory ran out
 abbrev pub IsReadAs : ModuleContents → Result ModuleContents FormatFault → Type 0
 IsReadAs m (Ok answer) = answer ≡ m
 IsReadAs m (Err fault) = fault ≡ NoMemory

@@ -36,7 +36,7 @@ pub data Form : Type 0 → Type 1 where
   Counted : {A : Type 0} → (ℕ → Bool) → (List A → Form A) → Form (List A)
   -- a length, and instructions of that many bytes
   Code : {A : Type 0} → Coding A → Form (List A)
-  -- a value that is made of parts, and taken apart
+  -- a value that is made of fields, and taken apart
   Named : {A B : Type 0} → (A → B) → (B → A) → Form A → Form B
 
 -- ---- which bytes spell a value
@@ -64,7 +64,7 @@ spelled (Checked refusal test form) x = spelled form x
 spelled (Then first second) x = spelled first x.0 ++ spelled (second x.0) x.1
 spelled (Counted test one) xs = to_be_bytes w32 (length xs) ++ spelled_each (λ before x. spelled (one before) x) [] xs
 spelled (Code coding) xs = to_be_bytes w32 (length (spelled_code coding xs)) ++ spelled_code coding xs
-spelled (Named make parts form) x = spelled form (parts x)
+spelled (Named make fields form) x = spelled form (fields x)
 
 -- ---- which values have a spelling
 
@@ -89,7 +89,7 @@ Fits (Checked refusal test form) x = Fits form x × (test x ≡ true)
 Fits (Then first second) x = Fits first x.0 × Fits (second x.0) x.1
 Fits (Counted test one) xs = (length xs < 2 ^ 32) × (test (length xs) ≡ true) × FitEach (λ before x. Fits (one before) x) [] xs
 Fits (Code coding) xs = (length (spelled_code coding xs) < 2 ^ 32) × AllByRecursion (IsCoded coding) xs
-Fits (Named make parts form) x = Fits form (parts x) × (make (parts x) ≡ x)
+Fits (Named make fields form) x = Fits form (fields x) × (make (fields x) ≡ x)
 
 -- the bytes are the spelling of the value, each of them
 abbrev pub Spells : {A : Type 0} → Form A → A → List ℕ → Type 0
@@ -97,7 +97,7 @@ Spells form x bytes = Fits form x × (bytes ≡ spelled form x)
 
 -- ---- reading, and the first refusal
 
--- a refusal at the place where these bytes are left
+-- a refusal at the offset where these bytes are left
 abbrev pub stop_at : Refusal → List ℕ → Stop
 stop_at refusal bytes = record { refusal = refusal; left = length bytes }
 
@@ -121,23 +121,23 @@ byte_at (b ∷ rest) = Ok (b, rest)
 abbrev pub number_at : List ℕ → Read ℕ
 number_at bytes = if nat_lt (length bytes) 4 then Err short else Ok (from_be_bytes w32 (take 4 bytes), drop 4 bytes)
 
--- as many bytes as told
+-- so many bytes
 abbrev pub bytes_at : ℕ → List ℕ → Read (List ℕ)
 bytes_at n bytes = if nat_lt (length bytes) n then Err short else Ok (take n bytes, drop n bytes)
 
--- as many values as told, after those before
+-- so many values, after those before
 abbrev pub each_at : {A : Type 0} → (List A → List ℕ → Read A) → ℕ → List A → List ℕ → Read (List A)
 each_at one zero before bytes = Ok (before, bytes)
 each_at one (suc count) before bytes = do
   x ← one before bytes
   each_at one count (before ++ x.0 ∷ []) x.1
 
--- what an operand was found to spell, told at the operand where it has no meaning
+-- what an operand was found to spell; where it has no meaning, a refusal at the operand
 abbrev pub meant : {A : Type 0} → Option A → List ℕ → List ℕ → Read A
 meant None bytes rest = Err (stop_at BadValue bytes)
 meant (Some x) bytes rest = Ok (x, rest)
 
--- the instruction of an opcode, of whose operand the width is told, within the room that the code has: it must end there
+-- the instruction of an opcode and the width of its operand, within the room that the code has: it must end there
 abbrev pub operand_at : {A : Type 0} → Coding A → ℕ → ℕ → List ℕ → Option ℕ → List ℕ → Read A
 operand_at coding room opcode bytes None rest = Err (stop_at BadValue bytes)
 operand_at coding room opcode bytes (Some width) rest =
@@ -182,7 +182,7 @@ read (Counted test one) bytes = do
 read (Code coding) bytes = do
   size ← number_at bytes
   code_at coding size.0 size.0 [] size.1
-read (Named make parts form) bytes = do
+read (Named make fields form) bytes = do
   found ← read form bytes
   Ok (make found.0, found.1)
 

@@ -12,41 +12,34 @@ use Rattle.principals.specs.ActsFor.{PrincipalHierarchy}
 use Rattle.labels.specs.Label.{ReaderPolicy, Label}
 use Rattle.labels.specs.Canonical.{policy_cmp}
 use Rattle.bytecode.specs.declared.fault.Refusal.TheVariants.{Magic, Version, BadValue, NotCanonical}
-use Rattle.bytecode.specs.declared.parts.Kind.{Kind}
-use Rattle.bytecode.specs.declared.parts.Kind.TheVariants as kind
-use Rattle.bytecode.specs.declared.parts.Slot.{Slot}
-use Rattle.bytecode.specs.declared.parts.Slot.TheVariants as slot
-use Rattle.bytecode.specs.declared.parts.Global.{Global}
-use Rattle.bytecode.specs.declared.parts.Global.TheVariants as global
-use Rattle.bytecode.specs.declared.parts.Handler.{Handler}
-use Rattle.bytecode.specs.declared.parts.Direction.{Direction}
-use Rattle.bytecode.specs.declared.parts.Direction.TheVariants.{Input, Output}
+use Rattle.bytecode.specs.declared.value.Kind.{Kind}
+use Rattle.bytecode.specs.declared.value.Kind.TheVariants as kind
+use Rattle.bytecode.specs.declared.declaration.Slot.{Slot}
+use Rattle.bytecode.specs.declared.declaration.Slot.TheVariants as slot
+use Rattle.bytecode.specs.declared.declaration.Global.{Global}
+use Rattle.bytecode.specs.declared.declaration.Global.TheVariants as global
+use Rattle.bytecode.specs.declared.declaration.Handler.{Handler}
+use Rattle.bytecode.specs.declared.declaration.Direction.{Direction}
+use Rattle.bytecode.specs.declared.declaration.Direction.TheVariants.{Input, Output}
 use Rattle.bytecode.specs.Contents.{ChannelContents, ProcedureContents, ModuleContents}
 use Rattle.bytecode.specs.Form.{Form, Byte, Number, Text, Nothing, Marked, Checked, Then, Counted, Code, Named}
 use Rattle.bytecode.specs.Opcodes.{instructions}
 
 -- ---- limits and tests
 
-abbrev pub most_principals : ℕ
-most_principals = 256
+abbrev pub max_principals : ℕ
+max_principals = 256
 
 -- elements of an array, and cells of a frame or of all globals
-abbrev pub most_elements : ℕ
-most_elements = 65536
+abbrev pub max_elements : ℕ
+max_elements = 65536
 
-abbrev pub most_cells : ℕ
-most_cells = 1048576
+abbrev pub max_cells : ℕ
+max_cells = 1048576
 
 -- any count will do
 abbrev pub any : ℕ → Bool
 any n = true
-
--- so far a module has none of these, and one of those
-abbrev pub none_so_far : ℕ → Bool
-none_so_far n = n == 0
-
-abbrev pub one_so_far : ℕ → Bool
-one_so_far n = n == 1
 
 abbrev pub is_less : Ordering → Bool
 is_less Less = true
@@ -75,7 +68,7 @@ cells_of_size size = if size == 0 then 1 else size
 
 -- a size is not too large, nor are the cells with it
 abbrev pub is_size : ℕ → ℕ → Bool
-is_size cells size = nat_le size most_elements && nat_le (cells + cells_of_size size) most_cells
+is_size cells size = nat_le size max_elements && nat_le (cells + cells_of_size size) max_cells
 
 -- ---- names and numbers
 
@@ -89,7 +82,7 @@ number_below count = Checked BadValue (λ n. nat_lt n count) Number
 -- ---- the hierarchy
 
 unfoldable pub principals : Form (List (List ℕ))
-principals = Counted (λ count. nat_le count most_principals) (name_after (λ _. false))
+principals = Counted (λ count. nat_le count max_principals) (name_after (λ _. false))
 
 -- pairs ascend by their first number, then by their second
 abbrev pub pair_cmp : ℕ × ℕ → ℕ × ℕ → Ordering
@@ -101,7 +94,7 @@ pair_after count before =
 
 unfoldable pub hierarchy : Form PrincipalHierarchy
 hierarchy =
-    Named (λ parts. record { names = parts.0; pairs = parts.1 }) (λ h. (h.names, h.pairs))
+    Named (λ fields. record { names = fields.0; pairs = fields.1 }) (λ h. (h.names, h.pairs))
     (Then principals (λ names. Counted any (pair_after (length names))))
 
 -- ---- exceptions and channels, which share one space of names
@@ -113,7 +106,7 @@ abbrev pub is_built_in : List ℕ → Bool
 is_built_in name = is_among built_in name
 
 unfoldable pub exceptions : Form (List (List ℕ))
-exceptions = Counted none_so_far (name_after is_built_in)
+exceptions = Counted any (name_after is_built_in)
 
 abbrev pub direction_of : ℕ → Direction
 direction_of byte = if byte == 0 then Input else Output
@@ -134,7 +127,7 @@ reader_after count owner before =
 unfoldable pub policy_after : ℕ → List ReaderPolicy → Form ReaderPolicy
 policy_after count before =
     Checked NotCanonical (is_above policy_cmp before)
-    (Named (λ parts. record { owner = parts.0; readers = parts.1 }) (λ policy. (policy.owner, policy.readers))
+    (Named (λ fields. record { owner = fields.0; readers = fields.1 }) (λ policy. (policy.owner, policy.readers))
     (Then (number_below count) (λ owner. Counted any (reader_after count owner))))
 
 unfoldable pub label : ℕ → Form Label
@@ -145,7 +138,7 @@ channel_names channels = map (λ channel. channel.name) channels
 
 unfoldable pub channel_after : ℕ → (List ℕ → Bool) → List ChannelContents → Form ChannelContents
 channel_after count taken before =
-    Named (λ parts. record { direction = parts.0; name = parts.1.0; label = parts.1.1 })
+    Named (λ fields. record { direction = fields.0; name = fields.1.0; label = fields.1.1 })
     (λ channel. (channel.direction, (channel.name, channel.label)))
     (Then direction (λ _. Then (name_after taken (channel_names before)) (λ _. label count)))
 
@@ -185,48 +178,44 @@ global_of (kind.Int, (size, first)) =
 global_of (kind.Boolean, (size, first)) =
     if size == 0 then global.Boolean (first == 1) else global.Array kind.Boolean size
 
-abbrev pub global_parts : Global → Kind × (ℕ × ℕ)
-global_parts (global.Int n) = (kind.Int, (0, cast_unsigned w32 n))
-global_parts (global.Boolean b) = (kind.Boolean, (0, if b then 1 else 0))
-global_parts (global.Array kind size) = (kind, (size, 0))
+abbrev pub global_fields : Global → Kind × (ℕ × ℕ)
+global_fields (global.Int n) = (kind.Int, (0, cast_unsigned w32 n))
+global_fields (global.Boolean b) = (kind.Boolean, (0, if b then 1 else 0))
+global_fields (global.Array kind size) = (kind, (size, 0))
 
 -- the cells of some globals
 abbrev pub global_cells : List Global → ℕ
-global_cells globals = sum_by (λ global. cells_of_size (global_parts global).1.0) globals
+global_cells globals = sum_by (λ global. cells_of_size (global_fields global).1.0) globals
 
 unfoldable pub global_after : List Global → Form Global
 global_after before =
-    Named global_of global_parts
+    Named global_of global_fields
     (Then variable_kind (λ kind. Then (Checked BadValue (is_size (global_cells before)) Number) (λ size. first_value kind size)))
 
 unfoldable pub globals : Form (List Global)
-globals = Counted none_so_far global_after
+globals = Counted any global_after
 
 -- ---- slots
 
 abbrev pub slot_of : Kind × ℕ → Slot
 slot_of (kind, size) = if size == 0 then slot.Scalar kind else slot.Array kind size
 
-abbrev pub slot_parts : Slot → Kind × ℕ
-slot_parts (slot.Scalar kind) = (kind, 0)
-slot_parts (slot.Array kind size) = (kind, size)
+abbrev pub slot_fields : Slot → Kind × ℕ
+slot_fields (slot.Scalar kind) = (kind, 0)
+slot_fields (slot.Array kind size) = (kind, size)
 
 -- the cells of some slots
 abbrev pub slot_cells : List Slot → ℕ
-slot_cells slots = sum_by (λ slot. cells_of_size (slot_parts slot).1) slots
+slot_cells slots = sum_by (λ slot. cells_of_size (slot_fields slot).1) slots
 
--- a slot's kind; so far each slot is an int
-unfoldable pub slot_kind : Form Kind
-slot_kind = Named kind_of kind_byte (Checked BadValue none_so_far Byte)
-
--- a slot's size: a parameter is a scalar, and so far each slot is one
+-- a slot's size: a parameter is a scalar
 abbrev pub is_slot_size : ℕ → List Slot → ℕ → Bool
 is_slot_size parameters before size =
-    is_size (slot_cells before) size && (nat_le parameters (length before) || size == 0) && none_so_far size
+    is_size (slot_cells before) size && (nat_le parameters (length before) || size == 0)
 
 unfoldable pub slot_after : ℕ → List Slot → Form Slot
 slot_after parameters before =
-    Named slot_of slot_parts (Then slot_kind (λ kind. Checked BadValue (is_slot_size parameters before) Number))
+    Named slot_of slot_fields (Then variable_kind (λ kind. Checked BadValue (is_slot_size parameters before) Number))
 
 unfoldable pub slots : ℕ → Form (List Slot)
 slots parameters = Counted (λ count. nat_le parameters count) (slot_after parameters)
@@ -241,31 +230,28 @@ returned_byte None = 0
 returned_byte (Some kind.Int) = 1
 returned_byte (Some kind.Boolean) = 2
 
--- the kind of value that a procedure returns; so far none returns a value
+-- the kind of value that a procedure returns, if any
 unfoldable pub returned : Form (Option Kind)
-returned = Named returned_of returned_byte (Checked BadValue (λ byte. nat_lt byte 3 && none_so_far byte) Byte)
-
-unfoldable pub parameters : Form ℕ
-parameters = Checked BadValue none_so_far Number
+returned = Named returned_of returned_byte (Checked BadValue (λ byte. nat_lt byte 3) Byte)
 
 unfoldable pub handler : Form Handler
 handler =
-    Named (λ parts. record { start = parts.0; end = parts.1.0; exception = parts.1.1.0; target = parts.1.1.1 })
+    Named (λ fields. record { start = fields.0; end = fields.1.0; exception = fields.1.1.0; target = fields.1.1.1 })
     (λ handler. (handler.start, (handler.end, (handler.exception, handler.target))))
     (Then Number (λ _. Then Number (λ _. Then Number (λ _. Number))))
 
 unfoldable pub handlers : Form (List Handler)
-handlers = Counted none_so_far (λ before. handler)
+handlers = Counted any (λ before. handler)
 
 unfoldable pub procedure : Form ProcedureContents
 procedure =
     Named
-    (λ parts. record { returned = parts.0; parameters = parts.1.0; slots = parts.1.1.0; code = parts.1.1.1.0; handlers = parts.1.1.1.1 })
+    (λ fields. record { returned = fields.0; parameters = fields.1.0; slots = fields.1.1.0; code = fields.1.1.1.0; handlers = fields.1.1.1.1 })
     (λ p. (p.returned, (p.parameters, (p.slots, (p.code, p.handlers)))))
-    (Then returned (λ _. Then parameters (λ count. Then (slots count) (λ _. Then (Code instructions) (λ _. handlers)))))
+    (Then returned (λ _. Then Number (λ parameters. Then (slots parameters) (λ _. Then (Code instructions) (λ _. handlers)))))
 
 unfoldable pub procedures : Form (List ProcedureContents)
-procedures = Counted one_so_far (λ before. procedure)
+procedures = Counted any (λ before. procedure)
 
 -- ---- modules
 
@@ -291,7 +277,7 @@ program = Then globals (λ _. Then procedures main)
 unfoldable pub contents : Form ModuleContents
 contents =
     Named
-    (λ parts. record { hierarchy = parts.0; exceptions = parts.1.0.0; channels = parts.1.0.1; globals = parts.1.1.0; procedures = parts.1.1.1.0; main = parts.1.1.1.1 })
+    (λ fields. record { hierarchy = fields.0; exceptions = fields.1.0.0; channels = fields.1.0.1; globals = fields.1.1.0; procedures = fields.1.1.1.0; main = fields.1.1.1.1 })
     (λ m. (m.hierarchy, ((m.exceptions, m.channels), (m.globals, (m.procedures, m.main)))))
     (Then hierarchy (λ h. Then (declared (length h.names)) (λ _. program)))
 

@@ -3,10 +3,11 @@ pub use Rattle.labels.specs.Canonical
 pub use Rattle.labels.specs.Label
 pub use Rattle.lexer.specs.Words
 pub mod Contents
-pub mod Code
 pub mod Faults
 pub mod Form
+pub mod Values
 pub mod Opcodes
+pub mod Code
 pub mod Format
 pub mod Reading
 pub mod Machine

@@ -1,16 +1,16 @@
--- What the functions that read have to do with reading.
+-- How the functions that read relate to reading as it is defined.
 -- Source: our own.
 use Rattle.std.specs.Global.{Global}
 use Rattle.std.specs.Prelude.{◌≡◌, ℕ, List, String, map, Result, Ok, Err, string_bytes}
 use Rattle.bytecode.specs.Contents.{ModuleContents}
-use Rattle.bytecode.specs.declared.decoding.Parts.{Parts}
+use Rattle.bytecode.specs.declared.decoding.Fields.{Fields}
 use Rattle.bytecode.specs.declared.fault.Stop.{Stop}
 use Rattle.bytecode.specs.declared.reading.ReadError.{ReadError}
 use Rattle.bytecode.specs.declared.reading.ReadError.TheVariants as errors
 
--- a function fails as reading does, or for want of memory
+-- a function fails as reading does, or because memory ran out
 abbrev pub Fails : {B : Type 0} → ReadError → Result B Stop → Type 0
-Fails errors.Memory read = Unit {0}
+Fails errors.NoMemory read = Unit {0}
 Fails (errors.Stop stop) read = read ≡ Err stop
 
 -- what a function returned, seen by the view, is what reading gives, unless memory ran out
@@ -22,13 +22,13 @@ Gives view (Err e) read = Fails e read
 abbrev pub texts : List (String Global) → List (List ℕ)
 texts names = map (λ name. string_bytes name) names
 
--- the parts of a module that was read, as its contents
-abbrev pub contents_of : Parts → ModuleContents
-contents_of parts = record {
-  hierarchy = parts.hierarchy;
-  exceptions = texts parts.exceptions.items;
-  channels = parts.channels.items;
-  globals = parts.program.globals.items;
-  procedures = parts.program.procedures.items;
-  main = parts.program.main;
+-- the fields of a module that was read, as its contents
+abbrev pub contents_of : Fields → ModuleContents
+contents_of fields = record {
+  hierarchy = fields.hierarchy;
+  exceptions = texts fields.exceptions.items;
+  channels = fields.channels.items;
+  globals = fields.program.globals.items;
+  procedures = fields.program.procedures.items;
+  main = fields.program.main;
 }

@@ -5,14 +5,14 @@ use Rattle.std.specs.Int.{w32, cast_unsigned, to_be_bytes}
 use Rattle.std.specs.List.{flat_map}
 use Rattle.labels.specs.Label.{ReaderPolicy}
 use Rattle.bytecode.specs.declared.instruction.Instruction.{Instruction}
-use Rattle.bytecode.specs.declared.parts.Slot.{Slot}
-use Rattle.bytecode.specs.declared.parts.Global.{Global}
-use Rattle.bytecode.specs.declared.parts.Global.TheVariants as global
-use Rattle.bytecode.specs.declared.parts.Kind.TheVariants as kind
-use Rattle.bytecode.specs.declared.parts.Handler.{Handler}
+use Rattle.bytecode.specs.declared.declaration.Slot.{Slot}
+use Rattle.bytecode.specs.declared.declaration.Global.{Global}
+use Rattle.bytecode.specs.declared.declaration.Global.TheVariants as global
+use Rattle.bytecode.specs.declared.value.Kind.TheVariants as kind
+use Rattle.bytecode.specs.declared.declaration.Handler.{Handler}
 use Rattle.bytecode.specs.Contents.{ChannelContents, ProcedureContents, ModuleContents}
 use Rattle.bytecode.specs.Opcodes.{opcode_of, operand_of}
-use Rattle.bytecode.specs.Format.{direction_byte, kind_byte, magic, returned_byte, slot_parts, version}
+use Rattle.bytecode.specs.Format.{direction_byte, kind_byte, magic, returned_byte, slot_fields, version}
 
 abbrev pub number_bytes : ℕ → List ℕ
 number_bytes n = to_be_bytes w32 n
@@ -40,7 +40,7 @@ variable_bytes (global.Boolean b) = (kind_byte kind.Boolean ∷ []) ++ (number_b
 variable_bytes (global.Array kind size) = (kind_byte kind ∷ []) ++ number_bytes size
 
 abbrev pub slot_bytes : Slot → List ℕ
-slot_bytes slot = (kind_byte (slot_parts slot).0 ∷ []) ++ number_bytes (slot_parts slot).1
+slot_bytes slot = (kind_byte (slot_fields slot).0 ∷ []) ++ number_bytes (slot_fields slot).1
 
 unfoldable pub handler_bytes : Handler → List ℕ
 handler_bytes handler =

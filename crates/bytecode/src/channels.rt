@@ -7,10 +7,10 @@ ghost use Rattle.std.specs.BTreeSet.{contains_text};
 ghost use Rattle.std.specs.Prelude.{[], length};
 
 use crate::channel::Channel;
+use crate::declaration::Direction;
 use crate::fault::Refusal;
+use crate::hierarchy::label;
 use crate::names::{built_in, exceptions, name, take};
-use crate::parts::Direction;
-use crate::people::label;
 use crate::reading::{ReadError, byte, number, refused};
 use principals::Hierarchy;
 use std::alloc::Global;
@@ -45,7 +45,7 @@ fn channel<'a>(
     Ok((Channel::new(direction, name, label), rest))
 }
 
-/// As many channels as told, none of whose names is taken before.
+/// So many channels, none of whose names is taken before.
 fn channels(
     alloc: Global,
     principals: u32,

@@ -8,7 +8,7 @@ ghost use Rattle.std.specs.Prelude.{[], IfOk, ◌≤◌};
 
 use crate::fault::Refusal;
 use crate::instruction::Instruction;
-use crate::opcode::{operand_width, spelled};
+use crate::opcode::{spelled, width_after};
 use crate::reading::{ReadError, byte, number, refused, text};
 use std::alloc::Global;
 
@@ -19,7 +19,7 @@ fn instruction(room: u32, bytes: &[u8]) -> Result<(Instruction, &[u8]), ReadErro
     ensures inside { IfOk result (λ x. width_of x.0 ≤ room) }
 {
     let (opcode, rest) = byte(bytes)?;
-    let Some(width) = operand_width(opcode) else {
+    let Some(width) = width_after(opcode) else {
         return Err(refused(Refusal::BadValue, bytes));
     };
     if room as usize <= width {

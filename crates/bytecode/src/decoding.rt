@@ -1,7 +1,7 @@
-//! Reading of whole modules.
+//! Reading of modules.
 
 ghost use Rattle.bytecode.specs.Contents.{ModuleContents};
-ghost use Rattle.bytecode.specs.Decoded.{first_refusal, IsReadAs, Tells};
+ghost use Rattle.bytecode.specs.Decoded.{first_refusal, IsReadAs, Reports};
 ghost use Rattle.bytecode.specs.Form.{Fits, read, read_all, Spells};
 ghost use Rattle.bytecode.specs.Format.{contents, main, module_file, program};
 ghost use Rattle.bytecode.specs.Reading.{contents_of, Gives};
@@ -9,14 +9,14 @@ ghost use Rattle.std.specs.Prelude.{IfErr, IfOk, ◌≡◌};
 
 use crate::channel::Channel;
 use crate::channels::declared;
+use crate::declaration::Global as Variable;
 use crate::fault::{FormatFault, Refusal};
 use crate::globals::globals;
-use crate::parts::Global as Variable;
-use crate::people::hierarchy;
+use crate::hierarchy::hierarchy;
+use crate::module::Module;
 use crate::procedure::Procedure;
 use crate::procedures::procedures;
 use crate::reading::{ReadError, number, refused};
-use crate::whole::Module;
 use principals::Hierarchy;
 use std::alloc::Global;
 
@@ -26,9 +26,9 @@ pub(crate) const MAGIC: u32 = 0x464c_4f42;
 /// The version of the format.
 pub(crate) const VERSION: u32 = 1;
 
-/// The parts of a module that was read.
+/// The fields of a module that was read.
 #[derive(Drop)]
-pub(crate) struct Parts {
+pub(crate) struct Fields {
     hierarchy: Hierarchy,
     exceptions: Vec<String>,
     channels: Vec<Channel>,
@@ -76,26 +76,26 @@ fn program_at(alloc: Global, bytes: &[u8]) -> Result<(Program, &[u8]), ReadError
     Ok((program, rest))
 }
 
-/// The parts of a module behind magic and version.
+/// The fields of a module behind magic and version.
 #[tactic(auto, unfolding(crate::specs::Format::contents))]
-fn contents(alloc: Global, bytes: &[u8]) -> Result<(Parts, &[u8]), ReadError>
+fn contents(alloc: Global, bytes: &[u8]) -> Result<(Fields, &[u8]), ReadError>
     ensures { Gives (λ x. (contents_of x.0, x.1.now)) result (read contents bytes.now) }
 {
     let (hierarchy, rest) = hierarchy(alloc, bytes)?;
     let (exceptions, channels, rest) = declared(alloc, &hierarchy, rest)?;
     let (program, rest) = program_at(alloc, rest)?;
-    let parts = Parts {
+    let fields = Fields {
         hierarchy,
         exceptions,
         channels,
         program,
     };
-    Ok((parts, rest))
+    Ok((fields, rest))
 }
 
-/// The parts of a module behind magic and version, which are tested.
+/// The fields of a module behind magic and version, which are tested.
 #[tactic(auto, unfolding(crate::specs::Format::module_file))]
-fn file(alloc: Global, bytes: &[u8]) -> Result<(Parts, &[u8]), ReadError>
+fn file(alloc: Global, bytes: &[u8]) -> Result<(Fields, &[u8]), ReadError>
     ensures { Gives (λ x. (contents_of x.0, x.1.now)) result (read module_file bytes.now) }
 {
     let (magic, rest) = number(bytes)?;
@@ -109,28 +109,28 @@ fn file(alloc: Global, bytes: &[u8]) -> Result<(Parts, &[u8]), ReadError>
     contents(alloc, after)
 }
 
-/// The parts of a module that all of the bytes are.
-fn whole_file(alloc: Global, bytes: &[u8]) -> Result<Parts, ReadError>
+/// The fields of a module that all of the bytes are.
+fn all_of_file(alloc: Global, bytes: &[u8]) -> Result<Fields, ReadError>
     ensures { Gives contents_of result (read_all module_file bytes.now) }
 {
-    let (parts, rest) = file(alloc, bytes)?;
+    let (fields, rest) = file(alloc, bytes)?;
     if !rest.is_empty() {
         return Err(refused(Refusal::Trailing, rest));
     }
-    Ok(parts)
+    Ok(fields)
 }
 
-/// The module of parts that have a spelling.
-fn module_of(parts: Parts) -> Module
-    requires { Fits module_file (contents_of parts) }
-    ensures { result ≡ contents_of parts }
+/// The module of fields that have a spelling.
+fn module_of(fields: Fields) -> Module
+    requires { Fits module_file (contents_of fields) }
+    ensures { result ≡ contents_of fields }
 {
-    let Parts {
+    let Fields {
         hierarchy,
         exceptions,
         channels,
         program,
-    } = parts;
+    } = fields;
     let Program {
         globals,
         procedures,
@@ -146,15 +146,15 @@ fn module_of(parts: Parts) -> Module
 /// that the bytes claim.
 pub fn decode(alloc: Global, bytes: &[u8]) -> Result<Module, FormatFault>
     // What is read is spelled so, each byte of it.
-    ensures found { IfOk result (λ m. Spells module_file m bytes.now) }
+    ensures accepted { IfOk result (λ m. Spells module_file m bytes.now) }
     // What is spelled so is read, unless memory is refused.
-    ensures only { (m : ModuleContents) → Spells module_file m bytes.now → IsReadAs m result }
-    // A refusal is the first one, at its place.
-    ensures refused { IfErr result (λ fault. Tells fault (first_refusal bytes.now)) }
+    ensures exact { (m : ModuleContents) → Spells module_file m bytes.now → IsReadAs m result }
+    // A refusal is the first one, at its offset.
+    ensures first_fault { IfErr result (λ fault. Reports fault (first_refusal bytes.now)) }
 {
-    match whole_file(alloc, bytes) {
-        Ok(parts) => Ok(module_of(parts)),
-        Err(ReadError::Memory) => Err(FormatFault::NoMemory),
+    match all_of_file(alloc, bytes) {
+        Ok(fields) => Ok(module_of(fields)),
+        Err(ReadError::NoMemory) => Err(FormatFault::NoMemory),
         Err(ReadError::Stop(stop)) => {
             let offset = bytes.len() - stop.left;
             Err(FormatFault::Refused(stop.refusal, offset))

@@ -1,4 +1,4 @@
-//! Writing of whole modules.
+//! Writing of modules.
 
 ghost use Rattle.bytecode.specs.Code.{width_of};
 ghost use Rattle.bytecode.specs.Form.{Fits, Spells};
@@ -9,9 +9,9 @@ ghost use Rattle.std.specs.Prelude.{All, IfOk, length, OnOk, sum_by, ◌++◌, �
 
 use crate::decoding::{MAGIC, VERSION};
 use crate::instruction::Instruction;
-use crate::parts::Kind;
+use crate::module::Module;
 use crate::procedure::Procedure;
-use crate::whole::Module;
+use crate::value::Kind;
 use crate::writing::{Field, put_instruction, put_list, put_number};
 use principals::Hierarchy;
 use std::alloc::{AllocError, Global};
@@ -77,27 +77,27 @@ fn put_hierarchy(out: &mut Vec<u8>, hierarchy: &Hierarchy) -> Result<(), AllocEr
 }
 
 /// Writes a module.
-fn put_module(out: &mut Vec<u8>, whole: &Module) -> Result<(), AllocError>
-    ensures written { OnOk result (out.new.items ≡ out.old.items ++ module_bytes whole.now) }
-    ensures spelled { Fits module_file whole.now }
+fn put_module(out: &mut Vec<u8>, program: &Module) -> Result<(), AllocError>
+    ensures written { OnOk result (out.new.items ≡ out.old.items ++ module_bytes program.now) }
+    ensures spelled { Fits module_file program.now }
 {
-    let hierarchy = whole.hierarchy();
+    let hierarchy = program.hierarchy();
     put_number(out, MAGIC)?;
     put_number(out, VERSION)?;
     put_hierarchy(out, hierarchy)?;
-    put_names(out, whole.exceptions())?;
-    put_list(out, whole.channels())?;
-    put_list(out, whole.globals())?;
-    put_list(out, whole.procedures())?;
-    put_number(out, whole.main())?;
+    put_names(out, program.exceptions())?;
+    put_list(out, program.channels())?;
+    put_list(out, program.globals())?;
+    put_list(out, program.procedures())?;
+    put_number(out, program.main())?;
     Ok(())
 }
 
 /// The bytes that spell a module.
-pub fn encode(alloc: Global, whole: &Module) -> Result<Vec<u8>, AllocError>
-    ensures { IfOk result (λ bytes. Spells module_file whole.now bytes.items) }
+pub fn encode(alloc: Global, program: &Module) -> Result<Vec<u8>, AllocError>
+    ensures { IfOk result (λ bytes. Spells module_file program.now bytes.items) }
 {
     let mut out = Vec::new(alloc);
-    put_module(&mut out, whole)?;
+    put_module(&mut out, program)?;
     Ok(out)
 }

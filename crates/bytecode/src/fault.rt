@@ -22,7 +22,7 @@ pub enum Refusal {
 }
 
 impl Refusal {
-    /// The number that faults are told by, 801 to 806.
+    /// The number that the refusal is reported by, 801 to 806.
     pub fn number(self) -> u32
         ensures { result ≡ refusal_number self }
     {
@@ -36,7 +36,7 @@ impl Refusal {
         }
     }
 
-    /// The words that faults are told by.
+    /// The words that the refusal is reported by.
     pub fn words(self) -> &'static str
         ensures { result.now ≡ refusal_words self }
     {
@@ -51,7 +51,7 @@ impl Refusal {
     }
 }
 
-/// A refusal, and its place, told by how many bytes are left there to the end.
+/// A refusal, and where it stands, as how many bytes are left from there to the end.
 #[derive(Clone, Copy, Debug)]
 pub struct Stop {
     pub refusal: Refusal,
@@ -61,7 +61,7 @@ pub struct Stop {
 /// Why a module was not read.
 #[derive(Clone, Copy, Debug, PartialEq, Eq)]
 pub enum FormatFault {
-    /// A growth was refused memory.
+    /// Out of memory.
     NoMemory,
     /// The bytes spell no module: the first refusal in reading order, and the byte offset where it stands.
     Refused(Refusal, usize),

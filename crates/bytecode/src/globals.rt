@@ -1,19 +1,20 @@
 //! Reading of globals.
 
 ghost use Rattle.bytecode.specs.Form.{read};
-ghost use Rattle.bytecode.specs.Format.{first_value, global_after, global_cells, global_of, globals, most_cells, variable_kind};
+ghost use Rattle.bytecode.specs.Format.{first_value, global_after, global_cells, global_of, globals, max_cells, variable_kind};
 ghost use Rattle.bytecode.specs.Reading.{Gives};
 ghost use Rattle.std.specs.Prelude.{◌<◌, ◌≡◌, ◌≤◌};
 
+use crate::declaration::Global as Variable;
 use crate::fault::Refusal;
-use crate::parts::{Global as Variable, Kind};
+use crate::limit::{cells_of_size, is_size};
 use crate::reading::{Element, ReadError, byte, each, number, refused};
-use crate::sizes::{cells_of_size, is_size};
+use crate::value::Kind;
 use std::alloc::Global;
 
-/// The kind of a global.
+/// The kind of a global or of a slot.
 #[tactic(auto, unfolding(crate::specs::Format::variable_kind))]
-fn kind(bytes: &[u8]) -> Result<(Kind, &[u8]), ReadError>
+pub(crate) fn kind(bytes: &[u8]) -> Result<(Kind, &[u8]), ReadError>
     ensures { Gives (λ x. (x.0, x.1.now)) result (read variable_kind bytes.now) }
 {
     let (kind, rest) = byte(bytes)?;
@@ -65,7 +66,7 @@ impl Element for GlobalField {
 
     ghost reads = { λ self before bytes. read (global_after before) bytes };
 
-    ghost holds = { λ self cells before. (cells ≡ global_cells before) × (cells ≤ most_cells) };
+    ghost holds = { λ self cells before. (cells ≡ global_cells before) × (cells ≤ max_cells) };
 
     #[tactic(auto, unfolding(crate::specs::Format::global_after))]
     fn read<'a>(
@@ -86,14 +87,11 @@ impl Element for GlobalField {
     }
 }
 
-/// The globals behind their count. So far there are none.
+/// The globals behind their count.
 #[tactic(auto, unfolding(crate::specs::Format::globals))]
 pub(crate) fn globals(alloc: Global, bytes: &[u8]) -> Result<(Vec<Variable>, &[u8]), ReadError>
     ensures { Gives (λ x. (x.0.items, x.1.now)) result (read globals bytes.now) }
 {
     let (count, rest) = number(bytes)?;
-    if count != 0 {
-        return Err(refused(Refusal::BadValue, bytes));
-    }
     each(alloc, &GlobalField, 0, count, rest)
 }

@@ -2,9 +2,11 @@
 
 ghost use Rattle.bytecode.specs.Contents.{ModuleContents};
 ghost use Rattle.bytecode.specs.Decoded.{first_refusal};
-ghost use Rattle.bytecode.specs.Form.{Fits, read_all, spelled, Spells};
+ghost use Rattle.bytecode.specs.Form.{Fits, IsCoded, read_all, spelled, Spells};
 ghost use Rattle.bytecode.specs.Format.{module_file};
+ghost use Rattle.bytecode.specs.Opcodes.{instructions, OperandFits, row_of};
 ghost use Rattle.bytecode.specs.declared.fault.Stop.{Stop};
+ghost use Rattle.bytecode.specs.declared.instruction.Instruction.{Instruction};
 ghost use Rattle.std.specs.Prelude.{length, List, None, ℕ, ◌++◌, ◌≡◌, ◌≤◌};
 
 /// Each module has one spelling, and each spelling is that of one module.
@@ -12,6 +14,12 @@ pub fn one_spelling()
     ensures contents { (m n : ModuleContents) (bytes : List ℕ) → Spells module_file m bytes → Spells module_file n bytes → m ≡ n }
     ensures bytes { (m : ModuleContents) (a b : List ℕ) → Spells module_file m a → Spells module_file m b → a ≡ b }
     ensures each { (m : ModuleContents) → Fits module_file m → Spells module_file m (spelled module_file m) }
+{}
+
+/// Each instruction whose operand fits has a spelling: its opcode is a byte, which is followed by as many bytes as its operand
+/// has, and the two spell that instruction again.
+pub fn instructions_are_spelled()
+    ensures { (instruction : Instruction) → OperandFits (row_of instruction).operand → IsCoded instructions instruction }
 {}
 
 /// No spelling begins another one: where bytes that follow make them equal, they are equal already.

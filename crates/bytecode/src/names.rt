@@ -57,7 +57,7 @@ pub(crate) fn take(
     Ok(())
 }
 
-/// As many names as told, none of which is taken before. They are taken then.
+/// So many names, none of which is taken before. They are taken then.
 pub(crate) fn names<'a>(
     alloc: Global,
     taken: &mut BTreeSet<String>,
@@ -78,7 +78,7 @@ pub(crate) fn names<'a>(
     Ok((names, rest))
 }
 
-/// As many names as told, where none is taken before.
+/// So many names, where none is taken before.
 pub(crate) fn first_names(
     alloc: Global,
     count: u32,
@@ -101,7 +101,7 @@ pub(crate) fn built_in(alloc: Global) -> Result<BTreeSet<String>, AllocError>
     Ok(taken)
 }
 
-/// The declared exceptions behind their count, where the built-in ones are taken. So far there are none.
+/// The declared exceptions behind their count, where the built-in ones are taken.
 #[tactic(auto, unfolding(crate::specs::Format::exceptions))]
 pub(crate) fn exceptions<'a>(
     alloc: Global,
@@ -113,8 +113,5 @@ pub(crate) fn exceptions<'a>(
     ensures taken { IfOk result (λ x. (q : List ℕ) → contains_text taken.new q ≡ (is_built_in q || is_among (texts x.0.items) q)) }
 {
     let (count, rest) = number(bytes)?;
-    if count != 0 {
-        return Err(refused(Refusal::BadValue, bytes));
-    }
     names(alloc, taken, count, rest)
 }

@@ -1,50 +1,133 @@
-ghost use Rattle.bytecode.specs.Opcodes.{instruction_of, is_admitted, numbered, opcode_of, plain, width_after, with_opcode};
-ghost use Rattle.bytecode.specs.Opcodes.{flagged};
-ghost use Rattle.std.specs.Prelude.{IfSome, if◌then◌else◌, length, None, ◌<◌, ◌≡◌, ◌≤◌};
+ghost use Rattle.bytecode.specs.Opcodes.{arithmetic_row, comparison_row, flagged, instruction_of, numbered, operand_width, plain, row_of, width_after, with_opcode};
+ghost use Rattle.std.specs.Prelude.{IfSome, length, ◌<◌, ◌≡◌, ◌≤◌};
 
 use crate::instruction::{Arithmetic, Comparison, Instruction};
 use byteorder::{BigEndian, ByteOrder};
 
-/// The opcode of an instruction.
-pub(crate) fn opcode(instruction: Instruction) -> u8
-    ensures { result ≡ opcode_of instruction }
+/// What stands behind an opcode: nothing, an int, a boolean, or the number of what the instruction names.
+#[derive(Clone, Copy, Debug, PartialEq, Eq)]
+pub enum Operand {
+    Absent,
+    Int(i32),
+    Boolean(bool),
+    Number(u32),
+}
+
+impl Operand {
+    /// How many bytes the operand takes.
+    pub(crate) fn width(self) -> usize
+        ensures { result ≡ operand_width self }
+    {
+        match self {
+            Operand::Absent => 0,
+            Operand::Boolean(_) => 1,
+            Operand::Int(_) | Operand::Number(_) => 4,
+        }
+    }
+}
+
+/// A row of the table of opcodes: the byte that spells an instruction, the name that it is listed by, and its operand.
+#[derive(Clone, Copy, Debug)]
+pub(crate) struct Row {
+    pub(crate) byte: u8,
+    pub(crate) name: &'static str,
+    pub(crate) operand: Operand,
+}
+
+fn plain_row(byte: u8, name: &'static str) -> Row
+    ensures byte { result.byte ≡ byte }
+    ensures name { result.name.now ≡ name.now }
+    ensures operand { result.operand ≡ Operand.Absent }
+{
+    Row {
+        byte,
+        name,
+        operand: Operand::Absent,
+    }
+}
+
+fn numbered_row(byte: u8, name: &'static str, number: u32) -> Row
+    ensures byte { result.byte ≡ byte }
+    ensures name { result.name.now ≡ name.now }
+    ensures operand { result.operand ≡ Operand.Number number }
+{
+    Row {
+        byte,
+        name,
+        operand: Operand::Number(number),
+    }
+}
+
+/// The row of an instruction.
+pub(crate) fn row_of(instruction: Instruction) -> Row
+    ensures byte { result.byte ≡ (row_of instruction).byte }
+    ensures name { result.name.now ≡ (row_of instruction).name }
+    ensures operand { result.operand ≡ (row_of instruction).operand }
 {
     match instruction {
-        Instruction::Push(_) => 0x01,
-        Instruction::PushBoolean(_) => 0x02,
-        Instruction::Pop => 0x03,
-        Instruction::Load(_) => 0x04,
-        Instruction::Store(_) => 0x05,
-        Instruction::LoadGlobal(_) => 0x06,
-        Instruction::StoreGlobal(_) => 0x07,
-        Instruction::LoadElement(_) => 0x08,
-        Instruction::StoreElement(_) => 0x09,
-        Instruction::LoadGlobalElement(_) => 0x0a,
-        Instruction::StoreGlobalElement(_) => 0x0b,
-        Instruction::Clear(_) => 0x0c,
-        Instruction::Compute(Arithmetic::Add) => 0x10,
-        Instruction::Compute(Arithmetic::Subtract) => 0x11,
-        Instruction::Compute(Arithmetic::Multiply) => 0x12,
-        Instruction::Compute(Arithmetic::Divide) => 0x13,
-        Instruction::Compute(Arithmetic::Remainder) => 0x14,
-        Instruction::Negate => 0x15,
-        Instruction::Not => 0x16,
-        Instruction::Compare(Comparison::Less) => 0x17,
-        Instruction::Compare(Comparison::AtMost) => 0x18,
-        Instruction::Compare(Comparison::Greater) => 0x19,
-        Instruction::Compare(Comparison::AtLeast) => 0x1a,
-        Instruction::Compare(Comparison::Equal) => 0x1b,
-        Instruction::Compare(Comparison::NotEqual) => 0x1c,
-        Instruction::SameBoolean => 0x1d,
-        Instruction::OtherBoolean => 0x1e,
-        Instruction::Jump(_) => 0x20,
-        Instruction::JumpIfFalse(_) => 0x21,
-        Instruction::Call(_) => 0x22,
-        Instruction::Return => 0x23,
-        Instruction::ReturnValue => 0x24,
-        Instruction::Receive(_) => 0x25,
-        Instruction::Send(_) => 0x26,
-        Instruction::Throw(_) => 0x27,
+        Instruction::Push(number) => Row {
+            byte: 0x01,
+            name: "PUSH",
+            operand: Operand::Int(number),
+        },
+        Instruction::PushBoolean(flag) => Row {
+            byte: 0x02,
+            name: "PUSHB",
+            operand: Operand::Boolean(flag),
+        },
+        Instruction::Pop => plain_row(0x03, "POP"),
+        Instruction::Load(slot) => numbered_row(0x04, "LOAD", slot),
+        Instruction::Store(slot) => numbered_row(0x05, "STORE", slot),
+        Instruction::LoadGlobal(slot) => numbered_row(0x06, "GLOAD", slot),
+        Instruction::StoreGlobal(slot) => numbered_row(0x07, "GSTORE", slot),
+        Instruction::LoadElement(slot) => numbered_row(0x08, "ALOAD", slot),
+        Instruction::StoreElement(slot) => numbered_row(0x09, "ASTORE", slot),
+        Instruction::LoadGlobalElement(slot) => numbered_row(0x0a, "GALOAD", slot),
+        Instruction::StoreGlobalElement(slot) => numbered_row(0x0b, "GASTORE", slot),
+        Instruction::Clear(slot) => numbered_row(0x0c, "CLEAR", slot),
+        Instruction::Compute(operator) => arithmetic_row(operator),
+        Instruction::Negate => plain_row(0x15, "NEG"),
+        Instruction::Not => plain_row(0x16, "NOT"),
+        Instruction::Compare(comparison) => comparison_row(comparison),
+        Instruction::SameBoolean => plain_row(0x1d, "BEQ"),
+        Instruction::OtherBoolean => plain_row(0x1e, "BNE"),
+        Instruction::Jump(target) => numbered_row(0x20, "JUMP", target),
+        Instruction::JumpIfFalse(target) => numbered_row(0x21, "JFALSE", target),
+        Instruction::Call(procedure) => numbered_row(0x22, "CALL", procedure),
+        Instruction::Return => plain_row(0x23, "RET"),
+        Instruction::ReturnValue => plain_row(0x24, "RETV"),
+        Instruction::Receive(channel) => numbered_row(0x25, "RECV", channel),
+        Instruction::Send(channel) => numbered_row(0x26, "SEND", channel),
+        Instruction::Throw(exception) => numbered_row(0x27, "THROW", exception),
+    }
+}
+
+fn arithmetic_row(operator: Arithmetic) -> Row
+    ensures byte { result.byte ≡ (arithmetic_row operator).byte }
+    ensures name { result.name.now ≡ (arithmetic_row operator).name }
+    ensures operand { result.operand ≡ (arithmetic_row operator).operand }
+{
+    match operator {
+        Arithmetic::Add => plain_row(0x10, "ADD"),
+        Arithmetic::Subtract => plain_row(0x11, "SUB"),
+        Arithmetic::Multiply => plain_row(0x12, "MUL"),
+        Arithmetic::Divide => plain_row(0x13, "DIV"),
+        Arithmetic::Remainder => plain_row(0x14, "REM"),
+    }
+}
+
+fn comparison_row(comparison: Comparison) -> Row
+    ensures byte { result.byte ≡ (comparison_row comparison).byte }
+    ensures name { result.name.now ≡ (comparison_row comparison).name }
+    ensures operand { result.operand ≡ (comparison_row comparison).operand }
+{
+    match comparison {
+        Comparison::Less => plain_row(0x17, "LT"),
+        Comparison::AtMost => plain_row(0x18, "LE"),
+        Comparison::Greater => plain_row(0x19, "GT"),
+        Comparison::AtLeast => plain_row(0x1a, "GE"),
+        Comparison::Equal => plain_row(0x1b, "EQ"),
+        Comparison::NotEqual => plain_row(0x1c, "NE"),
     }
 }
 
@@ -123,14 +206,47 @@ pub(crate) fn spelled(opcode: u8, operand: &[u8]) -> Option<Instruction>
     }
 }
 
-/// How many bytes of operand follow an opcode, or none where modules have no such opcode.
-pub(crate) fn operand_width(opcode: u8) -> Option<usize>
-    ensures width { result ≡ (if is_admitted opcode then width_after opcode else None) }
+/// How many bytes of operand follow an opcode, or none where there is no such opcode.
+pub(crate) fn width_after(opcode: u8) -> Option<usize>
+    ensures width { result ≡ width_after opcode }
     ensures wide { IfSome result (λ width. 1 < width → 4 ≤ width) }
 {
     match opcode {
-        0x01 | 0x04 | 0x05 | 0x25 | 0x26 => Some(4),
-        0x10 | 0x23 => Some(0),
+        0x02 => Some(1),
+        0x03
+        | 0x10
+        | 0x11
+        | 0x12
+        | 0x13
+        | 0x14
+        | 0x15
+        | 0x16
+        | 0x17
+        | 0x18
+        | 0x19
+        | 0x1a
+        | 0x1b
+        | 0x1c
+        | 0x1d
+        | 0x1e
+        | 0x23
+        | 0x24 => Some(0),
+        0x01
+        | 0x04
+        | 0x05
+        | 0x06
+        | 0x07
+        | 0x08
+        | 0x09
+        | 0x0a
+        | 0x0b
+        | 0x0c
+        | 0x20
+        | 0x21
+        | 0x22
+        | 0x25
+        | 0x26
+        | 0x27 => Some(4),
         _ => None,
     }
 }

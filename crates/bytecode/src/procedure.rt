@@ -1,8 +1,9 @@
 ghost use Rattle.bytecode.specs.Contents.{ProcedureContents};
 ghost use Rattle.std.specs.Prelude.{◌≡◌};
 
+use crate::declaration::{Handler, Slot};
 use crate::instruction::Instruction;
-use crate::parts::{Handler, Kind, Slot};
+use crate::value::Kind;
 use std::marker::Model;
 
 /// A procedure of a module.
@@ -24,7 +25,7 @@ impl Model for Procedure {
 }
 
 impl Procedure {
-    /// The procedure of the given parts: the kind of value that it returns, how many of its first slots are parameters,
+    /// The procedure of the given fields: the kind of value that it returns, how many of its first slots are parameters,
     /// the slots of a frame, the code, and the handlers in the order in which they are looked at.
     pub fn new(
         returned: Option<Kind>,

@@ -1,16 +1,18 @@
 //! Reading of procedures.
 
 ghost use Rattle.bytecode.specs.Form.{read};
-ghost use Rattle.bytecode.specs.Format.{handler, handlers, most_cells, parameters, procedure, procedures, returned, slot_after, slot_cells, slot_kind, slot_of, slots};
+ghost use Rattle.bytecode.specs.Format.{handler, handlers, max_cells, procedure, procedures, returned, slot_after, slot_cells, slot_of, slots};
 ghost use Rattle.bytecode.specs.Reading.{Gives};
 ghost use Rattle.std.specs.Prelude.{◌≡◌, ◌≤◌};
 
 use crate::code::code;
+use crate::declaration::{Handler, Slot};
 use crate::fault::Refusal;
-use crate::parts::{Handler, Kind, Slot};
+use crate::globals::kind;
+use crate::limit::{cells_of_size, is_size};
 use crate::procedure::Procedure;
 use crate::reading::{Element, ReadError, byte, each, number, refused};
-use crate::sizes::{cells_of_size, is_size};
+use crate::value::Kind;
 use std::alloc::Global;
 
 /// A handler's field, whatever handlers stand before it.
@@ -47,28 +49,13 @@ impl Element for HandlerField {
     }
 }
 
-/// The handlers behind their count. So far there are none.
+/// The handlers behind their count.
 #[tactic(auto, unfolding(crate::specs::Format::handlers))]
 fn handlers(alloc: Global, bytes: &[u8]) -> Result<(Vec<Handler>, &[u8]), ReadError>
     ensures { Gives (λ x. (x.0.items, x.1.now)) result (read handlers bytes.now) }
 {
     let (count, rest) = number(bytes)?;
-    if count != 0 {
-        return Err(refused(Refusal::BadValue, bytes));
-    }
     each(alloc, &HandlerField, (), count, rest)
-}
-
-/// The kind of a slot. So far it is an int.
-#[tactic(auto, unfolding(crate::specs::Format::slot_kind))]
-fn slot_kind(bytes: &[u8]) -> Result<(Kind, &[u8]), ReadError>
-    ensures { Gives (λ x. (x.0, x.1.now)) result (read slot_kind bytes.now) }
-{
-    let (kind, rest) = byte(bytes)?;
-    if kind != 0 {
-        return Err(refused(Refusal::BadValue, bytes));
-    }
-    Ok((Kind::Int, rest))
 }
 
 fn slot_of(kind: Kind, size: u32) -> Slot
@@ -81,7 +68,7 @@ fn slot_of(kind: Kind, size: u32) -> Slot
     }
 }
 
-/// A slot's field, after slots of so many cells. The first slots are parameters, as many as told.
+/// A slot's field, after slots of so many cells. The first slots are parameters, so many of them.
 #[derive(Drop)]
 struct SlotField {
     parameters: u32,
@@ -94,7 +81,7 @@ impl Element for SlotField {
 
     ghost reads = { λ self before bytes. read (slot_after self.parameters before) bytes };
 
-    ghost holds = { λ self cells before. (cells ≡ slot_cells before) × (cells ≤ most_cells) };
+    ghost holds = { λ self cells before. (cells ≡ slot_cells before) × (cells ≤ max_cells) };
 
     #[tactic(auto, unfolding(crate::specs::Format::slot_after))]
     fn read<'a>(
@@ -104,10 +91,10 @@ impl Element for SlotField {
         before: &[Slot],
         bytes: &'a [u8],
     ) -> Result<(Slot, &'a [u8]), ReadError> {
-        let (kind, rest) = slot_kind(bytes)?;
+        let (kind, rest) = kind(bytes)?;
         let (size, after) = number(rest)?;
         let may_be_array = self.parameters as usize <= before.len();
-        if !(is_size(*cells, size) && (may_be_array || size == 0) && size == 0) {
+        if !(is_size(*cells, size) && (may_be_array || size == 0)) {
             return Err(refused(Refusal::BadValue, rest));
         }
         *cells += cells_of_size(size);
@@ -127,28 +114,18 @@ fn slots(alloc: Global, parameters: u32, bytes: &[u8]) -> Result<(Vec<Slot>, &[u
     each(alloc, &SlotField { parameters }, 0, count, rest)
 }
 
-/// The kind of value that a procedure returns. So far it returns none.
+/// The kind of value that a procedure returns, if any.
 #[tactic(auto, unfolding(crate::specs::Format::returned))]
 fn returned(bytes: &[u8]) -> Result<(Option<Kind>, &[u8]), ReadError>
     ensures { Gives (λ x. (x.0, x.1.now)) result (read returned bytes.now) }
 {
     let (kind, rest) = byte(bytes)?;
-    if kind != 0 {
-        return Err(refused(Refusal::BadValue, bytes));
+    match kind {
+        0 => Ok((None, rest)),
+        1 => Ok((Some(Kind::Int), rest)),
+        2 => Ok((Some(Kind::Boolean), rest)),
+        _ => Err(refused(Refusal::BadValue, bytes)),
     }
-    Ok((None, rest))
-}
-
-/// The count of parameters. So far there are none.
-#[tactic(auto, unfolding(crate::specs::Format::parameters))]
-fn parameters(bytes: &[u8]) -> Result<(u32, &[u8]), ReadError>
-    ensures { Gives (λ x. (x.0, x.1.now)) result (read parameters bytes.now) }
-{
-    let (count, rest) = number(bytes)?;
-    if count != 0 {
-        return Err(refused(Refusal::BadValue, bytes));
-    }
-    Ok((count, rest))
 }
 
 /// A procedure's field, whatever procedures stand before it.
@@ -172,7 +149,7 @@ impl Element for ProcedureField {
         bytes: &'a [u8],
     ) -> Result<(Procedure, &'a [u8]), ReadError> {
         let (returned, rest) = returned(bytes)?;
-        let (parameters, rest) = parameters(rest)?;
+        let (parameters, rest) = number(rest)?;
         let (slots, rest) = slots(alloc, parameters, rest)?;
         let (code, rest) = code(alloc, rest)?;
         let (handlers, rest) = handlers(alloc, rest)?;
@@ -181,14 +158,11 @@ impl Element for ProcedureField {
     }
 }
 
-/// The procedures behind their count. So far there is one.
+/// The procedures behind their count.
 #[tactic(auto, unfolding(crate::specs::Format::procedures))]
 pub(crate) fn procedures(alloc: Global, bytes: &[u8]) -> Result<(Vec<Procedure>, &[u8]), ReadError>
     ensures { Gives (λ x. (x.0.items, x.1.now)) result (read procedures bytes.now) }
 {
     let (count, rest) = number(bytes)?;
-    if count != 1 {
-        return Err(refused(Refusal::BadValue, bytes));
-    }
     each(alloc, &ProcedureField, (), count, rest)
 }

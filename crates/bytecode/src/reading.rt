@@ -2,7 +2,7 @@
 
 ghost use Rattle.bytecode.specs.Form.{byte_at, bytes_at, each_at, number_at, Read, stop_at};
 ghost use Rattle.bytecode.specs.Reading.{Gives};
-ghost use Rattle.bytecode.specs.declared.reading.ReadError.TheVariants.{Memory};
+ghost use Rattle.bytecode.specs.declared.reading.ReadError.TheVariants.{NoMemory};
 ghost use Rattle.std.specs.Prelude.{[], IfOk, List, ℕ, ◌++◌, ◌∷◌, ◌≡◌};
 
 use crate::fault::{Refusal, Stop};
@@ -12,23 +12,23 @@ use std::alloc::{AllocError, AllocFailed, Global};
 /// Why a field was not read.
 #[derive(Debug, Drop)]
 pub(crate) enum ReadError {
-    Memory,
+    NoMemory,
     Stop(Stop),
 }
 
 impl From<AllocError> for ReadError {
-    ghost from_gives = { λ _ e. e ≡ Memory };
+    ghost from_gives = { λ _ e. e ≡ NoMemory };
 
     fn from(_e: AllocError) -> ReadError {
-        ReadError::Memory
+        ReadError::NoMemory
     }
 }
 
 impl<T: Drop> From<AllocFailed<T>> for ReadError {
-    ghost from_gives = { λ _ e. e ≡ Memory };
+    ghost from_gives = { λ _ e. e ≡ NoMemory };
 
     fn from(_e: AllocFailed<T>) -> ReadError {
-        ReadError::Memory
+        ReadError::NoMemory
     }
 }
 
@@ -69,7 +69,7 @@ pub(crate) fn number(bytes: &[u8]) -> Result<(u32, &[u8]), ReadError>
     Ok((BigEndian::read_u32(front), rest))
 }
 
-/// As many bytes as told.
+/// So many bytes.
 pub(crate) fn text(count: usize, bytes: &[u8]) -> Result<(&[u8], &[u8]), ReadError>
     ensures { Gives (λ x. (x.0.now, x.1.now)) result (bytes_at count bytes.now) }
 {
@@ -101,7 +101,7 @@ pub(crate) trait Element {
         ensures holds { IfOk result (λ x. holds self.now state.new (before.now ++ x.0 ∷ [])) };
 }
 
-/// As many fields as told, one after the other. Nothing is reserved by the count.
+/// So many fields, one after the other. Nothing is reserved by the count.
 pub(crate) fn each<'a, E: Element>(
     alloc: Global,
     element: &E,

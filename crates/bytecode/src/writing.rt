@@ -2,13 +2,15 @@
 
 ghost use Rattle.bytecode.specs.Writing.{channel_bytes, ChannelFits, handler_bytes, instruction_bytes, IsShort, list_bytes, number_bytes, pair_bytes, policy_bytes, PolicyFits, slot_bytes, text_bytes, variable_bytes};
 ghost use Rattle.bytecode.specs.Format.{kind_byte};
+ghost use Rattle.bytecode.specs.Opcodes.{operand_bytes};
 ghost use Rattle.std.specs.Prelude.{[], All, List, OnOk, ℕ, ◌++◌, ◌∷◌, ◌≡◌};
 ghost use Rattle.std.specs.String.{string_bytes};
 
 use crate::channel::Channel;
+use crate::declaration::{Direction, Global as Variable, Handler, Slot};
 use crate::instruction::Instruction;
-use crate::opcode::opcode;
-use crate::parts::{Direction, Global as Variable, Handler, Kind, Slot};
+use crate::opcode::{Operand, row_of};
+use crate::value::Kind;
 use byteorder::{BigEndian, ByteOrder};
 use labels::Policy;
 use std::alloc::AllocError;
@@ -185,40 +187,26 @@ impl Field for Handler {
     }
 }
 
+/// Writes an operand.
+fn put_operand(out: &mut Vec<u8>, operand: Operand) -> Result<(), AllocError>
+    ensures { OnOk result (out.new.items ≡ out.old.items ++ operand_bytes operand) }
+{
+    match operand {
+        Operand::Absent => Ok(()),
+        Operand::Int(number) => put_number(out, number.cast_unsigned()),
+        Operand::Boolean(flag) => {
+            out.push(if flag { 1 } else { 0 })?;
+            Ok(())
+        }
+        Operand::Number(number) => put_number(out, number),
+    }
+}
+
 /// Writes an instruction.
 pub(crate) fn put_instruction(out: &mut Vec<u8>, instruction: Instruction) -> Result<(), AllocError>
     ensures { OnOk result (out.new.items ≡ out.old.items ++ instruction_bytes instruction) }
 {
-    out.push(opcode(instruction))?;
-    match instruction {
-        Instruction::Push(number) => put_number(out, number.cast_unsigned()),
-        Instruction::PushBoolean(flag) => {
-            out.push(if flag { 1 } else { 0 })?;
-            Ok(())
-        }
-        Instruction::Load(number)
-        | Instruction::Store(number)
-        | Instruction::LoadGlobal(number)
-        | Instruction::StoreGlobal(number)
-        | Instruction::LoadElement(number)
-        | Instruction::StoreElement(number)
-        | Instruction::LoadGlobalElement(number)
-        | Instruction::StoreGlobalElement(number)
-        | Instruction::Clear(number)
-        | Instruction::Jump(number)
-        | Instruction::JumpIfFalse(number)
-        | Instruction::Call(number)
-        | Instruction::Receive(number)
-        | Instruction::Send(number)
-        | Instruction::Throw(number) => put_number(out, number),
-        Instruction::Pop
-        | Instruction::Compute(_)
-        | Instruction::Negate
-        | Instruction::Not
-        | Instruction::Compare(_)
-        | Instruction::SameBoolean
-        | Instruction::OtherBoolean
-        | Instruction::Return
-        | Instruction::ReturnValue => Ok(()),
-    }
+    let row = row_of(instruction);
+    out.push(row.byte)?;
+    put_operand(out, row.operand)
 }

@@ -1,9 +1,4 @@
-/// The kind of a value.
-#[derive(Clone, Copy, Debug, PartialEq, Eq)]
-pub enum Kind {
-    Int,
-    Boolean,
-}
+use crate::value::Kind;
 
 /// A slot of a frame: a value, or an array of the given number of elements, at least one.
 #[derive(Clone, Copy, Debug, PartialEq, Eq)]

@@ -12,7 +12,7 @@ use principals::Hierarchy;
 use std::alloc::Global;
 
 /// The most principals of a hierarchy.
-const MOST_PRINCIPALS: u32 = 256;
+const MAX_PRINCIPALS: u32 = 256;
 
 /// The number of one of so many things.
 #[tactic(auto, unfolding(crate::specs::Format::number_below))]
@@ -32,7 +32,7 @@ fn principals(alloc: Global, bytes: &[u8]) -> Result<(Vec<String>, &[u8]), ReadE
     ensures { Gives (λ x. (texts x.0.items, x.1.now)) result (read principals bytes.now) }
 {
     let (count, rest) = number(bytes)?;
-    if count > MOST_PRINCIPALS {
+    if count > MAX_PRINCIPALS {
         return Err(refused(Refusal::BadValue, bytes));
     }
     first_names(alloc, count, rest)

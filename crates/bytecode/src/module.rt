@@ -1,12 +1,11 @@
 ghost use Rattle.bytecode.specs.Contents.{ModuleContents};
 ghost use Rattle.bytecode.specs.Form.{Fits};
 ghost use Rattle.bytecode.specs.Format.{module_file};
-ghost use Rattle.bytecode.specs.StraightLine.{is_straight_line};
-ghost use Rattle.std.specs.Prelude.{IsTrue, map, ◌≡◌};
+ghost use Rattle.std.specs.Prelude.{map, ◌≡◌};
 ghost use Rattle.std.specs.String.{string_bytes};
 
 use crate::channel::Channel;
-use crate::parts::Global;
+use crate::declaration::Global;
 use crate::procedure::Procedure;
 use principals::Hierarchy;
 use std::marker::Model;
@@ -37,10 +36,10 @@ impl Model for Module {
 }
 
 impl Module {
-    /// The module of the given parts: the hierarchy, the names of the declared exceptions, which are numbered from 3, the
+    /// The module of the given fields: the hierarchy, the names of the declared exceptions, which are numbered from 3, the
     /// channels, the globals, the procedures, and the number of the procedure where a run starts.
     ///
-    /// The caller owes that the module has a spelling.
+    /// Precondition: the module has a spelling.
     pub fn new(
         hierarchy: Hierarchy,
         exceptions: Vec<String>,
@@ -91,11 +90,10 @@ impl Module {
         &self.globals
     }
 
-    /// The procedures, in the order of their numbers. So far there is one, of straight-line code.
+    /// The procedures, in the order of their numbers.
     pub fn procedures(&self) -> &[Procedure]
         ensures procedures { result.now ≡ self.now.procedures }
         ensures spelled { Fits module_file self.now }
-        ensures straight { IsTrue (is_straight_line self.now) }
     {
         &self.procedures
     }

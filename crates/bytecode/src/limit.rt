@@ -1,13 +1,13 @@
 //! Sizes of variables, in elements and in cells.
 
-ghost use Rattle.bytecode.specs.Format.{cells_of_size, is_size, most_cells};
+ghost use Rattle.bytecode.specs.Format.{cells_of_size, is_size, max_cells};
 ghost use Rattle.std.specs.Prelude.{◌≡◌, ◌≤◌};
 
 /// The most elements of an array.
-const MOST_ELEMENTS: u32 = 65_536;
+const MAX_ELEMENTS: u32 = 65_536;
 
 /// The most cells of a frame, and of all globals.
-const MOST_CELLS: u32 = 1_048_576;
+const MAX_CELLS: u32 = 1_048_576;
 
 /// The cells of a variable by its size, which is 0 for a scalar.
 pub(crate) fn cells_of_size(size: u32) -> u32
@@ -18,8 +18,8 @@ pub(crate) fn cells_of_size(size: u32) -> u32
 
 /// Whether a size is not too large, nor are the cells with it.
 pub(crate) fn is_size(cells: u32, size: u32) -> bool
-    requires { cells ≤ most_cells }
+    requires { cells ≤ max_cells }
     ensures { result ≡ is_size cells size }
 {
-    size <= MOST_ELEMENTS && cells + cells_of_size(size) <= MOST_CELLS
+    size <= MAX_ELEMENTS && cells + cells_of_size(size) <= MAX_CELLS
 }

@@ -1,6 +1,6 @@
 use Rattle.std.proofs.Common.{arith}
 use Rattle.bytecode.proofs.Facts.{readers-read}
-use Rattle.bytecode.proofs.people.PolicyFieldElement.read.Goals as goal
+use Rattle.bytecode.proofs.hierarchy.PolicyFieldElement.read.Goals as goal
 
 pub of-policy-requires-clause-ascending : goal.of-policy-requires-clause-ascending
 of-policy-requires-clause-ascending c =

@@ -3,7 +3,7 @@ use Rattle.bytecode.specs.Format.{label}
 use Rattle.bytecode.proofs.Facts.{policies-ascend, policies-canonical}
 use Rattle.bytecode.proofs.Lawful.{label-coherent}
 use Rattle.bytecode.proofs.Taken.{taken}
-use Rattle.bytecode.proofs.people.label.Goals as goal
+use Rattle.bytecode.proofs.hierarchy.label.Goals as goal
 
 pub of-requires-clause-ascending : goal.of-requires-clause-ascending
 of-requires-clause-ascending c =

@@ -3,8 +3,8 @@ use Rattle.std.proofs.lemmas.List.{length-map}
 use Rattle.std.proofs.lemmas.Result.{err_from_is_err_and}
 use Rattle.std.specs.String.{string_bytes}
 use Rattle.bytecode.specs.Reading.{texts}
-use Rattle.bytecode.proofs.Facts.{hierarchy-fails, hierarchy-read, names-read, people-read}
-use Rattle.bytecode.proofs.people.hierarchy.Goals as goal
+use Rattle.bytecode.proofs.Facts.{hierarchy-fails, hierarchy-read, names-read, pairs-read}
+use Rattle.bytecode.proofs.hierarchy.hierarchy.Goals as goal
 
 pub overflow_cast-len : goal.overflow_cast-len
 overflow_cast-len c =
@@ -25,12 +25,12 @@ of-requires-clause-few c =
 pub of-requires-clause-different : goal.of-requires-clause-different
 of-requires-clause-different c =
     let size : c.len.result ≡ length (texts c.in_ok-names.names.items) = c.len.ensures ∙ c.in_ok-names.names.ok.0 ∙ sym (length-map c.in_ok-names.names.items string_bytes) in
-    (people-read c.args.bytes.now (texts c.in_ok-names.names.items) c.in_ok-names.rest.now c.in_ok-pairs.pairs.items c.in_ok-pairs.rest.now (record { below = λ i. omega (arith, c.type_inv.bytes i) }) c.in_ok-names.ensures (rw size at c.in_ok-pairs.ensures)).different
+    (pairs-read c.args.bytes.now (texts c.in_ok-names.names.items) c.in_ok-names.rest.now c.in_ok-pairs.pairs.items c.in_ok-pairs.rest.now (record { below = λ i. omega (arith, c.type_inv.bytes i) }) c.in_ok-names.ensures (rw size at c.in_ok-pairs.ensures)).different
 
 pub of-requires-clause-there : goal.of-requires-clause-there
 of-requires-clause-there c =
     let size : c.len.result ≡ length (texts c.in_ok-names.names.items) = c.len.ensures ∙ c.in_ok-names.names.ok.0 ∙ sym (length-map c.in_ok-names.names.items string_bytes) in
-    let there = (people-read c.args.bytes.now (texts c.in_ok-names.names.items) c.in_ok-names.rest.now c.in_ok-pairs.pairs.items c.in_ok-pairs.rest.now (record { below = λ i. omega (arith, c.type_inv.bytes i) }) c.in_ok-names.ensures (rw size at c.in_ok-pairs.ensures)).there in
+    let there = (pairs-read c.args.bytes.now (texts c.in_ok-names.names.items) c.in_ok-names.rest.now c.in_ok-pairs.pairs.items c.in_ok-pairs.rest.now (record { below = λ i. omega (arith, c.type_inv.bytes i) }) c.in_ok-names.ensures (rw size at c.in_ok-pairs.ensures)).there in
     rw (← c.len.ensures, size) there
 
 pub returns : goal.returns
