@@ -80,7 +80,7 @@ record IsLive (id : ℕ) (session : SessionContents) (host : HostContents) : Typ
   given : id < host.next
   is_open : IsOpen host id session
 
-record IsGone (id : ℕ) (host : HostContents) : Type 0 where
+record IsClosed (id : ℕ) (host : HostContents) : Type 0 where
   given : id < host.next
   is_shut : IsNotOpen host id
 
@@ -94,7 +94,7 @@ one_session host id other first second e h k =
 
 live_event : (limit id : ℕ) (s : SessionContents) (old new : HostContents) (event : HostEvent) (answer : HostAnswer)
     → Answers limit old event answer new → IsLive id s old
-    → IsLive id (moved_by s (told_of id event answer)) new ⊎ IsGone id new
+    → IsLive id (moved_by s (told_of id event answer)) new ⊎ IsClosed id new
 live_event limit id s old new (Open bytes world) (Opened n) by live =
     inl (subst (λ h. IsLive id s h) (sym by.2.2) (record {
       given = omega (arith, live.given);
@@ -103,7 +103,7 @@ live_event limit id s old new (Open bytes world) (Opened n) by live =
 live_event limit id s old new (Open bytes world) (Refused fault) by live = inl (subst (λ h. IsLive id s h) (sym by.1) live)
 live_event limit id s old new (Turn other n) (Turned taken status) by live = go (other == id) refl
   where
-    go : (b : Bool) → (other == id) ≡ b → IsLive id (moved_by s (cond b taken 0)) new ⊎ IsGone id new
+    go : (b : Bool) → (other == id) ≡ b → IsLive id (moved_by s (cond b taken 0)) new ⊎ IsClosed id new
     go true e =
         let number : other ≡ id = eqb-true other id e in
         let same = one_session old id other by.0 s number by.1 live.is_open in
@@ -123,9 +123,9 @@ live_event limit id s old new (View other p) (Viewed pairs) by live = inl (subst
 live_event limit id s old new (View other p) (Refused fault) by live = inl (subst (λ h. IsLive id s h) (sym by.1) live)
 live_event limit id s old new (Close other) Closed by live = go (other == id) refl
   where
-    go : (b : Bool) → (other == id) ≡ b → IsLive id s new ⊎ IsGone id new
+    go : (b : Bool) → (other == id) ≡ b → IsLive id s new ⊎ IsClosed id new
     go true e =
-        inr (subst (λ h. IsGone id h) (sym by.1) (record {
+        inr (subst (λ h. IsClosed id h) (sym by.1) (record {
           given = live.given;
           is_shut = ap (λ k. session_of id (without k old.sessions)) (eqb-true other id e) ∙ without-same id old.sessions;
         }))
@@ -137,42 +137,42 @@ live_event limit id s old new (Close other) Closed by live = go (other == id) re
 live_event limit id s old new (Close other) (Refused fault) by live = inl (subst (λ h. IsLive id s h) (sym by.2) live)
 live_event limit id s old new event answer by live = absurd by
 
-gone_event : (limit id : ℕ) (old new : HostContents) (event : HostEvent) (answer : HostAnswer)
-    → Answers limit old event answer new → IsGone id old → IsGone id new
-gone_event limit id old new (Open bytes world) (Opened n) by gone =
-    subst (λ h. IsGone id h) (sym by.2.2) (record {
-      given = omega (arith, gone.given);
-      is_shut = ap (λ b. cond b (Some (record { id = old.next; program = by.2.0; machine = first_machine by.2.0 world })) (session_of id old.sessions)) (is_older id old.next gone.given) ∙ gone.is_shut;
+closed_event : (limit id : ℕ) (old new : HostContents) (event : HostEvent) (answer : HostAnswer)
+    → Answers limit old event answer new → IsClosed id old → IsClosed id new
+closed_event limit id old new (Open bytes world) (Opened n) by closed =
+    subst (λ h. IsClosed id h) (sym by.2.2) (record {
+      given = omega (arith, closed.given);
+      is_shut = ap (λ b. cond b (Some (record { id = old.next; program = by.2.0; machine = first_machine by.2.0 world })) (session_of id old.sessions)) (is_older id old.next closed.given) ∙ closed.is_shut;
     })
-gone_event limit id old new (Open bytes world) (Refused fault) by gone = subst (λ h. IsGone id h) (sym by.1) gone
-gone_event limit id old new (Turn other n) (Turned taken status) by gone = go (other == id) refl
+closed_event limit id old new (Open bytes world) (Refused fault) by closed = subst (λ h. IsClosed id h) (sym by.1) closed
+closed_event limit id old new (Turn other n) (Turned taken status) by closed = go (other == id) refl
   where
-    go : (b : Bool) → (other == id) ≡ b → IsGone id new
+    go : (b : Bool) → (other == id) ≡ b → IsClosed id new
     go true e =
-        absurd (none-some by.0 (sym gone.is_shut ∙ ap (λ k. session_of k old.sessions) (sym (eqb-true other id e)) ∙ by.1))
+        absurd (none-some by.0 (sym closed.is_shut ∙ ap (λ k. session_of k old.sessions) (sym (eqb-true other id e)) ∙ by.1))
     go false e =
-        subst (λ h. IsGone id h) (sym by.2.2) (record {
-          given = gone.given;
-          is_shut = with_machine-other id other e by.2.0 old.sessions ∙ gone.is_shut;
+        subst (λ h. IsClosed id h) (sym by.2.2) (record {
+          given = closed.given;
+          is_shut = with_machine-other id other e by.2.0 old.sessions ∙ closed.is_shut;
         })
-gone_event limit id old new (Turn other n) (Refused fault) by gone = subst (λ h. IsGone id h) (sym by.2) gone
-gone_event limit id old new (View other p) (Viewed pairs) by gone = subst (λ h. IsGone id h) (sym by.4) gone
-gone_event limit id old new (View other p) (Refused fault) by gone = subst (λ h. IsGone id h) (sym by.1) gone
-gone_event limit id old new (Close other) Closed by gone = go (other == id) refl
+closed_event limit id old new (Turn other n) (Refused fault) by closed = subst (λ h. IsClosed id h) (sym by.2) closed
+closed_event limit id old new (View other p) (Viewed pairs) by closed = subst (λ h. IsClosed id h) (sym by.4) closed
+closed_event limit id old new (View other p) (Refused fault) by closed = subst (λ h. IsClosed id h) (sym by.1) closed
+closed_event limit id old new (Close other) Closed by closed = go (other == id) refl
   where
-    go : (b : Bool) → (other == id) ≡ b → IsGone id new
+    go : (b : Bool) → (other == id) ≡ b → IsClosed id new
     go true e =
-        subst (λ h. IsGone id h) (sym by.1) (record {
-          given = gone.given;
+        subst (λ h. IsClosed id h) (sym by.1) (record {
+          given = closed.given;
           is_shut = ap (λ k. session_of id (without k old.sessions)) (eqb-true other id e) ∙ without-same id old.sessions;
         })
     go false e =
-        subst (λ h. IsGone id h) (sym by.1) (record {
-          given = gone.given;
-          is_shut = without-other id other e old.sessions ∙ gone.is_shut;
+        subst (λ h. IsClosed id h) (sym by.1) (record {
+          given = closed.given;
+          is_shut = without-other id other e old.sessions ∙ closed.is_shut;
         })
-gone_event limit id old new (Close other) (Refused fault) by gone = subst (λ h. IsGone id h) (sym by.2) gone
-gone_event limit id old new event answer by gone = absurd by
+closed_event limit id old new (Close other) (Refused fault) by closed = subst (λ h. IsClosed id h) (sym by.2) closed
+closed_event limit id old new event answer by closed = absurd by
 
 -- ---- lists of events
 
@@ -186,16 +186,16 @@ known limit old new event event' answer answer' e a by =
     subst (λ y. Answers limit old event' y new) (some_is answer answer' a) (subst (λ x. Answers limit old x answer new) (some_is event event' e) by)
 
 module _ (limit id p : ℕ) (pairs : List Pair) where
-  -- a session that is gone is not shown
-  never_shown : (events : List HostEvent) (answers : List HostAnswer) (old new : HostContents) → Answered limit old events answers new → IsGone id old
+  -- a session that is closed is not shown
+  never_shown : (events : List HostEvent) (answers : List HostAnswer) (old new : HostContents) → Answered limit old events answers new → IsClosed id old
       → (k : ℕ) → slice_get events k ≡ Some (View id p) → slice_get answers k ≡ Some (Viewed pairs) → ⊥
-  never_shown [] answers old new by gone k asked reported = none-some (View id p) asked
-  never_shown (event ∷ events) [] old new by gone k asked reported = by
-  never_shown (event ∷ events) (answer ∷ answers) old new by gone zero asked reported =
+  never_shown [] answers old new by closed k asked reported = none-some (View id p) asked
+  never_shown (event ∷ events) [] old new by closed k asked reported = by
+  never_shown (event ∷ events) (answer ∷ answers) old new by closed zero asked reported =
       let shown = known limit old by.0 event (View id p) answer (Viewed pairs) asked reported by.1 in
-      none-some shown.0 (sym gone.is_shut ∙ shown.1)
-  never_shown (event ∷ events) (answer ∷ answers) old new by gone (suc k) asked reported =
-      never_shown events answers by.0 new by.2 (gone_event limit id old by.0 event answer by.1 gone) k asked reported
+      none-some shown.0 (sym closed.is_shut ∙ shown.1)
+  never_shown (event ∷ events) (answer ∷ answers) old new by closed (suc k) asked reported =
+      never_shown events answers by.0 new by.2 (closed_event limit id old by.0 event answer by.1 closed) k asked reported
 
   -- a session that is there is shown as many steps on as its turns told
   shown_moved : (events : List HostEvent) (answers : List HostAnswer) (old new : HostContents) (s : SessionContents)
@@ -213,7 +213,7 @@ module _ (limit id p : ℕ) (pairs : List Pair) where
       (λ next.
       shown_moved events answers by.0 new (moved_by s (told_of id event answer)) by.2 next k asked reported
       ∙ ap (λ m. seen_of s.program p (sent_of m)) (steps_join s (told_of id event answer) (steps_told id (take k events) (take k answers))))
-      (λ gone. absurd (never_shown events answers by.0 new by.2 gone k asked reported))
+      (λ closed. absurd (never_shown events answers by.0 new by.2 closed k asked reported))
       (live_event limit id s old by.0 event answer by.1 live)
 
 -- ---- the end that a turn reports
@@ -230,16 +230,16 @@ steps_grow id (event ∷ events) (answer ∷ answers) (suc j) (suc k) h =
     omega (arith, rest)
 
 module _ (limit id steps taken : ℕ) (reported : Status) (ending : Ending) (ends : ending_of reported ≡ Some ending) where
-  -- a session that is gone has no turn
-  never_turned : (events : List HostEvent) (answers : List HostAnswer) (old new : HostContents) → Answered limit old events answers new → IsGone id old
+  -- a session that is closed has no turn
+  never_turned : (events : List HostEvent) (answers : List HostAnswer) (old new : HostContents) → Answered limit old events answers new → IsClosed id old
       → (k : ℕ) → slice_get events k ≡ Some (Turn id steps) → slice_get answers k ≡ Some (Turned taken reported) → ⊥
-  never_turned [] answers old new by gone k asked said = none-some (Turn id steps) asked
-  never_turned (event ∷ events) [] old new by gone k asked said = by
-  never_turned (event ∷ events) (answer ∷ answers) old new by gone zero asked said =
+  never_turned [] answers old new by closed k asked said = none-some (Turn id steps) asked
+  never_turned (event ∷ events) [] old new by closed k asked said = by
+  never_turned (event ∷ events) (answer ∷ answers) old new by closed zero asked said =
       let turned = known limit old by.0 event (Turn id steps) answer (Turned taken reported) asked said by.1 in
-      none-some turned.0 (sym gone.is_shut ∙ turned.1)
-  never_turned (event ∷ events) (answer ∷ answers) old new by gone (suc k) asked said =
-      never_turned events answers by.0 new by.2 (gone_event limit id old by.0 event answer by.1 gone) k asked said
+      none-some turned.0 (sym closed.is_shut ∙ turned.1)
+  never_turned (event ∷ events) (answer ∷ answers) old new by closed (suc k) asked said =
+      never_turned events answers by.0 new by.2 (closed_event limit id old by.0 event answer by.1 closed) k asked said
 
   -- after the turn that reports the end the run has ended
   ended_moved : (events : List HostEvent) (answers : List HostAnswer) (old new : HostContents) (s : SessionContents)
@@ -265,7 +265,7 @@ module _ (limit id steps taken : ℕ) (reported : Status) (ending : Ending) (end
       (λ next.
       subst (HasEnded ending) (steps_join s (told_of id event answer) (steps_told id (take (suc k) events) (take (suc k) answers)))
       (ended_moved events answers by.0 new (moved_by s (told_of id event answer)) by.2 next k asked said))
-      (λ gone. absurd (never_turned events answers by.0 new by.2 gone k asked said))
+      (λ closed. absurd (never_turned events answers by.0 new by.2 closed k asked said))
       (live_event limit id s old by.0 event answer by.1 live)
 
 -- ---- from its opening on
@@ -329,17 +329,17 @@ module _ (limit id steps taken : ℕ) (reported : Status) (ending : Ending) (end
 -- ---- to the end of the list
 
 module _ (limit id : ℕ) where
-  still_gone : (events : List HostEvent) (answers : List HostAnswer) (old new : HostContents) → Answered limit old events answers new
-      → IsGone id old → IsGone id new
-  still_gone [] [] old new by gone = subst (λ h. IsGone id h) (sym by) gone
-  still_gone [] (answer ∷ answers) old new by gone = absurd by
-  still_gone (event ∷ events) [] old new by gone = absurd by
-  still_gone (event ∷ events) (answer ∷ answers) old new by gone =
-      still_gone events answers by.0 new by.2 (gone_event limit id old by.0 event answer by.1 gone)
+  still_closed : (events : List HostEvent) (answers : List HostAnswer) (old new : HostContents) → Answered limit old events answers new
+      → IsClosed id old → IsClosed id new
+  still_closed [] [] old new by closed = subst (λ h. IsClosed id h) (sym by) closed
+  still_closed [] (answer ∷ answers) old new by closed = absurd by
+  still_closed (event ∷ events) [] old new by closed = absurd by
+  still_closed (event ∷ events) (answer ∷ answers) old new by closed =
+      still_closed events answers by.0 new by.2 (closed_event limit id old by.0 event answer by.1 closed)
 
   still_moved : (events : List HostEvent) (answers : List HostAnswer) (old new : HostContents) (s : SessionContents)
       → Answered limit old events answers new → IsLive id s old
-      → IsLive id (moved_by s (steps_told id events answers)) new ⊎ IsGone id new
+      → IsLive id (moved_by s (steps_told id events answers)) new ⊎ IsClosed id new
   still_moved [] [] old new s by live = inl (subst (λ h. IsLive id s h) (sym by) live)
   still_moved [] (answer ∷ answers) old new s by live = absurd by
   still_moved (event ∷ events) [] old new s by live = absurd by
@@ -349,7 +349,7 @@ module _ (limit id : ℕ) where
       (λ l. inl (subst (λ (m : Machine). IsLive id (record s { machine = m }) new) (steps_join s (told_of id event answer) (steps_told id events answers)) l))
       (λ g. inr g)
       (still_moved events answers by.0 new (moved_by s (told_of id event answer)) by.2 next))
-      (λ gone. inr (still_gone events answers by.0 new by.2 gone))
+      (λ closed. inr (still_closed events answers by.0 new by.2 closed))
       (live_event limit id s old by.0 event answer by.1 live)
 
 module _ (limit id : ℕ) (bytes : List ℕ) (world : List InputNumbers) (m : ModuleContents)
