@@ -84,7 +84,7 @@ fn a_device_asks_for_nothing_after_a_failure(rt: HostRuntime) {
 }
 
 #[test]
-fn writes_whole_where_there_is_room(rt: HostRuntime) -> Result<(), Fail> {
+fn writes_all_where_there_is_room(rt: HostRuntime) -> Result<(), Fail> {
     let mut device = Device::new(Vec::new(rt.alloc()));
     write_all(&mut device, b"ok")?;
     assert_eq!(rt; device.into_inner().as_slice(), b"ok".as_slice());
