@@ -13,7 +13,7 @@ use Rattle.channels.specs.WorldText.{is_digits, is_number, number_of, is_int}
 own : IsNumeralModel (λ ds. list_all is_ascii_digit ds ≡ true) (digits_value 10)
 own = numerals_by_value (λ ds. list_all is_ascii_digit ds ≡ true) (search rules)
 
--- what a result that parses tells, where its condition is that the number has 32 bits
+-- what a result that parses says, where its condition is that the number has 32 bits
 of_parse : {E : Type 0} (r : Result ℤ E) (z : ℤ) (Q : Type 0) → OkIff r Q z → (is_int z ≡ true → Q) → (Q → is_int z ≡ true) → result_ok r ≡ cond (is_int z) (Some z) None
 of_parse (Ok x) z Q h to from =
     let fits : is_int z ≡ true = from h.0 in
@@ -50,13 +50,13 @@ number_gives (byte ∷ bytes) r w h = go (eqb byte 45) refl
         let parts = and_parts (not (eqb (length bytes) 0)) (list_all is_ascii_digit bytes) digits in
         let some : not (eqb (length bytes) 0) ≡ true = parts.0 in
         let long : 0 < length bytes = grind (arith, nat_tests) in
-        let told = parse_signed_minus own w32 (byte ∷ bytes) r h minus in
-        rw e (of_parse r (neg_ℤ (pos (digits_value 10 bytes))) _ told (λ fits. (parts.1, long, fits_negative (digits_value 10 bytes) fits)) (λ q. negative_fits (digits_value 10 bytes) q.2))
+        let said = parse_signed_minus own w32 (byte ∷ bytes) r h minus in
+        rw e (of_parse r (neg_ℤ (pos (digits_value 10 bytes))) _ said (λ fits. (parts.1, long, fits_negative (digits_value 10 bytes) fits)) (λ q. negative_fits (digits_value 10 bytes) q.2))
     go false e =
         let plain : get_or (byte ∷ bytes) 0 0 ≢ 45 = λ same. let clash : eqb byte 45 ≡ true = grind (arith, nat_tests) in cc in
         let digits : is_digits (byte ∷ bytes) ≡ true = rw e at w in
         let parts = and_parts (not (eqb (length (byte ∷ bytes)) 0)) (list_all is_ascii_digit (byte ∷ bytes)) digits in
         let first : is_ascii_digit byte ≡ true = (and_parts (is_ascii_digit byte) (list_all is_ascii_digit bytes) parts.1).0 in
         let no_plus : get_or (byte ∷ bytes) 0 0 ≢ 43 = λ same. let clash : is_ascii_digit 43 ≡ true = subst (λ (b : ℕ). is_ascii_digit b ≡ true) same first in cc in
-        let told = parse_signed_plain own w32 (byte ∷ bytes) r h no_plus plain in
-        rw e (of_parse r (pos (digits_value 10 (byte ∷ bytes))) _ told (λ fits. (parts.1, omega arith, fits_positive (digits_value 10 (byte ∷ bytes)) fits)) (λ q. positive_fits (digits_value 10 (byte ∷ bytes)) q.2))
+        let said = parse_signed_plain own w32 (byte ∷ bytes) r h no_plus plain in
+        rw e (of_parse r (pos (digits_value 10 (byte ∷ bytes))) _ said (λ fits. (parts.1, omega arith, fits_positive (digits_value 10 (byte ∷ bytes)) fits)) (λ q. positive_fits (digits_value 10 (byte ∷ bytes)) q.2))

@@ -15,7 +15,7 @@ use Rattle.channels.specs.declared.world_table.LineFault.TheVariants.{NoMemory, 
 use Rattle.std.specs.List.{list_all, list_any}
 use Rattle.std.specs.Str.{bytes_eq}
 use Rattle.std.proofs.lemmas.Slice.Eq.{bytes_eq-Decides}
-use Rattle.channels.specs.WorldText.{Table, table_after, table_with, table_defect, entry_defect, given_by, gives_to, numbers_of, numbers_given, has_form, is_int, defect_of, world_of, numbers_in, input_of, texts_of, lines_of, words_of, defect_at, IsRightBefore, IsLineFault, IsTextFault, told_at}
+use Rattle.channels.specs.WorldText.{Table, table_after, table_with, table_defect, entry_defect, given_by, gives_to, numbers_of, numbers_given, has_form, is_int, defect_of, world_of, numbers_in, input_of, texts_of, lines_of, words_of, defect_at, IsRightBefore, IsLineFault, IsTextFault, at_line}
 use Rattle.channels.specs.declared.defect.WorldDefect.{WorldDefect}
 use Rattle.channels.specs.declared.defect.WorldDefect.TheVariants.{Syntax, UnknownChannel, RepeatedChannel, NumberOutOfRange}
 
@@ -188,7 +188,7 @@ module _ (text : List ℕ) (lines : List (Bor (List ℕ))) (cut : texts_of lines
         ∙ ap (λ (ls : List (List (List ℕ))). table_after names ls name) (sym more)
 
     -- the first wrong line
-    pub told_line : (fault : LineFault) (number : ℕ) → number ≡ k + 1 → IsRightBefore names (lines_of text) k → IsLineFault table words fault → IsTextFault names (lines_of text) (told_at fault number)
-    told_line NoMemory number e before h = tt
-    told_line (Wrong defect) number e before h =
+    pub line_reported : (fault : LineFault) (number : ℕ) → number ≡ k + 1 → IsRightBefore names (lines_of text) k → IsLineFault table words fault → IsTextFault names (lines_of text) (at_line fault number)
+    line_reported NoMemory number e before h = tt
+    line_reported (Wrong defect) number e before h =
         record { place = k; line_is = e; there = line_within; wrong = defect_here ∙ h; first = before }

@@ -9,7 +9,7 @@ use Rattle.std.specs.Io.KnownBytes.{Appends}
 use Rattle.labels.specs.declared.sent.Pair.{Pair}
 use Rattle.labels.specs.Sent.{Begins}
 use Rattle.labels.proofs.Begins.{Begins-through}
-use Rattle.channels.specs.Sink.{AppendsBeginning}
+use Rattle.channels.specs.Sink.{AppendsPrefix}
 use Rattle.bytecode.specs.Contents.{ChannelContents, ModuleContents}
 use Rattle.bytecode.specs.Isolated.{channel_label, label_in}
 use Rattle.labels.specs.Label.{may_read}
@@ -87,17 +87,17 @@ front-begins m observer pairs k = (
       ∙ ap (λ list. view_text m (shown m observer list)) (take-append-drop k pairs),
 )
 
--- where nothing more was written after the first pairs, that is a beginning
+-- where nothing more was written after the first pairs, that is a prefix
 pub cut_before : (m : ModuleContents) (observer : Option ℕ) (pairs : List Pair) (k : ℕ) (old new : Option (List ℕ))
     → Appends old new (view_text m (shown m observer (take k pairs)))
-    → AppendsBeginning old new (view_text m (shown m observer pairs))
+    → AppendsPrefix old new (view_text m (shown m observer pairs))
 cut_before m observer pairs k old new before = (view_text m (shown m observer (take k pairs)), front-begins m observer pairs k, before)
 
--- where the line of the next pair was written in part, that is a beginning too
+-- where the line of the next pair was written in part, that is a prefix too
 pub cut_within : (m : ModuleContents) (observer : Option ℕ) (pairs : List Pair) (k : ℕ) (pair : Pair) (old mid new : Option (List ℕ)) (line : List ℕ)
     → k < length pairs → is_shown m observer (get_or pairs k pair) ≡ true → line ≡ pair_line m (get_or pairs k pair)
-    → Appends old mid (view_text m (shown m observer (take k pairs))) → AppendsBeginning mid new line
-    → AppendsBeginning old new (view_text m (shown m observer pairs))
+    → Appends old mid (view_text m (shown m observer (take k pairs))) → AppendsPrefix mid new line
+    → AppendsPrefix old new (view_text m (shown m observer pairs))
 cut_within m observer pairs k pair old mid new line small is spelled before part =
     let front = view_text m (shown m observer (take k pairs)) in
     let more = view_text m (shown m observer (take (k + 1) pairs)) in

@@ -55,8 +55,8 @@ form_numbers (a ∷ []) h form = absurd (omega arith)
 form_numbers (a ∷ b ∷ ws) h form =
     let parts = and_parts (is_name_text a.now) (bytes_eq b.now (61 ∷ []) && list_all is_number (texts_of ws)) form in
     let numbers = and_parts (bytes_eq b.now (61 ∷ [])) (list_all is_number (texts_of ws)) parts.1 in
-    let whole : take (length (a ∷ b ∷ ws) - 2) ws ≡ ws = take_all (length (a ∷ b ∷ ws) - 2) ws (omega arith) in
-    rw whole numbers.1
+    let all : take (length (a ∷ b ∷ ws) - 2) ws ≡ ws = take_all (length (a ∷ b ∷ ws) - 2) ws (omega arith) in
+    rw all numbers.1
 
 some_list : (b : Bool) (xs ys : List ℤ) → Some ys ≡ cond b (Some xs) None → ys ≡ xs
 some_list true xs ys e = cc
@@ -70,8 +70,8 @@ put_entry (a ∷ b ∷ ws) d m numbers name h e = go (bytes_eq a.now name) writt
   where
     written : numbers.items ≡ map number_of (texts_of ws)
     written =
-        let whole : take (length (a ∷ b ∷ ws) - 2) ws ≡ ws = take_all (length (a ∷ b ∷ ws) - 2) ws (omega arith) in
-        some_list _ _ numbers.items e ∙ ap (λ (xs : List (Bor (List ℕ))). map number_of (texts_of xs)) whole
+        let all : take (length (a ∷ b ∷ ws) - 2) ws ≡ ws = take_all (length (a ∷ b ∷ ws) - 2) ws (omega arith) in
+        some_list _ _ numbers.items e ∙ ap (λ (xs : List (Bor (List ℕ))). map number_of (texts_of xs)) all
 
     go : (t : Bool) → numbers.items ≡ map number_of (texts_of ws) → option_map (λ (entry : Option (Vec ℤ Global)). option_map (λ (numbers : Vec ℤ Global). numbers.items) entry) (cond t (Some (Some numbers)) (get_by (λ (key : Bor (List ℕ)). slice_cmp nat_cmp name key.now) m)) ≡ cond t (Some (Some (map number_of (texts_of ws)))) (table_of m name)
     go true w = ap (λ (ns : List ℤ). Some (Some ns)) w

@@ -9,6 +9,6 @@ abbrev pub is_failure : {E : Type 0} → Result ℕ E → List ℕ → Bool
 is_failure (Ok taken) bytes = (taken == 0) && nat_lt 0 (length bytes)
 is_failure (Err fault) bytes = true
 
--- what a sink holds grew by a beginning of the bytes
-abbrev pub AppendsBeginning : Option (List ℕ) → Option (List ℕ) → List ℕ → Type 0
-AppendsBeginning old new bytes = (front : List ℕ) × Begins front bytes × Appends old new front
+-- what a sink holds grew by a prefix of the bytes
+abbrev pub AppendsPrefix : Option (List ℕ) → Option (List ℕ) → List ℕ → Type 0
+AppendsPrefix old new bytes = (front : List ℕ) × Begins front bytes × Appends old new front

@@ -7,7 +7,7 @@ use Rattle.labels.specs.Label.{may_read}
 use Rattle.labels.specs.declared.sent.Pair.{Pair}
 use Rattle.bytecode.specs.Contents.{ModuleContents, ChannelContents}
 use Rattle.bytecode.specs.Isolated.{channel_label, seen_of}
-use Rattle.channels.specs.Sink.{AppendsBeginning}
+use Rattle.channels.specs.Sink.{AppendsPrefix}
 
 -- the name of a channel of a list, by its number; a number that is not there has none
 abbrev pub name_in : Option ChannelContents → List ℕ
@@ -34,12 +34,12 @@ abbrev pub view_text : ModuleContents → List Pair → List ℕ
 view_text m [] = []
 view_text m (pair ∷ pairs) = pair_line m pair ++ view_text m pairs
 
--- what a sink holds grew by the whole text of what an observer is shown, or by a prefix of it
+-- what a sink holds grew by the text of what an observer is shown, or by a prefix of it
 abbrev pub ShowsAll : ModuleContents → (observer : Option ℕ) → (sent : List Pair) → (old new : Option (List ℕ)) → Type 0
 ShowsAll m observer sent old new = Appends old new (view_text m (shown m observer sent))
 
 abbrev pub ShowsPrefix : ModuleContents → (observer : Option ℕ) → (sent : List Pair) → (old new : Option (List ℕ)) → Type 0
-ShowsPrefix m observer sent old new = AppendsBeginning old new (view_text m (shown m observer sent))
+ShowsPrefix m observer sent old new = AppendsPrefix old new (view_text m (shown m observer sent))
 
 -- for each channel of a module, by its number, whether an observer may read it
 abbrev pub readable : ModuleContents → (observer : ℕ) → List Bool

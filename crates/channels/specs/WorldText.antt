@@ -147,12 +147,12 @@ numbers_in (Some (Some numbers)) = numbers
 abbrev pub input_of : Table → List ℕ → InputNumbers
 input_of table name = record { name = name; numbers = numbers_in (table name) }
 
--- the answer of a reader that refuses a text: want of memory, or the first wrong line
+-- the answer of a reader that refuses a text: out of memory, or the first wrong line
 abbrev pub IsTextFault : List (List ℕ) → List (List (List ℕ)) → WorldFault → Type 0
 IsTextFault inputs lines fault.NoMemory = Unit {0}
 IsTextFault inputs lines (fault.Line line defect) = IsFirstDefect inputs lines line defect
 
 -- a fault of a line as that of the text
-abbrev pub told_at : LineFault → ℕ → WorldFault
-told_at NoMemory line = fault.NoMemory
-told_at (Wrong defect) line = fault.Line line defect
+abbrev pub at_line : LineFault → ℕ → WorldFault
+at_line NoMemory line = fault.NoMemory
+at_line (Wrong defect) line = fault.Line line defect

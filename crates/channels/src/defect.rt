@@ -17,7 +17,7 @@ pub enum WorldDefect {
 }
 
 impl WorldDefect {
-    /// The number that faults are told by, 851 to 854.
+    /// The number that faults are reported by, 851 to 854.
     pub fn number(self) -> u32
         ensures { result ≡ world_number self }
     {
@@ -29,7 +29,7 @@ impl WorldDefect {
         }
     }
 
-    /// The words that faults are told by.
+    /// The words that faults are reported by.
     pub fn words(self) -> &'static str
         ensures { result.now ≡ world_words self }
     {

@@ -13,6 +13,6 @@ mod world_text;
 pub use defect::{WorldDefect, WorldFault};
 pub use labels::Pair;
 pub use sent::Sent;
-pub use sink::{Device, Sink, SinkFault, write_whole};
+pub use sink::{Device, Sink, SinkFault, write_all};
 pub use view::{ViewFault, seen, write_view};
 pub use world::{InputList, World};

@@ -1,4 +1,4 @@
-ghost use Rattle.channels.specs.Sink.{AppendsBeginning, is_failure};
+ghost use Rattle.channels.specs.Sink.{AppendsPrefix, is_failure};
 ghost use Rattle.std.specs.Io.KnownBytes.{Appends, WriteAppends};
 ghost use Rattle.std.specs.Io.{WritesAtMost};
 ghost use Rattle.std.specs.Prelude.{◌≡◌, ◌||◌, ℕ, Bool, IsErr, IsTrue, List, None, OnErr, OnOk, Option, false};
@@ -22,7 +22,7 @@ pub trait Sink {
     /// Whether a write has failed so far.
     ghost has_failed: { Self → Bool };
 
-    /// Takes a beginning of the bytes, and answers how many it took.
+    /// Takes a prefix of the bytes, and answers how many it took.
     fn write(&mut self, bytes: &[u8]) -> Result<usize, SinkFault>
         ensures bound { WritesAtMost result bytes.now }
         ensures taken { WriteAppends (taken self.old) (taken self.new) result bytes.now }
@@ -35,7 +35,7 @@ pub trait Sink {
 }
 
 /// A sink over any writer. After its first failure it takes nothing more, so that what it took is
-/// always a beginning of what it was given.
+/// always a prefix of what it was given.
 #[derive(Drop)]
 pub struct Device<W> {
     writer: W,
@@ -98,10 +98,10 @@ impl<W: Write> Sink for Device<W> {
 ///
 /// # Errors
 ///
-/// A fault at the first write that fails; what the sink took then is a beginning of the bytes.
-pub fn write_whole<S: Sink>(sink: &mut S, bytes: &[u8]) -> Result<(), SinkFault>
-    ensures whole { OnOk result (Appends (S.taken sink.old) (S.taken sink.new) bytes.now) }
-    ensures beginning { OnErr result (AppendsBeginning (S.taken sink.old) (S.taken sink.new) bytes.now) }
+/// A fault at the first write that fails; what the sink took then is a prefix of the bytes.
+pub fn write_all<S: Sink>(sink: &mut S, bytes: &[u8]) -> Result<(), SinkFault>
+    ensures written { OnOk result (Appends (S.taken sink.old) (S.taken sink.new) bytes.now) }
+    ensures prefix { OnErr result (AppendsPrefix (S.taken sink.old) (S.taken sink.new) bytes.now) }
     ensures failed { OnErr result (IsTrue (S.has_failed sink.new)) }
 {
     let mut rest = bytes;

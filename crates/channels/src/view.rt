@@ -1,7 +1,7 @@
 //! What an observer is shown of the pairs that a run has sent.
 
 ghost use Rattle.bytecode.specs.Isolated.{seen_of};
-ghost use Rattle.channels.specs.Sink.{AppendsBeginning};
+ghost use Rattle.channels.specs.Sink.{AppendsPrefix};
 ghost use Rattle.channels.specs.View as view;
 ghost use Rattle.channels.specs.View.{ShowsAll, ShowsPrefix, answers_for, is_shown, name_in, pair_line, readable, shown, view_text};
 ghost use Rattle.std.specs.Io.KnownBytes.{Appends};
@@ -9,13 +9,13 @@ ghost use Rattle.std.specs.Prelude.{◌≡◌, Err, IfOk, IsTrue, OnErr, OnOk, f
 ghost use Rattle.std.specs.String.{string_bytes};
 
 use crate::sent::Sent;
-use crate::sink::{Sink, SinkFault, write_whole};
+use crate::sink::{Sink, SinkFault, write_all};
 use bytecode::Module;
 use labels::{Pair, may_read};
 use std::alloc::{AllocError, AllocFailed, Global};
 use thiserror::Error;
 
-/// Why a view was not written whole.
+/// Why a view was not written to its end.
 #[derive(Clone, Copy, Debug, PartialEq, Eq, Error)]
 pub enum ViewFault {
     /// The sink did not take what was written.
@@ -149,13 +149,13 @@ fn write_lines<S: Sink>(
     out: &mut S,
 ) -> Result<(), ViewFault>
     ensures sink { result ≡ Err ViewFault.Sink → IsTrue (S.has_failed out.new) }
-    ensures prefix { OnErr result (AppendsBeginning (S.taken out.old) (S.taken out.new) (view_text observer.now.program.now (shown observer.now.program.now observer.now.principal pairs.now))) }
+    ensures prefix { OnErr result (AppendsPrefix (S.taken out.old) (S.taken out.new) (view_text observer.now.program.now (shown observer.now.program.now observer.now.principal pairs.now))) }
     ensures accepted { OnOk result (Appends (S.taken out.old) (S.taken out.new) (view_text observer.now.program.now (shown observer.now.program.now observer.now.principal pairs.now))) }
 {
     for pair in pairs {
         if observer.sees(*pair) {
             let line = line_of(alloc, observer.program, *pair)?;
-            write_whole(out, line.as_bytes())?;
+            write_all(out, line.as_bytes())?;
         }
     }
     Ok(())
@@ -166,7 +166,7 @@ fn write_lines<S: Sink>(
 ///
 /// # Errors
 ///
-/// `Sink` where the sink failed, `NoMemory` where an allocation failed. What went out then is a prefix of the whole text.
+/// `Sink` where the sink failed, `NoMemory` where an allocation failed. What went out then is a prefix of the text.
 pub fn write_view<S: Sink>(
     alloc: Global,
     sent: &Sent,

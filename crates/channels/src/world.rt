@@ -75,14 +75,14 @@ impl World {
     /// The world that a text writes for the inputs of a module: for each input the numbers of the line that names
     /// it, and none where no line does.
     ///
-    /// The first wrong line is told, by its number from 1 and by what is wrong with it: another form, no input of
+    /// The first wrong line is reported, by its number from 1 and by what is wrong with it: another form, no input of
     /// the module, an input that an earlier line names, or a number outside 32 bits, the first of these that it has.
-    pub fn read(alloc: Global, whole: &Module, text: &str) -> Result<World, WorldFault>
-        ensures right { OnOk result (IsWorldText (input_names whole.now) (lines_of text.now)) }
-        ensures world { IfOk result (λ world. world ≡ world_of (input_names whole.now) (lines_of text.now)) }
-        ensures wrong { IfErr result (λ fault. IsTextFault (input_names whole.now) (lines_of text.now) fault) }
+    pub fn read(alloc: Global, program: &Module, text: &str) -> Result<World, WorldFault>
+        ensures accepted { OnOk result (IsWorldText (input_names program.now) (lines_of text.now)) }
+        ensures exact { IfOk result (λ world. world ≡ world_of (input_names program.now) (lines_of text.now)) }
+        ensures first_fault { IfErr result (λ fault. IsTextFault (input_names program.now) (lines_of text.now) fault) }
     {
-        let Ok(names) = names_of(alloc, whole.channels()) else {
+        let Ok(names) = names_of(alloc, program.channels()) else {
             return Err(WorldFault::NoMemory);
         };
         let table = read_lines(alloc, &names, text)?;

@@ -36,7 +36,7 @@ fn empty_table<'a>(alloc: Global, names: &[&'a str]) -> Result<Inputs<'a>, Alloc
     Ok(inputs)
 }
 
-/// Reads the lines of a text, or tells the first wrong one.
+/// Reads the lines of a text, or reports the first wrong one.
 pub fn read_lines<'a>(
     alloc: Global,
     names: &[&'a str],
@@ -60,15 +60,15 @@ pub fn read_lines<'a>(
         };
         match read_line(alloc, &mut inputs, &words) {
             Ok(()) => {}
-            Err(fault) => return Err(told_at(fault, number)),
+            Err(fault) => return Err(at_line(fault, number)),
         }
     }
     Ok(inputs)
 }
 
 // A fault of a line as that of the text.
-fn told_at(fault: LineFault, line: usize) -> WorldFault
-    ensures { result ≡ spec.told_at fault line }
+fn at_line(fault: LineFault, line: usize) -> WorldFault
+    ensures { result ≡ spec.at_line fault line }
 {
     match fault {
         LineFault::NoMemory => WorldFault::NoMemory,

@@ -44,7 +44,7 @@ pub fn entry_of<'t>(inputs: &'t Inputs<'_>, name: &str) -> Option<&'t Option<Vec
     inputs.get(name)
 }
 
-/// Reads a line into the table, or tells what is wrong with it.
+/// Reads a line into the table, or reports what is wrong with it.
 pub fn read_line<'a>(
     alloc: Global,
     inputs: &mut Inputs<'a>,

@@ -1,4 +1,4 @@
--- What a run has shown where a stream failed or memory was wanting.
+-- What a run has shown where a stream failed or memory ran out.
 use Rattle.std.proofs.Common.{◌≡◌, ℕ, ◌≤◌, List, ap, ◌∙◌, subst, inr, Option, Result, Ok, Err, OnErr}
 use Rattle.std.specs.Str.{IsUtf8}
 use Rattle.std.specs.Io.KnownBytes.{Appends}
@@ -9,20 +9,20 @@ use Rattle.bytecode.specs.Contents.{ModuleContents}
 use Rattle.bytecode.specs.Form.{Spells}
 use Rattle.bytecode.specs.Format.{module_file}
 use Rattle.bytecode.specs.Machine.{Machine, Running, exec, first_state, program_of, sent_of}
-use Rattle.channels.specs.Sink.{AppendsBeginning}
+use Rattle.channels.specs.Sink.{AppendsPrefix}
 use Rattle.channels.specs.World.{input_names}
 use Rattle.channels.specs.WorldText.{IsWorldText, lines_of}
 use Rattle.verifier.specs.Faults.{HasNoFault}
-use Rattle.flowc.specs.Shown.{CanRun, ShowsSome, numbers_in, text_shown}
+use Rattle.flowc.specs.Stdout.{CanRun, ShowsSome, numbers_in, text_shown}
 use Rattle.flowc.specs.View.{IsObserver, shown, view_text}
 
 pub on_err : {X Y : Type 0} (result : Result X Y) (P : Type 0) → P → OnErr result P
 on_err (Ok x) P holds = tt
 on_err (Err y) P holds = holds
 
--- what went out whole went out from its beginning
-pub appended_whole : (old new : Option (List ℕ)) (text : List ℕ) → Appends old new text → AppendsBeginning old new text
-appended_whole old new text whole = (text, Begins-itself text, whole)
+-- what was written to its end was written as a prefix
+pub appended_all : (old new : Option (List ℕ)) (text : List ℕ) → Appends old new text → AppendsPrefix old new text
+appended_all old new text program = (text, Begins-itself text, program)
 
 -- what can be run
 pub can_run : (code text : List ℕ) (name : Option (List ℕ)) (m : ModuleContents) (principal : Option ℕ) (h : PrincipalHierarchy)
@@ -36,14 +36,14 @@ can_run code text name m principal h spelled faultless encoded right observed is
   observed = subst (λ (people : PrincipalHierarchy). IsObserver people name principal) is observed;
 }
 
--- a beginning of what is shown of a run went out
-pub cut_off : (code text : List ℕ) (name : Option (List ℕ)) (steps : ℕ) (old new : Option (List ℕ)) (m whole : ModuleContents) (principal : Option ℕ) (taken : ℕ)
-    (pairs : List Pair) (before after : Machine) → CanRun code text name m principal → taken ≤ steps → whole ≡ m
+-- a prefix of what is shown of a run was written
+pub cut_off : (code text : List ℕ) (name : Option (List ℕ)) (steps : ℕ) (old new : Option (List ℕ)) (m program : ModuleContents) (principal : Option ℕ) (taken : ℕ)
+    (pairs : List Pair) (before after : Machine) → CanRun code text name m principal → taken ≤ steps → program ≡ m
     → before ≡ Running (first_state m (numbers_in m text)) → after ≡ exec (program_of m) taken before → pairs ≡ sent_of after
-    → AppendsBeginning old new (view_text whole (shown whole principal pairs)) → ShowsSome code text name steps old new
-cut_off code text name steps old new m whole principal taken pairs before after can within is first reached sent part =
-    let all : view_text whole (shown whole principal pairs) ≡ text_shown m text principal taken =
+    → AppendsPrefix old new (view_text program (shown program principal pairs)) → ShowsSome code text name steps old new
+cut_off code text name steps old new m program principal taken pairs before after can within is first reached sent part =
+    let all : view_text program (shown program principal pairs) ≡ text_shown m text principal taken =
     ap (λ (w : ModuleContents). view_text w (shown w principal pairs)) is
     ∙ ap (λ (list : List Pair). view_text m (shown m principal list)) (sent ∙ ap sent_of reached ∙ ap (λ (x : Machine). sent_of (exec (program_of m) taken x)) first) in
-    let cut = subst (λ (t : List ℕ). AppendsBeginning old new t) all part in
-    inr (cut.0, record { whole = m; principal = principal; taken = taken; can_run = can; within = within; begins = cut.1 }, cut.2)
+    let cut = subst (λ (t : List ℕ). AppendsPrefix old new t) all part in
+    inr (cut.0, record { program = m; principal = principal; taken = taken; can_run = can; within = within; begins = cut.1 }, cut.2)

@@ -30,18 +30,18 @@ use Rattle.verifier.specs.Faults.{HasNoFault}
 use Rattle.host.specs.Laws as sessions
 use Rattle.host.specs.Meaning.{CanOpen}
 use Rattle.host.proofs.Ends.{end_of_status, same_at}
-use Rattle.flowc.specs.Built.{bytes_at}
+use Rattle.flowc.specs.Compiled.{bytes_at}
 use Rattle.flowc.specs.Lines.{end_line}
 use Rattle.flowc.specs.Promises.{RunsAreIsolated, RunsEndAsTheSource, RunsShowThemselves, SessionsAreIsolated, SessionsEndAsTheSource, SessionsShowNoLess, SessionsShowNoMore, SilentModulesShowLess, SomeSessionsShowAll, StandardErrorIsFixed, module_in, program_in, seen_by}
-use Rattle.flowc.specs.Shown.{CanRun, numbers_in, text_shown}
-use Rattle.flowc.specs.Task.{status_told}
-use Rattle.flowc.specs.Told.{IsModuleLine, IsObserverLine, IsRefusedLine, IsWorldLine, line_told}
-use Rattle.flowc.specs.Told.IsModuleLine.{faulty, refused}
-use Rattle.flowc.specs.Told.IsRefusedLine.{of_module, of_observer, of_world}
-use Rattle.flowc.specs.Told.IsWorldLine.{no_text, wrong}
+use Rattle.flowc.specs.Stdout.{CanRun, numbers_in, text_shown}
+use Rattle.flowc.specs.Task.{reported_status}
+use Rattle.flowc.specs.Messages.{IsModuleLine, IsObserverLine, IsRefusedLine, IsWorldLine, reported_line}
+use Rattle.flowc.specs.Messages.IsModuleLine.{faulty, refused}
+use Rattle.flowc.specs.Messages.IsRefusedLine.{of_module, of_observer, of_world}
+use Rattle.flowc.specs.Messages.IsWorldLine.{no_text, wrong}
 use Rattle.flowc.specs.View.{IsObserver, view_text}
 use Rattle.flowc.proofs.Sessions.{opened_for}
-use Rattle.flowc.proofs.Refusals.{told_is_fault, wrong_is_no_world}
+use Rattle.flowc.proofs.Refusals.{reported_is_fault, wrong_is_no_world}
 use Rattle.channels.proofs.Views.{view_text-append}
 
 -- ---- sessions
@@ -49,8 +49,8 @@ use Rattle.channels.proofs.Views.{view_text-append}
 -- what was sent stays sent
 sent-grows : (m : ModuleContents) (numbers : World) (i j : ℕ) → i ≤ j → Begins (sent_after m numbers i) (sent_after m numbers j)
 sent-grows m numbers i j h =
-    let whole : j ≡ i + (j - i) = omega (arith, h) in
-    subst (λ (x : Machine). Begins (sent_after m numbers i) (sent_of x)) (exec_more (program_of m) i (j - i) j _ whole)
+    let program : j ≡ i + (j - i) = omega (arith, h) in
+    subst (λ (x : Machine). Begins (sent_after m numbers i) (sent_of x)) (exec_more (program_of m) i (j - i) j _ program)
     (exec-keeps (program_of m) (j - i) (after_steps m numbers i))
 
 pub no_more : sessions.SessionsAreFreshRuns → SessionsShowNoMore
@@ -155,20 +155,20 @@ view-begins m xs ys b = (view_text m b.0, sym (view_text-append m xs b.0) ∙ ap
 views-begin : (m : ModuleContents) (xs ys : List Pair) → OneBegins xs ys → OneBegins (view_text m xs) (view_text m ys)
 views-begin m xs ys one = ⊎_elim (λ (b : Begins xs ys). inl (view-begins m xs ys b)) (λ (b : Begins ys xs). inr (view-begins m ys xs b)) one
 
--- an observer with a name is told no end
-no_end_told : (h : PrincipalHierarchy) (name : List ℕ) (principal : Option ℕ) (end : Status) → IsObserver h (Some name) principal → status_told principal end ≡ 0
-no_end_told h name None end is = absurd is
-no_end_told h name (Some p) end is = refl
+-- to an observer with a name no end is reported
+no_end_reported : (h : PrincipalHierarchy) (name : List ℕ) (principal : Option ℕ) (end : Status) → IsObserver h (Some name) principal → reported_status principal end ≡ 0
+no_end_reported h name None end is = absurd is
+no_end_reported h name (Some p) end is = refl
 
-no_line_told : (m : ModuleContents) (name : List ℕ) (principal : Option ℕ) (end : Status) → IsObserver m.hierarchy (Some name) principal
-    → line_told m principal end ≡ []
-no_line_told m name None end is = absurd is
-no_line_told m name (Some p) end is = refl
+no_line_reported : (m : ModuleContents) (name : List ℕ) (principal : Option ℕ) (end : Status) → IsObserver m.hierarchy (Some name) principal
+    → reported_line m principal end ≡ []
+no_line_reported m name None end is = absurd is
+no_line_reported m name (Some p) end is = refl
 
 -- the line of a run without an observer
 operator_line : (m : ModuleContents) (principal : Option ℕ) (end : Status) → IsObserver m.hierarchy None principal
-    → line_told m principal end ≡ end_line m.exceptions end
-operator_line m principal end none = ap (λ (o : Option ℕ). line_told m o end) none
+    → reported_line m principal end ≡ end_line m.exceptions end
+operator_line m principal end none = ap (λ (o : Option ℕ). reported_line m o end) none
 
 -- the principals of a module that has a spelling have different names
 names_differ : (m : ModuleContents) → Fits module_file m → AllDifferent m.hierarchy.names
@@ -194,14 +194,14 @@ texts_begin m fits isolated_module name first second agree w v e f (Some p) (Som
 
 pub shows_itself : RunsShowThemselves
 shows_itself code world name steps status old new run = (
-  run.told ∙ no_end_told run.whole.hierarchy name run.principal run.end run.can_run.observed,
+  run.reported ∙ no_end_reported run.program.hierarchy name run.principal run.end run.can_run.observed,
   record {
-    whole = run.whole;
+    program = run.program;
     principal = run.principal;
     taken = run.taken;
     can_run = run.can_run;
     within = run.within;
-    begins = Begins-itself (text_shown run.whole world run.principal run.taken);
+    begins = Begins-itself (text_shown run.program world run.principal run.taken);
   },
 )
 
@@ -210,11 +210,11 @@ module _ (one : (m n : ModuleContents) (bytes : List ℕ) → Spells module_file
   pub runs_isolated : RunsAreIsolated
   runs_isolated said source code compiled name first second agree steps more out other run again =
       let m = module_in compiled in
-      let same = one run.whole m code run.can_run.spelled compiled.code_of.spelled in
-      let same_again = one again.whole m code again.can_run.spelled compiled.code_of.spelled in
-      Begins-of-two out other (text_shown run.whole first run.principal run.taken) (text_shown again.whole second again.principal again.taken)
+      let same = one run.program m code run.can_run.spelled compiled.code_of.spelled in
+      let same_again = one again.program m code again.can_run.spelled compiled.code_of.spelled in
+      Begins-of-two out other (text_shown run.program first run.principal run.taken) (text_shown again.program second again.principal again.taken)
       run.begins again.begins
-      (texts_begin m compiled.code_of.spelled.0 compiled.code_of.isolated name first second agree run.whole again.whole same same_again
+      (texts_begin m compiled.code_of.spelled.0 compiled.code_of.isolated name first second agree run.program again.program same same_again
       run.principal again.principal run.can_run.observed again.can_run.observed run.taken again.taken)
 
   -- ---- ends
@@ -222,14 +222,14 @@ module _ (one : (m n : ModuleContents) (bytes : List ℕ) → Spells module_file
   pub run_ends_as_the_source : RunsEndAsTheSource
   run_ends_as_the_source said source code compiled text steps status line run =
       let m = module_in compiled in
-      let same : run.whole ≡ m = one run.whole m code run.can_run.spelled compiled.code_of.spelled in
+      let same : run.program ≡ m = one run.program m code run.can_run.spelled compiled.code_of.spelled in
       let numbers = numbers_in m text in (
-        run.says ∙ operator_line run.whole run.principal run.end run.can_run.observed
+        run.says ∙ operator_line run.program run.principal run.end run.can_run.observed
             ∙ ap (λ (w : ModuleContents). end_line w.exceptions run.end) same
             ∙ ap (λ names. end_line names run.end) compiled.code_of.interface.exceptions,
         λ ending ends.
-            let over : HasEnded ending (after_steps run.whole (numbers_in run.whole text) run.taken) =
-            end_of_status (program_of run.whole) steps run.taken run.end (after_steps run.whole (numbers_in run.whole text) run.taken) ending ends run.ended in
+            let over : HasEnded ending (after_steps run.program (numbers_in run.program text) run.taken) =
+            end_of_status (program_of run.program) steps run.taken run.end (after_steps run.program (numbers_in run.program text) run.taken) ending ends run.ended in
             let here = subst (λ (w : ModuleContents). HasEnded ending (after_steps w (numbers_in w text) run.taken)) same over in
             (compiled.code_of.kept.ends_so numbers run.taken ending (sent_after m numbers run.taken) here).0,
       )
@@ -242,8 +242,8 @@ module _ (one : (m n : ModuleContents) (bytes : List ℕ) → Spells module_file
     right_module path code line m spelled faultless (refused refusal offset found says) =
         let none = not_refused m code spelled in
         cc
-    right_module path code line m spelled faultless (faulty other fault spelled_too told says) =
-        told_is_fault other fault told (subst (λ (w : ModuleContents). HasNoFault w) (one m other code spelled spelled_too) faultless)
+    right_module path code line m spelled faultless (faulty other fault spelled_too reported says) =
+        reported_is_fault other fault reported (subst (λ (w : ModuleContents). HasNoFault w) (one m other code spelled spelled_too) faultless)
 
     right_world : (path text line : List ℕ) (m other : ModuleContents) → m ≡ other → IsUtf8 text → IsWorldText (input_names m) (lines_of text)
         → IsWorldLine other path text line → ⊥
@@ -272,10 +272,10 @@ module _ (one : (m n : ModuleContents) (bytes : List ℕ) → Spells module_file
     pub error_is_fixed : StandardErrorIsFixed
     error_is_fixed file world observer steps files m principal can status out_failed line (inl refused_line) =
         absurd (right_run (string_bytes file) (string_bytes world) (bytes_at files 0) (bytes_at files 1) (string_bytes observer) line m principal can refused_line.1)
-    error_is_fixed file world observer steps files m principal can status out_failed line (inr (inl trouble)) = inr trouble
+    error_is_fixed file world observer steps files m principal can status out_failed line (inr (inl fault)) = inr fault
     error_is_fixed file world observer steps files m principal can status out_failed line (inr (inr run)) =
-        let h = run.whole.hierarchy in
+        let h = run.program.hierarchy in
         inl (
-          run.told ∙ no_end_told h (string_bytes observer) run.principal run.end run.can_run.observed,
-          run.says ∙ no_line_told run.whole (string_bytes observer) run.principal run.end run.can_run.observed,
+          run.reported ∙ no_end_reported h (string_bytes observer) run.principal run.end run.can_run.observed,
+          run.says ∙ no_line_reported run.program (string_bytes observer) run.principal run.end run.can_run.observed,
         )

@@ -10,23 +10,23 @@ use Rattle.verifier.specs.Faults.{HasNoFault, IsTold, IsToldAfter, IsToldOf, fix
 use Rattle.verifier.specs.declared.fault.Fault.{Fault}
 use Rattle.verifier.specs.declared.fault.VerifyFault.{VerifyFault}
 use Rattle.verifier.specs.declared.fault.VerifyFault.TheVariants.{Wrong}
-use Rattle.flowc.specs.Shown.{CannotRun, ShowsRun, ShowsSome}
-use Rattle.flowc.specs.Task.{status_of_trouble}
+use Rattle.flowc.specs.Stdout.{CannotRun, ShowsRun, ShowsSome}
+use Rattle.flowc.specs.Task.{status_of_fault}
 use Rattle.flowc.specs.declared.running.Ended.{Ended}
-use Rattle.flowc.specs.declared.trouble.Trouble.{Trouble}
-use Rattle.flowc.specs.declared.trouble.Trouble.TheVariants.{Refused, CannotWrite, OutOfMemory}
+use Rattle.flowc.specs.declared.fault.PerformFault.{PerformFault}
+use Rattle.flowc.specs.declared.fault.PerformFault.TheVariants.{Refused, CannotWrite, NoMemory}
 
-told_after : (m : ModuleContents) (faults : List Fault) (fault : Fault) → IsToldAfter m faults fault → faults ≡ [] → ((other : Fault) → IsToldAfter m [] other → ⊥) → ⊥
-told_after m [] fault told fixed flow = flow fault told
-told_after m (first ∷ more) fault told fixed flow = cc
+reported_after : (m : ModuleContents) (faults : List Fault) (fault : Fault) → IsToldAfter m faults fault → faults ≡ [] → ((other : Fault) → IsToldAfter m [] other → ⊥) → ⊥
+reported_after m [] fault reported fixed flow = flow fault reported
+reported_after m (first ∷ more) fault reported fixed flow = cc
 
--- a module with a fault that may be told is not without one
-pub told_is_fault : (m : ModuleContents) (fault : Fault) → IsTold m fault → HasNoFault m → ⊥
-told_is_fault m fault told none = told_after m (fixed_faults m) fault told none.fixed none.flow
+-- a module with a fault that may be reported is not without one
+pub reported_is_fault : (m : ModuleContents) (fault : Fault) → IsTold m fault → HasNoFault m → ⊥
+reported_is_fault m fault reported none = reported_after m (fixed_faults m) fault reported none.fixed none.flow
 
-pub told_of_is_fault : (m : ModuleContents) (answer : VerifyFault) (fault : Fault) → answer ≡ Wrong fault → IsToldOf m answer → HasNoFault m → ⊥
-told_of_is_fault m answer fault is told none =
-    told_is_fault m fault (subst (λ (v : VerifyFault). IsToldOf m v) is told) none
+pub reported_of_is_fault : (m : ModuleContents) (answer : VerifyFault) (fault : Fault) → answer ≡ Wrong fault → IsToldOf m answer → HasNoFault m → ⊥
+reported_of_is_fault m answer fault is reported none =
+    reported_is_fault m fault (subst (λ (v : VerifyFault). IsToldOf m v) is reported) none
 
 -- a text with a wrong line is no world
 pub wrong_is_no_world : (inputs : List (List ℕ)) (lines : List (List (List ℕ))) (line : ℕ) (defect : WorldDefect)
@@ -48,12 +48,12 @@ named_world m w numbers lines is read =
     ap names_of read ∙ names_of-world_of (input_names w) lines ∙ ap input_names is
 
 -- what a run shows, or why it shows nothing
-pub run_shows : (code text code' text' : List ℕ) (name name' : Option (List ℕ)) (steps status : ℕ) (old new : Option (List ℕ)) (outcome : Result Ended Trouble)
+pub run_shows : (code text code' text' : List ℕ) (name name' : Option (List ℕ)) (steps status : ℕ) (old new : Option (List ℕ)) (outcome : Result Ended PerformFault)
     → IfOk outcome (λ ended. ShowsRun code' text' name' steps ended.status old new)
-    → IfErr outcome (λ trouble. status_of_trouble trouble ≡ 1 → CannotRun code' text' name')
-    → IfErr outcome (λ trouble. status_of_trouble trouble ≡ 1 → old ≡ new)
+    → IfErr outcome (λ fault. status_of_fault fault ≡ 1 → CannotRun code' text' name')
+    → IfErr outcome (λ fault. status_of_fault fault ≡ 1 → old ≡ new)
     → OnErr outcome (ShowsSome code' text' name' steps old new)
-    → MatchResult outcome (λ ended. status ≡ ended.status) (λ trouble. status ≡ status_of_trouble trouble)
+    → MatchResult outcome (λ ended. status ≡ ended.status) (λ fault. status ≡ status_of_fault fault)
     → code' ≡ code → text' ≡ text → name' ≡ name
     → ((status ≡ 1) × (old ≡ new) × CannotRun code text name)
     ⊎ (((status ≡ 3) × ShowsSome code text name steps old new) ⊎ ShowsRun code text name steps status old new)
@@ -63,5 +63,5 @@ run_shows code text code' text' name name' steps status old new (Err (Refused li
     inl (is, quiet refl, rw (sym c, sym t, sym n) (refused refl))
 run_shows code text code' text' name name' steps status old new (Err CannotWrite) shown refused quiet some is c t n =
     inr (inl (is, rw (sym c, sym t, sym n) some))
-run_shows code text code' text' name name' steps status old new (Err OutOfMemory) shown refused quiet some is c t n =
+run_shows code text code' text' name name' steps status old new (Err NoMemory) shown refused quiet some is c t n =
     inr (inl (is, rw (sym c, sym t, sym n) some))

@@ -19,13 +19,13 @@ use Rattle.flowc.specs.Promises.{HasRun}
 -- where a run stands after so many steps, or at its end before that
 record Stop (p : Program) (n : ℕ) (from : Machine) : Type 0 where
   taken : ℕ
-  told : Status
+  stands : Status
   within : taken ≤ n
   running : WasRunning p taken from
-  is : IsTold p n taken told (exec p taken from)
-  far : (taken ≡ n) ⊎ ((ending : Ending) × (ending_of told ≡ Some ending))
+  is : IsTold p n taken stands (exec p taken from)
+  far : (taken ≡ n) ⊎ ((ending : Ending) × (ending_of stands ≡ Some ending))
 
-one_more : (p : Program) (n taken : ℕ) (told : Status) (machine : Machine) → IsTold p n taken told machine → IsTold p (suc n) (suc taken) told machine
+one_more : (p : Program) (n taken : ℕ) (stands : Status) (machine : Machine) → IsTold p n taken stands machine → IsTold p (suc n) (suc taken) stands machine
 one_more p n taken status.Running machine is = (ap suc is.0, is.1)
 one_more p n taken status.Finished machine is = is
 one_more p n taken (status.Threw exception) machine is = is
@@ -43,7 +43,7 @@ ends_now p n from ending sent running e = by ending e
     by : (ending : Ending) → step p from ≡ Ended ending sent → Stop p (suc n) from
     by machine.Finished e = record {
       taken = suc zero;
-      told = status.Finished;
+      stands = status.Finished;
       within = omega arith;
       running = first;
       is = e ∙ ap (λ (m : Machine). Ended machine.Finished (sent_of m)) (sym e);
@@ -51,7 +51,7 @@ ends_now p n from ending sent running e = by ending e
     }
     by (machine.Threw exception) e = record {
       taken = suc zero;
-      told = status.Threw exception;
+      stands = status.Threw exception;
       within = omega arith;
       running = first;
       is = e ∙ ap (λ (m : Machine). Ended (machine.Threw exception) (sent_of m)) (sym e);
@@ -59,7 +59,7 @@ ends_now p n from ending sent running e = by ending e
     }
     by machine.Deep e = record {
       taken = suc zero;
-      told = status.Deep;
+      stands = status.Deep;
       within = omega arith;
       running = first;
       is = e ∙ ap (λ (m : Machine). Ended machine.Deep (sent_of m)) (sym e);
@@ -69,10 +69,10 @@ ends_now p n from ending sent running e = by ending e
 goes_on : (p : Program) (n : ℕ) (from : Machine) → IsRunning from → Stop p n (step p from) → Stop p (suc n) from
 goes_on p n from running rest = record {
   taken = suc rest.taken;
-  told = rest.told;
+  stands = rest.stands;
   within = omega (arith, rest.within);
   running = before;
-  is = one_more p n rest.taken rest.told (exec p rest.taken (step p from)) rest.is;
+  is = one_more p n rest.taken rest.stands (exec p rest.taken (step p from)) rest.is;
   far = ⊎_elim (λ e. inl (ap suc e)) (λ over. inr over) rest.far;
 }
   where
@@ -83,7 +83,7 @@ goes_on p n from running rest = record {
 stop : (p : Program) (n : ℕ) (from : Machine) → ((k : ℕ) → HasRow (exec p k from)) → IsRunning from → Stop p n from
 stop p zero from rows running = record {
   taken = zero;
-  told = status.Running;
+  stands = status.Running;
   within = omega arith;
   running = λ k below. absurd (omega (arith, below));
   is = (refl, running);
@@ -133,7 +133,7 @@ module _ (code : List ℕ) (world : List InputNumbers) (m : ModuleContents) (can
   events = Open code world ∷ Turn 0 n ∷ View 0 p ∷ []
 
   abbrev answers : List HostAnswer
-  answers = Opened 0 ∷ Turned run.taken run.told ∷ Viewed (view_of moved p) ∷ []
+  answers = Opened 0 ∷ Turned run.taken run.stands ∷ Viewed (view_of moved p) ∷ []
 
   answered : Answered 1 empty events answers turned
   unfolding after
@@ -142,14 +142,14 @@ module _ (code : List ℕ) (world : List InputNumbers) (m : ModuleContents) (can
     (record { place_left = omega arith; id_left = omega arith }, refl, (m, can, refl)),
     (
       turned,
-      (fresh, refl, (after, record { within = run.within; running = run.running; machine = refl; told = run.is }, refl)),
+      (fresh, refl, (after, record { within = run.within; running = run.running; machine = refl; reported = run.is }, refl)),
       (turned, (moved, refl, there, refl, refl), refl),
     ),
   )
 
   shows : Shows code world p (view_of moved p)
   shows = record {
-    places = 1;
+    limit = 1;
     old = empty;
     events = events;
     answers = answers;
@@ -176,7 +176,7 @@ module _ (code : List ℕ) (world : List InputNumbers) (m : ModuleContents) (can
           turn = 1;
           steps = n;
           taken = run.taken;
-          status = run.told;
+          status = run.stands;
           later = omega arith;
           before = omega arith;
           asks = refl;

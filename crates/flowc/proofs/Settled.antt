@@ -1,28 +1,28 @@
 -- What the status of a check or a build says of the texts.
 use Rattle.std.proofs.Common.{◌≡◌, ◌∙◌, sym, subst, arith, refl, ℕ, List, Result, Ok, Err, OnOk, IfOk, IfErr, MatchResult}
 use Rattle.compiler.specs.Built.{IsAccepted}
-use Rattle.flowc.specs.Task.{status_of_trouble}
-use Rattle.flowc.specs.declared.trouble.Trouble.{Trouble}
-use Rattle.flowc.specs.declared.trouble.Trouble.TheVariants.{Refused, CannotWrite, OutOfMemory}
+use Rattle.flowc.specs.Task.{status_of_fault}
+use Rattle.flowc.specs.declared.fault.PerformFault.{PerformFault}
+use Rattle.flowc.specs.declared.fault.PerformFault.TheVariants.{Refused, CannotWrite, NoMemory}
 
 -- with status 0 what was promised of an `Ok` holds
-pub held_at_zero : {X : Type 0} (P : Type 0) (status_of : X → ℕ) (outcome : Result X Trouble) (status : ℕ) → OnOk outcome P
-    → MatchResult outcome (λ x. status ≡ status_of x) (λ trouble. status ≡ status_of_trouble trouble) → status ≡ 0 → P
+pub held_at_zero : {X : Type 0} (P : Type 0) (status_of : X → ℕ) (outcome : Result X PerformFault) (status : ℕ) → OnOk outcome P
+    → MatchResult outcome (λ x. status ≡ status_of x) (λ fault. status ≡ status_of_fault fault) → status ≡ 0 → P
 held_at_zero P status_of (Ok x) status held is zero = held
 held_at_zero P status_of (Err (Refused line)) status held is zero = absurd (let no : 1 ≡ 0 = sym is ∙ zero in omega (arith, no))
 held_at_zero P status_of (Err CannotWrite) status held is zero = absurd (let no : 3 ≡ 0 = sym is ∙ zero in omega (arith, no))
-held_at_zero P status_of (Err OutOfMemory) status held is zero = absurd (let no : 3 ≡ 0 = sym is ∙ zero in omega (arith, no))
+held_at_zero P status_of (Err NoMemory) status held is zero = absurd (let no : 3 ≡ 0 = sym is ∙ zero in omega (arith, no))
 
 -- with status 1 what was promised of a refusal holds, where an `Ok` gives status 0
-pub refused_at_one : {X : Type 0} (P : Type 0) (status_of : X → ℕ) (outcome : Result X Trouble) (status : ℕ)
-    → IfErr outcome (λ trouble. status_of_trouble trouble ≡ 1 → P) → IfOk outcome (λ x. status_of x ≡ 0)
-    → MatchResult outcome (λ x. status ≡ status_of x) (λ trouble. status ≡ status_of_trouble trouble) → status ≡ 1 → P
+pub refused_at_one : {X : Type 0} (P : Type 0) (status_of : X → ℕ) (outcome : Result X PerformFault) (status : ℕ)
+    → IfErr outcome (λ fault. status_of_fault fault ≡ 1 → P) → IfOk outcome (λ x. status_of x ≡ 0)
+    → MatchResult outcome (λ x. status ≡ status_of x) (λ fault. status ≡ status_of_fault fault) → status ≡ 1 → P
 refused_at_one P status_of (Ok x) status refused zero is one = absurd (let no : 1 ≡ 0 = sym one ∙ is ∙ zero in omega (arith, no))
-refused_at_one P status_of (Err trouble) status refused zero is one = refused (sym is ∙ one)
+refused_at_one P status_of (Err fault) status refused zero is one = refused (sym is ∙ one)
 
-pub ok_is_zero : {X : Type 0} (outcome : Result X Trouble) → IfOk outcome (λ x. ◌≡◌ {A = ℕ} 0 0)
+pub ok_is_zero : {X : Type 0} (outcome : Result X PerformFault) → IfOk outcome (λ x. ◌≡◌ {A = ℕ} 0 0)
 ok_is_zero (Ok x) = refl
-ok_is_zero (Err trouble) = tt
+ok_is_zero (Err fault) = tt
 
 -- the same of the texts under other names
 pub accepted_along : (h s h' s' : List ℕ) → h ≡ h' → s ≡ s' → IsAccepted h s → IsAccepted h' s'

@@ -1,7 +1,7 @@
-pub mod Built
+pub mod Compiled
 pub mod Lines
+pub mod Messages
 pub mod Promises
-pub mod Shown
+pub mod Stdout
 pub mod Task
-pub mod Told
 pub mod View

@@ -1,4 +1,4 @@
--- The lines in which the program tells faults and the ends of runs. Numbers are in decimal.
+-- The lines in which the program reports faults and the ends of runs. Numbers are in decimal.
 -- Source: our own.
 use Rattle.std.specs.Prelude.{ℕ, ◌-◌, ◌==◌, if◌then◌else◌, List, [], ◌++◌, slice_get, unwrap_or, codes, Bool, IsTrue}
 use Rattle.std.specs.Fmt.{decimal}
@@ -14,8 +14,8 @@ use Rattle.machine.specs.declared.status.Status.{Status}
 use Rattle.machine.specs.declared.status.Status.TheVariants as status
 use Rattle.verifier.specs.Words.{defect_number, defect_words}
 use Rattle.verifier.specs.declared.fault.Fault.{Fault}
-use Rattle.flowc.specs.declared.trouble.Trouble.{Trouble}
-use Rattle.flowc.specs.declared.trouble.Trouble.TheVariants.{Refused, CannotWrite, OutOfMemory}
+use Rattle.flowc.specs.declared.fault.PerformFault.{PerformFault}
+use Rattle.flowc.specs.declared.fault.PerformFault.TheVariants.{Refused, CannotWrite, NoMemory}
 
 -- ---- lines of faults
 
@@ -57,24 +57,24 @@ observer_line name = name ++ saying 153 (codes "unknown principal")
 
 -- ---- troubles
 
--- standard output did not take what was written, or memory was wanting
+-- standard output did not take what was written, or memory ran out
 abbrev pub cannot_write : List ℕ
 cannot_write = codes "flowc: cannot write\n"
 
 abbrev pub no_memory : List ℕ
 no_memory = codes "flowc: no memory\n"
 
--- the line that tells a trouble
-abbrev pub line_of_trouble : Trouble → List ℕ
-line_of_trouble (Refused line) = string_bytes line
-line_of_trouble CannotWrite = cannot_write
-line_of_trouble OutOfMemory = no_memory
+-- the line that reports a fault
+abbrev pub line_of_fault : PerformFault → List ℕ
+line_of_fault (Refused line) = string_bytes line
+line_of_fault CannotWrite = cannot_write
+line_of_fault NoMemory = no_memory
 
--- why a task was not done: what was read is refused, with one of these lines; or standard output failed; or memory was wanting
-abbrev pub IsTrouble : (IsRefusal : List ℕ → Type 0) → (out_failed : Bool) → Trouble → Type 0
-IsTrouble IsRefusal out_failed (Refused line) = IsRefusal (string_bytes line)
-IsTrouble IsRefusal out_failed CannotWrite = IsTrue out_failed
-IsTrouble IsRefusal out_failed OutOfMemory = Unit {0}
+-- why a task was not done: what was read is refused, with one of these lines; or standard output failed; or memory ran out
+abbrev pub IsPerformFault : (IsRefusal : List ℕ → Type 0) → (out_failed : Bool) → PerformFault → Type 0
+IsPerformFault IsRefusal out_failed (Refused line) = IsRefusal (string_bytes line)
+IsPerformFault IsRefusal out_failed CannotWrite = IsTrue out_failed
+IsPerformFault IsRefusal out_failed NoMemory = Unit {0}
 
 -- ---- ends of runs
 

@@ -23,10 +23,10 @@ use Rattle.compiler.specs.Built.{IsCompiled}
 use Rattle.host.specs.Laws as sessions
 use Rattle.host.specs.Meaning.{CanOpen}
 use Rattle.command_line.specs.declared.request.Task.TheVariants.{Run}
-use Rattle.flowc.specs.Built.{bytes_at}
-use Rattle.flowc.specs.Shown.{CanRun, IsShown, ShowsRun, numbers_in, text_shown}
+use Rattle.flowc.specs.Compiled.{bytes_at}
+use Rattle.flowc.specs.Stdout.{CanRun, IsShown, ShowsRun, numbers_in, text_shown}
 use Rattle.flowc.specs.Lines.{end_line}
-use Rattle.flowc.specs.Told.{IsEndLine, IsLine, IsTroubleLine}
+use Rattle.flowc.specs.Messages.{IsEndLine, IsLine, IsFailureLine}
 
 -- what a principal sees of what a program sends on a world with so many turns, by the program's own hierarchy and labels
 abbrev pub seen_by : Program → (p : ℕ) → World → (turns : ℕ) → List Pair
@@ -111,7 +111,7 @@ SessionsAreIsolated =
 -- the text that a run shows on standard output
 abbrev pub text_of : {code world : List ℕ} {observer : Option (List ℕ)} {steps status : ℕ} {old new : Option (List ℕ)}
     → ShowsRun code world observer steps status old new → List ℕ
-text_of {code} {world} run = text_shown run.whole world run.principal run.taken
+text_of {code} {world} run = text_shown run.program world run.principal run.taken
 
 -- every run that is shown to an observer has the status 0, and its text shows nothing else than the run
 abbrev pub RunsShowThemselves : Type 0
@@ -145,7 +145,7 @@ RunsEndAsTheSource =
 -- status 3
 abbrev pub StandardErrorIsFixed : Type 0
 StandardErrorIsFixed =
-    (file world observer : String Global) (steps : ℕ) (files : List (Vec ℕ Global)) (whole : ModuleContents) (principal : Option ℕ)
-    → CanRun (bytes_at files 0) (bytes_at files 1) (Some (string_bytes observer)) whole principal
+    (file world observer : String Global) (steps : ℕ) (files : List (Vec ℕ Global)) (program : ModuleContents) (principal : Option ℕ)
+    → CanRun (bytes_at files 0) (bytes_at files 1) (Some (string_bytes observer)) program principal
     → (status : ℕ) (out_failed : Bool) (line : List ℕ) → IsLine (Run file world (Some observer) steps) files status out_failed line
-    → ((status ≡ 0) × (line ≡ [])) ⊎ IsTroubleLine status out_failed line
+    → ((status ≡ 0) × (line ≡ [])) ⊎ IsFailureLine status out_failed line

@@ -1,14 +1,18 @@
-//! `flowc` as a library: the commands of the program, and what they do.
+//! `flowc` as a library: the commands of the program, and what they do; and what a host needs of the crates below.
 #![tactic(auto)]
 
-mod done;
+mod fault;
 pub mod laws;
+mod messages;
+mod perform;
 mod running;
-mod told;
-mod trouble;
 mod view;
 
+pub use bytecode::{FormatFault, Module, Refusal, decode};
+pub use channels::{Device, Pair, Sink, SinkFault, World, WorldDefect, WorldFault};
 pub use command_line::{MOST_STEPS, Task, TaskFault, USUAL_STEPS, task};
 pub use compiler::{Cause, Fault, Text, compile};
-pub use done::{Done, perform};
-pub use host::{Answer, Event, Host, HostFault, Id, PLACES};
+pub use host::{Answer, Event, Host, HostFault, Id, MAX_SESSIONS};
+pub use machine::Status;
+pub use perform::{Outcome, perform};
+pub use verifier::{Defect, Fault as CodeFault, VerifyFault, Verified, verify};

@@ -1,7 +1,7 @@
 //! The program `flowc`: takes the words, reads the files, does the task, and ends with its status.
 #![tactic(auto)]
 
-use channels::{Device, write_whole};
+use channels::{Device, write_all};
 use flowc::{Task, TaskFault, perform, task};
 use std::alloc::{AllocError, AllocFailed};
 use std::io::ErrorKind;
@@ -112,6 +112,6 @@ fn report(rt: &HostRuntime, failure: &Failure) -> u8 {
         Failure::OutOfMemory => ("flowc: no memory\n", 3),
     };
     // Where standard error fails too, nothing is left to report it on.
-    let _ = write_whole(&mut Device::new(rt.stderr()), line.as_bytes());
+    let _ = write_all(&mut Device::new(rt.stderr()), line.as_bytes());
     status
 }

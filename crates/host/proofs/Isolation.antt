@@ -13,11 +13,11 @@ use Rattle.host.proofs.Lives.{shown_fresh, ended_fresh, stands, goes_on, shows_o
 module _ (one : (m n : ModuleContents) (bytes : List ℕ) → Spells module_file m bytes → Spells module_file n bytes → m ≡ n) where
   pub fresh_runs : SessionsAreFreshRuns
   fresh_runs bytes world p pairs m spelled shows =
-      shown_fresh shows.places shows.id p pairs bytes world m (λ n h. one n m bytes h spelled) shows.events shows.answers shows.old shows.new shows.answered shows.opened shows.viewed shows.later shows.opens shows.opened_so shows.views shows.viewed_so
+      shown_fresh shows.limit shows.id p pairs bytes world m (λ n h. one n m bytes h spelled) shows.events shows.answers shows.old shows.new shows.answered shows.opened shows.viewed shows.later shows.opens shows.opened_so shows.views shows.viewed_so
 
   pub end_as_reported : SessionsEndAsReported
   end_as_reported bytes world p pairs m spelled shows ending reports =
-      ended_fresh shows.places shows.id reports.steps reports.taken reports.status ending reports.ended bytes world m (λ n h. one n m bytes h spelled)
+      ended_fresh shows.limit shows.id reports.steps reports.taken reports.status ending reports.ended bytes world m (λ n h. one n m bytes h spelled)
       shows.events shows.answers shows.old shows.new shows.answered shows.opened reports.turn shows.viewed reports.later reports.before
       shows.opens shows.opened_so reports.asks reports.answers
 
@@ -30,23 +30,23 @@ module _ (one : (m n : ModuleContents) (bytes : List ℕ) → Spells module_file
       (isolated_module p (numbers_of_channel m first) (numbers_of_channel m second) agree i j))
 
   pub stand_as_told : SessionsStandAsTold
-  stand_as_told bytes world m spelled places old events answers new by id opened opens opened_so session there =
-      stands places id bytes world m (λ n h. one n m bytes h spelled) events answers old new by opened opens opened_so session there
+  stand_as_told bytes world m spelled limit old events answers new by id opened opens opened_so session there =
+      stands limit id bytes world m (λ n h. one n m bytes h spelled) events answers old new by opened opens opened_so session there
 
 pub go_on : SessionsGoOn
-go_on places old events answers new by id session later given there after =
-    goes_on places events answers old new by id session given there later after
+go_on limit old events answers new by id session later given there after =
+    goes_on limit events answers old new by id session given there later after
 
 pub show_on : SessionsShowOn
-show_on places old events answers new by id session given there viewed p pairs views viewed_so =
-    shows_on places events answers old new by id session given there viewed p pairs views viewed_so
+show_on limit old events answers new by id session given there viewed p pairs views viewed_so =
+    shows_on limit events answers old new by id session given there viewed p pairs views viewed_so
 
 pub join : TranscriptsJoin
-join places old middle new events more answers others before after = joined places events more answers others old middle new before after
+join limit old middle new events more answers others before after = joined limit events more answers others old middle new before after
 
 pub add_up : StepsAddUp
-add_up places old middle events more answers others before id = steps_add_up places events more answers others old middle before id
+add_up limit old middle events more answers others before id = steps_add_up limit events more answers others old middle before id
 
 pub go_up : IdsGoUp
-go_up places old events answers new by i j first second later one other =
-    ids_go_up places events answers old new by i j first second later one other
+go_up limit old events answers new by i j first second later one other =
+    ids_go_up limit events answers old new by i j first second later one other

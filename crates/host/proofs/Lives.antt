@@ -80,7 +80,7 @@ record IsLive (id : ℕ) (session : SessionContents) (host : HostContents) : Typ
   given : id < host.next
   is_open : IsOpen host id session
 
-record IsGone (id : ℕ) (host : HostContents) : Type 0 where
+record IsClosed (id : ℕ) (host : HostContents) : Type 0 where
   given : id < host.next
   is_shut : IsNotOpen host id
 
@@ -92,18 +92,18 @@ one_session host id other first second e h k =
     let same = ap (λ n. session_of n host.sessions) e in
     cc
 
-live_event : (places id : ℕ) (s : SessionContents) (old new : HostContents) (event : HostEvent) (answer : HostAnswer)
-    → Answers places old event answer new → IsLive id s old
-    → IsLive id (moved_by s (told_of id event answer)) new ⊎ IsGone id new
-live_event places id s old new (Open bytes world) (Opened n) by live =
+live_event : (limit id : ℕ) (s : SessionContents) (old new : HostContents) (event : HostEvent) (answer : HostAnswer)
+    → Answers limit old event answer new → IsLive id s old
+    → IsLive id (moved_by s (told_of id event answer)) new ⊎ IsClosed id new
+live_event limit id s old new (Open bytes world) (Opened n) by live =
     inl (subst (λ h. IsLive id s h) (sym by.2.2) (record {
       given = omega (arith, live.given);
       is_open = ap (λ b. cond b (Some (record { id = old.next; program = by.2.0; machine = first_machine by.2.0 world })) (session_of id old.sessions)) (is_older id old.next live.given) ∙ live.is_open;
     }))
-live_event places id s old new (Open bytes world) (Refused fault) by live = inl (subst (λ h. IsLive id s h) (sym by.1) live)
-live_event places id s old new (Turn other n) (Turned taken status) by live = go (other == id) refl
+live_event limit id s old new (Open bytes world) (Refused fault) by live = inl (subst (λ h. IsLive id s h) (sym by.1) live)
+live_event limit id s old new (Turn other n) (Turned taken status) by live = go (other == id) refl
   where
-    go : (b : Bool) → (other == id) ≡ b → IsLive id (moved_by s (cond b taken 0)) new ⊎ IsGone id new
+    go : (b : Bool) → (other == id) ≡ b → IsLive id (moved_by s (cond b taken 0)) new ⊎ IsClosed id new
     go true e =
         let number : other ≡ id = eqb-true other id e in
         let same = one_session old id other by.0 s number by.1 live.is_open in
@@ -118,14 +118,14 @@ live_event places id s old new (Turn other n) (Turned taken status) by live = go
           given = live.given;
           is_open = with_machine-other id other e by.2.0 old.sessions ∙ live.is_open;
         }))
-live_event places id s old new (Turn other n) (Refused fault) by live = inl (subst (λ h. IsLive id s h) (sym by.2) live)
-live_event places id s old new (View other p) (Viewed pairs) by live = inl (subst (λ h. IsLive id s h) (sym by.4) live)
-live_event places id s old new (View other p) (Refused fault) by live = inl (subst (λ h. IsLive id s h) (sym by.1) live)
-live_event places id s old new (Close other) Closed by live = go (other == id) refl
+live_event limit id s old new (Turn other n) (Refused fault) by live = inl (subst (λ h. IsLive id s h) (sym by.2) live)
+live_event limit id s old new (View other p) (Viewed pairs) by live = inl (subst (λ h. IsLive id s h) (sym by.4) live)
+live_event limit id s old new (View other p) (Refused fault) by live = inl (subst (λ h. IsLive id s h) (sym by.1) live)
+live_event limit id s old new (Close other) Closed by live = go (other == id) refl
   where
-    go : (b : Bool) → (other == id) ≡ b → IsLive id s new ⊎ IsGone id new
+    go : (b : Bool) → (other == id) ≡ b → IsLive id s new ⊎ IsClosed id new
     go true e =
-        inr (subst (λ h. IsGone id h) (sym by.1) (record {
+        inr (subst (λ h. IsClosed id h) (sym by.1) (record {
           given = live.given;
           is_shut = ap (λ k. session_of id (without k old.sessions)) (eqb-true other id e) ∙ without-same id old.sessions;
         }))
@@ -134,45 +134,45 @@ live_event places id s old new (Close other) Closed by live = go (other == id) r
           given = live.given;
           is_open = without-other id other e old.sessions ∙ live.is_open;
         }))
-live_event places id s old new (Close other) (Refused fault) by live = inl (subst (λ h. IsLive id s h) (sym by.2) live)
-live_event places id s old new event answer by live = absurd by
+live_event limit id s old new (Close other) (Refused fault) by live = inl (subst (λ h. IsLive id s h) (sym by.2) live)
+live_event limit id s old new event answer by live = absurd by
 
-gone_event : (places id : ℕ) (old new : HostContents) (event : HostEvent) (answer : HostAnswer)
-    → Answers places old event answer new → IsGone id old → IsGone id new
-gone_event places id old new (Open bytes world) (Opened n) by gone =
-    subst (λ h. IsGone id h) (sym by.2.2) (record {
-      given = omega (arith, gone.given);
-      is_shut = ap (λ b. cond b (Some (record { id = old.next; program = by.2.0; machine = first_machine by.2.0 world })) (session_of id old.sessions)) (is_older id old.next gone.given) ∙ gone.is_shut;
+closed_event : (limit id : ℕ) (old new : HostContents) (event : HostEvent) (answer : HostAnswer)
+    → Answers limit old event answer new → IsClosed id old → IsClosed id new
+closed_event limit id old new (Open bytes world) (Opened n) by closed =
+    subst (λ h. IsClosed id h) (sym by.2.2) (record {
+      given = omega (arith, closed.given);
+      is_shut = ap (λ b. cond b (Some (record { id = old.next; program = by.2.0; machine = first_machine by.2.0 world })) (session_of id old.sessions)) (is_older id old.next closed.given) ∙ closed.is_shut;
     })
-gone_event places id old new (Open bytes world) (Refused fault) by gone = subst (λ h. IsGone id h) (sym by.1) gone
-gone_event places id old new (Turn other n) (Turned taken status) by gone = go (other == id) refl
+closed_event limit id old new (Open bytes world) (Refused fault) by closed = subst (λ h. IsClosed id h) (sym by.1) closed
+closed_event limit id old new (Turn other n) (Turned taken status) by closed = go (other == id) refl
   where
-    go : (b : Bool) → (other == id) ≡ b → IsGone id new
+    go : (b : Bool) → (other == id) ≡ b → IsClosed id new
     go true e =
-        absurd (none-some by.0 (sym gone.is_shut ∙ ap (λ k. session_of k old.sessions) (sym (eqb-true other id e)) ∙ by.1))
+        absurd (none-some by.0 (sym closed.is_shut ∙ ap (λ k. session_of k old.sessions) (sym (eqb-true other id e)) ∙ by.1))
     go false e =
-        subst (λ h. IsGone id h) (sym by.2.2) (record {
-          given = gone.given;
-          is_shut = with_machine-other id other e by.2.0 old.sessions ∙ gone.is_shut;
+        subst (λ h. IsClosed id h) (sym by.2.2) (record {
+          given = closed.given;
+          is_shut = with_machine-other id other e by.2.0 old.sessions ∙ closed.is_shut;
         })
-gone_event places id old new (Turn other n) (Refused fault) by gone = subst (λ h. IsGone id h) (sym by.2) gone
-gone_event places id old new (View other p) (Viewed pairs) by gone = subst (λ h. IsGone id h) (sym by.4) gone
-gone_event places id old new (View other p) (Refused fault) by gone = subst (λ h. IsGone id h) (sym by.1) gone
-gone_event places id old new (Close other) Closed by gone = go (other == id) refl
+closed_event limit id old new (Turn other n) (Refused fault) by closed = subst (λ h. IsClosed id h) (sym by.2) closed
+closed_event limit id old new (View other p) (Viewed pairs) by closed = subst (λ h. IsClosed id h) (sym by.4) closed
+closed_event limit id old new (View other p) (Refused fault) by closed = subst (λ h. IsClosed id h) (sym by.1) closed
+closed_event limit id old new (Close other) Closed by closed = go (other == id) refl
   where
-    go : (b : Bool) → (other == id) ≡ b → IsGone id new
+    go : (b : Bool) → (other == id) ≡ b → IsClosed id new
     go true e =
-        subst (λ h. IsGone id h) (sym by.1) (record {
-          given = gone.given;
+        subst (λ h. IsClosed id h) (sym by.1) (record {
+          given = closed.given;
           is_shut = ap (λ k. session_of id (without k old.sessions)) (eqb-true other id e) ∙ without-same id old.sessions;
         })
     go false e =
-        subst (λ h. IsGone id h) (sym by.1) (record {
-          given = gone.given;
-          is_shut = without-other id other e old.sessions ∙ gone.is_shut;
+        subst (λ h. IsClosed id h) (sym by.1) (record {
+          given = closed.given;
+          is_shut = without-other id other e old.sessions ∙ closed.is_shut;
         })
-gone_event places id old new (Close other) (Refused fault) by gone = subst (λ h. IsGone id h) (sym by.2) gone
-gone_event places id old new event answer by gone = absurd by
+closed_event limit id old new (Close other) (Refused fault) by closed = subst (λ h. IsClosed id h) (sym by.2) closed
+closed_event limit id old new event answer by closed = absurd by
 
 -- ---- lists of events
 
@@ -180,41 +180,41 @@ some_is : {X : Type 0} (x y : X) → Some x ≡ Some y → x ≡ y
 some_is x y e = cc
 
 -- what an event and its answer are, where the first ones of the lists are known
-known : (places : ℕ) (old new : HostContents) (event event' : HostEvent) (answer answer' : HostAnswer) → Some event ≡ Some event' → Some answer ≡ Some answer'
-    → Answers places old event answer new → Answers places old event' answer' new
-known places old new event event' answer answer' e a by =
-    subst (λ y. Answers places old event' y new) (some_is answer answer' a) (subst (λ x. Answers places old x answer new) (some_is event event' e) by)
+known : (limit : ℕ) (old new : HostContents) (event event' : HostEvent) (answer answer' : HostAnswer) → Some event ≡ Some event' → Some answer ≡ Some answer'
+    → Answers limit old event answer new → Answers limit old event' answer' new
+known limit old new event event' answer answer' e a by =
+    subst (λ y. Answers limit old event' y new) (some_is answer answer' a) (subst (λ x. Answers limit old x answer new) (some_is event event' e) by)
 
-module _ (places id p : ℕ) (pairs : List Pair) where
-  -- a session that is gone is not shown
-  never_shown : (events : List HostEvent) (answers : List HostAnswer) (old new : HostContents) → Answered places old events answers new → IsGone id old
+module _ (limit id p : ℕ) (pairs : List Pair) where
+  -- a session that is closed is not shown
+  never_shown : (events : List HostEvent) (answers : List HostAnswer) (old new : HostContents) → Answered limit old events answers new → IsClosed id old
       → (k : ℕ) → slice_get events k ≡ Some (View id p) → slice_get answers k ≡ Some (Viewed pairs) → ⊥
-  never_shown [] answers old new by gone k asked told = none-some (View id p) asked
-  never_shown (event ∷ events) [] old new by gone k asked told = by
-  never_shown (event ∷ events) (answer ∷ answers) old new by gone zero asked told =
-      let shown = known places old by.0 event (View id p) answer (Viewed pairs) asked told by.1 in
-      none-some shown.0 (sym gone.is_shut ∙ shown.1)
-  never_shown (event ∷ events) (answer ∷ answers) old new by gone (suc k) asked told =
-      never_shown events answers by.0 new by.2 (gone_event places id old by.0 event answer by.1 gone) k asked told
+  never_shown [] answers old new by closed k asked reported = none-some (View id p) asked
+  never_shown (event ∷ events) [] old new by closed k asked reported = by
+  never_shown (event ∷ events) (answer ∷ answers) old new by closed zero asked reported =
+      let shown = known limit old by.0 event (View id p) answer (Viewed pairs) asked reported by.1 in
+      none-some shown.0 (sym closed.is_shut ∙ shown.1)
+  never_shown (event ∷ events) (answer ∷ answers) old new by closed (suc k) asked reported =
+      never_shown events answers by.0 new by.2 (closed_event limit id old by.0 event answer by.1 closed) k asked reported
 
   -- a session that is there is shown as many steps on as its turns told
   shown_moved : (events : List HostEvent) (answers : List HostAnswer) (old new : HostContents) (s : SessionContents)
-      → Answered places old events answers new → IsLive id s old
+      → Answered limit old events answers new → IsLive id s old
       → (k : ℕ) → slice_get events k ≡ Some (View id p) → slice_get answers k ≡ Some (Viewed pairs)
       → pairs ≡ seen_of s.program p (sent_of (exec (program_of s.program) (steps_told id (take k events) (take k answers)) s.machine))
-  shown_moved [] answers old new s by live k asked told = absurd (none-some (View id p) asked)
-  shown_moved (event ∷ events) [] old new s by live k asked told = absurd by
-  shown_moved (event ∷ events) (answer ∷ answers) old new s by live zero asked told =
-      let shown = known places old by.0 event (View id p) answer (Viewed pairs) asked told by.1 in
+  shown_moved [] answers old new s by live k asked reported = absurd (none-some (View id p) asked)
+  shown_moved (event ∷ events) [] old new s by live k asked reported = absurd by
+  shown_moved (event ∷ events) (answer ∷ answers) old new s by live zero asked reported =
+      let shown = known limit old by.0 event (View id p) answer (Viewed pairs) asked reported by.1 in
       let same = one_session old id id shown.0 s refl shown.1 live.is_open in
       shown.3 ∙ ap (λ (x : SessionContents). seen_of x.program p (sent_of x.machine)) same
-  shown_moved (event ∷ events) (answer ∷ answers) old new s by live (suc k) asked told =
+  shown_moved (event ∷ events) (answer ∷ answers) old new s by live (suc k) asked reported =
       ⊎_elim
       (λ next.
-      shown_moved events answers by.0 new (moved_by s (told_of id event answer)) by.2 next k asked told
+      shown_moved events answers by.0 new (moved_by s (told_of id event answer)) by.2 next k asked reported
       ∙ ap (λ m. seen_of s.program p (sent_of m)) (steps_join s (told_of id event answer) (steps_told id (take k events) (take k answers))))
-      (λ gone. absurd (never_shown events answers by.0 new by.2 gone k asked told))
-      (live_event places id s old by.0 event answer by.1 live)
+      (λ closed. absurd (never_shown events answers by.0 new by.2 closed k asked reported))
+      (live_event limit id s old by.0 event answer by.1 live)
 
 -- ---- the end that a turn reports
 
@@ -229,33 +229,33 @@ steps_grow id (event ∷ events) (answer ∷ answers) (suc j) (suc k) h =
     let rest = steps_grow id events answers j k (omega (arith, h)) in
     omega (arith, rest)
 
-module _ (places id steps taken : ℕ) (told : Status) (ending : Ending) (ends : ending_of told ≡ Some ending) where
-  -- a session that is gone has no turn
-  never_turned : (events : List HostEvent) (answers : List HostAnswer) (old new : HostContents) → Answered places old events answers new → IsGone id old
-      → (k : ℕ) → slice_get events k ≡ Some (Turn id steps) → slice_get answers k ≡ Some (Turned taken told) → ⊥
-  never_turned [] answers old new by gone k asked said = none-some (Turn id steps) asked
-  never_turned (event ∷ events) [] old new by gone k asked said = by
-  never_turned (event ∷ events) (answer ∷ answers) old new by gone zero asked said =
-      let turned = known places old by.0 event (Turn id steps) answer (Turned taken told) asked said by.1 in
-      none-some turned.0 (sym gone.is_shut ∙ turned.1)
-  never_turned (event ∷ events) (answer ∷ answers) old new by gone (suc k) asked said =
-      never_turned events answers by.0 new by.2 (gone_event places id old by.0 event answer by.1 gone) k asked said
+module _ (limit id steps taken : ℕ) (reported : Status) (ending : Ending) (ends : ending_of reported ≡ Some ending) where
+  -- a session that is closed has no turn
+  never_turned : (events : List HostEvent) (answers : List HostAnswer) (old new : HostContents) → Answered limit old events answers new → IsClosed id old
+      → (k : ℕ) → slice_get events k ≡ Some (Turn id steps) → slice_get answers k ≡ Some (Turned taken reported) → ⊥
+  never_turned [] answers old new by closed k asked said = none-some (Turn id steps) asked
+  never_turned (event ∷ events) [] old new by closed k asked said = by
+  never_turned (event ∷ events) (answer ∷ answers) old new by closed zero asked said =
+      let turned = known limit old by.0 event (Turn id steps) answer (Turned taken reported) asked said by.1 in
+      none-some turned.0 (sym closed.is_shut ∙ turned.1)
+  never_turned (event ∷ events) (answer ∷ answers) old new by closed (suc k) asked said =
+      never_turned events answers by.0 new by.2 (closed_event limit id old by.0 event answer by.1 closed) k asked said
 
   -- after the turn that reports the end the run has ended
   ended_moved : (events : List HostEvent) (answers : List HostAnswer) (old new : HostContents) (s : SessionContents)
-      → Answered places old events answers new → IsLive id s old
-      → (k : ℕ) → slice_get events k ≡ Some (Turn id steps) → slice_get answers k ≡ Some (Turned taken told)
+      → Answered limit old events answers new → IsLive id s old
+      → (k : ℕ) → slice_get events k ≡ Some (Turn id steps) → slice_get answers k ≡ Some (Turned taken reported)
       → HasEnded ending (exec (program_of s.program) (steps_told id (take (suc k) events) (take (suc k) answers)) s.machine)
   ended_moved [] answers old new s by live k asked said = absurd (none-some (Turn id steps) asked)
   ended_moved (event ∷ events) [] old new s by live k asked said = absurd by
   ended_moved (event ∷ events) (answer ∷ answers) old new s by live zero asked said =
-      let turned = known places old by.0 event (Turn id steps) answer (Turned taken told) asked said by.1 in
+      let turned = known limit old by.0 event (Turn id steps) answer (Turned taken reported) asked said by.1 in
       let same = one_session old id id turned.0 s refl turned.1 live.is_open in
       let here : told_of id event answer ≡ taken =
-      ap (λ e. told_of id e answer) (some_is event (Turn id steps) asked) ∙ ap (told_of id (Turn id steps)) (some_is answer (Turned taken told) said)
+      ap (λ e. told_of id e answer) (some_is event (Turn id steps) asked) ∙ ap (told_of id (Turn id steps)) (some_is answer (Turned taken reported) said)
       ∙ ap (λ b. cond b taken 0) (eq-eqb id id refl) in
       let all : told_of id event answer + 0 ≡ taken = omega (arith, here) in
-      let after : HasEnded ending turned.2.0 = end_of_status (program_of turned.0.program) steps taken told turned.2.0 ending ends turned.2.1.told in
+      let after : HasEnded ending turned.2.0 = end_of_status (program_of turned.0.program) steps taken reported turned.2.0 ending ends turned.2.1.reported in
       subst (HasEnded ending)
       (turned.2.1.machine ∙ ap (λ (x : SessionContents). exec (program_of x.program) taken x.machine) same
       ∙ ap (λ n. exec (program_of s.program) n s.machine) (sym all))
@@ -265,8 +265,8 @@ module _ (places id steps taken : ℕ) (told : Status) (ending : Ending) (ends :
       (λ next.
       subst (HasEnded ending) (steps_join s (told_of id event answer) (steps_told id (take (suc k) events) (take (suc k) answers)))
       (ended_moved events answers by.0 new (moved_by s (told_of id event answer)) by.2 next k asked said))
-      (λ gone. absurd (never_turned events answers by.0 new by.2 gone k asked said))
-      (live_event places id s old by.0 event answer by.1 live)
+      (λ closed. absurd (never_turned events answers by.0 new by.2 closed k asked said))
+      (live_event limit id s old by.0 event answer by.1 live)
 
 -- ---- from its opening on
 
@@ -279,9 +279,9 @@ opened_live id old m world e = record {
       (eq-eqb old.next id (sym e));
 }
 
-module _ (places id p : ℕ) (pairs : List Pair) (bytes : List ℕ) (world : List InputNumbers) (m : ModuleContents)
+module _ (limit id p : ℕ) (pairs : List Pair) (bytes : List ℕ) (world : List InputNumbers) (m : ModuleContents)
     (unique : (n : ModuleContents) → Spells module_file n bytes → n ≡ m) where
-  pub shown_fresh : (events : List HostEvent) (answers : List HostAnswer) (old new : HostContents) → Answered places old events answers new
+  pub shown_fresh : (events : List HostEvent) (answers : List HostAnswer) (old new : HostContents) → Answered limit old events answers new
       → (i j : ℕ) → i < j
       → slice_get events i ≡ Some (Open bytes world) → slice_get answers i ≡ Some (Opened id)
       → slice_get events j ≡ Some (View id p) → slice_get answers j ≡ Some (Viewed pairs)
@@ -290,35 +290,35 @@ module _ (places id p : ℕ) (pairs : List Pair) (bytes : List ℕ) (world : Lis
   shown_fresh [] answers old new by i (suc j) later opens opened views viewed = absurd (none-some (Open bytes world) opens)
   shown_fresh (event ∷ events) [] old new by i (suc j) later opens opened views viewed = absurd by
   shown_fresh (event ∷ events) (answer ∷ answers) old new by zero (suc j) later opens opened views viewed =
-      let at = known places old by.0 event (Open bytes world) answer (Opened id) opens opened by.1 in
+      let at = known limit old by.0 event (Open bytes world) answer (Opened id) opens opened by.1 in
       let n : ModuleContents = at.2.0 in
       let live = subst (λ h. IsLive id (record { id = old.next; program = n; machine = first_machine n world }) h) (sym at.2.2) (opened_live id old n world at.1) in
       let first : told_of id event answer ≡ 0 = ap (λ e. told_of id e answer) (some_is event (Open bytes world) opens) ∙ ap (told_of id (Open bytes world)) (some_is answer (Opened id) opened) in
       let steps : steps_told id (take j events) (take j answers) ≡ told_of id event answer + steps_told id (take j events) (take j answers) = omega (arith, first) in
-      shown_moved places id p pairs events answers by.0 new (record { id = old.next; program = n; machine = first_machine n world }) by.2 live j views viewed
+      shown_moved limit id p pairs events answers by.0 new (record { id = old.next; program = n; machine = first_machine n world }) by.2 live j views viewed
       ∙ ap (λ (x : ModuleContents). seen_of x p (sent_of (exec (program_of x) (steps_told id (take j events) (take j answers)) (first_machine x world)))) (unique n at.2.1.spelled)
       ∙ ap (λ k. seen_of m p (sent_of (exec (program_of m) k (first_machine m world)))) steps
   shown_fresh (event ∷ events) (answer ∷ answers) old new by (suc i) (suc j) later opens opened views viewed =
       shown_fresh events answers by.0 new by.2 i j (omega arith) opens opened views viewed
 
-module _ (places id steps taken : ℕ) (told : Status) (ending : Ending) (ends : ending_of told ≡ Some ending)
+module _ (limit id steps taken : ℕ) (reported : Status) (ending : Ending) (ends : ending_of reported ≡ Some ending)
     (bytes : List ℕ) (world : List InputNumbers) (m : ModuleContents) (unique : (n : ModuleContents) → Spells module_file n bytes → n ≡ m) where
-  pub ended_fresh : (events : List HostEvent) (answers : List HostAnswer) (old new : HostContents) → Answered places old events answers new
+  pub ended_fresh : (events : List HostEvent) (answers : List HostAnswer) (old new : HostContents) → Answered limit old events answers new
       → (i k j : ℕ) → i < k → k < j
       → slice_get events i ≡ Some (Open bytes world) → slice_get answers i ≡ Some (Opened id)
-      → slice_get events k ≡ Some (Turn id steps) → slice_get answers k ≡ Some (Turned taken told)
+      → slice_get events k ≡ Some (Turn id steps) → slice_get answers k ≡ Some (Turned taken reported)
       → HasEnded ending (exec (program_of m) (steps_told id (drop i (take j events)) (drop i (take j answers))) (first_machine m world))
   ended_fresh events answers old new by i k zero later before opens opened asked said = absurd (omega (arith, before))
   ended_fresh events answers old new by i zero (suc j) later before opens opened asked said = absurd (omega (arith, later))
   ended_fresh [] answers old new by i (suc k) (suc j) later before opens opened asked said = absurd (none-some (Open bytes world) opens)
   ended_fresh (event ∷ events) [] old new by i (suc k) (suc j) later before opens opened asked said = absurd by
   ended_fresh (event ∷ events) (answer ∷ answers) old new by zero (suc k) (suc j) later before opens opened asked said =
-      let at = known places old by.0 event (Open bytes world) answer (Opened id) opens opened by.1 in
+      let at = known limit old by.0 event (Open bytes world) answer (Opened id) opens opened by.1 in
       let n : ModuleContents = at.2.0 in
       let live = subst (λ h. IsLive id (record { id = old.next; program = n; machine = first_machine n world }) h) (sym at.2.2) (opened_live id old n world at.1) in
       let first : told_of id event answer ≡ 0 = ap (λ e. told_of id e answer) (some_is event (Open bytes world) opens) ∙ ap (told_of id (Open bytes world)) (some_is answer (Opened id) opened) in
       let total : steps_told id (take j events) (take j answers) ≡ told_of id event answer + steps_told id (take j events) (take j answers) = omega (arith, first) in
-      let ended = ended_moved places id steps taken told ending ends events answers by.0 new (record { id = old.next; program = n; machine = first_machine n world }) by.2 live k asked said in
+      let ended = ended_moved limit id steps taken reported ending ends events answers by.0 new (record { id = old.next; program = n; machine = first_machine n world }) by.2 live k asked said in
       let grown = still_ended_at (program_of n) (steps_told id (take (suc k) events) (take (suc k) answers)) (steps_told id (take j events) (take j answers)) ending
       (first_machine n world) (steps_grow id events answers (suc k) j (omega (arith, before))) ended in
       subst (λ t. HasEnded ending (exec (program_of m) t (first_machine m world))) total
@@ -328,18 +328,18 @@ module _ (places id steps taken : ℕ) (told : Status) (ending : Ending) (ends :
 
 -- ---- to the end of the list
 
-module _ (places id : ℕ) where
-  still_gone : (events : List HostEvent) (answers : List HostAnswer) (old new : HostContents) → Answered places old events answers new
-      → IsGone id old → IsGone id new
-  still_gone [] [] old new by gone = subst (λ h. IsGone id h) (sym by) gone
-  still_gone [] (answer ∷ answers) old new by gone = absurd by
-  still_gone (event ∷ events) [] old new by gone = absurd by
-  still_gone (event ∷ events) (answer ∷ answers) old new by gone =
-      still_gone events answers by.0 new by.2 (gone_event places id old by.0 event answer by.1 gone)
+module _ (limit id : ℕ) where
+  still_closed : (events : List HostEvent) (answers : List HostAnswer) (old new : HostContents) → Answered limit old events answers new
+      → IsClosed id old → IsClosed id new
+  still_closed [] [] old new by closed = subst (λ h. IsClosed id h) (sym by) closed
+  still_closed [] (answer ∷ answers) old new by closed = absurd by
+  still_closed (event ∷ events) [] old new by closed = absurd by
+  still_closed (event ∷ events) (answer ∷ answers) old new by closed =
+      still_closed events answers by.0 new by.2 (closed_event limit id old by.0 event answer by.1 closed)
 
   still_moved : (events : List HostEvent) (answers : List HostAnswer) (old new : HostContents) (s : SessionContents)
-      → Answered places old events answers new → IsLive id s old
-      → IsLive id (moved_by s (steps_told id events answers)) new ⊎ IsGone id new
+      → Answered limit old events answers new → IsLive id s old
+      → IsLive id (moved_by s (steps_told id events answers)) new ⊎ IsClosed id new
   still_moved [] [] old new s by live = inl (subst (λ h. IsLive id s h) (sym by) live)
   still_moved [] (answer ∷ answers) old new s by live = absurd by
   still_moved (event ∷ events) [] old new s by live = absurd by
@@ -349,19 +349,19 @@ module _ (places id : ℕ) where
       (λ l. inl (subst (λ (m : Machine). IsLive id (record s { machine = m }) new) (steps_join s (told_of id event answer) (steps_told id events answers)) l))
       (λ g. inr g)
       (still_moved events answers by.0 new (moved_by s (told_of id event answer)) by.2 next))
-      (λ gone. inr (still_gone events answers by.0 new by.2 gone))
-      (live_event places id s old by.0 event answer by.1 live)
+      (λ closed. inr (still_closed events answers by.0 new by.2 closed))
+      (live_event limit id s old by.0 event answer by.1 live)
 
-module _ (places id : ℕ) (bytes : List ℕ) (world : List InputNumbers) (m : ModuleContents)
+module _ (limit id : ℕ) (bytes : List ℕ) (world : List InputNumbers) (m : ModuleContents)
     (unique : (n : ModuleContents) → Spells module_file n bytes → n ≡ m) where
-  pub stands : (events : List HostEvent) (answers : List HostAnswer) (old new : HostContents) → Answered places old events answers new
+  pub stands : (events : List HostEvent) (answers : List HostAnswer) (old new : HostContents) → Answered limit old events answers new
       → (i : ℕ) → slice_get events i ≡ Some (Open bytes world) → slice_get answers i ≡ Some (Opened id)
       → (session : SessionContents) → IsOpen new id session
       → session ≡ record { id = id; program = m; machine = exec (program_of m) (steps_told id (drop i events) (drop i answers)) (first_machine m world) }
   stands [] answers old new by i opens opened session there = absurd (none-some (Open bytes world) opens)
   stands (event ∷ events) [] old new by i opens opened session there = absurd by
   stands (event ∷ events) (answer ∷ answers) old new by zero opens opened session there =
-      let at = known places old by.0 event (Open bytes world) answer (Opened id) opens opened by.1 in
+      let at = known limit old by.0 event (Open bytes world) answer (Opened id) opens opened by.1 in
       let n : ModuleContents = at.2.0 in
       let live = subst (λ h. IsLive id (record { id = old.next; program = n; machine = first_machine n world }) h) (sym at.2.2) (opened_live id old n world at.1) in
       let first : told_of id event answer ≡ 0 = ap (λ e. told_of id e answer) (some_is event (Open bytes world) opens) ∙ ap (told_of id (Open bytes world)) (some_is answer (Opened id) opened) in
@@ -372,101 +372,101 @@ module _ (places id : ℕ) (bytes : List ℕ) (world : List InputNumbers) (m : M
       one_session new id id session (moved_by (record { id = old.next; program = n; machine = first_machine n world }) (steps_told id events answers)) refl there l.is_open
       ∙ (λ i. record { id = sym at.1 i; program = same i; machine = exec (program_of (same i)) (steps i) (first_machine (same i) world) }))
       (λ g. absurd (none-some session (sym g.is_shut ∙ there)))
-      (still_moved places id events answers by.0 new (record { id = old.next; program = n; machine = first_machine n world }) by.2 live)
+      (still_moved limit id events answers by.0 new (record { id = old.next; program = n; machine = first_machine n world }) by.2 live)
   stands (event ∷ events) (answer ∷ answers) old new by (suc i) opens opened session there =
       stands events answers by.0 new by.2 i opens opened session there
 
 -- ---- sessions that were open before
 
-module _ (places : ℕ) (events : List HostEvent) (answers : List HostAnswer) (old new : HostContents) (by : Answered places old events answers new)
+module _ (limit : ℕ) (events : List HostEvent) (answers : List HostAnswer) (old new : HostContents) (by : Answered limit old events answers new)
     (id : ℕ) (s : SessionContents) (given : id < old.next) (is_open : IsOpen old id s) where
   pub goes_on : (later : SessionContents) → IsOpen new id later → later ≡ moved_by s (steps_told id events answers)
   goes_on later there =
       ⊎_elim
       (λ l. one_session new id id later (moved_by s (steps_told id events answers)) refl there l.is_open)
       (λ g. absurd (none-some later (sym g.is_shut ∙ there)))
-      (still_moved places id events answers old new s by (record { given = given; is_open = is_open }))
+      (still_moved limit id events answers old new s by (record { given = given; is_open = is_open }))
 
   pub shows_on : (k p : ℕ) (pairs : List Pair) → slice_get events k ≡ Some (View id p) → slice_get answers k ≡ Some (Viewed pairs)
       → pairs ≡ seen_of s.program p (sent_of (exec (program_of s.program) (steps_told id (take k events) (take k answers)) s.machine))
   shows_on k p pairs views viewed =
-      shown_moved places id p pairs events answers old new s by (record { given = given; is_open = is_open }) k views viewed
+      shown_moved limit id p pairs events answers old new s by (record { given = given; is_open = is_open }) k views viewed
 
 -- ---- lists in a row
 
-pub joined : (places : ℕ) (events more : List HostEvent) (answers others : List HostAnswer) (old middle new : HostContents)
-    → Answered places old events answers middle → Answered places middle more others new
-    → Answered places old (events ++ more) (answers ++ others) new
-joined places [] more [] others old middle new before after = subst (λ h. Answered places h more others new) before after
-joined places [] more (answer ∷ answers) others old middle new before after = absurd before
-joined places (event ∷ events) more [] others old middle new before after = absurd before
-joined places (event ∷ events) more (answer ∷ answers) others old middle new before after =
-    (before.0, before.1, joined places events more answers others before.0 middle new before.2 after)
+pub joined : (limit : ℕ) (events more : List HostEvent) (answers others : List HostAnswer) (old middle new : HostContents)
+    → Answered limit old events answers middle → Answered limit middle more others new
+    → Answered limit old (events ++ more) (answers ++ others) new
+joined limit [] more [] others old middle new before after = subst (λ h. Answered limit h more others new) before after
+joined limit [] more (answer ∷ answers) others old middle new before after = absurd before
+joined limit (event ∷ events) more [] others old middle new before after = absurd before
+joined limit (event ∷ events) more (answer ∷ answers) others old middle new before after =
+    (before.0, before.1, joined limit events more answers others before.0 middle new before.2 after)
 
-pub steps_add_up : (places : ℕ) (events more : List HostEvent) (answers others : List HostAnswer) (old middle : HostContents)
-    → Answered places old events answers middle
+pub steps_add_up : (limit : ℕ) (events more : List HostEvent) (answers others : List HostAnswer) (old middle : HostContents)
+    → Answered limit old events answers middle
     → (id : ℕ) → steps_told id (events ++ more) (answers ++ others) ≡ steps_told id events answers + steps_told id more others
-steps_add_up places [] more [] others old middle before id = omega arith
-steps_add_up places [] more (answer ∷ answers) others old middle before id = absurd before
-steps_add_up places (event ∷ events) more [] others old middle before id = absurd before
-steps_add_up places (event ∷ events) more (answer ∷ answers) others old middle before id =
-    let rest = steps_add_up places events more answers others before.0 middle before.2 id in
+steps_add_up limit [] more [] others old middle before id = omega arith
+steps_add_up limit [] more (answer ∷ answers) others old middle before id = absurd before
+steps_add_up limit (event ∷ events) more [] others old middle before id = absurd before
+steps_add_up limit (event ∷ events) more (answer ∷ answers) others old middle before id =
+    let rest = steps_add_up limit events more answers others before.0 middle before.2 id in
     omega (arith, rest)
 
 -- ---- ids
 
-opened_next : (places : ℕ) (old new : HostContents) (event : HostEvent) (n : ℕ) → Answers places old event (Opened n) new
+opened_next : (limit : ℕ) (old new : HostContents) (event : HostEvent) (n : ℕ) → Answers limit old event (Opened n) new
     → (n ≡ old.next) × (new.next ≡ old.next + 1)
-opened_next places old new (Open bytes world) n by = (by.1, ap (λ (h : HostContents). h.next) by.2.2)
-opened_next places old new event n by = absurd by
+opened_next limit old new (Open bytes world) n by = (by.1, ap (λ (h : HostContents). h.next) by.2.2)
+opened_next limit old new event n by = absurd by
 
 same_next : (old new : HostContents) → new ≡ old → old.next ≤ new.next
 same_next old new e =
     let next = ap (λ (h : HostContents). h.next) e in
     omega arith
 
-next_grows : (places : ℕ) (old new : HostContents) (event : HostEvent) (answer : HostAnswer) → Answers places old event answer new → old.next ≤ new.next
-next_grows places old new (Open bytes world) (Opened n) by =
+next_grows : (limit : ℕ) (old new : HostContents) (event : HostEvent) (answer : HostAnswer) → Answers limit old event answer new → old.next ≤ new.next
+next_grows limit old new (Open bytes world) (Opened n) by =
     let next = ap (λ (h : HostContents). h.next) by.2.2 in
     omega arith
-next_grows places old new (Open bytes world) (Refused fault) by = same_next old new by.1
-next_grows places old new (Turn id n) (Turned taken status) by =
+next_grows limit old new (Open bytes world) (Refused fault) by = same_next old new by.1
+next_grows limit old new (Turn id n) (Turned taken status) by =
     let next = ap (λ (h : HostContents). h.next) by.2.2 in
     omega arith
-next_grows places old new (Turn id n) (Refused fault) by = same_next old new by.2
-next_grows places old new (View id p) (Viewed pairs) by = same_next old new by.4
-next_grows places old new (View id p) (Refused fault) by = same_next old new by.1
-next_grows places old new (Close id) Closed by =
+next_grows limit old new (Turn id n) (Refused fault) by = same_next old new by.2
+next_grows limit old new (View id p) (Viewed pairs) by = same_next old new by.4
+next_grows limit old new (View id p) (Refused fault) by = same_next old new by.1
+next_grows limit old new (Close id) Closed by =
     let next = ap (λ (h : HostContents). h.next) by.1 in
     omega arith
-next_grows places old new (Close id) (Refused fault) by = same_next old new by.2
-next_grows places old new event answer by = absurd by
+next_grows limit old new (Close id) (Refused fault) by = same_next old new by.2
+next_grows limit old new event answer by = absurd by
 
-opened_by : (places : ℕ) (old new : HostContents) (event : HostEvent) (answer : HostAnswer) (n : ℕ) → Some answer ≡ Some (Opened n)
-    → Answers places old event answer new → (n ≡ old.next) × (new.next ≡ old.next + 1)
-opened_by places old new event answer n e by =
-    opened_next places old new event n (subst (λ y. Answers places old event y new) (some_is answer (Opened n) e) by)
+opened_by : (limit : ℕ) (old new : HostContents) (event : HostEvent) (answer : HostAnswer) (n : ℕ) → Some answer ≡ Some (Opened n)
+    → Answers limit old event answer new → (n ≡ old.next) × (new.next ≡ old.next + 1)
+opened_by limit old new event answer n e by =
+    opened_next limit old new event n (subst (λ y. Answers limit old event y new) (some_is answer (Opened n) e) by)
 
-ids_from : (places : ℕ) (events : List HostEvent) (answers : List HostAnswer) (old new : HostContents) → Answered places old events answers new
+ids_from : (limit : ℕ) (events : List HostEvent) (answers : List HostAnswer) (old new : HostContents) → Answered limit old events answers new
     → (j n : ℕ) → slice_get answers j ≡ Some (Opened n) → old.next ≤ n
-ids_from places events [] old new by j n told = absurd (none-some (Opened n) told)
-ids_from places [] (answer ∷ answers) old new by j n told = absurd by
-ids_from places (event ∷ events) (answer ∷ answers) old new by zero n told =
-    let at = opened_by places old by.0 event answer n told by.1 in
+ids_from limit events [] old new by j n reported = absurd (none-some (Opened n) reported)
+ids_from limit [] (answer ∷ answers) old new by j n reported = absurd by
+ids_from limit (event ∷ events) (answer ∷ answers) old new by zero n reported =
+    let at = opened_by limit old by.0 event answer n reported by.1 in
     omega (arith, at.0)
-ids_from places (event ∷ events) (answer ∷ answers) old new by (suc j) n told =
-    let one = next_grows places old by.0 event answer by.1 in
-    let more = ids_from places events answers by.0 new by.2 j n told in
+ids_from limit (event ∷ events) (answer ∷ answers) old new by (suc j) n reported =
+    let one = next_grows limit old by.0 event answer by.1 in
+    let more = ids_from limit events answers by.0 new by.2 j n reported in
     omega (arith, one, more)
 
-pub ids_go_up : (places : ℕ) (events : List HostEvent) (answers : List HostAnswer) (old new : HostContents) → Answered places old events answers new
+pub ids_go_up : (limit : ℕ) (events : List HostEvent) (answers : List HostAnswer) (old new : HostContents) → Answered limit old events answers new
     → (i j first second : ℕ) → i < j → slice_get answers i ≡ Some (Opened first) → slice_get answers j ≡ Some (Opened second) → first < second
-ids_go_up places events answers old new by i zero first second later one other = absurd (omega arith)
-ids_go_up places events [] old new by i (suc j) first second later one other = absurd (none-some (Opened first) one)
-ids_go_up places [] (answer ∷ answers) old new by i (suc j) first second later one other = absurd by
-ids_go_up places (event ∷ events) (answer ∷ answers) old new by zero (suc j) first second later one other =
-    let at = opened_by places old by.0 event answer first one by.1 in
-    let rest = ids_from places events answers by.0 new by.2 j second other in
+ids_go_up limit events answers old new by i zero first second later one other = absurd (omega arith)
+ids_go_up limit events [] old new by i (suc j) first second later one other = absurd (none-some (Opened first) one)
+ids_go_up limit [] (answer ∷ answers) old new by i (suc j) first second later one other = absurd by
+ids_go_up limit (event ∷ events) (answer ∷ answers) old new by zero (suc j) first second later one other =
+    let at = opened_by limit old by.0 event answer first one by.1 in
+    let rest = ids_from limit events answers by.0 new by.2 j second other in
     omega (arith, at.0, at.1, rest)
-ids_go_up places (event ∷ events) (answer ∷ answers) old new by (suc i) (suc j) first second later one other =
-    ids_go_up places events answers by.0 new by.2 i j first second (omega arith) one other
+ids_go_up limit (event ∷ events) (answer ∷ answers) old new by (suc i) (suc j) first second later one other =
+    ids_go_up limit events answers by.0 new by.2 i j first second (omega arith) one other

@@ -130,24 +130,24 @@ of_parts next next' sessions sessions' e f = λ i. record { next = e i; sessions
 
 -- ---- opening
 
-pub has_room : (places : ℕ) (host : KeptHost) (next : Option ℕ) (xs : List KeptSession)
+pub has_room : (limit : ℕ) (host : KeptHost) (next : Option ℕ) (xs : List KeptSession)
     → ◌≡◌ {A = KeptHost} (record { next = next_of next; sessions = xs }) host
-    → (id : ℕ) → next ≡ Some id → id < 2 ^ 64 → length xs < places → HasRoom places (host_of host)
-has_room places host next xs is id e below inside =
+    → (id : ℕ) → next ≡ Some id → id < 2 ^ 64 → length xs < limit → HasRoom limit (host_of host)
+has_room limit host next xs is id e below inside =
     let first : next_of next ≡ id = ap next_of e in
-    let kept : HasRoom places (record { next = next_of next; sessions = map contents_of xs }) =
-    record { place_left = rw length-map inside; id_left = omega (arith, first) } in
-    subst (λ h. HasRoom places (host_of h)) is kept
+    let kept : HasRoom limit (record { next = next_of next; sessions = map contents_of xs }) =
+    record { room_left = rw length-map inside; id_left = omega (arith, first) } in
+    subst (λ h. HasRoom limit (host_of h)) is kept
 
-pub refused_with_room : (places : ℕ) (host : HostContents) (bytes : List ℕ) (world : List InputNumbers) (fault : HostFault)
-    → HasRoom places host → CannotOpen bytes world fault → OpenRefused places host bytes world fault
-refused_with_room places host bytes world (Bytes refusal offset) room cannot = (room, cannot)
-refused_with_room places host bytes world (Code fault) room cannot = (room, cannot)
-refused_with_room places host bytes world UnknownChannel room cannot = (room, cannot)
-refused_with_room places host bytes world NoMemory room cannot = (room, cannot)
-refused_with_room places host bytes world Full room cannot = absurd cannot
-refused_with_room places host bytes world UnknownId room cannot = absurd cannot
-refused_with_room places host bytes world UnknownPrincipal room cannot = absurd cannot
+pub refused_with_room : (limit : ℕ) (host : HostContents) (bytes : List ℕ) (world : List InputNumbers) (fault : HostFault)
+    → HasRoom limit host → CannotOpen bytes world fault → OpenRefused limit host bytes world fault
+refused_with_room limit host bytes world (Bytes refusal offset) room cannot = (room, cannot)
+refused_with_room limit host bytes world (Code fault) room cannot = (room, cannot)
+refused_with_room limit host bytes world UnknownChannel room cannot = (room, cannot)
+refused_with_room limit host bytes world NoMemory room cannot = (room, cannot)
+refused_with_room limit host bytes world Full room cannot = absurd cannot
+refused_with_room limit host bytes world UnknownId room cannot = absurd cannot
+refused_with_room limit host bytes world UnknownPrincipal room cannot = absurd cannot
 
 pub next_after : (id : ℕ) → id < 2 ^ 64 → (after : Option ℕ) → SomeIff after (id + 1 < 18446744073709551616) (id + 1) → next_of after ≡ id + 1
 next_after id below None none = omega (arith, none)

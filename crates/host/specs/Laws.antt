@@ -15,12 +15,12 @@ use Rattle.machine.specs.declared.status.Status.{Status}
 use Rattle.machine.specs.declared.status.Status.TheVariants as status
 use Rattle.host.specs.Meaning.{SessionContents, HostContents, HostEvent, Open, Turn, View, HostAnswer, Opened, Turned, Viewed, Answered, IsOpen, view_of}
 
--- the steps that an event's answer tells of the session of an id
+-- the steps that an event's answer reports of the session of an id
 abbrev pub told_of : ℕ → HostEvent → HostAnswer → ℕ
 told_of id (Turn other n) (Turned taken status) = if other == id then taken else 0
 told_of id event answer = 0
 
--- the steps that the turns of an id tell in sum
+-- the steps that the turns of an id report in sum
 abbrev pub steps_told : ℕ → List HostEvent → List HostAnswer → ℕ
 steps_told id [] answers = 0
 steps_told id (event ∷ events) [] = 0
@@ -29,12 +29,12 @@ steps_told id (event ∷ events) (answer ∷ answers) = told_of id event answer 
 -- some host was asked these events and gave these answers. In one place a session of these bytes on this world is opened,
 -- and in a later one a principal is shown these pairs of it
 pub record Shows (bytes : List ℕ) (world : List InputNumbers) (p : ℕ) (pairs : List Pair) : Type 0 where
-  pub places : ℕ
+  pub limit : ℕ
   pub old : HostContents
   pub events : List HostEvent
   pub answers : List HostAnswer
   pub new : HostContents
-  pub answered : Answered places old events answers new
+  pub answered : Answered limit old events answers new
   pub id : ℕ
   pub opened : ℕ
   pub viewed : ℕ
@@ -44,13 +44,13 @@ pub record Shows (bytes : List ℕ) (world : List InputNumbers) (p : ℕ) (pairs
   pub views : slice_get events viewed ≡ Some (View id p)
   pub viewed_so : slice_get answers viewed ≡ Some (Viewed pairs)
 
--- the steps that the session's own turns told before it was viewed
+-- the steps that the session's own turns reported before it was viewed
 abbrev pub steps_of : (bytes : List ℕ) (world : List InputNumbers) (p : ℕ) (pairs : List Pair) → Shows bytes world p pairs → ℕ
 steps_of bytes world p pairs shows =
     steps_told shows.id (drop shows.opened (take shows.viewed shows.events)) (drop shows.opened (take shows.viewed shows.answers))
 
 -- whatever a session is asked, and whatever events of other sessions come between: what is shown of it is what a fresh run of the
--- module that the bytes spell, alone on the world, has sent after the steps that the session's own turns told
+-- module that the bytes spell, alone on the world, has sent after the steps that the session's own turns reported
 abbrev pub SessionsAreFreshRuns : Type 0
 SessionsAreFreshRuns =
     (bytes : List ℕ) (world : List InputNumbers) (p : ℕ) (pairs : List Pair) (m : ModuleContents) → Spells module_file m bytes
@@ -85,7 +85,7 @@ SessionsEndAsReported =
     → HasEnded ending (after_steps m (numbers_of_channel m world) (steps_of bytes world p pairs shows))
 
 -- two sessions of one isolated module, each opened from the same bytes by any host among any events, on worlds that agree for a
--- principal: one of what the two show to the principal begins the other
+-- principal: one of what the two show to the principal is a prefix of the other
 abbrev pub SessionsAreIsolated : Type 0
 SessionsAreIsolated =
     (bytes : List ℕ) (m : ModuleContents) → Spells module_file m bytes → IsIsolated m
@@ -93,12 +93,12 @@ SessionsAreIsolated =
     → (pairs others : List Pair) → Shows bytes first p pairs → Shows bytes second p others → OneBegins pairs others
 
 -- a session that is opened among any events and is open after them stands where a fresh run of the module that the bytes spell,
--- alone on the world, stands after the steps that the session's own turns told
+-- alone on the world, stands after the steps that the session's own turns reported
 abbrev pub SessionsStandAsTold : Type 0
 SessionsStandAsTold =
     (bytes : List ℕ) (world : List InputNumbers) (m : ModuleContents) → Spells module_file m bytes
-    → (places : ℕ) (old : HostContents) (events : List HostEvent) (answers : List HostAnswer) (new : HostContents)
-    → Answered places old events answers new
+    → (limit : ℕ) (old : HostContents) (events : List HostEvent) (answers : List HostAnswer) (new : HostContents)
+    → Answered limit old events answers new
     → (id opened : ℕ) → slice_get events opened ≡ Some (Open bytes world) → slice_get answers opened ≡ Some (Opened id)
     → (session : SessionContents) → IsOpen new id session
     → session ≡ record {
@@ -115,16 +115,16 @@ moved_by session steps = record session { machine = exec (program_of session.pro
 -- its own turns reported, and is otherwise as it was
 abbrev pub SessionsGoOn : Type 0
 SessionsGoOn =
-    (places : ℕ) (old : HostContents) (events : List HostEvent) (answers : List HostAnswer) (new : HostContents)
-    → Answered places old events answers new
+    (limit : ℕ) (old : HostContents) (events : List HostEvent) (answers : List HostAnswer) (new : HostContents)
+    → Answered limit old events answers new
     → (id : ℕ) (session later : SessionContents) → id < old.next → IsOpen old id session → IsOpen new id later
     → later ≡ moved_by session (steps_told id events answers)
 
 -- and what is shown of it is its view after the steps that its own turns reported before
 abbrev pub SessionsShowOn : Type 0
 SessionsShowOn =
-    (places : ℕ) (old : HostContents) (events : List HostEvent) (answers : List HostAnswer) (new : HostContents)
-    → Answered places old events answers new
+    (limit : ℕ) (old : HostContents) (events : List HostEvent) (answers : List HostAnswer) (new : HostContents)
+    → Answered limit old events answers new
     → (id : ℕ) (session : SessionContents) → id < old.next → IsOpen old id session
     → (viewed p : ℕ) (pairs : List Pair) → slice_get events viewed ≡ Some (View id p) → slice_get answers viewed ≡ Some (Viewed pairs)
     → pairs ≡ view_of (moved_by session (steps_told id (take viewed events) (take viewed answers))) p
@@ -132,21 +132,21 @@ SessionsShowOn =
 -- events that are answered after others: both lists in a row are answered by both lists of answers in a row
 abbrev pub TranscriptsJoin : Type 0
 TranscriptsJoin =
-    (places : ℕ) (old middle new : HostContents) (events more : List HostEvent) (answers others : List HostAnswer)
-    → Answered places old events answers middle → Answered places middle more others new
-    → Answered places old (events ++ more) (answers ++ others) new
+    (limit : ℕ) (old middle new : HostContents) (events more : List HostEvent) (answers others : List HostAnswer)
+    → Answered limit old events answers middle → Answered limit middle more others new
+    → Answered limit old (events ++ more) (answers ++ others) new
 
 -- and the steps that the turns of an id report add up
 abbrev pub StepsAddUp : Type 0
 StepsAddUp =
-    (places : ℕ) (old middle : HostContents) (events more : List HostEvent) (answers others : List HostAnswer)
-    → Answered places old events answers middle
+    (limit : ℕ) (old middle : HostContents) (events more : List HostEvent) (answers others : List HostAnswer)
+    → Answered limit old events answers middle
     → (id : ℕ) → steps_told id (events ++ more) (answers ++ others) ≡ steps_told id events answers + steps_told id more others
 
 -- no id is given twice: of two sessions that a host opens, the later one has the greater id
 abbrev pub IdsGoUp : Type 0
 IdsGoUp =
-    (places : ℕ) (old : HostContents) (events : List HostEvent) (answers : List HostAnswer) (new : HostContents)
-    → Answered places old events answers new
+    (limit : ℕ) (old : HostContents) (events : List HostEvent) (answers : List HostAnswer) (new : HostContents)
+    → Answered limit old events answers new
     → (i j first second : ℕ) → i < j → slice_get answers i ≡ Some (Opened first) → slice_get answers j ≡ Some (Opened second)
     → first < second

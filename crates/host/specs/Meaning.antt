@@ -1,5 +1,5 @@
 -- The meaning of a host: how it may answer each event and what it then is. A relation, since memory may be refused, and since
--- of several faults of one module any may be told that the verifier may tell.
+-- of several faults of one module any may be reported that the verifier may report.
 -- Source: our own.
 use Rattle.std.specs.Prelude.{◌≡◌, ◌≢◌, ℕ, ◌+◌, ◌<◌, ◌≤◌, ◌^◌, ◌==◌, not, if◌then◌else◌, List, [], ◌∷◌, length, filter, Option, Some, None}
 use Rattle.labels.specs.declared.sent.Pair.{Pair}
@@ -54,8 +54,8 @@ abbrev pub without : ℕ → List SessionContents → List SessionContents
 without id sessions = filter (λ session. not (session.id == id)) sessions
 
 -- there is a place for one more session, and an id of 64 bits
-pub record HasRoom (places : ℕ) (host : HostContents) : Type 0 where
-  pub place_left : length host.sessions < places
+pub record HasRoom (limit : ℕ) (host : HostContents) : Type 0 where
+  pub room_left : length host.sessions < limit
   pub id_left : host.next < 2 ^ 64
 
 -- ---- events and answers
@@ -94,7 +94,7 @@ with_opened host m world = record {
   sessions = record { id = host.next; program = m; machine = first_machine m world } ∷ host.sessions;
 }
 
--- why bytes are not opened on a world where there is room. The first of these in this order that applies is told, or want of
+-- why bytes are not opened on a world where there is room. The first of these in this order that applies is reported, or out of
 -- memory: a refusal of the bytes, a fault of the code, a world for other inputs
 abbrev pub CannotOpen : List ℕ → List InputNumbers → HostFault → Type 0
 CannotOpen bytes world (Bytes refusal offset) = first_refusal bytes ≡ Some (refusal, offset)
@@ -106,19 +106,19 @@ CannotOpen bytes world Full = ⊥
 CannotOpen bytes world UnknownId = ⊥
 CannotOpen bytes world UnknownPrincipal = ⊥
 
--- a full host is told before all else
+-- a full host is reported before all else
 abbrev pub OpenRefused : ℕ → HostContents → List ℕ → List InputNumbers → HostFault → Type 0
-OpenRefused places host bytes world Full = HasRoom places host → ⊥
-OpenRefused places host bytes world fault = HasRoom places host × CannotOpen bytes world fault
+OpenRefused limit host bytes world Full = HasRoom limit host → ⊥
+OpenRefused limit host bytes world fault = HasRoom limit host × CannotOpen bytes world fault
 
 -- ---- turns and views
 
--- a session may be let take at most so many steps, takes so many, and tells so how it then stands
+-- a session may be let take at most so many steps, takes so many, and reports so how it then stands
 pub record Takes (session : SessionContents) (n taken : ℕ) (status : Status) (after : Machine) : Type 0 where
   pub within : taken ≤ n
   pub running : WasRunning (program_of session.program) taken session.machine
   pub machine : after ≡ exec (program_of session.program) taken session.machine
-  pub told : IsTold (program_of session.program) n taken status after
+  pub reported : IsTold (program_of session.program) n taken status after
 
 -- a number is that of a principal of a session's module
 abbrev pub IsPrincipal : SessionContents → ℕ → Type 0
@@ -140,33 +140,33 @@ ViewRefused host id p (Code fault) = ⊥
 
 -- ---- the meaning
 
--- a host with so many places may answer an event so, and then is so
-abbrev pub Answers : (places : ℕ) (old : HostContents) → HostEvent → HostAnswer → (new : HostContents) → Type 0
+-- a host with room for so many sessions may answer an event so, and then is so
+abbrev pub Answers : (limit : ℕ) (old : HostContents) → HostEvent → HostAnswer → (new : HostContents) → Type 0
 -- a session of the next id is opened
-Answers places old (Open bytes world) (Opened id) new =
-    HasRoom places old × (id ≡ old.next) × ((m : ModuleContents) × CanOpen bytes world m × (new ≡ with_opened old m world))
-Answers places old (Open bytes world) (Refused fault) new = OpenRefused places old bytes world fault × (new ≡ old)
--- the session of the id, and no other, goes on by the steps that are told
-Answers places old (Turn id n) (Turned taken status) new =
+Answers limit old (Open bytes world) (Opened id) new =
+    HasRoom limit old × (id ≡ old.next) × ((m : ModuleContents) × CanOpen bytes world m × (new ≡ with_opened old m world))
+Answers limit old (Open bytes world) (Refused fault) new = OpenRefused limit old bytes world fault × (new ≡ old)
+-- the session of the id, and no other, goes on by the steps that are reported
+Answers limit old (Turn id n) (Turned taken status) new =
     (session : SessionContents) × IsOpen old id session
     × ((after : Machine) × Takes session n taken status after
     × (new ≡ record old { sessions = with_machine id after old.sessions }))
-Answers places old (Turn id n) (Refused fault) new = (fault ≡ UnknownId) × IsNotOpen old id × (new ≡ old)
+Answers limit old (Turn id n) (Refused fault) new = (fault ≡ UnknownId) × IsNotOpen old id × (new ≡ old)
 -- what the principal sees, and nothing changes
-Answers places old (View id p) (Viewed pairs) new =
+Answers limit old (View id p) (Viewed pairs) new =
     (session : SessionContents) × IsOpen old id session × IsPrincipal session p × (pairs ≡ view_of session p) × (new ≡ old)
-Answers places old (View id p) (Refused fault) new = ViewRefused old id p fault × (new ≡ old)
+Answers limit old (View id p) (Refused fault) new = ViewRefused old id p fault × (new ≡ old)
 -- the session is there no more
-Answers places old (Close id) Closed new =
+Answers limit old (Close id) Closed new =
     ((session : SessionContents) × IsOpen old id session) × (new ≡ record old { sessions = without id old.sessions })
-Answers places old (Close id) (Refused fault) new = (fault ≡ UnknownId) × IsNotOpen old id × (new ≡ old)
+Answers limit old (Close id) (Refused fault) new = (fault ≡ UnknownId) × IsNotOpen old id × (new ≡ old)
 -- no other answer is given
-Answers places old event answer new = ⊥
+Answers limit old event answer new = ⊥
 
 -- the same for a list of events and the list of their answers, one after another
-abbrev pub Answered : (places : ℕ) (old : HostContents) → List HostEvent → List HostAnswer → (new : HostContents) → Type 0
-Answered places old [] [] new = new ≡ old
-Answered places old [] (answer ∷ answers) new = ⊥
-Answered places old (event ∷ events) [] new = ⊥
-Answered places old (event ∷ events) (answer ∷ answers) new =
-    (next : HostContents) × Answers places old event answer next × Answered places next events answers new
+abbrev pub Answered : (limit : ℕ) (old : HostContents) → List HostEvent → List HostAnswer → (new : HostContents) → Type 0
+Answered limit old [] [] new = new ≡ old
+Answered limit old [] (answer ∷ answers) new = ⊥
+Answered limit old (event ∷ events) [] new = ⊥
+Answered limit old (event ∷ events) (answer ∷ answers) new =
+    (next : HostContents) × Answers limit old event answer next × Answered limit next events answers new

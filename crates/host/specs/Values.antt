@@ -50,7 +50,7 @@ opened_or (Ok id) = meaning.Opened id
 opened_or (Err fault) = meaning.Refused fault
 
 abbrev pub turned_or : Result (ℕ × Status) HostFault → HostAnswer
-turned_or (Ok told) = meaning.Turned told.0 told.1
+turned_or (Ok reported) = meaning.Turned reported.0 reported.1
 turned_or (Err fault) = meaning.Refused fault
 
 abbrev pub viewed_or : Result (Vec Pair) HostFault → HostAnswer

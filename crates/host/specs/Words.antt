@@ -6,7 +6,7 @@ use Rattle.verifier.specs.Words.{defect_number, defect_words}
 use Rattle.host.specs.declared.fault.HostFault.{HostFault}
 use Rattle.host.specs.declared.fault.HostFault.TheVariants.{NoMemory, Full, UnknownId, UnknownPrincipal, UnknownChannel, Bytes, Code}
 
--- want of memory has no number
+-- out of memory has no number
 abbrev pub fault_number : HostFault → Option ℕ
 fault_number NoMemory = None
 fault_number Full = Some 901

@@ -11,7 +11,7 @@ use verifier::Fault;
 pub enum HostFault {
     /// A growth of memory was refused.
     NoMemory,
-    /// 901: every place has an open session, or every id was given.
+    /// 901: as many sessions are open as the host has room for, or every id was given.
     Full,
     /// 902: no open session has this id.
     UnknownId,
@@ -26,7 +26,7 @@ pub enum HostFault {
 }
 
 impl HostFault {
-    /// The number that the fault is told by; want of memory has none.
+    /// The number that the fault is reported by; out of memory has none.
     pub fn number(&self) -> Option<u32>
         ensures { result ≡ fault_number self.now }
     {
@@ -41,7 +41,7 @@ impl HostFault {
         }
     }
 
-    /// The words that the fault is told by.
+    /// The words that the fault is reported by.
     pub fn words(&self) -> &'static str
         ensures { result.now ≡ fault_words self.now }
     {

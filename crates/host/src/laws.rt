@@ -3,7 +3,7 @@
 ghost use Rattle.host.specs.Laws.{IdsGoUp, SessionsAreFreshRuns, SessionsAreIsolated, SessionsEndAsReported, SessionsGoOn, SessionsShowOn, SessionsStandAsTold, StepsAddUp, TranscriptsJoin};
 
 /// A session is a run of its module alone on its world. What is shown of it is what that run has sent after the steps that the
-/// session's own turns told, it has ended where one of them reported an end, and after all events it stands where that run
+/// session's own turns reported, it has ended where one of them reported an end, and after all events it stands where that run
 /// stands, whatever events of other sessions come between.
 pub fn sessions_are_fresh_runs()
     ensures shown { SessionsAreFreshRuns }
@@ -14,7 +14,7 @@ pub fn sessions_are_fresh_runs()
 }
 
 /// Sessions of isolated bytes are isolated: where two are opened from the same bytes, by any hosts among any events, on worlds
-/// that agree for a principal, one of what they show to it begins the other.
+/// that agree for a principal, one of what they show to it is a prefix of the other.
 pub fn sessions_are_isolated()
     ensures { SessionsAreIsolated }
 {

@@ -4,9 +4,9 @@
 pub mod event;
 pub mod fault;
 pub mod laws;
-pub mod places;
+pub mod hosts;
 mod session;
 
 pub use event::{Answer, Event, Id};
 pub use fault::HostFault;
-pub use places::{Host, PLACES};
+pub use hosts::{Host, MAX_SESSIONS};

@@ -54,7 +54,7 @@ impl Session {
         self.machine.sent()
     }
 
-    /// Takes at most so many steps, and tells how many it took and how the run then stands.
+    /// Takes at most so many steps, and reports how many it took and how the run then stands.
     pub fn turn(&mut self, steps: u64) -> (u64, Status)
         ensures id { self.new.id ≡ self.old.id }
         ensures program { self.new.run.program ≡ self.old.run.program }

@@ -8,7 +8,7 @@ use crate::fault::LineFault;
 use crate::line::words_of;
 use crate::texts::Texts;
 use channels::Device;
-use flowc::{Done, Task, TaskFault, perform, task};
+use flowc::{Outcome, Task, TaskFault, perform, task};
 use std::alloc::Global;
 
 /// Answers a command line, whose files are texts. The bytes that it leaves for a file become the text of that name.
@@ -46,7 +46,7 @@ fn answer_files(
     asked: &Task,
     files: &[Vec<u8>],
     answer: &mut Vec<u8>,
-) -> Result<Done, LineFault>
+) -> Result<Outcome, LineFault>
     requires files { length files.now ≡ files_of asked.now }
 {
     let mut out = Device::new(Vec::new(alloc));
@@ -59,7 +59,7 @@ fn answer_files(
 }
 
 // A module becomes a text. Where a build makes none, no text has the name.
-fn keep(texts: &mut Texts, asked: &Task, done: Done) -> Result<(), LineFault> {
+fn keep(texts: &mut Texts, asked: &Task, done: Outcome) -> Result<(), LineFault> {
     let Task::Build { out, .. } = asked else {
         return Ok(());
     };

@@ -16,7 +16,7 @@ mod tokens;
 use crate::book::Book;
 use crate::counts::Counts;
 use crate::fault::LineFault;
-use channels::{Device, write_whole};
+use channels::{Device, write_all};
 use std::process::ExitCode;
 use std::{env, fs};
 
@@ -68,7 +68,7 @@ fn print_counts(rt: &HostRuntime, of: &str, counts: Counts) -> Result<(), LineFa
 }
 
 fn print(rt: &HostRuntime, bytes: &[u8]) -> Result<(), LineFault> {
-    match write_whole(&mut Device::new(rt.stdout()), bytes) {
+    match write_all(&mut Device::new(rt.stdout()), bytes) {
         Ok(()) => Ok(()),
         Err(_) => Err(LineFault::NoFile),
     }

@@ -1,7 +1,7 @@
 //! Worlds, lists of what was sent, and sinks that fail.
 
 use bytecode::decode;
-use channels::{Device, InputList, Pair, Sent, Sink, SinkFault, World, write_whole};
+use channels::{Device, InputList, Pair, Sent, Sink, SinkFault, World, write_all};
 use std::io::Cursor;
 use std::test::Fail;
 
@@ -84,11 +84,11 @@ fn a_device_asks_for_nothing_after_a_failure(rt: HostRuntime) {
 }
 
 #[test]
-fn writes_whole_where_there_is_room(rt: HostRuntime) -> Result<(), Fail> {
+fn writes_all_where_there_is_room(rt: HostRuntime) -> Result<(), Fail> {
     let mut device = Device::new(Vec::new(rt.alloc()));
-    write_whole(&mut device, b"ok")?;
+    write_all(&mut device, b"ok")?;
     assert_eq!(rt; device.into_inner().as_slice(), b"ok".as_slice());
     let mut small = Device::new(Cursor::new([0u8; 1]));
-    assert_eq!(rt; write_whole(&mut small, b"ok"), Err(SinkFault));
+    assert_eq!(rt; write_all(&mut small, b"ok"), Err(SinkFault));
     Ok(())
 }

@@ -1,17 +1,17 @@
 use Rattle.std.proofs.Common.{◌∙◌, sym, Result, Ok, Err, OnErr}
 use Rattle.channels.proofs.Views.{all_shown, cut_before, cut_within, none_shown, on_err, one_hidden, one_shown}
 use Rattle.channels.proofs.view.write_lines.Goals as goal
-use Rattle.channels.proofs.view.write_lines.Goals.{then-sees+in_ok-line+in_ok-write_whole, else-sees}
+use Rattle.channels.proofs.view.write_lines.Goals.{then-sees+in_ok-line+in_ok-write_all, else-sees}
 
 pub loop-pair-init : goal.loop-pair-init
 loop-pair-init g c = none_shown c.args.observer.now.program.now c.args.observer.now.principal c.args.pairs.now _
 
 pub loop-pair-preserved : goal.loop-pair-preserved
 loop-pair-preserved g c = elim c.if-sees.branch [
-  | then-sees+in_ok-line+in_ok-write_whole w ↦ rw w.out-is
+  | then-sees+in_ok-line+in_ok-write_all w ↦ rw w.out-is
       (one_shown c.args.observer.now.program.now c.args.observer.now.principal c.args.pairs.now c.loop-pair.pair-index _ _ _ _ _ c.loop-pair-test.true
       (sym c.sees.ensures ∙ w.if-sees.true) (w.as_bytes.ensures.value ∙ w.in_ok-line.ensures)
-      c.loop-pair.invariant w.in_ok-write_whole.ensures.whole)
+      c.loop-pair.invariant w.in_ok-write_all.ensures.written)
   | else-sees w ↦ rw w.out-is
       (one_hidden c.args.observer.now.program.now c.args.observer.now.principal c.args.pairs.now c.loop-pair.pair-index _ _ _ c.loop-pair-test.true
       (sym c.sees.ensures ∙ w.if-sees.false) c.loop-pair.invariant)
@@ -25,9 +25,9 @@ pub returns-in_err-line-clause-prefix : goal.returns-in_err-line-clause-prefix
 returns-in_err-line-clause-prefix g c =
     on_err c.from_residual.result _ (cut_before c.args.observer.now.program.now c.args.observer.now.principal c.args.pairs.now c.loop-pair.pair-index _ _ c.loop-pair.invariant)
 
-pub returns-in_err-write_whole-clause-prefix : goal.returns-in_err-write_whole-clause-prefix
-returns-in_err-write_whole-clause-prefix g c =
-    on_err c.from_residual-in_err-write_whole.result _
+pub returns-in_err-write_all-clause-prefix : goal.returns-in_err-write_all-clause-prefix
+returns-in_err-write_all-clause-prefix g c =
+    on_err c.from_residual-in_err-write_all.result _
     (cut_within c.args.observer.now.program.now c.args.observer.now.principal c.args.pairs.now c.loop-pair.pair-index _ _ _ _ _ c.loop-pair-test.true
     (sym c.sees.ensures ∙ c.if-sees.true) (c.as_bytes.ensures.value ∙ c.in_ok-line.ensures)
-    c.loop-pair.invariant c.in_err-write_whole.ensures.beginning)
+    c.loop-pair.invariant c.in_err-write_all.ensures.prefix)

@@ -1,22 +1,22 @@
 use Rattle.std.proofs.Common.{subst, sym}
 use Rattle.bytecode.specs.Contents.{ModuleContents}
 use Rattle.verifier.specs.Faults.{HasNoFault}
-use Rattle.flowc.proofs.Refusals.{told_of_is_fault}
+use Rattle.flowc.proofs.Refusals.{reported_of_is_fault}
 use Rattle.flowc.proofs.Telling.{faulty_code, first_refused}
 use Rattle.flowc.proofs.running.read_module.Goals as goal
 
 pub returns-in_ok-fault_line-in-Err-Wrong-clause-refused :
     goal.returns-in_ok-fault_line-in-Err-Wrong-clause-refused
-returns-in_ok-fault_line-in-Err-Wrong-clause-refused c = λ one whole spelled none.
-    told_of_is_fault c.in-Ok.whole c.in-Err-Wrong.field-0 c.in-Err-Wrong.fault c.in-Err-Wrong.field-0-is c.in-Err-Wrong.ensures.fault
-    (subst (λ (m : ModuleContents). HasNoFault m) (sym (c.in-Ok.ensures.only whole spelled)) none)
+returns-in_ok-fault_line-in-Err-Wrong-clause-refused c = λ one program spelled none.
+    reported_of_is_fault c.in-Ok.program c.in-Err-Wrong.field-0 c.in-Err-Wrong.fault c.in-Err-Wrong.field-0-is c.in-Err-Wrong.ensures.fault
+    (subst (λ (m : ModuleContents). HasNoFault m) (sym (c.in-Ok.ensures.only program spelled)) none)
 
-pub returns-in-Err-Refused-clause-told : goal.returns-in-Err-Refused-clause-told
-returns-in-Err-Refused-clause-told c =
+pub returns-in-Err-Refused-clause-message : goal.returns-in-Err-Refused-clause-message
+returns-in-Err-Refused-clause-message c =
     first_refused _ _ _ _ _ _ c.in-Err-Refused.field-0-is c.in-Err-Refused.ensures.refused c.in_ok-line-in-Err-Refused.ensures
 
-pub returns-in_ok-fault_line-in-Err-Wrong-clause-told :
-    goal.returns-in_ok-fault_line-in-Err-Wrong-clause-told
-returns-in_ok-fault_line-in-Err-Wrong-clause-told c =
-    faulty_code _ _ _ c.in-Ok.whole _ _ c.in-Err-Wrong.field-0-is c.in-Ok.ensures.found c.in-Err-Wrong.ensures.fault
+pub returns-in_ok-fault_line-in-Err-Wrong-clause-message :
+    goal.returns-in_ok-fault_line-in-Err-Wrong-clause-message
+returns-in_ok-fault_line-in-Err-Wrong-clause-message c =
+    faulty_code _ _ _ c.in-Ok.program _ _ c.in-Err-Wrong.field-0-is c.in-Ok.ensures.found c.in-Err-Wrong.ensures.fault
     c.in_ok-fault_line-in-Err-Wrong.ensures

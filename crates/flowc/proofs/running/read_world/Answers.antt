@@ -2,9 +2,9 @@ use Rattle.std.proofs.Common.{◌≡◌, rules}
 use Rattle.flowc.proofs.Telling.{wrong_line}
 use Rattle.flowc.proofs.running.read_world.Goals as goal
 
-pub returns-in_ok-world_line-in-Err-Line-clause-told :
-    goal.returns-in_ok-world_line-in-Err-Line-clause-told
-returns-in_ok-world_line-in-Err-Line-clause-told c =
+pub returns-in_ok-world_line-in-Err-Line-clause-message :
+    goal.returns-in_ok-world_line-in-Err-Line-clause-message
+returns-in_ok-world_line-in-Err-Line-clause-message c =
     let same : c.in-Ok.text.now ≡ c.args.file.bytes.now = search rules in
-    wrong_line c.args.whole.now _ c.in-Ok.text.now c.args.file.bytes.now _ _ _ _ c.in-Err-Line.field-0-is c.in-Err-Line.ensures.wrong same (search rules)
+    wrong_line c.args.program.now _ c.in-Ok.text.now c.args.file.bytes.now _ _ _ _ c.in-Err-Line.field-0-is c.in-Err-Line.ensures.first_fault same (search rules)
     c.in_ok-world_line-in-Err-Line.ensures

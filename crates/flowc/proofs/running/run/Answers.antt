@@ -1,7 +1,7 @@
 use Rattle.std.proofs.Common.{◌∙◌, ap}
 use Rattle.bytecode.specs.Contents.{ModuleContents}
-use Rattle.flowc.proofs.Cut.{appended_whole, can_run, cut_off, on_err}
-use Rattle.flowc.proofs.Telling.{observer_told, start_told}
+use Rattle.flowc.proofs.Cut.{appended_all, can_run, cut_off, on_err}
+use Rattle.flowc.proofs.Telling.{observer_message, start_message}
 use Rattle.flowc.proofs.running.run.Goals as goal
 
 pub returns-in_err-show-clause-some : goal.returns-in_err-show-clause-some
@@ -9,24 +9,24 @@ returns-in_err-show-clause-some g c =
     let m = c.in_ok-machine.machine.program in
     let can = can_run _ _ _ m c.in_ok-principal.principal c.hierarchy.result.now c.in_ok-machine.ensures.spelled c.in_ok-machine.ensures.faultless c.in_ok-machine.ensures.encoded c.in_ok-machine.ensures.right c.in_ok-principal.ensures.found
     (c.hierarchy.ensures.hierarchy ∙ ap (λ (w : ModuleContents). w.hierarchy) c.module.ensures) in
-    on_err _ _ (cut_off _ _ _ c.args.steps _ _ m c.module-whole.result.now c.in_ok-principal.principal c.run-status.result.0 c.sent.result.now _ _ can c.run-status.ensures.within
-    (c.module-whole.ensures ∙ c.run-status.ensures.kept) c.in_ok-machine.ensures.first c.run-status.ensures.after c.sent.ensures c.in_err-show.ensures.beginning)
+    on_err _ _ (cut_off _ _ _ c.args.steps _ _ m c.module-program.result.now c.in_ok-principal.principal c.run-status.result.0 c.sent.result.now _ _ can c.run-status.ensures.within
+    (c.module-program.ensures ∙ c.run-status.ensures.kept) c.in_ok-machine.ensures.first c.run-status.ensures.after c.sent.ensures c.in_err-show.ensures.prefix)
 
 pub returns-clause-some : goal.returns-clause-some
 returns-clause-some g c =
     let m = c.in_ok-machine.machine.program in
     let can = can_run _ _ _ m c.in_ok-principal.principal c.hierarchy.result.now c.in_ok-machine.ensures.spelled c.in_ok-machine.ensures.faultless c.in_ok-machine.ensures.encoded c.in_ok-machine.ensures.right c.in_ok-principal.ensures.found
     (c.hierarchy.ensures.hierarchy ∙ ap (λ (w : ModuleContents). w.hierarchy) c.module.ensures) in
-    on_err c.told_end.result _ (cut_off _ _ _ c.args.steps _ _ m c.module-whole.result.now c.in_ok-principal.principal c.run-status.result.0 c.sent.result.now _ _ can c.run-status.ensures.within
-    (c.module-whole.ensures ∙ c.run-status.ensures.kept) c.in_ok-machine.ensures.first c.run-status.ensures.after c.sent.ensures (appended_whole _ _ _ c.in_ok-show.ensures.view))
+    on_err c.report_end.result _ (cut_off _ _ _ c.args.steps _ _ m c.module-program.result.now c.in_ok-principal.principal c.run-status.result.0 c.sent.result.now _ _ can c.run-status.ensures.within
+    (c.module-program.ensures ∙ c.run-status.ensures.kept) c.in_ok-machine.ensures.first c.run-status.ensures.after c.sent.ensures (appended_all _ _ _ c.in_ok-show.ensures.view))
 
-pub returns-in_err-machine-clause-told : goal.returns-in_err-machine-clause-told
-returns-in_err-machine-clause-told g c =
-    start_told c.from_residual.result _ _ _ _ _ _ _ c.from_residual.ensures.1 c.in_err-machine.ensures.told
+pub returns-in_err-machine-clause-message : goal.returns-in_err-machine-clause-message
+returns-in_err-machine-clause-message g c =
+    start_message c.from_residual.result _ _ _ _ _ _ _ c.from_residual.ensures.1 c.in_err-machine.ensures.message
 
-pub returns-in_err-principal-clause-told : goal.returns-in_err-principal-clause-told
-returns-in_err-principal-clause-told g c =
-    observer_told c.from_residual-in_err-principal.result c.in_ok-machine.machine.program c.hierarchy.result.now _ _ _ _ _ _ _
+pub returns-in_err-principal-clause-message : goal.returns-in_err-principal-clause-message
+returns-in_err-principal-clause-message g c =
+    observer_message c.from_residual-in_err-principal.result c.in_ok-machine.machine.program c.hierarchy.result.now _ _ _ _ _ _ _
     c.in_ok-machine.ensures.spelled c.in_ok-machine.ensures.faultless c.in_ok-machine.ensures.encoded c.in_ok-machine.ensures.right
     (c.hierarchy.ensures.hierarchy ∙ ap (λ (w : ModuleContents). w.hierarchy) c.module.ensures)
-    c.from_residual-in_err-principal.ensures.1 c.in_err-principal.ensures.told
+    c.from_residual-in_err-principal.ensures.1 c.in_err-principal.ensures.message

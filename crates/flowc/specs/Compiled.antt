@@ -1,0 +1,18 @@
+-- What the files of a check or a build hold, and what the bytes that a build leaves are to them.
+-- Source: our own.
+use Rattle.std.specs.Prelude.{ℕ, List, [], slice_get}
+use Rattle.std.specs.Option.{option_map_or}
+use Rattle.std.specs.declared.alloc.Global.{Global}
+use Rattle.std.specs.declared.vec.Vec.{Vec}
+use Rattle.compiler.specs.Built.{IsAccepted, IsCompiled}
+
+-- the bytes of one of the files that were read
+abbrev pub bytes_at : List (Vec ℕ Global) → ℕ → List ℕ
+bytes_at files index = option_map_or (λ (file : Vec ℕ Global). file.items) (slice_get files index) []
+
+-- the same of two files: the hierarchy text, and behind it the source
+abbrev pub IsBuilt : List (Vec ℕ Global) → List ℕ → Type 0
+IsBuilt files code = IsCompiled (bytes_at files 0) (bytes_at files 1) code
+
+abbrev pub HoldsProgram : List (Vec ℕ Global) → Type 0
+HoldsProgram files = IsAccepted (bytes_at files 0) (bytes_at files 1)

@@ -1,0 +1,129 @@
+-- What a task writes to standard error: one line, or nothing.
+-- Source: our own.
+use Rattle.std.specs.Prelude.{◌≡◌, ◌≤◌, ◌⊎◌, ℕ, List, [], Bool, false, IsTrue, Option, Some, None, option_map, IsUtf8}
+use Rattle.std.specs.Io.KnownBytes.{Appends}
+use Rattle.std.specs.String.{string_bytes}
+use Rattle.std.specs.declared.alloc.Global.{Global}
+use Rattle.std.specs.declared.vec.Vec.{Vec}
+use Rattle.principals.specs.ActsFor.{PrincipalHierarchy, HasName}
+use Rattle.lexer.specs.declared.token.Place.{Place}
+use Rattle.bytecode.specs.Contents.{ModuleContents}
+use Rattle.bytecode.specs.Decoded.{first_refusal}
+use Rattle.bytecode.specs.Form.{Spells}
+use Rattle.bytecode.specs.Format.{module_file}
+use Rattle.bytecode.specs.Machine.{after_steps, program_of}
+use Rattle.bytecode.specs.declared.fault.Refusal.{Refusal}
+use Rattle.channels.specs.Sink.{AppendsPrefix}
+use Rattle.channels.specs.World.{input_names}
+use Rattle.channels.specs.WorldText.{IsFirstDefect, IsWorldText, lines_of}
+use Rattle.channels.specs.declared.defect.WorldDefect.{WorldDefect}
+use Rattle.compiler.specs.Built.{TellsFault}
+use Rattle.compiler.specs.declared.fault.Cause.{Cause}
+use Rattle.compiler.specs.declared.fault.Fault.TheVariants.{Refused}
+use Rattle.compiler.specs.declared.fault.Text.{Text}
+use Rattle.compiler.specs.declared.fault.Text.TheVariants.{Hierarchy, Source}
+use Rattle.machine.specs.Run.{IsTold}
+use Rattle.machine.specs.declared.status.Status.{Status}
+use Rattle.verifier.specs.Faults as faults
+use Rattle.verifier.specs.Faults.{HasNoFault}
+use Rattle.verifier.specs.declared.fault.Fault.{Fault}
+use Rattle.command_line.specs.declared.request.Task.{Task}
+use Rattle.command_line.specs.declared.request.Task.TheVariants.{Check, Build, Run}
+use Rattle.flowc.specs.Compiled.{bytes_at}
+use Rattle.flowc.specs.Lines.{cannot_write, cause_line, encoding_line, end_line, fault_line, no_memory, observer_line, refusal_line, world_line}
+use Rattle.flowc.specs.Stdout.{CanRun, numbers_in}
+use Rattle.flowc.specs.Task.{reported_status}
+
+-- a line was written: all of it, or a prefix of it where the stream failed
+abbrev pub WroteLine : (line : List ℕ) → (old new : Option (List ℕ)) → (failed : Bool) → Type 0
+WroteLine line old new failed = Appends old new line ⊎ (IsTrue failed × AppendsPrefix old new line)
+
+-- ---- lines of refusals
+
+-- the path of one of the two texts that a module is compiled from
+abbrev pub path_of : (hierarchy source : List ℕ) → Text → List ℕ
+path_of hierarchy source Hierarchy = hierarchy
+path_of hierarchy source Source = source
+
+-- the line reports the first fault of two texts, with the path of the text that it is in
+pub record IsTextsLine (hierarchy_path source_path hierarchy source line : List ℕ) : Type 0 where
+  pub text : Text
+  pub cause : Cause
+  pub at : Place
+  pub first : TellsFault hierarchy source (Refused text cause at)
+  pub says : line ≡ cause_line (path_of hierarchy_path source_path text) cause at
+
+-- the line reports the first refusal of the bytes of a module, or a fault of its code
+pub data IsModuleLine (path code line : List ℕ) : Type 0 where
+  refused : (refusal : Refusal) (offset : ℕ) → first_refusal code ≡ Some (refusal, offset) → line ≡ refusal_line path refusal offset → IsModuleLine path code line
+  faulty : (program : ModuleContents) (fault : Fault) → Spells module_file program code → faults.IsTold program fault → line ≡ fault_line path fault → IsModuleLine path code line
+
+-- the line says that the bytes of a world are no text, or the first wrong line of the text for a module
+pub data IsWorldLine (program : ModuleContents) (path text line : List ℕ) : Type 0 where
+  no_text : ¬ IsUtf8 text → line ≡ encoding_line path → IsWorldLine program path text line
+  wrong : (number : ℕ) (defect : WorldDefect) → IsUtf8 text → IsFirstDefect (input_names program) (lines_of text) number defect → line ≡ world_line path number defect → IsWorldLine program path text line
+
+-- the line says that no principal has the name of the observer
+pub record IsObserverLine (hierarchy : PrincipalHierarchy) (observer : Option (List ℕ)) (line : List ℕ) : Type 0 where
+  pub name : List ℕ
+  pub named : observer ≡ Some name
+  pub unknown : (principal : ℕ) → ¬ HasName hierarchy principal name
+  pub says : line ≡ observer_line name
+
+-- the line says why nothing can be run: the module is wrong; or it is right, and the world is wrong for it; or both are right,
+-- and the observer is none of its principals
+pub data IsRefusedLine (code_path text_path code text : List ℕ) (observer : Option (List ℕ)) (line : List ℕ) : Type 0 where
+  of_module : IsModuleLine code_path code line → IsRefusedLine code_path text_path code text observer line
+  of_world : (program : ModuleContents) → Spells module_file program code → HasNoFault program → IsWorldLine program text_path text line → IsRefusedLine code_path text_path code text observer line
+  of_observer : (program : ModuleContents) → Spells module_file program code → HasNoFault program → IsUtf8 text → IsWorldText (input_names program) (lines_of text) → IsObserverLine program.hierarchy observer line → IsRefusedLine code_path text_path code text observer line
+
+-- ---- other lines
+
+-- the line says that a task was not done: standard output failed, or memory ran out
+abbrev pub IsFailureLine : (status : ℕ) → (out_failed : Bool) → (line : List ℕ) → Type 0
+IsFailureLine status out_failed line = (status ≡ 3) × ((IsTrue out_failed × (line ≡ cannot_write)) ⊎ (line ≡ no_memory))
+
+-- the line of the end of a run, which is not reported to an observer
+abbrev pub reported_line : ModuleContents → (principal : Option ℕ) → Status → List ℕ
+reported_line program None end = end_line program.exceptions end
+reported_line program (Some principal) end = []
+
+-- the line reports the end that a run had come to after at most so many steps, and to an observer nothing
+pub record IsEndLine (code text : List ℕ) (observer : Option (List ℕ)) (steps status : ℕ) (line : List ℕ) : Type 0 where
+  pub program : ModuleContents
+  pub principal : Option ℕ
+  pub taken : ℕ
+  pub can_run : CanRun code text observer program principal
+  pub within : taken ≤ steps
+  pub end : Status
+  pub ended : IsTold (program_of program) steps taken end (after_steps program (numbers_in program text) taken)
+  pub reported : status ≡ reported_status principal end
+  pub says : line ≡ reported_line program principal end
+
+-- ---- tasks
+
+-- the line of a check or a build of two texts: with status 0 none, with status 1 that of the first fault
+abbrev pub IsCompilingLine : (hierarchy_path source_path hierarchy source : List ℕ) → (status : ℕ) → (out_failed : Bool) → (line : List ℕ) → Type 0
+IsCompilingLine hierarchy_path source_path hierarchy source status out_failed line =
+    ((status ≡ 0) × (line ≡ []))
+    ⊎ (((status ≡ 1) × IsTextsLine hierarchy_path source_path hierarchy source line) ⊎ IsFailureLine status out_failed line)
+
+-- the line of a run: with status 1 that of a refusal, else that of its end or that it was not done
+abbrev pub IsRunLine : (code_path text_path code text : List ℕ) → (observer : Option (List ℕ)) → (steps status : ℕ) → (out_failed : Bool) → (line : List ℕ) → Type 0
+IsRunLine code_path text_path code text observer steps status out_failed line =
+    ((status ≡ 1) × IsRefusedLine code_path text_path code text observer line)
+    ⊎ (IsFailureLine status out_failed line ⊎ IsEndLine code text observer steps status line)
+
+-- the line with which a task ends with this status; a build writes nothing to standard output that could fail
+abbrev pub IsLine : Task → List (Vec ℕ Global) → (status : ℕ) → (out_failed : Bool) → (line : List ℕ) → Type 0
+IsLine (Check hierarchy source) files status out_failed line =
+    IsCompilingLine (string_bytes hierarchy) (string_bytes source) (bytes_at files 0) (bytes_at files 1) status out_failed line
+IsLine (Build hierarchy source out) files status out_failed line =
+    IsCompilingLine (string_bytes hierarchy) (string_bytes source) (bytes_at files 0) (bytes_at files 1) status false line
+IsLine (Run file world observer steps) files status out_failed line =
+    IsRunLine (string_bytes file) (string_bytes world) (bytes_at files 0) (bytes_at files 1) (option_map string_bytes observer) steps status out_failed line
+
+-- what a task has written to standard error when it ends with this status, and standard output has failed or not
+abbrev pub WritesMessage : Task → List (Vec ℕ Global) → (status : ℕ) → (out_failed : Bool) → (old new : Option (List ℕ)) → (failed : Bool) → Type 0
+WritesMessage task files status out_failed old new failed =
+    (line : List ℕ) × IsLine task files status out_failed line × WroteLine line old new failed

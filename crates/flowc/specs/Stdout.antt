@@ -1,0 +1,85 @@
+-- What a task shows on standard output, and with which status it ends.
+-- Source: our own.
+use Rattle.std.specs.Prelude.{◌≡◌, ◌≤◌, ◌⊎◌, ℕ, ℤ, List, Option, option_map, codes, IsUtf8}
+use Rattle.std.specs.Io.KnownBytes.{Appends}
+use Rattle.std.specs.String.{string_bytes}
+use Rattle.std.specs.declared.alloc.Global.{Global}
+use Rattle.std.specs.declared.vec.Vec.{Vec}
+use Rattle.labels.specs.Sent.{Begins}
+use Rattle.bytecode.specs.Contents.{ModuleContents}
+use Rattle.bytecode.specs.Form.{Spells}
+use Rattle.bytecode.specs.Format.{module_file}
+use Rattle.bytecode.specs.Machine.{after_steps, program_of, sent_after}
+use Rattle.channels.specs.Sink.{AppendsPrefix}
+use Rattle.channels.specs.World.{input_names, numbers_of_channel}
+use Rattle.channels.specs.WorldText.{IsWorldText, lines_of, world_of}
+use Rattle.verifier.specs.Faults.{HasNoFault}
+use Rattle.machine.specs.Run.{IsTold}
+use Rattle.machine.specs.declared.status.Status.{Status}
+use Rattle.command_line.specs.declared.request.Task.{Task}
+use Rattle.command_line.specs.declared.request.Task.TheVariants.{Check, Build, Run}
+use Rattle.flowc.specs.Compiled.{bytes_at}
+use Rattle.flowc.specs.Task.{reported_status}
+use Rattle.flowc.specs.View.{IsObserver, shown, view_text}
+
+-- the numbers that the text of a world has for each channel of a module
+abbrev pub numbers_in : ModuleContents → List ℕ → ℕ → List ℤ
+numbers_in program text = numbers_of_channel program (world_of (input_names program) (lines_of text))
+
+-- the text of what is shown of a run on the world of a text after so many steps
+abbrev pub text_shown : ModuleContents → (world : List ℕ) → (principal : Option ℕ) → (taken : ℕ) → List ℕ
+text_shown program world principal taken = view_text program (shown program principal (sent_after program (numbers_in program world) taken))
+
+-- what can be run for an observer: the bytes of a module without a fault, a world for it, and one of its principals
+pub record CanRun (code text : List ℕ) (observer : Option (List ℕ)) (program : ModuleContents) (principal : Option ℕ) : Type 0 where
+  pub spelled : Spells module_file program code
+  pub faultless : HasNoFault program
+  pub encoded : IsUtf8 text
+  pub right : IsWorldText (input_names program) (lines_of text)
+  pub observed : IsObserver program.hierarchy observer principal
+
+-- nothing can be run
+abbrev pub CannotRun : List ℕ → List ℕ → Option (List ℕ) → Type 0
+CannotRun code text observer =
+    (program : ModuleContents) (principal : Option ℕ) → ¬ CanRun code text observer program principal
+
+-- a run was shown: at most so many steps were taken, and what was written is the view that the observer has of what was sent by
+-- then; the status reports the end, but not to an observer
+pub record ShowsRun (code text : List ℕ) (observer : Option (List ℕ)) (steps status : ℕ) (old new : Option (List ℕ)) : Type 0 where
+  pub program : ModuleContents
+  pub principal : Option ℕ
+  pub taken : ℕ
+  pub can_run : CanRun code text observer program principal
+  pub within : taken ≤ steps
+  pub view : Appends old new (text_shown program text principal taken)
+  pub end : Status
+  pub ended : IsTold (program_of program) steps taken end (after_steps program (numbers_in program text) taken)
+  pub reported : status ≡ reported_status principal end
+
+-- a text shows nothing else than a run on the world: it begins what is shown of the run after at most so many steps
+pub record IsShown (code text : List ℕ) (observer : Option (List ℕ)) (steps : ℕ) (out : List ℕ) : Type 0 where
+  pub program : ModuleContents
+  pub principal : Option ℕ
+  pub taken : ℕ
+  pub can_run : CanRun code text observer program principal
+  pub within : taken ≤ steps
+  pub begins : Begins out (text_shown program text principal taken)
+
+-- where a stream failed or memory ran out, nothing was written, or a text that shows nothing else than the run
+abbrev pub ShowsSome : (code text : List ℕ) (observer : Option (List ℕ)) (steps : ℕ) (old new : Option (List ℕ)) → Type 0
+ShowsSome code text observer steps old new =
+    (old ≡ new) ⊎ ((out : List ℕ) × IsShown code text observer steps out × Appends old new out)
+
+-- what a task has written to standard output when it ends with this status; nothing where what it read is refused, and no more
+-- than a prefix where a stream failed or memory ran out
+abbrev pub Shows : Task → List (Vec ℕ Global) → ℕ → Option (List ℕ) → Option (List ℕ) → Type 0
+Shows (Check hierarchy source) files status old new =
+    ((status ≡ 1) × (old ≡ new))
+    ⊎ (((status ≡ 3) × AppendsPrefix old new (codes "ok\n")) ⊎ ((status ≡ 0) × Appends old new (codes "ok\n")))
+Shows (Build hierarchy source out) files status old new = old ≡ new
+Shows (Run file world observer steps) files status old new =
+    let code = bytes_at files 0 in
+    let text = bytes_at files 1 in
+    let name = option_map string_bytes observer in
+    ((status ≡ 1) × (old ≡ new) × CannotRun code text name)
+    ⊎ (((status ≡ 3) × ShowsSome code text name steps old new) ⊎ ShowsRun code text name steps status old new)

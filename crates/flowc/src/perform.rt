@@ -1,0 +1,176 @@
+ghost use Rattle.channels.specs.Sink.{AppendsPrefix};
+ghost use Rattle.compiler.specs.Built.{IsAccepted, IsCompiled};
+ghost use Rattle.flowc.specs.Compiled.{HoldsProgram, IsBuilt, bytes_at};
+ghost use Rattle.flowc.specs.Lines.{IsPerformFault, line_of_fault};
+ghost use Rattle.flowc.specs.Stdout.{Shows};
+ghost use Rattle.flowc.specs.Task.{files_of, makes_file, may_end, reads_source, status_of_fault};
+ghost use Rattle.flowc.specs.Messages.{IsTextsLine, WritesMessage, WroteLine};
+ghost use Rattle.std.specs.Io.KnownBytes.{Appends};
+ghost use Rattle.std.specs.Prelude.{[], ◌≡◌, ◌≤◌, ◌<◌, ◌↔◌, IfErr, IfOk, IfSome, IsSome, IsTrue, MatchResult, None, OnOk, codes, false, length, option_map};
+ghost use Rattle.std.specs.String.{string_bytes};
+
+use crate::running::{Ended, File, run};
+use crate::messages::cause_line;
+use crate::fault::PerformFault;
+use channels::{Sink, write_all};
+use command_line::Task;
+use compiler::{Fault, Text, compile};
+use std::alloc::Global;
+
+/// What the program leaves to do: its exit status, and the bytes for the output file if it makes one.
+#[derive(Debug, Drop)]
+pub struct Outcome {
+    pub status: u8,
+    pub code: Option<Vec<u8>>,
+}
+
+/// Does a task: all of the program but for its files. What goes to standard output and to standard error is written to the
+/// two sinks. The caller hands over the bytes of each file that the task reads, in the order in which the task names them.
+///
+/// On standard error stands one line that says how the task ended, or none where all is well or an observer looks on.
+///
+/// There are bytes for the output file exactly where a task builds a module and ends with status 0.
+pub fn perform<O: Sink, E: Sink>(
+    alloc: Global,
+    task: &Task,
+    files: &[Vec<u8>],
+    out: &mut O,
+    err: &mut E,
+) -> Outcome
+    requires files { length files.now ≡ files_of task.now }
+    ensures small { result.status ≤ 6 }
+    ensures status { IsTrue (may_end task.now result.status) }
+    ensures code { IsSome result.code ↔ (IsTrue (makes_file task.now) × (result.status ≡ 0)) }
+    ensures built { IfSome result.code (λ code. IsBuilt files.now code.items) }
+    ensures accepted { IsTrue (reads_source task.now) → result.status ≡ 0 → HoldsProgram files.now }
+    ensures refused { IsTrue (reads_source task.now) → result.status ≡ 1 → ¬ HoldsProgram files.now }
+    ensures shown { Shows task.now files.now result.status (O.taken out.old) (O.taken out.new) }
+    ensures message { WritesMessage task.now files.now result.status (O.has_failed out.new) (E.taken err.old) (E.taken err.new) (E.has_failed err.new) }
+{
+    let (first, second) = (bytes_of(files, 0), bytes_of(files, 1));
+    match task {
+        Task::Check { hier, src } => {
+            let checked = check(alloc, file_at(hier, first), file_at(src, second), out);
+            finish(checked, err)
+        }
+        Task::Build { hier, src, .. } => {
+            let built = build(alloc, file_at(hier, first), file_at(src, second));
+            finish_build(built, err)
+        }
+        Task::Run {
+            file,
+            world,
+            observer,
+            steps,
+        } => {
+            let (code, world) = (file_at(file, first), file_at(world, second));
+            finish(run(alloc, code, world, name_of(observer), *steps, out), err)
+        }
+    }
+}
+
+// The bytes of one of the files.
+fn bytes_of(files: &[Vec<u8>], index: usize) -> &[u8]
+    requires { index < length files.now }
+    ensures { result.now ≡ bytes_at files.now index }
+{
+    files[index].as_slice()
+}
+
+// The name of an observer, if one is named.
+fn name_of(observer: &Option<String>) -> Option<&str>
+    ensures { option_map (λ name. name.now) result ≡ option_map string_bytes observer.now }
+{
+    match observer {
+        Some(name) => Some(name.as_str()),
+        None => None,
+    }
+}
+
+// A file that was read, by its path.
+fn file_at<'a>(path: &'a String, bytes: &'a [u8]) -> File<'a>
+    ensures path { result.path.now ≡ string_bytes path.now }
+    ensures bytes { result.bytes.now ≡ bytes.now }
+{
+    File {
+        path: path.as_str(),
+        bytes,
+    }
+}
+
+// Checks a source under a hierarchy, and says so on standard output.
+fn check<O: Sink>(
+    alloc: Global,
+    hierarchy: File<'_>,
+    source: File<'_>,
+    out: &mut O,
+) -> Result<Ended, PerformFault>
+    ensures accepted { OnOk result (IsAccepted hierarchy.entry.bytes.now source.entry.bytes.now) }
+    ensures refused { IfErr result (λ fault. status_of_fault fault ≡ 1 → ¬ IsAccepted hierarchy.entry.bytes.now source.entry.bytes.now) }
+    ensures status { IfOk result (λ ended. ended.status ≡ 0) }
+    ensures shown { OnOk result (Appends (O.taken out.old) (O.taken out.new) (codes "ok\n")) }
+    ensures quiet { IfErr result (λ fault. status_of_fault fault ≡ 1 → O.taken out.old ≡ O.taken out.new) }
+    ensures some { IfErr result (λ fault. status_of_fault fault ≡ 3 → AppendsPrefix (O.taken out.old) (O.taken out.new) (codes "ok\n")) }
+    ensures silent { IfOk result (λ ended. string_bytes ended.line ≡ []) }
+    ensures message { IfErr result (IsPerformFault (IsTextsLine hierarchy.entry.path.now source.entry.path.now hierarchy.entry.bytes.now source.entry.bytes.now) (O.has_failed out.new)) }
+{
+    let _code = build(alloc, hierarchy, source)?;
+    write_all(out, b"ok\n")?;
+    Ok(Ended {
+        status: 0,
+        line: String::new(alloc),
+    })
+}
+
+// The bytes of the module that a source under a hierarchy is compiled to.
+fn build(alloc: Global, hierarchy: File<'_>, source: File<'_>) -> Result<Vec<u8>, PerformFault>
+    ensures accepted { OnOk result (IsAccepted hierarchy.entry.bytes.now source.entry.bytes.now) }
+    ensures compiled { IfOk result (λ code. IsCompiled hierarchy.entry.bytes.now source.entry.bytes.now code.items) }
+    ensures refused { IfErr result (λ fault. status_of_fault fault ≡ 1 → ¬ IsAccepted hierarchy.entry.bytes.now source.entry.bytes.now) }
+    ensures message { IfErr result (IsPerformFault (IsTextsLine hierarchy.entry.path.now source.entry.path.now hierarchy.entry.bytes.now source.entry.bytes.now) false) }
+{
+    match compile(alloc, hierarchy.bytes, source.bytes) {
+        Ok(code) => Ok(code),
+        Err(Fault::NoMemory) => Err(PerformFault::NoMemory),
+        Err(Fault::Refused { text, cause, at }) => {
+            let path = match text {
+                Text::Hierarchy => hierarchy.path,
+                Text::Source => source.path,
+            };
+            Err(PerformFault::Refused(cause_line(alloc, path, cause, at)?))
+        }
+    }
+}
+
+// The end of a task that leaves nothing for a file. Where standard error fails too, there is nowhere left to report it.
+fn finish<E: Sink>(outcome: Result<Ended, PerformFault>, err: &mut E) -> Outcome
+    ensures code { result.code ≡ None }
+    ensures status { MatchResult outcome (λ ended. result.status ≡ ended.status) (λ fault. result.status ≡ status_of_fault fault) }
+    ensures message { MatchResult outcome (λ ended. WroteLine (string_bytes ended.line) (E.taken err.old) (E.taken err.new) (E.has_failed err.new)) (λ fault. WroteLine (line_of_fault fault) (E.taken err.old) (E.taken err.new) (E.has_failed err.new)) }
+{
+    let (status, line) = match &outcome {
+        Ok(ended) => (ended.status, ended.line.as_str()),
+        Err(fault) => fault.report(),
+    };
+    let _ = write_all(err, line.as_bytes());
+    Outcome { status, code: None }
+}
+
+// The end of a task that leaves bytes for a file.
+fn finish_build<E: Sink>(built: Result<Vec<u8>, PerformFault>, err: &mut E) -> Outcome
+    ensures code { MatchResult built (λ code. result.code ≡ Some code) (λ _. result.code ≡ None) }
+    ensures status { MatchResult built (λ _. result.status ≡ 0) (λ fault. result.status ≡ status_of_fault fault) }
+    ensures message { MatchResult built (λ _. WroteLine [] (E.taken err.old) (E.taken err.new) (E.has_failed err.new)) (λ fault. WroteLine (line_of_fault fault) (E.taken err.old) (E.taken err.new) (E.has_failed err.new)) }
+{
+    match built {
+        Ok(code) => Outcome {
+            status: 0,
+            code: Some(code),
+        },
+        Err(fault) => {
+            let (status, line) = fault.report();
+            let _ = write_all(err, line.as_bytes());
+            Outcome { status, code: None }
+        }
+    }
+}
