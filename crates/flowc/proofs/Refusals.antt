@@ -6,7 +6,8 @@ use Rattle.channels.specs.WorldText.{IsTextFault, IsWorldText, world_of}
 use Rattle.channels.specs.declared.defect.WorldDefect.{WorldDefect}
 use Rattle.channels.specs.declared.defect.WorldFault.TheVariants.{Line}
 use Rattle.machine.specs.Run.{names_of}
-use Rattle.verifier.specs.Faults.{HasNoFault, IsTold, IsToldAfter, IsToldOf, fixed_faults}
+use Rattle.verifier.specs.Faults.{HasNoFault, IsReported, IsReportedAfter, IsRefusal}
+use Rattle.verifier.specs.Fixed.{fixed_faults}
 use Rattle.verifier.specs.declared.fault.Fault.{Fault}
 use Rattle.verifier.specs.declared.fault.VerifyFault.{VerifyFault}
 use Rattle.verifier.specs.declared.fault.VerifyFault.TheVariants.{Wrong}
@@ -16,17 +17,17 @@ use Rattle.flowc.specs.declared.running.Ended.{Ended}
 use Rattle.flowc.specs.declared.fault.PerformFault.{PerformFault}
 use Rattle.flowc.specs.declared.fault.PerformFault.TheVariants.{Refused, CannotWrite, NoMemory}
 
-reported_after : (m : ModuleContents) (faults : List Fault) (fault : Fault) → IsToldAfter m faults fault → faults ≡ [] → ((other : Fault) → IsToldAfter m [] other → ⊥) → ⊥
+reported_after : (m : ModuleContents) (faults : List Fault) (fault : Fault) → IsReportedAfter m faults fault → faults ≡ [] → ((other : Fault) → IsReportedAfter m [] other → ⊥) → ⊥
 reported_after m [] fault reported fixed flow = flow fault reported
 reported_after m (first ∷ more) fault reported fixed flow = cc
 
 -- a module with a fault that may be reported is not without one
-pub reported_is_fault : (m : ModuleContents) (fault : Fault) → IsTold m fault → HasNoFault m → ⊥
+pub reported_is_fault : (m : ModuleContents) (fault : Fault) → IsReported m fault → HasNoFault m → ⊥
 reported_is_fault m fault reported none = reported_after m (fixed_faults m) fault reported none.fixed none.flow
 
-pub reported_of_is_fault : (m : ModuleContents) (answer : VerifyFault) (fault : Fault) → answer ≡ Wrong fault → IsToldOf m answer → HasNoFault m → ⊥
+pub reported_of_is_fault : (m : ModuleContents) (answer : VerifyFault) (fault : Fault) → answer ≡ Wrong fault → IsRefusal m answer → HasNoFault m → ⊥
 reported_of_is_fault m answer fault is reported none =
-    reported_is_fault m fault (subst (λ (v : VerifyFault). IsToldOf m v) is reported) none
+    reported_is_fault m fault (subst (λ (v : VerifyFault). IsRefusal m v) is reported) none
 
 -- a text with a wrong line is no world
 pub wrong_is_no_world : (inputs : List (List ℕ)) (lines : List (List (List ℕ))) (line : ℕ) (defect : WorldDefect)

@@ -6,7 +6,7 @@ use Rattle.std.proofs.lemmas.Result.{err_from_is_err_and}
 use Rattle.principals.specs.ActsFor.{PrincipalHierarchy}
 use Rattle.std.specs.Result.{IsErrAnd}
 use Rattle.bytecode.specs.Contents.{ModuleContents}
-use Rattle.bytecode.specs.Decoded.{Tells, first_refusal}
+use Rattle.bytecode.specs.Decoded.{Reports, first_refusal}
 use Rattle.bytecode.specs.Form.{Spells}
 use Rattle.bytecode.specs.Format.{module_file}
 use Rattle.bytecode.specs.declared.fault.FormatFault.{FormatFault}
@@ -17,7 +17,7 @@ use Rattle.channels.specs.WorldText.{IsFirstDefect, IsTextFault, IsWorldText, li
 use Rattle.channels.specs.declared.defect.WorldDefect.{WorldDefect}
 use Rattle.channels.specs.declared.defect.WorldFault.{WorldFault}
 use Rattle.channels.specs.declared.defect.WorldFault.TheVariants.{Line}
-use Rattle.verifier.specs.Faults.{HasNoFault, IsToldOf}
+use Rattle.verifier.specs.Faults.{HasNoFault, IsRefusal}
 use Rattle.verifier.specs.declared.fault.Fault.{Fault}
 use Rattle.verifier.specs.declared.fault.VerifyFault.{VerifyFault}
 use Rattle.verifier.specs.declared.fault.VerifyFault.TheVariants.{Wrong}
@@ -79,15 +79,15 @@ observer_message outcome m h code_path text_path code text observer failed fault
 
 -- the first refusal of bytes
 pub first_refused : (path code line : List ℕ) (fault : FormatFault) (refusal : Refusal) (offset : ℕ) → fault ≡ format.Refused refusal offset
-    → Tells fault (first_refusal code) → line ≡ refusal_line path refusal offset → IsModuleLine path code line
+    → Reports fault (first_refusal code) → line ≡ refusal_line path refusal offset → IsModuleLine path code line
 first_refused path code line fault refusal offset is tells says =
-    refused refusal offset (subst (λ (f : FormatFault). Tells f (first_refusal code)) is tells) says
+    refused refusal offset (subst (λ (f : FormatFault). Reports f (first_refusal code)) is tells) says
 
 -- a fault of the code of the module that bytes spell
 pub faulty_code : (path code line : List ℕ) (m : ModuleContents) (answer : VerifyFault) (fault : Fault) → answer ≡ Wrong fault
-    → Spells module_file m code → IsToldOf m answer → line ≡ fault_line path fault → IsModuleLine path code line
+    → Spells module_file m code → IsRefusal m answer → line ≡ fault_line path fault → IsModuleLine path code line
 faulty_code path code line m answer fault is spelled message says =
-    faulty m fault spelled (subst (λ (v : VerifyFault). IsToldOf m v) is message) says
+    faulty m fault spelled (subst (λ (v : VerifyFault). IsRefusal m v) is message) says
 
 -- the first wrong line of a text, which is those bytes
 pub wrong_line : (m : ModuleContents) (path text bytes line : List ℕ) (fault : WorldFault) (number : ℕ) (defect : WorldDefect) → fault ≡ Line number defect

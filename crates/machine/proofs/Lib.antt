@@ -1,3 +1,4 @@
+mod OneProcedure
 pub mod Lists
 pub mod Rows
 pub mod Steps

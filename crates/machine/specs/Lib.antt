@@ -1,3 +1,4 @@
 pub mod Parts
 pub mod Run
 pub mod Standing
+pub mod StraightLine

@@ -6,6 +6,7 @@ mod input;
 mod parts;
 pub mod run;
 pub mod status;
+mod straight;
 
 pub use fault::NewFault;
 pub use run::Machine;
