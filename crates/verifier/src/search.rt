@@ -2,7 +2,7 @@
 
 ghost use Rattle.bytecode.specs.Code.{code_length, instruction_at, width_of};
 ghost use Rattle.bytecode.specs.Contents.{ModuleContents, ProcedureContents};
-ghost use Rattle.bytecode.specs.declared.parts.Handler.{Handler};
+ghost use Rattle.bytecode.specs.declared.declaration.Handler.{Handler};
 ghost use Rattle.std.specs.List.{Contains};
 ghost use Rattle.std.specs.Prelude.{Some, true, ℕ, [], ◌≡◌, ◌+◌, ◌<◌, ◌≤◌, ◌^◌, ◌∷◌, IfErr, IfOk, OnOk, length};
 ghost use Rattle.verifier.specs.Flow as flow;
