@@ -29,9 +29,7 @@ unfolding main
 main_starts all number h = h.1
 
 pub bounded : (m : ModuleContents) → Fits module_file m → IsBounded m
-unfolding module_file
-unfolding contents
-unfolding program
+unfolding module_file contents program
 bounded m h =
     let all = h.0.1.1.1 in
     let b = procedures_bounded m.procedures all.0 in

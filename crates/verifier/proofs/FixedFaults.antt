@@ -14,7 +14,7 @@ use Rattle.verifier.specs.Fixed.{instruction_defect, instruction_faults, handler
 use Rattle.bytecode.specs.declared.instruction.Instruction.TheVariants.{Jump, JumpIfFalse}
 use Rattle.bytecode.specs.Machine.{program_of}
 use Rattle.verifier.specs.Flow.{target_of}
-use Rattle.verifier.specs.Search.{IsPlace, IsPlaced}
+use Rattle.verifier.specs.Places.{IsPlace, IsPlaced}
 use Rattle.verifier.specs.declared.fault.Defect.{Defect}
 use Rattle.verifier.specs.declared.fault.Defect.TheVariants as defect
 use Rattle.verifier.proofs.Offsets.{next_place}

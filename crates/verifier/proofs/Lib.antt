@@ -3,7 +3,6 @@ pub mod Bounds
 pub mod Calls
 pub mod FixedFaults
 pub mod Holds
-pub mod Laws
 pub mod Marks
 pub mod NeverStuck
 pub mod Offsets
@@ -12,3 +11,4 @@ pub mod Reported
 pub mod Rows
 pub mod Runs
 pub mod Shared
+pub mod Tables

@@ -19,13 +19,13 @@ use Rattle.verifier.specs.Faults.{HasNoFault}
 use Rattle.verifier.specs.Fixed.{instruction_defect, is_scalar, is_array, is_input, is_output}
 use Rattle.verifier.specs.Flow.{Edge, next, jumps, caught, Flow, starts, grows, nowhere, Effect, Leaves, Misses, and_then, all_popped, effect, slot_kind, kind_in, global_kind}
 use Rattle.verifier.specs.Safety.{HasRow, IsNeverStuck}
-use Rattle.verifier.specs.Search.{IsPlace, IsPlaced}
+use Rattle.verifier.specs.Places.{IsPlace, IsPlaced}
 use Rattle.verifier.specs.declared.fault.Defect.TheVariants.{SlotOrIndex}
 use Rattle.verifier.proofs.Bounds.{IsBounded}
 use Rattle.verifier.proofs.Calls.{get_header, calls_good, returns_good, gives_back_good}
 use Rattle.verifier.proofs.FixedFaults.{IsRight, all_right, placed, right_of_unless}
 use Rattle.verifier.proofs.Holds.{AllOf, Holds, holds_changed, holds_empty, holds_globals}
-use Rattle.verifier.proofs.Laws.{IsInFlow, start_in_flow, changed_cases, flow_finds, flow_stays}
+use Rattle.verifier.proofs.Tables.{IsInFlow, start_in_flow, changed_cases, flow_finds, flow_stays}
 use Rattle.verifier.proofs.Rows.{loads_good, stores_good, loads_element_good, stores_element_good, clears_good, computes_good, compares_good, matches_good, drops_good, negates_good, inverts_good, branches_good, sends_good, receives_good}
 use Rattle.verifier.proofs.Runs.{Callers, outermost, Stands, Good, GoodState, runs, over, leaves_same, flows, next_good, jump_good, raised_good}
 

@@ -4,10 +4,11 @@ use Rattle.bytecode.specs.Contents.{ProcedureContents, ModuleContents}
 use Rattle.verifier.specs.Faults.{HasNoFault, IsReported, IsReportedAfter, IsFlowFault, IsRefusal}
 use Rattle.verifier.specs.Fixed.{fixed_faults}
 use Rattle.verifier.specs.Flow.{FlowsWell, IsFlowDefect}
-use Rattle.verifier.specs.Search.{IsStop}
+use Rattle.verifier.specs.Search.{IsStop, stop_fault}
+use Rattle.verifier.specs.declared.search.Stop.{Stop}
+use Rattle.verifier.specs.declared.search.Stop.TheVariants as stop
 use Rattle.verifier.specs.declared.fault.Defect.{Defect}
 use Rattle.verifier.specs.declared.fault.Fault.{Fault}
-use Rattle.verifier.specs.declared.fault.VerifyFault.TheVariants.{Wrong}
 use Rattle.verifier.proofs.FixedFaults.{nothing_first}
 
 -- a fault that may be reported is there
@@ -25,8 +26,9 @@ reported_first m fault e = split (fixed_faults m) e
 pub none_fixed : (m : ModuleContents) → None ≡ slice_get (fixed_faults m) 0 → fixed_faults m ≡ []
 none_fixed m e = nothing_first (fixed_faults m) (sym e)
 
-pub reported_flow : (m : ModuleContents) (k number offset : ℕ) (defect : Defect) (p : ProcedureContents) → fixed_faults m ≡ [] → slice_get m.procedures k ≡ Some p → number ≡ k → IsFlowDefect m p offset defect → IsReported m (record { defect = defect; procedure = number; offset = offset })
-reported_flow m k number offset defect p none there is e =
+pub reported_stop : (m : ModuleContents) (k number : ℕ) (p : ProcedureContents) (stop : Stop) → fixed_faults m ≡ [] → slice_get m.procedures k ≡ Some p → number ≡ k → IsStop m p stop → IsRefusal m (stop_fault number stop)
+reported_stop m k number p stop.NoMemory none there is e = tt
+reported_stop m k number p (stop.Wrong offset defect) none there is e =
     subst (λ (faults : List Fault). IsReportedAfter m faults (record { defect = defect; procedure = number; offset = offset })) (sym none)
     (record { procedure = p; there = ap (slice_get m.procedures) is ∙ there; defect = e })
 

@@ -8,7 +8,8 @@ ghost use Rattle.std.specs.Prelude.{Some, true, ℕ, [], ◌≡◌, ◌+◌, ◌
 ghost use Rattle.verifier.specs.Flow as flow;
 ghost use Rattle.verifier.specs.Flow.{FlowsWell};
 ghost use Rattle.verifier.specs.Operands.{list_of};
-ghost use Rattle.verifier.specs.Search.{Flowed, HasEffect, HasInstruction, IsApplied, IsAtEdge, IsBody, IsGoing, IsPlace, IsPlaced, IsStop, Steps, left, table};
+ghost use Rattle.verifier.specs.Places.{IsPlace, IsPlaced};
+ghost use Rattle.verifier.specs.Search.{Flowed, HasEffect, HasInstruction, IsApplied, IsAtEdge, IsBody, IsGoing, IsStop, Steps, left, table};
 
 use crate::body::Body;
 use crate::effects::{goes_on, is_own, pops, pushes, target_of};
