@@ -22,8 +22,8 @@ use Rattle.bytecode.specs.Format.{module_file}
 use Rattle.bytecode.specs.declared.instruction.Arithmetic.TheVariants.{Add}
 use Rattle.bytecode.specs.declared.instruction.Instruction.{Instruction}
 use Rattle.bytecode.specs.declared.instruction.Instruction.TheVariants.{Store, Compute, Return, Send}
-use Rattle.bytecode.specs.declared.parts.Kind.TheVariants.{Int}
-use Rattle.bytecode.specs.declared.parts.Slot.TheVariants.{Scalar}
+use Rattle.bytecode.specs.declared.value.Kind.TheVariants.{Int}
+use Rattle.bytecode.specs.declared.declaration.Slot.TheVariants.{Scalar}
 use Rattle.bytecode.specs.StraightLine.{is_straight_line as is_straight_line_module}
 use Rattle.bytecode.proofs.Straight.{straight}
 use Rattle.verifier.specs.Faults.{instruction_defect, instruction_faults, is_scalar, is_input, is_output, unless}

@@ -10,9 +10,9 @@ use Rattle.bytecode.specs.Machine.{Operand, Number, Machine, Running, Ended, Fin
 use Rattle.bytecode.specs.declared.instruction.Arithmetic.TheVariants.{Add}
 use Rattle.bytecode.specs.declared.instruction.Instruction.{Instruction}
 use Rattle.bytecode.specs.declared.instruction.Instruction.TheVariants.{Push, Load, Store, Compute, Return, Receive, Send}
-use Rattle.bytecode.specs.declared.parts.Kind.TheVariants.{Int}
-use Rattle.bytecode.specs.declared.parts.Slot.TheVariants.{Scalar}
-use Rattle.bytecode.specs.declared.parts.Direction.TheVariants.{Input, Output}
+use Rattle.bytecode.specs.declared.value.Kind.TheVariants.{Int}
+use Rattle.bytecode.specs.declared.declaration.Slot.TheVariants.{Scalar}
+use Rattle.bytecode.specs.declared.declaration.Direction.TheVariants.{Input, Output}
 use Rattle.verifier.proofs.Straight.{state_at}
 use Rattle.lowering.proofs.Steps.{Leads, leads-step}
 use Rattle.lowering.proofs.Places.{Stands, stands-here}

@@ -22,11 +22,11 @@ use Rattle.resolved.proofs.Parts.{procedure_there, procedure_at_is, passes_at}
 use Rattle.bytecode.specs.Code.{code_length}
 use Rattle.bytecode.specs.Machine as machine
 use Rattle.bytecode.specs.declared.instruction.Instruction.TheVariants.{Return}
-use Rattle.bytecode.specs.declared.parts.Kind.TheVariants.{Int}
-use Rattle.bytecode.specs.declared.parts.Slot.{Slot}
-use Rattle.bytecode.specs.declared.parts.Slot.TheVariants.{Scalar}
-use Rattle.bytecode.specs.declared.parts.Direction.{Direction}
-use Rattle.bytecode.specs.declared.parts.Direction.TheVariants.{Input, Output}
+use Rattle.bytecode.specs.declared.value.Kind.TheVariants.{Int}
+use Rattle.bytecode.specs.declared.declaration.Slot.{Slot}
+use Rattle.bytecode.specs.declared.declaration.Slot.TheVariants.{Scalar}
+use Rattle.bytecode.specs.declared.declaration.Direction.{Direction}
+use Rattle.bytecode.specs.declared.declaration.Direction.TheVariants.{Input, Output}
 use Rattle.bytecode.specs.Contents.{ChannelContents}
 use Rattle.verifier.proofs.Straight.{state_at}
 use Rattle.lowering.specs.Interface.{direction_of, channel_contents}

@@ -10,9 +10,9 @@ use Rattle.resolved.specs.StraightLine.{is_labelled_int, is_straight_procedure, 
 use Rattle.resolved.specs.WellFormed.{well_formed, procedure_fits, block_fits, label_fits, label_nodes, block_nodes, procedure_nodes, program_nodes, node_limit}
 use Rattle.bytecode.specs.declared.instruction.Instruction.{Instruction}
 use Rattle.bytecode.specs.declared.instruction.Instruction.TheVariants.{Return}
-use Rattle.bytecode.specs.declared.parts.Kind.TheVariants.{Int}
-use Rattle.bytecode.specs.declared.parts.Slot.{Slot}
-use Rattle.bytecode.specs.declared.parts.Slot.TheVariants.{Scalar}
+use Rattle.bytecode.specs.declared.value.Kind.TheVariants.{Int}
+use Rattle.bytecode.specs.declared.declaration.Slot.{Slot}
+use Rattle.bytecode.specs.declared.declaration.Slot.TheVariants.{Scalar}
 use Rattle.bytecode.specs.Form.{Fits, FitEach, Code}
 use Rattle.bytecode.specs.Format.{cells_of_size, slot_parts, slot_cells, is_size, slot_kind, slot_after, slots, returned, parameters, handlers, procedure, procedures, globals, main, program as program_form, contents, module_file}
 use Rattle.bytecode.specs.Opcodes.{instructions}
