@@ -2,9 +2,9 @@
 use Rattle.std.proofs.Common.{◌≡◌, ℕ, zero, suc, ◌+◌, ◌<◌, List, [], ◌∷◌, ◌++◌, length, map, reverse, take, get_or, Option, Some, None, refl, sym, ap, ◌∙◌, arith}
 use Rattle.std.proofs.lemmas.List.{reverse-append, take_more}
 use Rattle.bytecode.specs.Machine.{kinds_of}
-use Rattle.bytecode.specs.declared.parts.Kind.{Kind}
-use Rattle.bytecode.specs.declared.parts.Slot.{Slot}
-use Rattle.bytecode.specs.declared.parts.Slot.TheVariants.{Scalar, Array}
+use Rattle.bytecode.specs.declared.value.Kind.{Kind}
+use Rattle.bytecode.specs.declared.declaration.Slot.{Slot}
+use Rattle.bytecode.specs.declared.declaration.Slot.TheVariants.{Scalar, Array}
 use Rattle.verifier.specs.Flow.{Effect, Leaves, Misses, all_popped, and_then, popped, slot_kind}
 use Rattle.verifier.specs.declared.fault.Defect.{Defect}
 

@@ -9,12 +9,12 @@ use Rattle.std.proofs.lemmas.List.{drop_more}
 use Rattle.bytecode.specs.Code.{width_of, code_length, instruction_at}
 use Rattle.bytecode.specs.Contents.{ProcedureContents, ModuleContents}
 use Rattle.bytecode.specs.declared.instruction.Instruction.{Instruction}
-use Rattle.bytecode.specs.declared.parts.Handler.{Handler}
+use Rattle.bytecode.specs.declared.declaration.Handler.{Handler}
 use Rattle.verifier.specs.Fixed.{instruction_defect, instruction_faults, handler_defect, handler_faults, procedure_faults, fixed_faults, fault_list, unless, is_start, is_end, has_right_offsets}
 use Rattle.bytecode.specs.declared.instruction.Instruction.TheVariants.{Jump, JumpIfFalse}
 use Rattle.bytecode.specs.Machine.{program_of}
 use Rattle.verifier.specs.Flow.{target_of}
-use Rattle.verifier.specs.Search.{IsPlace, IsPlaced}
+use Rattle.verifier.specs.Places.{IsPlace, IsPlaced}
 use Rattle.verifier.specs.declared.fault.Defect.{Defect}
 use Rattle.verifier.specs.declared.fault.Defect.TheVariants as defect
 use Rattle.verifier.proofs.Offsets.{next_place}

@@ -1,7 +1,14 @@
 pub mod Arguments
+pub mod Bounds
+pub mod Calls
 pub mod FixedFaults
-pub mod Laws
+pub mod Holds
 pub mod Marks
+pub mod NeverStuck
 pub mod Offsets
 pub mod Reaching
+pub mod Reported
+pub mod Rows
+pub mod Runs
 pub mod Shared
+pub mod Tables

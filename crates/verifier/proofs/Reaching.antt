@@ -7,17 +7,18 @@ use Rattle.std.proofs.lemmas.List.Elements.{Contains-append_left, Contains-push,
 use Rattle.std.proofs.Math.ListN.{length-set}
 use Rattle.bytecode.specs.Contents.{ProcedureContents, ModuleContents}
 use Rattle.bytecode.specs.Code.{width_of, code_length, instruction_at}
-use Rattle.bytecode.specs.declared.parts.Kind.{Kind}
-use Rattle.bytecode.specs.declared.parts.Handler.{Handler}
+use Rattle.bytecode.specs.declared.value.Kind.{Kind}
+use Rattle.bytecode.specs.declared.declaration.Handler.{Handler}
 use Rattle.bytecode.specs.declared.instruction.Instruction.{Instruction}
 use Rattle.verifier.specs.declared.fault.Defect.{Defect}
 use Rattle.verifier.specs.Flow.{Edge, next, jumps, caught, Flow, starts, nowhere, grows, misses, meets, falls, IsFlowDefect, FlowsWell, changed, between, effect, all_popped, pushed, exchanged, signature, is_own, and_then, Leaves, Misses, goes_on, target_of}
 use Rattle.verifier.specs.Operands.{list_of, IsLonger}
-use Rattle.verifier.specs.Search.{row, table, IsKept, IsGoing, IsAtEdge, Flowed, Steps, IsApplied, HasEffect, HasInstruction, IsFirst, IsPlace, IsPlaced, left, unset}
+use Rattle.verifier.specs.Places.{IsPlace, IsPlaced}
+use Rattle.verifier.specs.Search.{row, table, IsKept, IsGoing, IsAtEdge, Flowed, Steps, IsApplied, HasEffect, HasInstruction, IsFirst, left, unset}
 use Rattle.verifier.specs.declared.fault.Defect.TheVariants.{OperandKind, OperandDepth, FallsOffEnd}
 use Rattle.verifier.specs.declared.search.Search.{Search}
 use Rattle.verifier.proofs.Offsets.{start_inside}
-use Rattle.verifier.proofs.Laws.{IsDone, no_fault, changed_at}
+use Rattle.verifier.proofs.Tables.{IsDone, no_fault, changed_at}
 
 fun_ext : {f g : ℕ → Option (List Kind)} → ((x : ℕ) → f x ≡ g x) → f ≡ g
 fun_ext h = λ i x. h x i

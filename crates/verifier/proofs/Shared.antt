@@ -6,8 +6,8 @@ use Rattle.std.proofs.Math.ListN.{length-set}
 use Rattle.std.specs.Prelude.{IfSome}
 use Rattle.verifier.specs.Operands.{list_of, spelled, HasAbove, IsLink, IsShared}
 use Rattle.verifier.specs.declared.operands.Link.{Link}
-use Rattle.bytecode.specs.declared.parts.Kind.{Kind}
-use Rattle.bytecode.specs.declared.parts.Kind.TheVariants.{Int, Boolean}
+use Rattle.bytecode.specs.declared.value.Kind.{Kind}
+use Rattle.bytecode.specs.declared.value.Kind.TheVariants.{Int, Boolean}
 
 pub spelled_push : (lists : List (List Kind)) (links : List Link) (link : Link) → spelled lists (links ++ link ∷ []) ≡ spelled lists links ++ (link.kind ∷ list_of (spelled lists links) link.below) ∷ []
 spelled_push lists [] link = refl

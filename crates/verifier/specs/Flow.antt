@@ -5,14 +5,15 @@ use Rattle.std.specs.Prelude.{◌≡◌, ◌≢◌, ℕ, ◌+◌, ◌≤◌, ◌
 use Rattle.std.specs.List.{Contains}
 use Rattle.bytecode.specs.Contents.{ProcedureContents, ModuleContents}
 use Rattle.bytecode.specs.Code.{width_of, code_length, instruction_at}
-use Rattle.bytecode.specs.Machine.{same_kind, header_of, program_of}
+use Rattle.bytecode.specs.Machine.{header_of, program_of}
+use Rattle.bytecode.specs.Values.{is_same_kind}
 use Rattle.bytecode.specs.declared.instruction.Instruction.{Instruction}
 use Rattle.bytecode.specs.declared.instruction.Instruction.TheVariants.{Push, PushBoolean, Pop, Load, Store, LoadGlobal, StoreGlobal, LoadElement, StoreElement, LoadGlobalElement, StoreGlobalElement, Clear, Compute, Negate, Not, Compare, SameBoolean, OtherBoolean, Jump, JumpIfFalse, Call, Return, ReturnValue, Receive, Send, Throw}
-use Rattle.bytecode.specs.declared.parts.Kind.{Kind}
-use Rattle.bytecode.specs.declared.parts.Kind.TheVariants.{Int, Boolean}
-use Rattle.bytecode.specs.declared.parts.Slot.{Slot}
-use Rattle.bytecode.specs.declared.parts.Slot.TheVariants as slot
-use Rattle.bytecode.specs.declared.parts.Handler.{Handler}
+use Rattle.bytecode.specs.declared.value.Kind.{Kind}
+use Rattle.bytecode.specs.declared.value.Kind.TheVariants.{Int, Boolean}
+use Rattle.bytecode.specs.declared.declaration.Slot.{Slot}
+use Rattle.bytecode.specs.declared.declaration.Slot.TheVariants as slot
+use Rattle.bytecode.specs.declared.declaration.Handler.{Handler}
 use Rattle.verifier.specs.declared.fault.Defect.{Defect}
 use Rattle.verifier.specs.declared.fault.Defect.TheVariants.{OperandKind, OperandDepth, FallsOffEnd}
 
@@ -114,7 +115,7 @@ pub data Effect : Type 0 where
 abbrev pub popped : Option Kind → List Kind → Effect
 popped wanted [] = Misses OperandDepth
 popped None (kind ∷ kinds) = Leaves kinds
-popped (Some wanted) (kind ∷ kinds) = if same_kind wanted kind then Leaves kinds else Misses OperandKind
+popped (Some wanted) (kind ∷ kinds) = if is_same_kind wanted kind then Leaves kinds else Misses OperandKind
 
 abbrev pub and_then : Effect → (List Kind → Effect) → Effect
 and_then (Leaves kinds) more = more kinds

@@ -5,10 +5,12 @@ use Rattle.std.specs.List.{Contains}
 use Rattle.bytecode.specs.Contents.{ProcedureContents, ModuleContents}
 use Rattle.bytecode.specs.Code.{width_of, code_length, instruction_at}
 use Rattle.bytecode.specs.declared.instruction.Instruction.{Instruction}
-use Rattle.bytecode.specs.declared.parts.Kind.{Kind}
-use Rattle.bytecode.specs.declared.parts.Handler.{Handler}
+use Rattle.bytecode.specs.declared.value.Kind.{Kind}
+use Rattle.bytecode.specs.declared.declaration.Handler.{Handler}
 use Rattle.verifier.specs.Flow.{Edge, Flow, Leaves, effect, goes_on, target_of, IsFlowDefect}
 use Rattle.verifier.specs.Operands.{list_of}
+use Rattle.verifier.specs.declared.fault.VerifyFault.{VerifyFault}
+use Rattle.verifier.specs.declared.fault.VerifyFault.TheVariants as verify
 use Rattle.verifier.specs.declared.search.Search.{Search}
 use Rattle.verifier.specs.declared.search.Stop.{Stop}
 use Rattle.verifier.specs.declared.search.Stop.TheVariants.{NoMemory, Wrong}
@@ -31,18 +33,6 @@ numbered code (Some index) = slice_get code index
 pub record IsBody (b : Body) : Type 0 where
   pub marks : b.marks.items ≡ marks_from 0 b.procedure.now.code
   pub short : code_length b.procedure.now.code < 2 ^ 32
-
--- an instruction's offset, or the end
-abbrev pub IsPlace : ProcedureContents → ℕ → Type 0
-IsPlace procedure place =
-    (place ≡ code_length procedure.code) ⊎ ((i : Instruction) × (instruction_at procedure.code place ≡ Some i))
-
--- each place to which control may go is an instruction's or the end
-pub record IsPlaced (procedure : ProcedureContents) : Type 0 where
-  pub next : (at : ℕ) (i : Instruction) → instruction_at procedure.code at ≡ Some i → IsPlace procedure (at + width_of i)
-  pub jumps : (at : ℕ) (i : Instruction) (to : ℕ) → instruction_at procedure.code at ≡ Some i → target_of i ≡ Some to → IsPlace procedure to
-  pub caught : (h : Handler) → Contains procedure.handlers h → IsPlace procedure h.target
-  pub first : IsPlace procedure 0
 
 -- ---- the table that was found so far
 
@@ -136,3 +126,9 @@ pub record HasInstruction (p : ProcedureContents) (s : Search) (at : ℕ) : Type
 abbrev pub IsStop : ModuleContents → ProcedureContents → Stop → Type 0
 IsStop m p NoMemory = Unit {0}
 IsStop m p (Wrong offset defect) = IsFlowDefect m p offset defect
+
+-- what is reported where the search of a procedure stopped
+abbrev pub stop_fault : ℕ → Stop → VerifyFault
+stop_fault number NoMemory = verify.NoMemory
+stop_fault number (Wrong offset defect) =
+    verify.Wrong (record { defect = defect; procedure = number; offset = offset })

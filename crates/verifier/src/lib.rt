@@ -5,6 +5,7 @@ mod body;
 mod effects;
 pub mod fault;
 mod fixed;
+pub mod laws;
 mod operands;
 mod search;
 pub mod verified;

@@ -29,7 +29,7 @@ pub struct Operands {
 
 impl Model for Operands {
     ghost use Rattle.verifier.specs.Operands.{IsShared, spelled};
-    ghost use Rattle.bytecode.specs.declared.parts.Kind.{Kind};
+    ghost use Rattle.bytecode.specs.declared.value.Kind.{Kind};
     ghost use Rattle.std.specs.Prelude.{List, [], ◌∷◌};
 
     ghost Value = { List (List Kind) };

@@ -2,13 +2,14 @@
 
 ghost use Rattle.bytecode.specs.Code.{code_length, instruction_at, width_of};
 ghost use Rattle.bytecode.specs.Contents.{ModuleContents, ProcedureContents};
-ghost use Rattle.bytecode.specs.declared.parts.Handler.{Handler};
+ghost use Rattle.bytecode.specs.declared.declaration.Handler.{Handler};
 ghost use Rattle.std.specs.List.{Contains};
 ghost use Rattle.std.specs.Prelude.{Some, true, ℕ, [], ◌≡◌, ◌+◌, ◌<◌, ◌≤◌, ◌^◌, ◌∷◌, IfErr, IfOk, OnOk, length};
 ghost use Rattle.verifier.specs.Flow as flow;
 ghost use Rattle.verifier.specs.Flow.{FlowsWell};
 ghost use Rattle.verifier.specs.Operands.{list_of};
-ghost use Rattle.verifier.specs.Search.{Flowed, HasEffect, HasInstruction, IsApplied, IsAtEdge, IsBody, IsGoing, IsPlace, IsPlaced, IsStop, Steps, left, table};
+ghost use Rattle.verifier.specs.Places.{IsPlace, IsPlaced};
+ghost use Rattle.verifier.specs.Search.{Flowed, HasEffect, HasInstruction, IsApplied, IsAtEdge, IsBody, IsGoing, IsStop, Steps, left, table};
 
 use crate::body::Body;
 use crate::effects::{goes_on, is_own, pops, pushes, target_of};

@@ -4,6 +4,7 @@ ghost use Rattle.std.specs.Prelude.{IfErr, IfOk, OnOk, Some, length, slice_get, 
 ghost use Rattle.verifier.specs.Faults.{HasNoFault, IsRefusal};
 ghost use Rattle.verifier.specs.Fixed.{fixed_faults};
 ghost use Rattle.verifier.specs.Safety.{IsNeverStuck};
+ghost use Rattle.verifier.specs.Search.{stop_fault};
 
 use crate::body::Body;
 use crate::fault::{Fault, VerifyFault};
@@ -93,7 +94,9 @@ fn look_for_flow_faults(alloc: Global, program: &Module) -> Result<(), VerifyFau
 }
 
 // The fault for which the search of a procedure stopped.
-fn fault_at(procedure: u32, stop: Stop) -> VerifyFault {
+fn fault_at(procedure: u32, stop: Stop) -> VerifyFault
+    ensures { result ≡ stop_fault procedure stop }
+{
     match stop {
         Stop::NoMemory => VerifyFault::NoMemory,
         Stop::Wrong(offset, defect) => VerifyFault::Wrong(Fault {

@@ -1,6 +1,6 @@
 use Rattle.std.proofs.Common.{◌≡◌, ◌-◌, ◌+◌, ◌<◌, length, arith, sym, ◌∙◌}
-use Rattle.bytecode.specs.declared.parts.Kind.TheVariants.{Int}
-use Rattle.bytecode.specs.declared.parts.Slot.TheVariants.{Scalar}
+use Rattle.bytecode.specs.declared.value.Kind.TheVariants.{Int}
+use Rattle.bytecode.specs.declared.declaration.Slot.TheVariants.{Scalar}
 use Rattle.verifier.specs.Operands.{list_of}
 use Rattle.verifier.proofs.Arguments.{pop_step, pop_fail}
 use Rattle.verifier.proofs.effects.pop_arguments.Goals as goal

@@ -1,4 +1,4 @@
-use Rattle.bytecode.specs.declared.parts.Kind.TheVariants.{Int, Boolean}
+use Rattle.bytecode.specs.declared.value.Kind.TheVariants.{Int, Boolean}
 use Rattle.verifier.proofs.Shared.{above_there}
 use Rattle.verifier.proofs.operands.Operands.above.Goals as goal
 

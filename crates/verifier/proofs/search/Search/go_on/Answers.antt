@@ -1,5 +1,5 @@
 use Rattle.std.proofs.Common.{rules, ◌≡◌, ◌+◌, ap, sym, subst, arith, ℕ, ◌∙◌}
-use Rattle.verifier.specs.Search.{IsPlace}
+use Rattle.verifier.specs.Places.{IsPlace}
 use Rattle.verifier.proofs.Offsets.{ends_inside}
 use Rattle.verifier.proofs.Reaching.{edge_next}
 use Rattle.verifier.proofs.search.Search.go_on.Goals as goal

@@ -2,7 +2,7 @@ use Rattle.std.proofs.Common.{rules, ◌≡◌, ◌≢◌, ℕ, ◌+◌, ◌<◌
 use Rattle.std.specs.List.{Contains}
 use Rattle.std.proofs.lemmas.List.Elements.{Contains-get_or}
 use Rattle.verifier.specs.Search.{IsAtEdge, Steps, table}
-use Rattle.bytecode.specs.declared.parts.Handler.{Handler}
+use Rattle.bytecode.specs.declared.declaration.Handler.{Handler}
 use Rattle.verifier.proofs.Reaching.{edge_caught, steps_more, caught_more, whole_front}
 use Rattle.verifier.proofs.search.Search.raise.Goals as goal
 use Rattle.verifier.proofs.search.Search.raise.Goals.{then-handler-at+then-at-handler+in_ok-reach, else-handler-at, else-handler-at-via-then-handler-at+else-at-handler, else-handler-at-via-else-handler-at}

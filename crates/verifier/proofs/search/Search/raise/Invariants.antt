@@ -1,7 +1,7 @@
 use Rattle.std.proofs.Common.{◌≡◌, ◌≤◌, ◌<◌, Some, [], take}
 use Rattle.std.specs.List.{Contains}
 use Rattle.verifier.specs.Search.{Steps, table}
-use Rattle.bytecode.specs.declared.parts.Handler.{Handler}
+use Rattle.bytecode.specs.declared.declaration.Handler.{Handler}
 use Rattle.verifier.proofs.search.Search.raise.Given as goal
 
 abbrev pub invariant-loop-handler : goal.invariant-loop-handler

@@ -4,12 +4,12 @@ use Rattle.std.proofs.lemmas.Grind.{common_steps}
 use Rattle.std.proofs.lemmas.Bool.Decides.{nat_tests}
 use Rattle.bytecode.specs.Contents.{ProcedureContents, ModuleContents}
 use Rattle.bytecode.specs.Code.{width_of, code_length, instruction_at}
-use Rattle.bytecode.specs.declared.parts.Kind.{Kind}
-use Rattle.bytecode.specs.declared.parts.Handler.{Handler}
+use Rattle.bytecode.specs.declared.value.Kind.{Kind}
+use Rattle.bytecode.specs.declared.declaration.Handler.{Handler}
 use Rattle.bytecode.specs.declared.instruction.Instruction.{Instruction}
 use Rattle.verifier.specs.declared.fault.Defect.{Defect}
 use Rattle.verifier.specs.Flow.{Edge, Flow, starts, grows, changed, nowhere, effect, Effect, Leaves, Misses, IsFlowDefect, misses, meets, falls, FlowsWell, between}
-use Rattle.bytecode.specs.declared.parts.Kind.TheVariants.{Int, Boolean}
+use Rattle.bytecode.specs.declared.value.Kind.TheVariants.{Int, Boolean}
 use Rattle.verifier.specs.declared.fault.Defect.TheVariants.{FallsOffEnd}
 
 -- a table that is done: it has the start, keeps every edge, each of its instructions finds its operands, and none is at the end
