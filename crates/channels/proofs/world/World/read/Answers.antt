@@ -6,7 +6,7 @@ use Rattle.channels.specs.WorldText.{IsWorldText, input_of, lines_of, table_afte
 use Rattle.channels.proofs.Tables.{world_is}
 use Rattle.channels.proofs.world.World.read.Goals as goal
 
-pub returns-clause-exact : goal.returns-clause-world
+pub returns-clause-exact : goal.returns-clause-exact
 returns-clause-exact c =
     let names = input_names c.args.program.now in
     let lines = lines_of c.args.text.now in
@@ -17,7 +17,7 @@ returns-clause-exact c =
     c.in-Ok-inputs_of.ensures ∙ ap (map (input_of table)) second
     ∙ world_is names lines table (λ (name : List ℕ). c.in_ok-table.ensures.table name ∙ ap (λ (ns : List (List ℕ)). table_after ns lines name) first)
 
-pub returns-clause-accepted : goal.returns-clause-right
+pub returns-clause-accepted : goal.returns-clause-accepted
 returns-clause-accepted c =
     let names = ap (λ (cs : List ChannelContents). map (λ (k : ChannelContents). k.name) (filter (λ (k : ChannelContents). is_input k.direction) cs)) c.channels.ensures in
     subst (λ (ns : List (List ℕ)). IsWorldText ns (lines_of c.args.text.now)) (ap texts_of c.deref.ensures.value ∙ c.in-Ok.ensures ∙ names) c.in_ok-table.ensures.right
