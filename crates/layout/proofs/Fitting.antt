@@ -23,7 +23,7 @@ use Rattle.layout.proofs.Tables.{offset-within}
 
 -- ---- code
 
-length-renamed : (f : ℕ → ℕ) (code : List Instruction) → code_length (map (renamed_instruction f) code) ≡ code_length code
+pub length-renamed : (f : ℕ → ℕ) (code : List Instruction) → code_length (map (renamed_instruction f) code) ≡ code_length code
 length-renamed f [] = refl
 length-renamed f (x ∷ code) = omega (arith, width-renamed f x, length-renamed f code)
 

@@ -2,4 +2,4 @@ pub mod Renaming
 pub mod Offsets
 pub mod Tables
 pub mod Fitting
-pub mod Lists
+pub mod Starts

@@ -16,7 +16,7 @@ use Rattle.bytecode.specs.Machine.{Header, Program, Machine, Running, Ended, Stu
 use Rattle.layout.specs.Targets.{renamed_instruction, renamed_handler}
 use Rattle.layout.specs.Offsets.{offset, laid_out_procedure, laid_out, offset_in}
 use Rattle.layout.specs.Runs.{graph_program, graph_after_steps}
-use Rattle.layout.specs.Kept.{renamed, SameRuns}
+use Rattle.layout.specs.Kept.{renamed, SameRuns, SameInterface}
 use Rattle.layout.proofs.Renaming.{Relaid, relaid, exec-same}
 
 -- ---- widths
@@ -51,7 +51,7 @@ less_by : (code : List Instruction) (a b : ℕ) (less : Bool) → ltb a b ≡ le
 less_by code a b true e = lt-ltb _ _ (offset-less code a b (ltb-true a b e))
 less_by code a b false e = le-ltb _ _ (offset-most code b a (ltb-false a b e))
 
-less-same : (code : List Instruction) (a b : ℕ) → ltb (offset code a) (offset code b) ≡ ltb a b
+pub less-same : (code : List Instruction) (a b : ℕ) → ltb (offset code a) (offset code b) ≡ ltb a b
 less-same code a b = less_by code a b (ltb a b) refl
 
 -- ---- fetched
@@ -67,7 +67,7 @@ skipped x rest n =
     behind x rest (width_of x + n) (width_of x) (omega arith) (omega arith)
     ∙ ap (λ (at : ℕ). instruction_at rest at) (omega arith)
 
-fetched : (f : ℕ → ℕ) (code : List Instruction) (k : ℕ) → instruction_at (map (renamed_instruction f) code) (offset code k) ≡ option_map (renamed_instruction f) (slice_get code k)
+pub fetched : (f : ℕ → ℕ) (code : List Instruction) (k : ℕ) → instruction_at (map (renamed_instruction f) code) (offset code k) ≡ option_map (renamed_instruction f) (slice_get code k)
 fetched f [] k = refl
 fetched f (x ∷ code) zero = refl
 fetched f (x ∷ code) (suc k) =
@@ -84,10 +84,10 @@ past (y ∷ code) zero x e =
     omega (arith, ap width_of same, offset-start code)
 past (y ∷ code) (suc k) x e = omega (arith, past code k x e)
 
-next_offset : (code : List Instruction) (k : ℕ) (x : Instruction) → slice_get code k ≡ Some x → position_after (instruction_at (map (renamed_instruction (offset code)) code) (offset code k)) (offset code k) ≡ offset code (k + 1)
+pub next_offset : (code : List Instruction) (k : ℕ) (x : Instruction) → slice_get code k ≡ Some x → position_after (instruction_at (map (renamed_instruction (offset code)) code) (offset code k)) (offset code k) ≡ offset code (k + 1)
 next_offset code k x e =
     let here : instruction_at (map (renamed_instruction (offset code)) code) (offset code k) ≡ Some (renamed_instruction (offset code) x) =
-        fetched (offset code) code k ∙ ap (option_map (renamed_instruction (offset code))) e in
+    fetched (offset code) code k ∙ ap (option_map (renamed_instruction (offset code))) e in
     ap (λ (found : Option Instruction). position_after found (offset code k)) here
     ∙ ap (λ (w : ℕ). offset code k + w) (width-renamed (offset code) x)
     ∙ past code k x e ∙ ap (offset code) (sym (add-one k))
@@ -98,7 +98,7 @@ chosen : (f : ℕ → ℕ) (taken : Bool) (target : ℕ) (after before : Option 
 chosen f true target after before h = refl
 chosen f false target after before h = h
 
-found : (code : List Instruction) (handlers : List Handler) (k exception : ℕ) → handler_for (map (renamed_handler (offset code)) handlers) (offset code k) exception ≡ option_map (offset code) (handler_for handlers k exception)
+pub found : (code : List Instruction) (handlers : List Handler) (k exception : ℕ) → handler_for (map (renamed_handler (offset code)) handlers) (offset code k) exception ≡ option_map (offset code) (handler_for handlers k exception)
 found code [] k exception = refl
 found code (h ∷ handlers) k exception =
     let rest : Option ℕ = handler_for (map (renamed_handler (offset code)) handlers) (offset code k) exception in
@@ -160,7 +160,7 @@ program-same g = ap (λ (headers : List Header). record (program_of (laid_out g)
 first-same : (g : ModuleContents) (world : ℕ → List ℤ) → Running (first_state (laid_out g) world) ≡ renamed (offset_in g) (Running (first_state g world))
 first-same g world =
     let slots : slots_in (slice_get (laid_out g).procedures g.main) ≡ slots_in (slice_get g.procedures g.main) =
-        ap slots_in (procedure_at g g.main) ∙ slots_as_before (slice_get g.procedures g.main) in
+    ap slots_in (procedure_at g g.main) ∙ slots_as_before (slice_get g.procedures g.main) in
     let starts : List Slot → ℕ → Machine = λ declared position. Running (record (first_state g world) { frame = record (new_frame g.main declared []) { position = position } }) in
     λ i. starts (slots i) (sym (offset-start (code_of (slice_get g.procedures g.main))) i)
 
@@ -200,4 +200,14 @@ runs-same g = record {
     λ e. stuck (offset_in g) (graph_after_steps g world n) sent (sym (steps-same g world n) ∙ e),
     λ e. steps-same g world n ∙ ap (renamed (offset_in g)) e,
   );
+}
+
+pub interface-same : (g : ModuleContents) → SameInterface g (laid_out g)
+interface-same g = record {
+  hierarchy = refl;
+  exceptions = refl;
+  channels = refl;
+  globals = refl;
+  main = refl;
+  headers = headers-same g.procedures;
 }

@@ -10,7 +10,7 @@ use bytecode::{Handler, Instruction, Procedure};
 use std::alloc::{AllocError, Global};
 
 /// The offset of each position of the code, and of its end.
-fn table_of(alloc: Global, code: &[Instruction]) -> Result<Vec<u32>, AllocError>
+fn make_table(alloc: Global, code: &[Instruction]) -> Result<Vec<u32>, AllocError>
     requires { code_length code.now < 2 ^ 32 }
     ensures { IfOk result (λ table. IsTableOf code.now table.items) }
 {
@@ -25,7 +25,7 @@ fn table_of(alloc: Global, code: &[Instruction]) -> Result<Vec<u32>, AllocError>
 }
 
 /// The instruction with the offset of its target in the target's place.
-fn instruction_by(table: &[u32], instruction: Instruction) -> Instruction
+fn lay_out_instruction(table: &[u32], instruction: Instruction) -> Instruction
     requires { IfSome (target_of instruction) (λ target. target < length table.now) }
     ensures { result ≡ renamed_instruction (λ position. slice_index table.now position) instruction }
 {
@@ -37,7 +37,7 @@ fn instruction_by(table: &[u32], instruction: Instruction) -> Instruction
 }
 
 /// The handler with offsets in the place of positions.
-fn handler_by(table: &[u32], handler: Handler) -> Handler
+fn lay_out_handler(table: &[u32], handler: Handler) -> Handler
     requires start { handler.start < length table.now }
     requires end { handler.end < length table.now }
     requires target { handler.target < length table.now }
@@ -52,7 +52,7 @@ fn handler_by(table: &[u32], handler: Handler) -> Handler
 }
 
 /// The code with the offset of each target in the target's place.
-fn code_by(
+fn lay_out_code(
     alloc: Global,
     table: &[u32],
     code: &[Instruction],
@@ -63,13 +63,13 @@ fn code_by(
 {
     let mut made = Vec::new(alloc);
     for instruction in code {
-        made.push(instruction_by(table, *instruction))?;
+        made.push(lay_out_instruction(table, *instruction))?;
     }
     Ok(made)
 }
 
 /// The handlers of code with offsets in the place of positions.
-fn handlers_by(
+fn lay_out_handlers(
     alloc: Global,
     table: &[u32],
     code: &[Instruction],
@@ -81,21 +81,24 @@ fn handlers_by(
 {
     let mut made = Vec::new(alloc);
     for handler in handlers {
-        made.push(handler_by(table, *handler))?;
+        made.push(lay_out_handler(table, *handler))?;
     }
     Ok(made)
 }
 
 /// The procedure with offsets in the place of positions.
-pub(crate) fn lay_out(alloc: Global, procedure: &Procedure) -> Result<Procedure, AllocError>
+pub(crate) fn lay_out_procedure(
+    alloc: Global,
+    procedure: &Procedure,
+) -> Result<Procedure, AllocError>
     requires short { code_length procedure.now.code < 2 ^ 32 }
     requires positions { HasPositions procedure.now }
     ensures { IfOk result (λ made. made ≡ laid_out_procedure procedure.now) }
 {
-    let table = table_of(alloc, procedure.code())?;
+    let table = make_table(alloc, procedure.code())?;
     let slots = Vec::from_slice(alloc, procedure.slots())?;
-    let code = code_by(alloc, &table, procedure.code())?;
-    let handlers = handlers_by(alloc, &table, procedure.code(), procedure.handlers())?;
+    let code = lay_out_code(alloc, &table, procedure.code())?;
+    let handlers = lay_out_handlers(alloc, &table, procedure.code(), procedure.handlers())?;
     Ok(Procedure::new(
         procedure.returned(),
         procedure.parameters(),

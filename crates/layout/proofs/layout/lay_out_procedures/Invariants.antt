@@ -1,6 +1,6 @@
 use Rattle.std.proofs.Common.{◌≡◌, map, take}
 use Rattle.layout.specs.Offsets.{laid_out_procedure}
-use Rattle.layout.proofs.layout.procedures_of.Given as goal
+use Rattle.layout.proofs.layout.lay_out_procedures.Given as goal
 
 -- the procedures so far
 abbrev pub invariant-loop-procedure : goal.invariant-loop-procedure

@@ -1,7 +1,7 @@
 use Rattle.std.proofs.Common.{◌≡◌, map, take}
 use Rattle.layout.specs.Offsets.{offset}
 use Rattle.layout.specs.Targets.{renamed_instruction}
-use Rattle.layout.proofs.code.code_by.Given as goal
+use Rattle.layout.proofs.code.lay_out_code.Given as goal
 
 -- the instructions so far
 abbrev pub invariant-loop-instruction : goal.invariant-loop-instruction

@@ -1,7 +1,7 @@
 use Rattle.std.proofs.Common.{◌≡◌, map, take}
 use Rattle.layout.specs.Offsets.{offset}
 use Rattle.layout.specs.Targets.{renamed_handler}
-use Rattle.layout.proofs.code.handlers_by.Given as goal
+use Rattle.layout.proofs.code.lay_out_handlers.Given as goal
 
 -- the handlers so far
 abbrev pub invariant-loop-handler : goal.invariant-loop-handler

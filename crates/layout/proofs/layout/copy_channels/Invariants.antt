@@ -1,5 +1,5 @@
 use Rattle.std.proofs.Common.{◌≡◌, take}
-use Rattle.layout.proofs.layout.channels_of.Given as goal
+use Rattle.layout.proofs.layout.copy_channels.Given as goal
 
 -- the channels so far
 abbrev pub invariant-loop-channel : goal.invariant-loop-channel
