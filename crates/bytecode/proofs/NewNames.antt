@@ -14,7 +14,7 @@ use Rattle.lexer.specs.Words.{is_name_text}
 use Rattle.bytecode.specs.declared.reading.ReadError.{ReadError}
 use Rattle.bytecode.specs.declared.reading.ReadError.TheVariants as errors
 use Rattle.bytecode.specs.Contents.{ChannelContents}
-use Rattle.bytecode.specs.Form.{Form, Named, Then, Counted, Checked, Text, Read, read, each_at}
+use Rattle.bytecode.specs.Form.{Form, Named, Then, Counted, Checked, Text, Read, read, each_at, number_at}
 use Rattle.bytecode.specs.Reading.{Fails}
 use Rattle.bytecode.proofs.Loop.{each_fails, each_goes_on}
 use Rattle.bytecode.specs.declared.fault.Refusal.TheVariants.{BadValue}
@@ -90,6 +90,12 @@ pub same_taken : (taken other : List ℕ → Bool) → ((q : List ℕ) → taken
 same_taken taken other same count bytes =
     let all : taken ≡ other = λ i q. same q i in
     ap (λ (test : List ℕ → Bool). each_at (one_name test) count [] bytes) all
+
+-- the declared exceptions, where the built-in ones are taken
+pub exceptions-read : (taken : List ℕ → Bool) (count : ℕ) (bytes rest : List ℕ) → ((q : List ℕ) → taken q ≡ is_built_in q) → number_at bytes ≡ Ok (count, rest)
+    → read exceptions bytes ≡ each_at (one_name taken) count [] rest
+unfolding exceptions
+exceptions-read taken count bytes rest same e = rw e (sym (same_taken taken is_built_in same count rest))
 
 pub none_taken : (set : BTreeSet (String Global)) → set.keys ≡ [] → (q : List ℕ) → contains_text set q ≡ false
 none_taken set empty q = rw empty refl

@@ -1,5 +1,5 @@
 -- Each instruction whose operand fits has a spelling, which is as long as the instruction is wide.
-use Rattle.std.proofs.Common.{◌≡◌, ℕ, ◌+◌, ◌^◌, ◌<◌, ℤ, Bool, true, false, List, [], ◌∷◌, ◌++◌, length, Option, Some, refl, ap, ◌∙◌, arith, length-append, lit<}
+use Rattle.std.proofs.Common.{◌≡◌, ℕ, ◌^◌, ◌<◌, ℤ, true, false, List, [], ◌∷◌, length, Some, refl, ap, ◌∙◌, arith, length-append, lit<}
 use Rattle.std.specs.Prelude.{FitsSigned}
 use Rattle.std.specs.Int.{w32, cast_signed, cast_unsigned, to_be_bytes, from_be_bytes}
 use Rattle.std.proofs.lemmas.Int.{to_z-of_z}

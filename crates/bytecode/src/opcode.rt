@@ -1,4 +1,4 @@
-ghost use Rattle.bytecode.specs.Opcodes.{arithmetic_row, comparison_row, flagged, instruction_of, numbered, operand_width, plain, row_of, width_after, with_opcode};
+ghost use Rattle.bytecode.specs.Opcodes.{arithmetic_opcode, comparison_opcode, flagged, instruction_of, numbered, operand_width, plain, row_of, width_after, with_opcode};
 ghost use Rattle.std.specs.Prelude.{IfSome, length, ◌<◌, ◌≡◌, ◌≤◌};
 
 use crate::instruction::{Arithmetic, Comparison, Instruction};
@@ -103,9 +103,9 @@ pub(crate) fn row_of(instruction: Instruction) -> Row
 }
 
 fn arithmetic_row(operator: Arithmetic) -> Row
-    ensures byte { result.byte ≡ (arithmetic_row operator).byte }
-    ensures name { result.name.now ≡ (arithmetic_row operator).name }
-    ensures operand { result.operand ≡ (arithmetic_row operator).operand }
+    ensures byte { result.byte ≡ (arithmetic_opcode operator).0 }
+    ensures name { result.name.now ≡ (arithmetic_opcode operator).1 }
+    ensures operand { result.operand ≡ Operand.Absent }
 {
     match operator {
         Arithmetic::Add => plain_row(0x10, "ADD"),
@@ -117,9 +117,9 @@ fn arithmetic_row(operator: Arithmetic) -> Row
 }
 
 fn comparison_row(comparison: Comparison) -> Row
-    ensures byte { result.byte ≡ (comparison_row comparison).byte }
-    ensures name { result.name.now ≡ (comparison_row comparison).name }
-    ensures operand { result.operand ≡ (comparison_row comparison).operand }
+    ensures byte { result.byte ≡ (comparison_opcode comparison).0 }
+    ensures name { result.name.now ≡ (comparison_opcode comparison).1 }
+    ensures operand { result.operand ≡ Operand.Absent }
 {
     match comparison {
         Comparison::Less => plain_row(0x17, "LT"),

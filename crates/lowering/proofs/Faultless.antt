@@ -1,5 +1,5 @@
--- The module of a well-formed straight-line program has no fault: the verifier takes it.
-use Rattle.std.proofs.Common.{◌≡◌, ℕ, zero, suc, ◌+◌, ◌<◌, Bool, true, false, List, [], ◌∷◌, ◌++◌, length, map, replicate, Option, Some, None, refl, ap, ◌∙◌, arith, slice_get, ◌&&◌}
+-- The module of a well-formed straight-line program has no fault, and no run of it is stuck: the verifier takes it.
+use Rattle.std.proofs.Common.{◌≡◌, ℕ, zero, suc, ◌+◌, ◌<◌, Bool, true, false, List, [], ◌∷◌, ◌++◌, length, map, replicate, Option, Some, None, refl, sym, ap, ◌∙◌, subst, arith, slice_get, ◌&&◌, append_assoc}
 use Rattle.std.specs.Prelude.{IsTrue, ◌==◌, is_none}
 use Rattle.std.specs.List.{list_all}
 use Rattle.std.proofs.lemmas.Bool.{and_parts}
@@ -12,26 +12,25 @@ use Rattle.resolved.specs.declared.expression.Variable.TheVariants.{Global, Loca
 use Rattle.resolved.specs.declared.tables.Direction.TheVariants as ways
 use Rattle.resolved.specs.Tree as tree
 use Rattle.resolved.specs.Program.{Program, ProcedureEntry, SlotEntry, ChannelEntry, procedure_at}
+use Rattle.resolved.specs.Value.{literal_number}
 use Rattle.resolved.specs.WellFormed.{well_formed, has_base, same_base, scalar_by, slot_type, target_by, channel_is, statement_fits, block_fits}
 use Rattle.resolved.specs.StraightLine.{is_straight_line, is_sum, is_straight_statement, is_straight_block, is_straight_procedure, is_only_procedure, is_labelled_int}
 use Rattle.resolved.proofs.Parts.{procedure_there, procedure_at_is}
 use Rattle.bytecode.specs.Code.{width_of}
 use Rattle.bytecode.specs.Contents.{ChannelContents, ProcedureContents, ModuleContents}
-use Rattle.bytecode.specs.Form.{Fits}
-use Rattle.bytecode.specs.Format.{module_file}
 use Rattle.bytecode.specs.declared.instruction.Arithmetic.TheVariants.{Add}
 use Rattle.bytecode.specs.declared.instruction.Instruction.{Instruction}
-use Rattle.bytecode.specs.declared.instruction.Instruction.TheVariants.{Store, Compute, Return, Send}
-use Rattle.bytecode.specs.declared.parts.Kind.TheVariants.{Int}
-use Rattle.bytecode.specs.declared.parts.Slot.TheVariants.{Scalar}
-use Rattle.bytecode.specs.StraightLine.{is_straight_line as is_straight_line_module}
-use Rattle.bytecode.proofs.Straight.{straight}
-use Rattle.verifier.specs.Faults.{instruction_defect, instruction_faults, is_scalar, is_input, is_output, unless}
+use Rattle.bytecode.specs.declared.instruction.Instruction.TheVariants.{Push, Load, Store, Compute, Return, Receive, Send}
+use Rattle.bytecode.specs.declared.value.Kind.{Kind}
+use Rattle.bytecode.specs.declared.value.Kind.TheVariants.{Int}
+use Rattle.bytecode.specs.declared.declaration.Slot.TheVariants.{Scalar}
+use Rattle.verifier.specs.Fixed.{instruction_defect, instruction_faults, is_scalar, is_input, is_output, unless}
+use Rattle.verifier.specs.Flow.{Leaves, effect, exchange, exchanged, kind_in, slot_kind, target_of, FlowsWell}
+use Rattle.verifier.specs.Verified.{IsVerified}
 use Rattle.verifier.specs.declared.fault.Defect.TheVariants.{SlotOrIndex}
-use Rattle.verifier.specs.Straight.{passed, Ahead, ends, IsVerified}
-use Rattle.verifier.proofs.Straight.{passed-append, Ahead-append}
-use Rattle.verifier.proofs.Told.{parts_of, verified}
 use Rattle.lowering.specs.Interface.{channel_contents}
+use Rattle.lowering.proofs.Flowing.{FlowsOn, flows_well}
+use Rattle.lowering.proofs.Runs.{straight-never-stuck}
 use Rattle.lowering.specs.StraightCode.{sum_code, statement_code, block_code, procedure_contents, module_of, target_slot}
 
 -- ---- each instruction by itself
@@ -142,30 +141,69 @@ module _ (program : Program) (procedure : ProcedureEntry) where
 
 -- ---- the operands
 
--- the code of a sum leaves one operand more, and that of a statement as many as before
-sum_passes : (e : tree.Expression) (depth : ℕ) → is_sum e ≡ true → passed (sum_code e) depth ≡ Some (suc depth)
-sum_passes (tree.Integer n) depth s = refl
-sum_passes (tree.Read (Local k)) depth s = refl
-sum_passes (tree.Binary operator.Add d e) depth s =
-    let parts = and_parts (is_sum d) (is_sum e) s in
-    passed-append (sum_code d) (sum_code e ++ Compute Add ∷ []) depth (suc depth) (sum_passes d depth parts.0)
-    ∙ passed-append (sum_code e) (Compute Add ∷ []) (suc depth) (suc (suc depth)) (sum_passes e (suc depth) parts.1)
-sum_passes _ depth s = absurd (let no : false ≡ true = s in cc)
+-- a slot of the module's procedure is an int
+int_slot : (count k : ℕ) → slot_kind (slice_get (replicate count (Scalar Int)) k) ≡ Int
+int_slot zero k = refl
+int_slot (suc count) zero = refl
+int_slot (suc count) (suc k) = int_slot count k
 
-statement_passes : (spare : ℕ) (statement : tree.Statement) (depth : ℕ) → is_straight_statement statement ≡ true →
-    passed (statement_code spare statement) depth ≡ Some depth
-statement_passes spare (tree.Assign at (Local k) e) depth s = passed-append (sum_code e) (Store k ∷ []) depth (suc depth) (sum_passes e depth s)
-statement_passes spare (tree.Receive at channel target) depth s = refl
-statement_passes spare (tree.Send at channel e) depth s = passed-append (sum_code e) (Send channel ∷ []) depth (suc depth) (sum_passes e depth s)
-statement_passes spare _ depth s = absurd (let no : false ≡ true = s in cc)
+-- instructions behind which code flows from operands of other kinds, where they themselves start with some
+abbrev Passes : ModuleContents → ProcedureContents → List Instruction → List Kind → List Kind → Type 0
+Passes m p code before after = (behind : List Instruction) → FlowsOn m p behind after → FlowsOn m p (code ++ behind) before
 
-block_passes : (spare : ℕ) (block : tree.Block) (depth : ℕ) → is_straight_block block ≡ true →
-    passed (block_code spare block) depth ≡ Some depth
-block_passes spare tree.Empty depth s = refl
-block_passes spare (tree.Then statement rest) depth s =
-    let parts = and_parts (is_straight_statement statement) (is_straight_block rest) s in
-    passed-append (statement_code spare statement) (block_code spare rest) depth depth (statement_passes spare statement depth parts.0)
-    ∙ block_passes spare rest depth parts.1
+passes_one : (m : ModuleContents) (p : ProcedureContents) (i : Instruction) (before after : List Kind) → effect m p i before ≡ Leaves after → target_of i ≡ None → Passes m p (i ∷ []) before after
+passes_one m p i before after leaves no_target = λ behind flows. (after, leaves, no_target, λ goes. flows)
+
+passes-append : (m : ModuleContents) (p : ProcedureContents) (xs ys : List Instruction) (before middle after : List Kind) → Passes m p xs before middle → Passes m p ys middle after → Passes m p (xs ++ ys) before after
+passes-append m p xs ys before middle after first second = λ behind flows.
+    subst (λ code. FlowsOn m p code before) (sym (append_assoc xs ys behind)) (first (ys ++ behind) (second behind flows))
+
+module _ (m : ModuleContents) (procedure : ProcedureEntry) where
+  abbrev own : ProcedureContents
+  own = procedure_contents procedure
+
+  here : (k : ℕ) → kind_in own k ≡ Int
+  here k = int_slot (length procedure.slots + 1) k
+
+  -- the code of a sum pushes an int, and that of a statement leaves the operands as they were
+  sum_passes : (e : tree.Expression) (kinds : List Kind) → is_sum e ≡ true → Passes m own (sum_code e) kinds (Int ∷ kinds)
+  sum_passes (tree.Integer n) kinds s = passes_one m own (Push (literal_number n)) kinds (Int ∷ kinds) refl refl
+  sum_passes (tree.Read (Local k)) kinds s = passes_one m own (Load k) kinds (Int ∷ kinds) (ap (λ kind. Leaves (kind ∷ kinds)) (here k)) refl
+  sum_passes (tree.Binary operator.Add d e) kinds s =
+      let parts = and_parts (is_sum d) (is_sum e) s in
+      passes-append m own (sum_code d) (sum_code e ++ Compute Add ∷ []) kinds (Int ∷ kinds) (Int ∷ kinds)
+      (sum_passes d kinds parts.0)
+      (passes-append m own (sum_code e) (Compute Add ∷ []) (Int ∷ kinds) (Int ∷ Int ∷ kinds) (Int ∷ kinds)
+      (sum_passes e (Int ∷ kinds) parts.1)
+      (passes_one m own (Compute Add) (Int ∷ Int ∷ kinds) (Int ∷ kinds) refl refl))
+  sum_passes _ kinds s = absurd (let no : false ≡ true = s in cc)
+
+  store_passes : (k : ℕ) (kinds : List Kind) → Passes m own (Store k ∷ []) (Int ∷ kinds) kinds
+  store_passes k kinds =
+      passes_one m own (Store k) (Int ∷ kinds) kinds (ap (λ kind. exchanged (exchange (kind ∷ []) None) (Int ∷ kinds)) (here k)) refl
+
+  statement_passes : (spare : ℕ) (statement : tree.Statement) (kinds : List Kind) → is_straight_statement statement ≡ true → Passes m own (statement_code spare statement) kinds kinds
+  statement_passes spare (tree.Assign at (Local k) e) kinds s =
+      passes-append m own (sum_code e) (Store k ∷ []) kinds (Int ∷ kinds) kinds (sum_passes e kinds s) (store_passes k kinds)
+  statement_passes spare (tree.Receive at channel target) kinds s =
+      passes-append m own (Receive channel ∷ []) (Store (target_slot spare target) ∷ []) kinds (Int ∷ kinds) kinds
+      (passes_one m own (Receive channel) kinds (Int ∷ kinds) refl refl) (store_passes (target_slot spare target) kinds)
+  statement_passes spare (tree.Send at channel e) kinds s =
+      passes-append m own (sum_code e) (Send channel ∷ []) kinds (Int ∷ kinds) kinds (sum_passes e kinds s)
+      (passes_one m own (Send channel) (Int ∷ kinds) kinds refl refl)
+  statement_passes spare _ kinds s = absurd (let no : false ≡ true = s in cc)
+
+  block_passes : (spare : ℕ) (block : tree.Block) (kinds : List Kind) → is_straight_block block ≡ true → Passes m own (block_code spare block) kinds kinds
+  block_passes spare tree.Empty kinds s = λ behind flows. flows
+  block_passes spare (tree.Then statement rest) kinds s =
+      let parts = and_parts (is_straight_statement statement) (is_straight_block rest) s in
+      passes-append m own (statement_code spare statement) (block_code spare rest) kinds kinds kinds
+      (statement_passes spare statement kinds parts.0) (block_passes spare rest kinds parts.1)
+
+  body_flows : is_straight_block procedure.body ≡ true → FlowsOn m own own.code []
+  body_flows s =
+      block_passes (length procedure.slots) procedure.body [] s (Return ∷ [])
+      ([], refl, refl, λ goes. absurd (let no : false ≡ true = goes in cc))
 
 -- ---- the module
 
@@ -186,10 +224,13 @@ only_procedure program s =
     here (procedure ∷ []) e = (procedure, refl, e)
     here (procedure ∷ more ∷ rest) e = absurd (let no : false ≡ true = e in cc)
 
--- the module of a well-formed straight-line program that has a spelling is one that the verifier takes
-pub module_verified : (program : Program) → IsTrue (well_formed program) → IsTrue (is_straight_line program) →
-    Fits module_file (module_of program) → IsVerified (module_of program)
-module_verified program well s fits =
+only_one : {X : Type 0} (x y : X) (k : ℕ) → slice_get (x ∷ []) k ≡ Some y → x ≡ y
+only_one x y zero e = cc
+only_one x y (suc k) e = absurd (let no : None ≡ Some y = e in cc)
+
+-- the module of a well-formed straight-line program is one that the verifier takes
+pub module_verified : (program : Program) → IsTrue (well_formed program) → IsTrue (is_straight_line program) → IsVerified (module_of program)
+module_verified program well s =
     let only = only_procedure program s in
     let p = only.0 in
     let m = module_of program in
@@ -200,14 +241,15 @@ module_verified program well s fits =
     let is_main : procedure_at program program.main ≡ p = procedure_at_is program program.main p only.1 in
     let all : AllRight m (procedure_contents p) (procedure_contents p).code =
     right-append m (procedure_contents p) (block_code (length p.slots) p.body) (Return ∷ []) (block_right program p p.body body there.body_fits) (refl, tt) in
-    let ahead : Ahead (procedure_contents p).code 0 =
-    Ahead-append (block_code (length p.slots) p.body) (Return ∷ []) 0 0 (block_passes (length p.slots) p.body 0 body) (ends [] 0) in
-    let straight_module : IsTrue (is_straight_line_module m) = straight m fits in
-    let parts = parts_of m straight_module in
-    let same : parts.procedure ≡ procedure_contents p = first_is parts.only ∙ ap procedure_contents is_main in
-    verified m parts straight_module
-    (rw same (ap (λ faults. slice_get faults 0) (none_of_right m (procedure_contents p) 0 (procedure_contents p).code all)))
-    (rw same ahead)
-  where
-    first_is : {q r : ProcedureContents} → r ∷ [] ≡ q ∷ [] → q ≡ r
-    first_is e = cc
+    let fixed : instruction_faults m 0 (procedure_contents p) 0 (procedure_contents p).code ≡ [] = none_of_right m (procedure_contents p) 0 (procedure_contents p).code all in
+    let flows : FlowsWell m (procedure_contents p) = flows_well m (procedure_contents p) refl (body_flows m p body) in
+    record {
+      no_fault = record {
+        fixed = ap (λ q. (instruction_faults m 0 (procedure_contents q) 0 (procedure_contents q).code ++ []) ++ []) is_main ∙ ap (λ faults. (faults ++ []) ++ []) fixed;
+        flow = λ fault found.
+            let same : procedure_contents p ≡ found.procedure =
+            ap procedure_contents (sym is_main) ∙ only_one (procedure_contents (procedure_at program program.main)) found.procedure fault.procedure found.there in
+            subst (FlowsWell m) same flows fault.offset fault.defect found.defect;
+      };
+      never_stuck = straight-never-stuck program well s;
+    }

@@ -1,13 +1,11 @@
 -- The procedure of a straight-line program's module fits the format.
 use Rattle.std.proofs.Common.{◌≡◌, ℕ, pos, ◌+◌, ◌*◌, ◌^◌, ◌<◌, ◌≤◌, Bool, true, List, [], ◌∷◌, ◌++◌, length, Option, Some, None, refl, ap, ◌∙◌, arith, lit<}
-use Rattle.std.specs.Prelude.{slice_get, is_none, FitsSigned}
-use Rattle.std.specs.Int.{w32, cast_signed, cast_unsigned, to_be_bytes, from_be_bytes}
+use Rattle.std.specs.Prelude.{slice_get, is_none}
+use Rattle.std.specs.Int.{w32}
 use Rattle.std.specs.List.{AllByRecursion}
 use Rattle.std.proofs.lemmas.Bool.{and_parts}
-use Rattle.std.proofs.lemmas.Int.{SFits-int_wrap, to_z-of_z}
-use Rattle.std.proofs.lemmas.Nat.{from_be_bytes-to_be_bytes_4}
+use Rattle.std.proofs.lemmas.Int.{SFits-int_wrap}
 use Rattle.std.proofs.lemmas.Option.{slice_get_within}
-use Rattle.std.proofs.Math.Facts.{Fits-of_z, Fits-lt-pow}
 use Rattle.resolved.specs.declared.expression.Base.{Base}
 use Rattle.resolved.specs.declared.expression.Base.TheVariants.{Int}
 use Rattle.resolved.specs.declared.expression.Operator.TheVariants as operator
@@ -26,6 +24,7 @@ use Rattle.bytecode.specs.declared.instruction.Instruction.TheVariants.{Push, Lo
 use Rattle.bytecode.specs.Code.{code_length}
 use Rattle.bytecode.specs.Form.{IsCoded}
 use Rattle.bytecode.specs.Opcodes.{instructions}
+use Rattle.bytecode.proofs.Spelling.{is_spelled}
 use Rattle.lowering.specs.StraightCode.{sum_code, target_slot, statement_code, block_code}
 
 -- ---- single instructions
@@ -33,42 +32,8 @@ use Rattle.lowering.specs.StraightCode.{sum_code, target_slot, statement_code, b
 abbrev pub Coded : Instruction → Type 0
 Coded x = IsCoded instructions x
 
-number_back : (n : ℕ) → n < 2 ^ 32 → from_be_bytes w32 (to_be_bytes w32 n) ≡ n
-number_back n small = from_be_bytes-to_be_bytes_4 n small
-
-load_coded : (n : ℕ) → n < 2 ^ 32 → Coded (Load n)
-unfolding instructions
-load_coded n small = record { byte = lit< tt; width = refl; itself = ap (λ k. Some (Load k)) (number_back n small) }
-
-store_coded : (n : ℕ) → n < 2 ^ 32 → Coded (Store n)
-unfolding instructions
-store_coded n small = record { byte = lit< tt; width = refl; itself = ap (λ k. Some (Store k)) (number_back n small) }
-
-receive_coded : (n : ℕ) → n < 2 ^ 32 → Coded (Receive n)
-unfolding instructions
-receive_coded n small = record { byte = lit< tt; width = refl; itself = ap (λ k. Some (Receive k)) (number_back n small) }
-
-send_coded : (n : ℕ) → n < 2 ^ 32 → Coded (Send n)
-unfolding instructions
-send_coded n small = record { byte = lit< tt; width = refl; itself = ap (λ k. Some (Send k)) (number_back n small) }
-
-add_coded : Coded (Compute Add)
-unfolding instructions
-add_coded = record { byte = lit< tt; width = refl; itself = refl }
-
-return_coded : Coded Return
-unfolding instructions
-return_coded = record { byte = lit< tt; width = refl; itself = refl }
-
-literal_back : (n : ℕ) → cast_signed w32 (from_be_bytes w32 (to_be_bytes w32 (cast_unsigned w32 (literal_number n)))) ≡ literal_number n
-literal_back n =
-    let fits : FitsSigned w32 (literal_number n) = SFits-int_wrap w32 (pos n) in
-    let small : cast_unsigned w32 (literal_number n) < 2 ^ 32 = Fits-lt-pow (Fits-of_z fits) in
-    ap (cast_signed w32) (number_back (cast_unsigned w32 (literal_number n)) small) ∙ to_z-of_z w32 (literal_number n) fits
-
 push_coded : (n : ℕ) → Coded (Push (literal_number n))
-unfolding instructions
-push_coded n = record { byte = lit< tt; width = refl; itself = ap (λ k. Some (Push k)) (literal_back n) }
+push_coded n = is_spelled (Push (literal_number n)) (SFits-int_wrap w32 (pos n))
 
 -- ---- code
 
@@ -106,7 +71,7 @@ module _ (program : Program) (procedure : ProcedureEntry) (few_slots : length pr
   sum_fits base (tree.Logical b) straight fits = absurd (cc)
   sum_fits base (tree.Read (Local n)) straight fits =
       let there = slot_there procedure n (slice_get procedure.slots n) (same_base base) refl fits in
-      record { coded = (load_coded n (omega (arith, there, few_slots)), tt); short = omega arith }
+      record { coded = (is_spelled (Load n) (omega (arith, there, few_slots)), tt); short = omega arith }
   sum_fits base (tree.Read (Global n)) straight fits = absurd (cc)
   sum_fits base (tree.Element array length index) straight fits = absurd (cc)
   sum_fits base (tree.Unary prefix e) straight fits = absurd (cc)
@@ -115,7 +80,7 @@ module _ (program : Program) (procedure : ProcedureEntry) (few_slots : length pr
       let bases = and_parts _ (has_base program procedure Int e) fits in
       let left = sum_fits Int d sums.0 (and_parts (same_base Int base) (has_base program procedure Int d) bases.0).1 in
       let right = sum_fits Int e sums.1 bases.1 in
-      let add : IsFitCode 1 (Compute Add ∷ []) = record { coded = (add_coded, tt); short = omega arith } in
+      let add : IsFitCode 1 (Compute Add ∷ []) = record { coded = (is_spelled (Compute Add) tt, tt); short = omega arith } in
       let behind : IsFitCode (5 * expression_nodes e + 1) (sum_code e ++ Compute Add ∷ []) = followed right add (omega arith) in
       followed left behind (omega arith)
   sum_fits base (tree.Binary _ d e) straight fits = absurd (cc)
@@ -123,7 +88,7 @@ module _ (program : Program) (procedure : ProcedureEntry) (few_slots : length pr
 
   store_after : (base : Base) (n : ℕ) (e : Expression) → is_sum e ≡ true → has_base program procedure base e ≡ true → n < length procedure.slots → IsFitCode (10 * (1 + expression_nodes e)) (sum_code e ++ Store n ∷ [])
   store_after base n e straight fits there =
-      let store : IsFitCode 5 (Store n ∷ []) = record { coded = (store_coded n (omega (arith, there, few_slots)), tt); short = omega arith } in
+      let store : IsFitCode 5 (Store n ∷ []) = record { coded = (is_spelled (Store n) (omega (arith, there, few_slots)), tt); short = omega arith } in
       followed (sum_fits base e straight fits) store (omega arith)
 
   -- an assignment to a slot that is there
@@ -146,13 +111,13 @@ module _ (program : Program) (procedure : ProcedureEntry) (few_slots : length pr
       let there = channel_there program channel (slice_get program.channels channel) _ refl parts.0 in
       let slot = target_there target straight parts.1 in
       record {
-        coded = (receive_coded channel (omega (arith, there, few_channels)), (store_coded (target_slot (length procedure.slots) target) (omega (arith, slot, few_slots)), tt));
+        coded = (is_spelled (Receive channel) (omega (arith, there, few_channels)), (is_spelled (Store (target_slot (length procedure.slots) target)) (omega (arith, slot, few_slots)), tt));
         short = omega arith;
       }
   statement_fit (tree.Send at channel e) straight fits =
       let parts = and_parts _ (has_base program procedure Int e) fits in
       let there = channel_there program channel (slice_get program.channels channel) _ refl parts.0 in
-      let send : IsFitCode 5 (Send channel ∷ []) = record { coded = (send_coded channel (omega (arith, there, few_channels)), tt); short = omega arith } in
+      let send : IsFitCode 5 (Send channel ∷ []) = record { coded = (is_spelled (Send channel) (omega (arith, there, few_channels)), tt); short = omega arith } in
       followed (sum_fits Int e straight parts.1) send (omega arith)
   statement_fit _ straight fits = absurd (cc)
 
@@ -165,5 +130,5 @@ module _ (program : Program) (procedure : ProcedureEntry) (few_slots : length pr
 
   pub body_fit : (block : Block) → is_straight_block block ≡ true → block_fits program procedure block ≡ true → IsFitCode (10 * block_nodes block + 1) (block_code (length procedure.slots) block ++ Return ∷ [])
   body_fit block straight fits =
-      let last : IsFitCode 1 (Return ∷ []) = record { coded = (return_coded, tt); short = omega arith } in
+      let last : IsFitCode 1 (Return ∷ []) = record { coded = (is_spelled Return tt, tt); short = omega arith } in
       followed (block_fit block straight fits) last (omega arith)

@@ -16,8 +16,8 @@ use Rattle.principals.specs.ActsFor.{PrincipalHierarchy, IsHierarchy, AllDiffere
 use Rattle.labels.specs.Sets.{ascending_set}
 use Rattle.labels.proofs.Ascending.{ascending_set-sorted, ascending_set-SameSet}
 use Rattle.labels.proofs.Elements.{All-from_each, each_from_All}
-use Rattle.bytecode.specs.declared.parts.Direction.{Direction}
-use Rattle.bytecode.specs.declared.parts.Direction.TheVariants.{Input, Output}
+use Rattle.bytecode.specs.declared.declaration.Direction.{Direction}
+use Rattle.bytecode.specs.declared.declaration.Direction.TheVariants.{Input, Output}
 use Rattle.bytecode.specs.Form.{Fits}
 use Rattle.bytecode.specs.Format.{is_among, is_above, pair_cmp, name_after, number_below, principals, pair_after, hierarchy, built_in, is_built_in, direction}
 use Rattle.lowering.specs.Names.{IsShortName}

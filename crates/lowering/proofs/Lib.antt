@@ -9,7 +9,9 @@ pub mod Readers
 pub mod Sent
 pub mod Spelled
 pub mod Steps
+pub mod Flowing
 pub mod Faultless
+pub mod States
 pub mod Places
 pub mod Rows
 pub mod Values

@@ -21,19 +21,22 @@ use Rattle.resolved.specs.WellFormed.{channel_is, same_direction, same_base, blo
 use Rattle.resolved.proofs.Parts.{procedure_there, procedure_at_is, passes_at}
 use Rattle.bytecode.specs.Code.{code_length}
 use Rattle.bytecode.specs.Machine as machine
+use Rattle.bytecode.specs.declared.value.Cell.{Cell}
+use Rattle.bytecode.specs.declared.value.Cell.TheVariants as cell
 use Rattle.bytecode.specs.declared.instruction.Instruction.TheVariants.{Return}
-use Rattle.bytecode.specs.declared.parts.Kind.TheVariants.{Int}
-use Rattle.bytecode.specs.declared.parts.Slot.{Slot}
-use Rattle.bytecode.specs.declared.parts.Slot.TheVariants.{Scalar}
-use Rattle.bytecode.specs.declared.parts.Direction.{Direction}
-use Rattle.bytecode.specs.declared.parts.Direction.TheVariants.{Input, Output}
+use Rattle.bytecode.specs.declared.value.Kind.TheVariants.{Int}
+use Rattle.bytecode.specs.declared.declaration.Slot.{Slot}
+use Rattle.bytecode.specs.declared.declaration.Slot.TheVariants.{Scalar}
+use Rattle.bytecode.specs.declared.declaration.Direction.{Direction}
+use Rattle.bytecode.specs.declared.declaration.Direction.TheVariants.{Input, Output}
 use Rattle.bytecode.specs.Contents.{ChannelContents}
-use Rattle.verifier.proofs.Straight.{state_at}
+use Rattle.lowering.proofs.States.{state_at}
 use Rattle.lowering.specs.Interface.{direction_of, channel_contents}
 use Rattle.lowering.specs.StraightCode.{block_code, procedure_contents, module_of}
 use Rattle.lowering.specs.Kept.{ending_of, MeaningKept, StraightCodeKeepsMeaning}
 use Rattle.labels.proofs.Begins.{Begins-itself}
-use Rattle.lowering.proofs.Steps.{Leads, leads-through, sent-before, ends-once}
+use Rattle.lowering.proofs.Steps.{Leads, leads-through, sent-before, ends-once, never-stuck}
+use Rattle.verifier.specs.Safety.{IsNeverStuck}
 use Rattle.lowering.proofs.Places.{Stands, stands-front, stands-back}
 use Rattle.lowering.proofs.Rows.{Serves, returns}
 use Rattle.lowering.proofs.Values.{Holds, Matches}
@@ -118,7 +121,7 @@ holds-zero o cells slot there labelled int =
     let scalar = and_parts (is_none slot.size) (not (is_none slot.written)) parts.1 in
     rw (there, int) (zeros slot.size scalar.0 (int-base slot.base parts.0))
   where
-    zeros : (size : Option ℕ) → is_none size ≡ true → slot.base ≡ base.Int → Holds (meaning.cells_of size (zero_value slot.base)) (pos 0 ∷ [])
+    zeros : (size : Option ℕ) → is_none size ≡ true → slot.base ≡ base.Int → Holds (meaning.cells_of size (zero_value slot.base)) (cell.Int (pos 0) ∷ [])
     zeros None e b = record { number = pos 0; values_are = ap (λ t. zero_value t ∷ []) b; cells_are = refl }
     zeros (Some n) e b = absurd (let no : false ≡ true = e in cc)
 
@@ -144,7 +147,7 @@ pub record Ends (p : machine.Program) (from : machine.Machine) (o : meaning.Outc
   pub so : ending_of o ≡ Some ending
   pub leads : Leads p from (machine.Ended ending (meaning.state_after o).sent)
 
-body-ends : (program : Program) (procedure : ProcedureEntry) (p : machine.Program) (globals : ℕ → List ℤ) (from : machine.Machine) (place : ℕ) (locals : ℕ → List Value) (o : meaning.Outcome) → ((slots rest : ℕ → List ℤ) (sent : List Pair) → Leads p (machine.Running (state_at globals slots [] place rest sent)) (machine.Ended machine.Finished sent)) → Does program procedure p globals from place o → Ends p from (meaning.leaving (λ t. record t { locals = locals }) o)
+body-ends : (program : Program) (procedure : ProcedureEntry) (p : machine.Program) (globals : ℕ → List Cell) (from : machine.Machine) (place : ℕ) (locals : ℕ → List Value) (o : meaning.Outcome) → ((slots : ℕ → List Cell) (rest : ℕ → List ℤ) (sent : List Pair) → Leads p (machine.Running (state_at globals slots [] place rest sent)) (machine.Ended machine.Finished sent)) → Does program procedure p globals from place o → Ends p from (meaning.leaving (λ t. record t { locals = locals }) o)
 body-ends program procedure p globals from place locals (meaning.Ended exit.Normal returned t) last does = record {
   ending = machine.Finished;
   so = refl;
@@ -163,7 +166,7 @@ run-ends program straight world k frames =
     let procedure = procedure_at program program.main in
     let m = module_of program in
     let p = machine.program_of m in
-    let globals : ℕ → List ℤ = (machine.first_state m world).globals in
+    let globals : ℕ → List Cell = (machine.first_state m world).globals in
     let body = block_code (length procedure.slots) procedure.body in
     let code = body ++ Return ∷ [] in
     let slots = machine.first_slots (procedure_contents procedure).slots [] in
@@ -210,3 +213,9 @@ straight-kept program straight = record {
 
 pub straight-code-keeps : StraightCodeKeepsMeaning
 straight-code-keeps program fits straight = straight-kept program (straight-parts program fits straight)
+
+-- and no run of it is stuck
+pub straight-never-stuck : (program : Program) → well_formed program ≡ true → is_straight_line program ≡ true → IsNeverStuck (module_of program)
+straight-never-stuck program fits straight = λ world n.
+    let run = run-within-limit program (straight-parts program fits straight) world 0 in
+    never-stuck (machine.program_of (module_of program)) run.leads.steps n _ run.ending _ run.leads.reached

@@ -10,13 +10,13 @@ use Rattle.resolved.specs.StraightLine.{is_labelled_int, is_straight_procedure, 
 use Rattle.resolved.specs.WellFormed.{well_formed, procedure_fits, block_fits, label_fits, label_nodes, block_nodes, procedure_nodes, program_nodes, node_limit}
 use Rattle.bytecode.specs.declared.instruction.Instruction.{Instruction}
 use Rattle.bytecode.specs.declared.instruction.Instruction.TheVariants.{Return}
-use Rattle.bytecode.specs.declared.parts.Kind.TheVariants.{Int}
-use Rattle.bytecode.specs.declared.parts.Slot.{Slot}
-use Rattle.bytecode.specs.declared.parts.Slot.TheVariants.{Scalar}
+use Rattle.bytecode.specs.declared.value.Kind.TheVariants.{Int}
+use Rattle.bytecode.specs.declared.declaration.Slot.{Slot}
+use Rattle.bytecode.specs.declared.declaration.Slot.TheVariants.{Scalar}
 use Rattle.bytecode.specs.Form.{Fits, FitEach, Code}
-use Rattle.bytecode.specs.Format.{cells_of_size, slot_parts, slot_cells, is_size, slot_kind, slot_after, slots, returned, parameters, handlers, procedure, procedures, globals, main, program as program_form, contents, module_file}
+use Rattle.bytecode.specs.Format.{cells_of_size, slot_fields, slot_cells, is_size, variable_kind, slot_after, slots, returned, handlers, procedure, procedures, globals, main, program as program_form, contents, module_file}
 use Rattle.bytecode.specs.Opcodes.{instructions}
-use Rattle.bytecode.proofs.Straight.{spelled-length}
+use Rattle.bytecode.proofs.Spelling.{spelled-length}
 use Rattle.lowering.specs.Names.{HasNames}
 use Rattle.lowering.specs.StraightCode.{block_code, procedure_contents, module_of}
 use Rattle.lowering.proofs.FittingNames.{hierarchy_fits}
@@ -26,16 +26,16 @@ use Rattle.lowering.proofs.FittingCode.{IsFitCode, body_fit}
 -- ---- slots
 
 int_slot_fits : (front : List Slot) → slot_cells front + 1 ≤ 1048576 → Fits (slot_after 0 front) (Scalar Int)
-unfolding slot_after slot_kind
+unfolding slot_after variable_kind
 int_slot_fits front few =
     let any : (leb 0 (length front) || true) ≡ true = ap (λ b. b || true) (le-leb 0 (length front) (omega arith)) in
     let size : is_size (slot_cells front) 0 ≡ true = le-leb (slot_cells front + 1) 1048576 few in
-    ((((omega arith, refl), refl), (omega arith, and_from _ _ (and_from _ _ size any) refl)), refl)
+    ((((omega arith, refl), refl), (omega arith, and_from _ _ size any)), refl)
 
 int_slots_fit : (n : ℕ) (front : List Slot) → slot_cells front + n ≤ 1048576 → FitEach (λ before x. Fits (slot_after 0 before) x) front (replicate n (Scalar Int))
 int_slots_fit zero front few = tt
 int_slots_fit (suc n) front few =
-    let cells : Slot → ℕ = λ slot. cells_of_size (slot_parts slot).1 in (
+    let cells : Slot → ℕ = λ slot. cells_of_size (slot_fields slot).1 in (
       int_slot_fits front (omega (arith, few)),
       int_slots_fit n (front ++ Scalar Int ∷ []) (omega (arith, few, sum_by-append cells front (Scalar Int ∷ []), sum_by-cons cells (Scalar Int) [])),
     )
@@ -52,9 +52,9 @@ code_fits : (most : ℕ) (code : List Instruction) → most < 2 ^ 32 → IsFitCo
 code_fits most code small h = (omega (arith, small, h.short, spelled-length code), h.coded)
 
 procedure_fits_form : (p : ProcedureEntry) → length p.slots + 1 ≤ 1048576 → Fits (Code instructions) (block_code (length p.slots) p.body ++ Return ∷ []) → Fits procedure (procedure_contents p)
-unfolding procedure returned parameters handlers
+unfolding procedure returned handlers
 procedure_fits_form p few code =
-    ((((omega arith, refl), refl), ((omega arith, refl), (slots_fit (length p.slots + 1) few, (code, (omega arith, refl, tt))))), refl)
+    ((((omega arith, refl), refl), (omega arith, (slots_fit (length p.slots + 1) few, (code, (omega arith, refl, tt))))), refl)
 
 program_fits_form : (p : ProcedureEntry) → Fits procedure (procedure_contents p) → Fits program_form ([], (procedure_contents p ∷ [], 0))
 unfolding program_form globals procedures main

@@ -23,9 +23,11 @@ use Rattle.resolved.specs.WellFormed.{slot_type, scalar_by, has_base, channel_is
 use Rattle.resolved.proofs.Parts.{passes_at}
 use Rattle.bytecode.specs.Code.{code_length}
 use Rattle.bytecode.specs.Machine.{Machine, Running, Ended, Threw, Program, changed}
+use Rattle.bytecode.specs.declared.value.Cell.{Cell}
+use Rattle.bytecode.specs.declared.value.Cell.TheVariants as cell
 use Rattle.bytecode.specs.declared.instruction.Instruction.{Instruction}
 use Rattle.bytecode.specs.declared.instruction.Instruction.TheVariants.{Store, Receive, Send}
-use Rattle.verifier.proofs.Straight.{state_at}
+use Rattle.lowering.proofs.States.{state_at}
 use Rattle.lowering.specs.StraightCode.{sum_code, target_slot, statement_code, block_code}
 use Rattle.lowering.proofs.Steps.{Leads, leads-itself, leads-through}
 use Rattle.lowering.proofs.Places.{Stands, stands-front, stands-back, ends-behind}
@@ -33,20 +35,20 @@ use Rattle.lowering.proofs.Rows.{Serves, stores-slot, takes-number, takes-none, 
 use Rattle.lowering.proofs.Values.{Holds, Matches, Pushes, local_below, sum_pushes}
 
 -- from a machine on, control comes to a place with slots and inputs that match a state, and has sent what that state says
-pub record Falls (program : resolved.Program) (procedure : resolved.ProcedureEntry) (p : Program) (globals : ℕ → List ℤ) (from : Machine) (place : ℕ) (t : source.State) : Type 0 where
-  pub slots : ℕ → List ℤ
+pub record Falls (program : resolved.Program) (procedure : resolved.ProcedureEntry) (p : Program) (globals : ℕ → List Cell) (from : Machine) (place : ℕ) (t : source.State) : Type 0 where
+  pub slots : ℕ → List Cell
   pub rest : ℕ → List ℤ
   pub match : Matches program procedure t slots rest
   pub leads : Leads p from (Running (state_at globals slots [] place rest t.sent))
 
 -- a machine does what an outcome says: it comes to a place, or ends with the exception
-abbrev pub Does : resolved.Program → resolved.ProcedureEntry → Program → (globals : ℕ → List ℤ) → Machine → (place : ℕ) → meaning.Outcome → Type 0
+abbrev pub Does : resolved.Program → resolved.ProcedureEntry → Program → (globals : ℕ → List Cell) → Machine → (place : ℕ) → meaning.Outcome → Type 0
 Does program procedure p globals from place (meaning.Ended exit.Normal returned t) = Falls program procedure p globals from place t
 Does program procedure p globals from place (meaning.Ended (exit.Throw exception) returned t) = Leads p from (Ended (Threw exception) t.sent)
 Does program procedure p globals from place _ = ⊥
 
 -- a cell set in both
-holds-updated : (locals : ℕ → List Value) (slots : ℕ → List ℤ) (n : ℕ) (z : ℤ) (m : ℕ) (b : Bool) → Holds (locals m) (slots m) → Holds (cond b (value.Number z ∷ []) (locals m)) (cond b (z ∷ []) (slots m))
+holds-updated : (locals : ℕ → List Value) (slots : ℕ → List Cell) (n : ℕ) (z : ℤ) (m : ℕ) (b : Bool) → Holds (locals m) (slots m) → Holds (cond b (value.Number z ∷ []) (locals m)) (cond b (cell.Int z ∷ []) (slots m))
 holds-updated locals slots n z m true h = record { number = z; values_are = refl; cells_are = refl }
 holds-updated locals slots n z m false h = h
 
@@ -65,14 +67,14 @@ target-int (Some slot) test int h =
 module _ (program : resolved.Program) (procedure : resolved.ProcedureEntry) (p : Program) (code : List Instruction) (serves : Serves program procedure p code) (ints : list_all is_labelled_int procedure.slots ≡ true) where
   -- ---- what still matches
 
-  match-assigned : (s : source.State) (slots rest : ℕ → List ℤ) (n : ℕ) (z : ℤ) → Matches program procedure s slots rest → Matches program procedure (source.assigned s (Local n) (value.Number z)) (changed slots n (z ∷ [])) rest
+  match-assigned : (s : source.State) (slots : ℕ → List Cell) (rest : ℕ → List ℤ) (n : ℕ) (z : ℤ) → Matches program procedure s slots rest → Matches program procedure (source.assigned s (Local n) (value.Number z)) (changed slots n (cell.Int z ∷ [])) rest
   match-assigned s slots rest n z m = record {
     locals = λ k below. holds-updated s.locals slots n z k (eqb k n) (m.locals k below);
     inputs = m.inputs;
   }
 
   -- the spare slot is none of the locals
-  match-spare : (s : source.State) (slots rest : ℕ → List ℤ) (z : ℤ) → Matches program procedure s slots rest → Matches program procedure s (changed slots (length procedure.slots) (z ∷ [])) rest
+  match-spare : (s : source.State) (slots : ℕ → List Cell) (rest : ℕ → List ℤ) (z : ℤ) → Matches program procedure s slots rest → Matches program procedure s (changed slots (length procedure.slots) (cell.Int z ∷ [])) rest
   match-spare s slots rest z m = record {
     locals = λ k below.
         let other : eqb k (length procedure.slots) ≡ false = grind (arith, nat_tests) in
@@ -84,7 +86,7 @@ module _ (program : resolved.Program) (procedure : resolved.ProcedureEntry) (p :
   input-taken s rest c numbers k true e = refl
   input-taken s rest c numbers k false e = e
 
-  match-taken : (s : source.State) (slots rest : ℕ → List ℤ) (c : ℕ) (numbers : List ℤ) → Matches program procedure s slots rest → Matches program procedure (record s { inputs = source.updated s.inputs c numbers }) slots (changed rest c numbers)
+  match-taken : (s : source.State) (slots : ℕ → List Cell) (rest : ℕ → List ℤ) (c : ℕ) (numbers : List ℤ) → Matches program procedure s slots rest → Matches program procedure (record s { inputs = source.updated s.inputs c numbers }) slots (changed rest c numbers)
   match-taken s slots rest c numbers m = record {
     locals = m.locals;
     inputs = λ k is_input. input-taken s rest c numbers k (eqb k c) (m.inputs k is_input);
@@ -92,7 +94,7 @@ module _ (program : resolved.Program) (procedure : resolved.ProcedureEntry) (p :
 
   -- ---- statements
 
-  assign-does : (calls : meaning.Calls) (k place n at : ℕ) (e : tree.Expression) (s : source.State) (globals slots rest : ℕ → List ℤ) → is_sum e ≡ true → has_base program procedure base.Int e ≡ true → n < length procedure.slots → Matches program procedure s slots rest → Stands code (sum_code e ++ Store n ∷ []) at → Does program procedure p globals (Running (state_at globals slots [] at rest s.sent)) (at + code_length (sum_code e ++ Store n ∷ [])) (meaning.statement_meaning calls k (tree.Assign place (Local n) e) s)
+  assign-does : (calls : meaning.Calls) (k place n at : ℕ) (e : tree.Expression) (s : source.State) (globals slots : ℕ → List Cell) (rest : ℕ → List ℤ) → is_sum e ≡ true → has_base program procedure base.Int e ≡ true → n < length procedure.slots → Matches program procedure s slots rest → Stands code (sum_code e ++ Store n ∷ []) at → Does program procedure p globals (Running (state_at globals slots [] at rest s.sent)) (at + code_length (sum_code e ++ Store n ∷ [])) (meaning.statement_meaning calls k (tree.Assign place (Local n) e) s)
   assign-does calls k place n at e s globals slots rest sum fits below m h =
       let value : Pushes p e s at globals slots rest [] =
       sum_pushes program procedure p code serves e at s globals slots rest [] sum fits m (stands-front code (sum_code e) (Store n ∷ []) at h) in
@@ -100,15 +102,15 @@ module _ (program : resolved.Program) (procedure : resolved.ProcedureEntry) (p :
       let store = stores-slot program procedure p code serves [] n value.number middle globals slots rest [] s.sent (omega arith) (stands-back code (sum_code e) (Store n ∷ []) at h) in
       let end : middle + 5 ≡ at + code_length (sum_code e ++ Store n ∷ []) = ends-behind (sum_code e) (Store n ∷ []) at in
       rw value.value_is (record {
-        slots = changed slots n (value.number ∷ []);
+        slots = changed slots n (cell.Int value.number ∷ []);
         rest = rest;
         match = match-assigned s slots rest n value.number m;
         leads =
-            subst (λ (q : ℕ). Leads p (Running (state_at globals slots [] at rest s.sent)) (Running (state_at globals (changed slots n (value.number ∷ [])) [] q rest s.sent))) end
+            subst (λ (q : ℕ). Leads p (Running (state_at globals slots [] at rest s.sent)) (Running (state_at globals (changed slots n (cell.Int value.number ∷ [])) [] q rest s.sent))) end
             (leads-through p _ _ _ value.leads store);
       })
 
-  send-does : (calls : meaning.Calls) (k place c at : ℕ) (e : tree.Expression) (s : source.State) (globals slots rest : ℕ → List ℤ) → is_sum e ≡ true → has_base program procedure base.Int e ≡ true → channel_is (slice_get program.channels c) channel.Output ≡ true → Matches program procedure s slots rest → Stands code (sum_code e ++ Send c ∷ []) at → Does program procedure p globals (Running (state_at globals slots [] at rest s.sent)) (at + code_length (sum_code e ++ Send c ∷ [])) (meaning.statement_meaning calls k (tree.Send place c e) s)
+  send-does : (calls : meaning.Calls) (k place c at : ℕ) (e : tree.Expression) (s : source.State) (globals slots : ℕ → List Cell) (rest : ℕ → List ℤ) → is_sum e ≡ true → has_base program procedure base.Int e ≡ true → channel_is (slice_get program.channels c) channel.Output ≡ true → Matches program procedure s slots rest → Stands code (sum_code e ++ Send c ∷ []) at → Does program procedure p globals (Running (state_at globals slots [] at rest s.sent)) (at + code_length (sum_code e ++ Send c ∷ [])) (meaning.statement_meaning calls k (tree.Send place c e) s)
   send-does calls k place c at e s globals slots rest sum fits is_output m h =
       let value : Pushes p e s at globals slots rest [] =
       sum_pushes program procedure p code serves e at s globals slots rest [] sum fits m (stands-front code (sum_code e) (Send c ∷ []) at h) in
@@ -126,7 +128,7 @@ module _ (program : resolved.Program) (procedure : resolved.ProcedureEntry) (p :
       })
 
   -- what is received goes to the target, if there is one, and else to the spare slot
-  match-kept : (target : Option Variable) (s : source.State) (slots rest : ℕ → List ℤ) (z : ℤ) → is_local_target target ≡ true → Matches program procedure s slots rest → Matches program procedure (meaning.kept_in target (value.Number z) s) (changed slots (target_slot (length procedure.slots) target) (z ∷ [])) rest
+  match-kept : (target : Option Variable) (s : source.State) (slots : ℕ → List Cell) (rest : ℕ → List ℤ) (z : ℤ) → is_local_target target ≡ true → Matches program procedure s slots rest → Matches program procedure (meaning.kept_in target (value.Number z) s) (changed slots (target_slot (length procedure.slots) target) (cell.Int z ∷ [])) rest
   match-kept None s slots rest z is_local m = match-spare s slots rest z m
   match-kept (Some (Local n)) s slots rest z is_local m = match-assigned s slots rest n z m
   match-kept _ s slots rest z is_local m = absurd (let no : false ≡ true = is_local in cc)
@@ -142,7 +144,7 @@ module _ (program : resolved.Program) (procedure : resolved.ProcedureEntry) (p :
       let below : n < length procedure.slots = local_below procedure n (same_base base.Int) fits in omega arith
   target-there _ is_local fits = absurd (let no : false ≡ true = is_local in cc)
 
-  receive-does : (c at : ℕ) (target : Option Variable) (s : source.State) (globals slots rest : ℕ → List ℤ) (left : List ℤ) → is_local_target target ≡ true → target_by program procedure target (same_base base.Int) ≡ true → channel_is (slice_get program.channels c) channel.Input ≡ true → Matches program procedure s slots rest → rest c ≡ left → Stands code (Receive c ∷ Store (target_slot (length procedure.slots) target) ∷ []) at → Does program procedure p globals (Running (state_at globals slots [] at rest s.sent)) (at + 10) (meaning.received left c target s)
+  receive-does : (c at : ℕ) (target : Option Variable) (s : source.State) (globals slots : ℕ → List Cell) (rest : ℕ → List ℤ) (left : List ℤ) → is_local_target target ≡ true → target_by program procedure target (same_base base.Int) ≡ true → channel_is (slice_get program.channels c) channel.Input ≡ true → Matches program procedure s slots rest → rest c ≡ left → Stands code (Receive c ∷ Store (target_slot (length procedure.slots) target) ∷ []) at → Does program procedure p globals (Running (state_at globals slots [] at rest s.sent)) (at + 10) (meaning.received left c target s)
   receive-does c at target s globals slots rest [] is_local fits is_input m e h =
       takes-none program procedure p code serves (Store (target_slot (length procedure.slots) target) ∷ []) c at globals slots rest [] s.sent is_input e h
   receive-does c at target s globals slots rest (z ∷ numbers) is_local fits is_input m e h =
@@ -152,16 +154,16 @@ module _ (program : resolved.Program) (procedure : resolved.ProcedureEntry) (p :
       let store = stores-slot program procedure p code serves [] n z (at + 5) globals slots (changed rest c numbers) [] s.sent (target-there target is_local fits) (stands-back code (Receive c ∷ []) (Store n ∷ []) at h) in
       let end : at + 5 + 5 ≡ at + 10 = omega arith in
       record {
-        slots = changed slots n (z ∷ []);
+        slots = changed slots n (cell.Int z ∷ []);
         rest = changed rest c numbers;
         match = match-kept target t slots (changed rest c numbers) z is_local (match-taken s slots rest c numbers m);
         leads =
-            subst (λ (q : ℕ). Leads p (Running (state_at globals slots [] at rest s.sent)) (Running (state_at globals (changed slots n (z ∷ [])) [] q (changed rest c numbers) (meaning.kept_in target (value.Number z) t).sent))) end
-            (subst (λ (sent : List Pair). Leads p (Running (state_at globals slots [] at rest s.sent)) (Running (state_at globals (changed slots n (z ∷ [])) [] (at + 5 + 5) (changed rest c numbers) sent))) (sym (kept-sent target t z is_local))
+            subst (λ (q : ℕ). Leads p (Running (state_at globals slots [] at rest s.sent)) (Running (state_at globals (changed slots n (cell.Int z ∷ [])) [] q (changed rest c numbers) (meaning.kept_in target (value.Number z) t).sent))) end
+            (subst (λ (sent : List Pair). Leads p (Running (state_at globals slots [] at rest s.sent)) (Running (state_at globals (changed slots n (cell.Int z ∷ [])) [] (at + 5 + 5) (changed rest c numbers) sent))) (sym (kept-sent target t z is_local))
             (leads-through p _ _ _ taken store));
       }
 
-  pub statement-does : (statement : tree.Statement) (calls : meaning.Calls) (k at : ℕ) (s : source.State) (globals slots rest : ℕ → List ℤ) → is_straight_statement statement ≡ true → statement_fits program procedure statement ≡ true → Matches program procedure s slots rest → Stands code (statement_code (length procedure.slots) statement) at → Does program procedure p globals (Running (state_at globals slots [] at rest s.sent)) (at + code_length (statement_code (length procedure.slots) statement)) (meaning.statement_meaning calls k statement s)
+  pub statement-does : (statement : tree.Statement) (calls : meaning.Calls) (k at : ℕ) (s : source.State) (globals slots : ℕ → List Cell) (rest : ℕ → List ℤ) → is_straight_statement statement ≡ true → statement_fits program procedure statement ≡ true → Matches program procedure s slots rest → Stands code (statement_code (length procedure.slots) statement) at → Does program procedure p globals (Running (state_at globals slots [] at rest s.sent)) (at + code_length (statement_code (length procedure.slots) statement)) (meaning.statement_meaning calls k statement s)
   statement-does (tree.Assign place (Local n) e) calls k at s globals slots rest straight fits m h =
       assign-does calls k place n at e s globals slots rest straight
       (target-int (slice_get procedure.slots n) (λ base. has_base program procedure base e) (λ slot there. passes_at is_labelled_int procedure.slots n slot ints there) fits)
@@ -177,7 +179,7 @@ module _ (program : resolved.Program) (procedure : resolved.ProcedureEntry) (p :
 
   -- ---- blocks
 
-  does-later : (from middle : Machine) (globals : ℕ → List ℤ) (place : ℕ) (o : meaning.Outcome) → Leads p from middle → Does program procedure p globals middle place o → Does program procedure p globals from place o
+  does-later : (from middle : Machine) (globals : ℕ → List Cell) (place : ℕ) (o : meaning.Outcome) → Leads p from middle → Does program procedure p globals middle place o → Does program procedure p globals from place o
   does-later from middle globals place (meaning.Ended exit.Normal returned t) first second = record {
     slots = second.slots;
     rest = second.rest;
@@ -187,13 +189,13 @@ module _ (program : resolved.Program) (procedure : resolved.ProcedureEntry) (p :
   does-later from middle globals place (meaning.Ended (exit.Throw exception) returned t) first second = leads-through p _ _ _ first second
   does-later from middle globals place _ first second = absurd second
 
-  after-does : (from : Machine) (globals : ℕ → List ℤ) (middle place : ℕ) (o : meaning.Outcome) (next : source.State → meaning.Outcome) → Does program procedure p globals from middle o → ((t : source.State) (slots rest : ℕ → List ℤ) → Matches program procedure t slots rest → Does program procedure p globals (Running (state_at globals slots [] middle rest t.sent)) place (next t)) → Does program procedure p globals from place (meaning.after o next)
+  after-does : (from : Machine) (globals : ℕ → List Cell) (middle place : ℕ) (o : meaning.Outcome) (next : source.State → meaning.Outcome) → Does program procedure p globals from middle o → ((t : source.State) (slots : ℕ → List Cell) (rest : ℕ → List ℤ) → Matches program procedure t slots rest → Does program procedure p globals (Running (state_at globals slots [] middle rest t.sent)) place (next t)) → Does program procedure p globals from place (meaning.after o next)
   after-does from globals middle place (meaning.Ended exit.Normal returned t) next first second =
       does-later from _ globals place (next t) first.leads (second t first.slots first.rest first.match)
   after-does from globals middle place (meaning.Ended (exit.Throw exception) returned t) next first second = first
   after-does from globals middle place _ next first second = absurd first
 
-  pub block-does : (block : tree.Block) (calls : meaning.Calls) (k at : ℕ) (s : source.State) (globals slots rest : ℕ → List ℤ) → is_straight_block block ≡ true → block_fits program procedure block ≡ true → Matches program procedure s slots rest → Stands code (block_code (length procedure.slots) block) at → Does program procedure p globals (Running (state_at globals slots [] at rest s.sent)) (at + code_length (block_code (length procedure.slots) block)) (meaning.block_meaning calls k block s)
+  pub block-does : (block : tree.Block) (calls : meaning.Calls) (k at : ℕ) (s : source.State) (globals slots : ℕ → List Cell) (rest : ℕ → List ℤ) → is_straight_block block ≡ true → block_fits program procedure block ≡ true → Matches program procedure s slots rest → Stands code (block_code (length procedure.slots) block) at → Does program procedure p globals (Running (state_at globals slots [] at rest s.sent)) (at + code_length (block_code (length procedure.slots) block)) (meaning.block_meaning calls k block s)
   block-does tree.Empty calls k at s globals slots rest straight fits m h = record {
     slots = slots;
     rest = rest;

@@ -6,8 +6,8 @@ use Rattle.principals.specs.ActsFor.{ActsFor}
 use Rattle.resolved.specs.declared.tables.Direction.{Direction as ChannelDirection}
 use Rattle.resolved.specs.declared.tables.Direction.TheVariants as channel
 use Rattle.resolved.specs.Program.{Program, ChannelEntry}
-use Rattle.bytecode.specs.declared.parts.Direction.{Direction}
-use Rattle.bytecode.specs.declared.parts.Direction.TheVariants.{Input, Output}
+use Rattle.bytecode.specs.declared.declaration.Direction.{Direction}
+use Rattle.bytecode.specs.declared.declaration.Direction.TheVariants.{Input, Output}
 use Rattle.bytecode.specs.Contents.{ChannelContents, ModuleContents}
 
 abbrev pub direction_of : ChannelDirection → Direction

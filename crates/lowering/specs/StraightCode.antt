@@ -13,8 +13,8 @@ use Rattle.resolved.specs.Value.{literal_number}
 use Rattle.bytecode.specs.declared.instruction.Arithmetic.TheVariants.{Add}
 use Rattle.bytecode.specs.declared.instruction.Instruction.{Instruction}
 use Rattle.bytecode.specs.declared.instruction.Instruction.TheVariants.{Push, Load, Store, Compute, Return, Receive, Send}
-use Rattle.bytecode.specs.declared.parts.Kind.TheVariants.{Int}
-use Rattle.bytecode.specs.declared.parts.Slot.TheVariants.{Scalar}
+use Rattle.bytecode.specs.declared.value.Kind.TheVariants.{Int}
+use Rattle.bytecode.specs.declared.declaration.Slot.TheVariants.{Scalar}
 use Rattle.bytecode.specs.Contents.{ProcedureContents, ModuleContents}
 use Rattle.bytecode.specs.Format.{pair_cmp}
 use Rattle.lowering.specs.Interface.{channel_contents}

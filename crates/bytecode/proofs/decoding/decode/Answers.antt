@@ -9,18 +9,18 @@ use Rattle.bytecode.proofs.decoding.decode.Goals as goal
 
 pub module_of-requires : goal.module_of-requires
 module_of-requires c =
-    (module_taken c.args.bytes.now (contents_of c.in-Ok.parts) (record { below = λ i. omega (arith, c.type_inv.bytes i) }) c.in-Ok.ensures).0
+    (module_taken c.args.bytes.now (contents_of c.in-Ok.fields) (record { below = λ i. omega (arith, c.type_inv.bytes i) }) c.in-Ok.ensures).0
 
-pub returns-in-Ok-clause-found : goal.returns-in-Ok-clause-found
-returns-in-Ok-clause-found c =
-    rw c.module_of.ensures (module_taken c.args.bytes.now (contents_of c.in-Ok.parts) (record { below = λ i. omega (arith, c.type_inv.bytes i) }) c.in-Ok.ensures)
+pub returns-in-Ok-clause-accepted : goal.returns-in-Ok-clause-accepted
+returns-in-Ok-clause-accepted c =
+    rw c.module_of.ensures (module_taken c.args.bytes.now (contents_of c.in-Ok.fields) (record { below = λ i. omega (arith, c.type_inv.bytes i) }) c.in-Ok.ensures)
 
-pub returns-in-Ok-clause-only : goal.returns-in-Ok-clause-only
-returns-in-Ok-clause-only c = λ m spells.
-    c.module_of.ensures ∙ same_value (contents_of c.in-Ok.parts) m (sym c.in-Ok.ensures ∙ module_again c.args.bytes.now m spells)
+pub returns-in-Ok-clause-exact : goal.returns-in-Ok-clause-exact
+returns-in-Ok-clause-exact c = λ m spells.
+    c.module_of.ensures ∙ same_value (contents_of c.in-Ok.fields) m (sym c.in-Ok.ensures ∙ module_again c.args.bytes.now m spells)
 
-pub returns-in-Err-Stop-clause-only : goal.returns-in-Err-Stop-clause-only
-returns-in-Err-Stop-clause-only c = λ m spells.
+pub returns-in-Err-Stop-clause-exact : goal.returns-in-Err-Stop-clause-exact
+returns-in-Err-Stop-clause-exact c = λ m spells.
     let stopped : read_all module_file c.args.bytes.now ≡ Err c.in-Err-Stop.stop = rw c.in-Err-Stop.field-0-is at c.in-Err-Stop.ensures in
     absurd (cc (stopped, module_again c.args.bytes.now m spells))
 

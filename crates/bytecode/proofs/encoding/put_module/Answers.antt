@@ -7,31 +7,34 @@ use Rattle.bytecode.proofs.Written.{module_fits, module_written}
 use Rattle.bytecode.proofs.encoding.put_module.Goals as goal
 
 pub put_hierarchy-requires-clause-names : goal.put_hierarchy-requires-clause-names
-put_hierarchy-requires-clause-names c = rw c.hierarchy-hierarchy.ensures.hierarchy (module_fits c.args.whole.now c.hierarchy-hierarchy.ensures.spelled).names
+put_hierarchy-requires-clause-names c = rw c.hierarchy-hierarchy.ensures.hierarchy (module_fits c.args.program.now c.hierarchy-hierarchy.ensures.spelled).names
 
 pub put_hierarchy-requires-clause-each : goal.put_hierarchy-requires-clause-each
-put_hierarchy-requires-clause-each c = rw c.hierarchy-hierarchy.ensures.hierarchy (module_fits c.args.whole.now c.hierarchy-hierarchy.ensures.spelled).each_name
+put_hierarchy-requires-clause-each c = rw c.hierarchy-hierarchy.ensures.hierarchy (module_fits c.args.program.now c.hierarchy-hierarchy.ensures.spelled).each_name
 
 pub put_hierarchy-requires-clause-pairs : goal.put_hierarchy-requires-clause-pairs
-put_hierarchy-requires-clause-pairs c = rw c.hierarchy-hierarchy.ensures.hierarchy (module_fits c.args.whole.now c.hierarchy-hierarchy.ensures.spelled).pairs
+put_hierarchy-requires-clause-pairs c = rw c.hierarchy-hierarchy.ensures.hierarchy (module_fits c.args.program.now c.hierarchy-hierarchy.ensures.spelled).pairs
 
 pub put_names-requires-clause-few : goal.put_names-requires-clause-few
-put_names-requires-clause-few c = rw c.exceptions.ensures (module_fits c.args.whole.now c.hierarchy-hierarchy.ensures.spelled).exceptions
+put_names-requires-clause-few c = rw c.exceptions.ensures (module_fits c.args.program.now c.hierarchy-hierarchy.ensures.spelled).exceptions
 
 pub put_names-requires-clause-each : goal.put_names-requires-clause-each
-put_names-requires-clause-each c = rw c.exceptions.ensures (module_fits c.args.whole.now c.hierarchy-hierarchy.ensures.spelled).each_exception
+put_names-requires-clause-each c = rw c.exceptions.ensures (module_fits c.args.program.now c.hierarchy-hierarchy.ensures.spelled).each_exception
 
 pub put_list-requires-clause-few : goal.put_list-requires-clause-few
-put_list-requires-clause-few c = rw c.channels.ensures (module_fits c.args.whole.now c.hierarchy-hierarchy.ensures.spelled).channels
+put_list-requires-clause-few c = rw c.channels.ensures (module_fits c.args.program.now c.hierarchy-hierarchy.ensures.spelled).channels
 
 pub put_list-requires-clause-each : goal.put_list-requires-clause-each
-put_list-requires-clause-each c = rw c.channels.ensures (module_fits c.args.whole.now c.hierarchy-hierarchy.ensures.spelled).each_channel
+put_list-requires-clause-each c = rw c.channels.ensures (module_fits c.args.program.now c.hierarchy-hierarchy.ensures.spelled).each_channel
 
 pub put_list-requires-2-clause-few : goal.put_list-requires-2-clause-few
-put_list-requires-2-clause-few c = rw c.globals.ensures (module_fits c.args.whole.now c.hierarchy-hierarchy.ensures.spelled).globals
+put_list-requires-2-clause-few c = rw c.globals.ensures (module_fits c.args.program.now c.hierarchy-hierarchy.ensures.spelled).globals
+
+pub put_list-requires-3-clause-few : goal.put_list-requires-3-clause-few
+put_list-requires-3-clause-few c = rw c.procedures.ensures.procedures (module_fits c.args.program.now c.hierarchy-hierarchy.ensures.spelled).procedures
 
 pub put_list-requires-3-clause-each : goal.put_list-requires-3-clause-each
-put_list-requires-3-clause-each c = rw c.procedures.ensures.procedures (module_fits c.args.whole.now c.hierarchy-hierarchy.ensures.spelled).each_procedure
+put_list-requires-3-clause-each c = rw c.procedures.ensures.procedures (module_fits c.args.program.now c.hierarchy-hierarchy.ensures.spelled).each_procedure
 
 pub returns-clause-written : goal.returns-clause-written
 returns-clause-written c =
@@ -41,7 +44,7 @@ returns-clause-written c =
     let variables : List Global → Type 0 = λ globals. c.put_list-2.new.out.items ≡ c.put_list.new.out.items ++ list_bytes variable_bytes globals in
     let runs : List ProcedureContents → Type 0 = λ procedures. c.put_list-3.new.out.items ≡ c.put_list-2.new.out.items ++ list_bytes procedure_bytes procedures in
     let last : ℕ → Type 0 = λ main. c.put_number-3.new.out.items ≡ c.put_list-3.new.out.items ++ number_bytes main in
-    module_written c.args.whole.now c.args.out.now.items c.put_number.new.out.items c.put_number-2.new.out.items c.put_hierarchy.new.out.items c.put_names.new.out.items c.put_list.new.out.items c.put_list-2.new.out.items c.put_list-3.new.out.items c.put_number-3.new.out.items
+    module_written c.args.program.now c.args.out.now.items c.put_number.new.out.items c.put_number-2.new.out.items c.put_hierarchy.new.out.items c.put_names.new.out.items c.put_list.new.out.items c.put_list-2.new.out.items c.put_list-3.new.out.items c.put_number-3.new.out.items
     c.in_ok-put_number.ensures
     c.in_ok-put_number-2.ensures
     (subst authority c.hierarchy-hierarchy.ensures.hierarchy c.in_ok-put_hierarchy.ensures)
