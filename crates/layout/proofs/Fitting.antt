@@ -1,5 +1,5 @@
 -- The module that a graph is laid out as has a spelling.
-use Rattle.std.proofs.Common.{◌≡◌, ℕ, zero, suc, ◌+◌, ◌^◌, ◌<◌, ◌≤◌, ◌∙◌, refl, sym, ap, true, List, [], ◌∷◌, ◌++◌, length, map, Option, Some, None, arith, subst, All, IfSome}
+use Rattle.std.proofs.Common.{◌≡◌, ℕ, ◌^◌, ◌<◌, ◌∙◌, refl, ap, List, [], ◌∷◌, ◌++◌, length, map, Option, Some, None, arith, All, IfSome}
 use Rattle.std.specs.Prelude.{slice_get}
 use Rattle.std.specs.List.{AllByRecursion}
 use Rattle.std.specs.Option.{option_map}
@@ -9,9 +9,9 @@ use Rattle.std.proofs.lemmas.Option.{slice_get-map}
 use Rattle.bytecode.specs.declared.instruction.Instruction.{Instruction}
 use Rattle.bytecode.specs.declared.instruction.Instruction.TheVariants.{Jump, JumpIfFalse}
 use Rattle.bytecode.specs.declared.declaration.Handler.{Handler}
-use Rattle.bytecode.specs.Code.{width_of, code_length}
+use Rattle.bytecode.specs.Code.{code_length}
 use Rattle.bytecode.specs.Contents.{ProcedureContents, ModuleContents}
-use Rattle.bytecode.specs.Form.{Fits, FitEach, IsCoded, Code, spelled_code}
+use Rattle.bytecode.specs.Form.{Fits, FitEach, IsCoded, Code}
 use Rattle.bytecode.specs.Opcodes.{instructions}
 use Rattle.bytecode.specs.Format.{handler, handlers, procedure, procedures, may_start, main, program, contents, module_file}
 use Rattle.bytecode.proofs.Spelling.{is_spelled, spelled-length}

@@ -1,6 +1,6 @@
 -- Offsets: the module that a graph is laid out as fetches, goes on and finds handlers at the offset of a position as the graph does
 -- at the position.
-use Rattle.std.proofs.Common.{◌≡◌, ◌↔◌, ℕ, zero, suc, ◌+◌, ◌-◌, ◌<◌, ◌≤◌, ◌∙◌, refl, sym, ap, Bool, true, false, cond, not, ◌&&◌, List, [], ◌∷◌, length, map, Option, Some, None, eqb, ltb, ℤ, arith, add-one, subst}
+use Rattle.std.proofs.Common.{◌≡◌, ℕ, zero, suc, ◌+◌, ◌-◌, ◌<◌, ◌≤◌, ◌∙◌, refl, sym, ap, Bool, true, false, cond, not, ◌&&◌, List, [], ◌∷◌, map, Option, Some, None, eqb, ltb, ℤ, arith, add-one}
 use Rattle.std.specs.Prelude.{slice_get}
 use Rattle.std.specs.Option.{option_map}
 use Rattle.std.proofs.lemmas.Bool.{lt-ltb, le-ltb, ltb-true, ltb-false, ne_eqb}
@@ -12,7 +12,7 @@ use Rattle.bytecode.specs.declared.declaration.Handler.{Handler}
 use Rattle.bytecode.specs.declared.declaration.Slot.{Slot}
 use Rattle.bytecode.specs.Code.{width_of, instruction_at}
 use Rattle.bytecode.specs.Contents.{ProcedureContents, ModuleContents}
-use Rattle.bytecode.specs.Machine.{Header, Program, Machine, Running, Ended, Stuck, Ending, State, header_of, code_of, handlers_of, slots_in, position_after, handler_for, program_of, first_state, new_frame, exec, after_steps, sent_of}
+use Rattle.bytecode.specs.Machine.{Header, Program, Machine, Running, Ended, Stuck, Ending, header_of, code_of, handlers_of, slots_in, position_after, handler_for, program_of, first_state, new_frame, exec, after_steps, sent_of}
 use Rattle.layout.specs.Targets.{renamed_instruction, renamed_handler}
 use Rattle.layout.specs.Offsets.{offset, laid_out_procedure, laid_out, offset_in}
 use Rattle.layout.specs.Runs.{graph_program, graph_after_steps}

@@ -1,5 +1,5 @@
 -- The targets of the module that a graph is laid out as are instructions' first bytes.
-use Rattle.std.proofs.Common.{◌≡◌, ◌⊎◌, ℕ, ◌<◌, ◌≤◌, ◌∙◌, inl, inr, refl, sym, ap, subst, Bool, true, false, ltb, List, length, map, get_or, Option, Some, None, arith, All, IfSome}
+use Rattle.std.proofs.Common.{◌≡◌, ◌⊎◌, ℕ, ◌<◌, ◌≤◌, ◌∙◌, inl, inr, refl, sym, ap, Bool, true, false, ltb, List, length, map, get_or, Some, arith, All, IfSome}
 use Rattle.std.specs.Option.{is_some, option_map}
 use Rattle.std.proofs.lemmas.Bool.{ltb-true, ltb-false}
 use Rattle.std.proofs.lemmas.List.Elements.{All-map}

@@ -1,5 +1,4 @@
-use Rattle.std.proofs.Common.{◌≡◌, ℕ, ◌+◌, ◌^◌, ◌<◌, ◌≤◌, ◌++◌, ◌∷◌, [], get_or, length, sym, ap, ◌∙◌, arith}
-use Rattle.bytecode.specs.Code.{width_of, code_length}
+use Rattle.std.proofs.Common.{◌≡◌, ℕ, ◌+◌, length, sym, ap, ◌∙◌, arith}
 use Rattle.layout.specs.Offsets.{offset}
 use Rattle.layout.proofs.Offsets.{offset-start}
 use Rattle.layout.proofs.Tables.{next-offset, offset-within, length_more, entries_more}
