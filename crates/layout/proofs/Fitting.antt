@@ -17,7 +17,7 @@ use Rattle.bytecode.specs.Format.{handler, handlers, procedure, procedures, may_
 use Rattle.bytecode.proofs.Spelling.{is_spelled, spelled-length}
 use Rattle.layout.specs.Targets.{target_of, renamed_instruction, renamed_handler}
 use Rattle.layout.specs.Offsets.{offset, laid_out_procedure, laid_out}
-use Rattle.layout.specs.Graph.{IsHandlerIn, HasPositions, IsGraph}
+use Rattle.layout.specs.Graph.{HasTargetIn, IsHandlerIn, HasPositions, IsGraph}
 use Rattle.layout.proofs.Offsets.{width-renamed}
 use Rattle.layout.proofs.Tables.{offset-within}
 
@@ -35,9 +35,6 @@ coded f x small h = h
 target-small : (code : List Instruction) (target : Option ℕ) → code_length code < 2 ^ 32 → IfSome target (λ t. t < length code) → IfSome target (λ t. offset code t < 2 ^ 32)
 target-small code None short below = below
 target-small code (Some t) short below = omega (arith, offset-within code t (omega (arith, below)))
-
-abbrev HasTargetIn : List Instruction → Instruction → Type 0
-HasTargetIn code x = IfSome (target_of x) (λ target. target < length code)
 
 all_coded : (code rest : List Instruction) → code_length code < 2 ^ 32 → All (HasTargetIn code) rest → AllByRecursion (IsCoded instructions) rest → AllByRecursion (IsCoded instructions) (map (renamed_instruction (offset code)) rest)
 all_coded code [] short targets h = tt

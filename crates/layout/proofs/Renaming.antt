@@ -1,4 +1,4 @@
--- A program whose code is laid out in another way takes the same steps: each step commutes with the renaming of positions.
+-- A program whose code is laid out differently takes the same steps: each step commutes with the renaming of positions.
 use Rattle.std.proofs.Common.{◌≡◌, ℕ, zero, suc, ◌+◌, ◌∙◌, refl, sym, ap, Bool, true, false, cond, not, List, [], ◌∷◌, ◌++◌, length, map, reverse, replicate, Option, Some, None, ltb, ℤ}
 use Rattle.std.specs.Prelude.{slice_get}
 use Rattle.std.specs.Option.{option_map}
@@ -20,7 +20,7 @@ use Rattle.bytecode.specs.Machine.{Frame, Caller, State, Machine, Running, Ended
 use Rattle.layout.specs.Targets.{renamed_instruction}
 use Rattle.layout.specs.Kept.{renamed_frame, renamed_caller, renamed_state, renamed}
 
--- a program, another way to fetch, to go on and to find a handler, and a renaming of the program's positions that fits to it
+-- a program; other functions that fetch, go on and find a handler; and a renaming of the program's positions that fits to them
 pub record Relaid : Type 0 where
   pub program : Program
   pub fetch : ℕ → ℕ → Option Instruction
@@ -32,7 +32,7 @@ pub record Relaid : Type 0 where
   pub goes_next : (procedure position : ℕ) (instruction : Instruction) → program.fetch procedure position ≡ Some instruction → next procedure (rename procedure position) ≡ rename procedure (program.next procedure position)
   pub finds : (procedure position exception : ℕ) → find procedure (rename procedure position) exception ≡ option_map (rename procedure) (program.find procedure position exception)
 
--- the program laid out in the other way
+-- the program with the other functions
 abbrev pub relaid : Relaid → Program
 relaid l = record l.program { fetch = l.fetch; next = l.next; find = l.find }
 
@@ -74,7 +74,7 @@ raised-same l s exception =
     ap (λ (target : Option ℕ). handled (moved l s) (renamed_frame l.rename s.frame) (all l s.callers) target (unwound (relaid l) (moved l s) exception (all l s.callers))) (l.finds s.frame.procedure s.frame.position exception)
     ∙ handled-same l s s.frame s.callers (l.program.find s.frame.procedure s.frame.position exception) (unwound (relaid l) (moved l s) exception (all l s.callers)) (unwound l.program s exception s.callers) (unwound-same l s exception s.callers)
 
--- a state is changed in the same way before and after the renaming
+-- a state is changed alike before and after the renaming
 abbrev Puts : Relaid → (List Cell → State) → (List Cell → State) → Type 0
 Puts l after before = (cells operands : List Cell) → Same l (goes_on (relaid l) (after cells) operands) (goes_on l.program (before cells) operands)
 

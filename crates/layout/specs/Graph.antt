@@ -1,7 +1,8 @@
 -- Graphs. A graph contains what a module does, except that the targets of its jumps and handlers and the ranges of its handlers are
 -- positions: numbers of instructions in the list of their procedure, from 0 on, where a module has byte offsets.
 -- Source: our own.
-use Rattle.std.specs.Prelude.{ℕ, ◌<◌, ◌≤◌, length, All, IfSome}
+use Rattle.std.specs.Prelude.{ℕ, ◌<◌, ◌≤◌, List, length, All, IfSome}
+use Rattle.bytecode.specs.declared.instruction.Instruction.{Instruction}
 use Rattle.bytecode.specs.declared.declaration.Handler.{Handler}
 use Rattle.bytecode.specs.Contents.{ProcedureContents, ModuleContents}
 use Rattle.bytecode.specs.Form.{Fits}
@@ -15,9 +16,13 @@ pub record IsHandlerIn (size : ℕ) (handler : Handler) : Type 0 where
   pub within : handler.end ≤ size
   pub target : handler.target < size
 
+-- the target of an instruction, if it has one, is a position of the code
+abbrev pub HasTargetIn : List Instruction → Instruction → Type 0
+HasTargetIn code instruction = IfSome (target_of instruction) (λ target. target < length code)
+
 -- each target of a procedure is a position of its code
 pub record HasPositions (procedure : ProcedureContents) : Type 0 where
-  pub targets : All (λ instruction. IfSome (target_of instruction) (λ target. target < length procedure.code)) procedure.code
+  pub targets : All (HasTargetIn procedure.code) procedure.code
   pub handlers : All (IsHandlerIn (length procedure.code)) procedure.handlers
 
 -- a graph: its targets are positions, and its numbers, names and lists, and the bytes that its code will take, are within the

@@ -1,5 +1,5 @@
--- What it means that a module runs as a graph does: after each number of steps its machine is the graph's, with the offset of each
--- position in the place of the position.
+-- What it means that a module runs as a graph does: after each number of steps its machine is the graph's, with byte offsets instead
+-- of positions.
 -- Source: our own; a renaming of states that commutes with each step.
 use Rattle.std.specs.Prelude.{◌≡◌, ◌↔◌, ℕ, List, map, ℤ}
 use Rattle.labels.specs.declared.sent.Pair.{Pair}
@@ -29,7 +29,7 @@ renamed rename (Stuck sent) = Stuck sent
 -- ---- runs
 
 -- on every world and after each number of steps the module's machine is the graph's at the offsets of its positions. So both have
--- sent the same, the one has ended where the other has, and in the same way, and the one is stuck where the other is
+-- sent the same, and the one has ended or is stuck exactly where the other has ended so or is stuck
 pub record SameRuns (graph m : ModuleContents) : Type 0 where
   pub steps : (world : ℕ → List ℤ) (n : ℕ)
       → after_steps m world n ≡ renamed (offset_in graph) (graph_after_steps graph world n)

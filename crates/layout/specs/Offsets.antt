@@ -1,4 +1,4 @@
--- Byte offsets in place of positions: where the instruction at a position stands, and the module that a graph is laid out as.
+-- Byte offsets instead of positions: where the instruction at a position stands, and the module that a graph is laid out as.
 -- Source: our own.
 use Rattle.std.specs.Prelude.{ℕ, zero, suc, ◌+◌, List, [], ◌∷◌, map, slice_get}
 use Rattle.bytecode.specs.declared.instruction.Instruction.{Instruction}
@@ -14,14 +14,14 @@ offset [] position = position
 offset (instruction ∷ code) zero = 0
 offset (instruction ∷ code) (suc position) = width_of instruction + offset code position
 
--- a procedure with the offsets of its positions in their place, and otherwise the same
+-- the same procedure with byte offsets instead of positions
 abbrev pub laid_out_procedure : ProcedureContents → ProcedureContents
 laid_out_procedure procedure = record procedure {
   code = map (renamed_instruction (offset procedure.code)) procedure.code;
   handlers = map (renamed_handler (offset procedure.code)) procedure.handlers;
 }
 
--- the module that a graph is laid out as: the same, procedure by procedure, with offsets in the place of positions
+-- the module that a graph is laid out as: the same with byte offsets instead of positions, procedure by procedure
 abbrev pub laid_out : ModuleContents → ModuleContents
 laid_out graph = record graph { procedures = map laid_out_procedure graph.procedures }
 

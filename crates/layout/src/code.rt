@@ -1,6 +1,6 @@
-//! Procedures with byte offsets in the place of positions.
+//! Procedures with byte offsets instead of positions.
 ghost use Rattle.bytecode.specs.Code.{code_length};
-ghost use Rattle.layout.specs.Graph.{HasPositions, IsHandlerIn};
+ghost use Rattle.layout.specs.Graph.{HasPositions, HasTargetIn, IsHandlerIn};
 ghost use Rattle.layout.specs.Offsets.{laid_out_procedure, offset};
 ghost use Rattle.layout.specs.Tables.{IsTableOf};
 ghost use Rattle.layout.specs.Targets.{renamed_handler, renamed_instruction, target_of};
@@ -24,10 +24,11 @@ fn make_table(alloc: Global, code: &[Instruction]) -> Result<Vec<u32>, AllocErro
     Ok(table)
 }
 
-/// The instruction with the offset of its target in the target's place.
+/// The instruction with the offset of its target.
 fn lay_out_instruction(table: &[u32], instruction: Instruction) -> Instruction
     requires { IfSome (target_of instruction) (λ target. target < length table.now) }
-    ensures { result ≡ renamed_instruction (λ position. slice_index table.now position) instruction }
+    ensures { result ≡
+        renamed_instruction (λ position. slice_index table.now position) instruction }
 {
     match instruction {
         Instruction::Jump(target) => Instruction::Jump(table[target as usize]),
@@ -36,7 +37,7 @@ fn lay_out_instruction(table: &[u32], instruction: Instruction) -> Instruction
     }
 }
 
-/// The handler with offsets in the place of positions.
+/// The handler with the offsets of its range and its target.
 fn lay_out_handler(table: &[u32], handler: Handler) -> Handler
     requires start { handler.start < length table.now }
     requires end { handler.end < length table.now }
@@ -51,14 +52,14 @@ fn lay_out_handler(table: &[u32], handler: Handler) -> Handler
     }
 }
 
-/// The code with the offset of each target in the target's place.
+/// The code with the offset of each target.
 fn lay_out_code(
     alloc: Global,
     table: &[u32],
     code: &[Instruction],
 ) -> Result<Vec<Instruction>, AllocError>
     requires table { IsTableOf code.now table.now }
-    requires targets { All (λ instruction. IfSome (target_of instruction) (λ target. target < length code.now)) code.now }
+    requires targets { All (HasTargetIn code.now) code.now }
     ensures { IfOk result (λ made. made.items ≡ map (renamed_instruction (offset code.now)) code.now) }
 {
     let mut made = Vec::new(alloc);
@@ -68,7 +69,7 @@ fn lay_out_code(
     Ok(made)
 }
 
-/// The handlers of code with offsets in the place of positions.
+/// The handlers of code with the offsets of their ranges and targets.
 fn lay_out_handlers(
     alloc: Global,
     table: &[u32],
@@ -86,7 +87,7 @@ fn lay_out_handlers(
     Ok(made)
 }
 
-/// The procedure with offsets in the place of positions.
+/// The procedure with byte offsets instead of positions.
 pub(crate) fn lay_out_procedure(
     alloc: Global,
     procedure: &Procedure,

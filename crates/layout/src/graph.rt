@@ -8,11 +8,12 @@ use bytecode::{Channel, Global, Procedure};
 use principals::Hierarchy;
 use std::marker::Model;
 
-/// A program of the virtual machine before it is laid out: what a module contains, except that a target is a position, the number
-/// of an instruction in its procedure's code. So is each number of a handler's range and its target.
+/// A program of the virtual machine before it is laid out. It contains what a module does, except that
+/// targets are positions and not byte offsets: the number of an instruction in its procedure's code,
+/// from 0 on. The range and the target of a handler are positions too.
 ///
-/// Every target of a graph is a position of the code, every handler holds an instruction, and the numbers, names and lists are
-/// within the limits of the module file.
+/// Each target is a position of the code, no handler's range is empty or ends behind the code, and the
+/// numbers, names and lists are within the limits of the module file.
 #[derive(Debug, Drop)]
 pub struct Graph {
     hierarchy: Hierarchy,
@@ -31,16 +32,31 @@ impl Model for Graph {
 
     ghost Value = { ModuleContents };
 
-    ghost view = { λ g. record { hierarchy = g.hierarchy; exceptions = map (λ name. string_bytes name) g.exceptions.items; channels = g.channels.items; globals = g.globals.items; procedures = g.procedures.items; main = g.main } };
+    ghost view = { λ g. record {
+      hierarchy = g.hierarchy;
+      exceptions = map (λ name. string_bytes name) g.exceptions.items;
+      channels = g.channels.items;
+      globals = g.globals.items;
+      procedures = g.procedures.items;
+      main = g.main;
+    } };
 
-    ghost invariant = { λ g. IsGraph (record { hierarchy = g.hierarchy; exceptions = map (λ name. string_bytes name) g.exceptions.items; channels = g.channels.items; globals = g.globals.items; procedures = g.procedures.items; main = g.main }) };
+    ghost invariant = { λ g. IsGraph (record {
+      hierarchy = g.hierarchy;
+      exceptions = map (λ name. string_bytes name) g.exceptions.items;
+      channels = g.channels.items;
+      globals = g.globals.items;
+      procedures = g.procedures.items;
+      main = g.main;
+    }) };
 }
 
 impl Graph {
-    /// The graph of the given fields: the hierarchy, the names of the declared exceptions, which are numbered from 3, the channels,
-    /// the globals, the procedures, and the number of the procedure where a run starts.
+    /// The graph of the given fields: the hierarchy, the names of the declared exceptions, which are
+    /// numbered from 3, the channels, the globals, the procedures, and the number of the procedure
+    /// where a run starts.
     ///
-    /// Precondition: the targets are positions, and all is within the limits of the module file.
+    /// Precondition: the targets are positions, and everything is within the limits of the module file.
     pub fn new(
         hierarchy: Hierarchy,
         exceptions: Vec<String>,
@@ -49,8 +65,22 @@ impl Graph {
         procedures: Vec<Procedure>,
         main: u32,
     ) -> Graph
-        requires { IsGraph (record { hierarchy = hierarchy; exceptions = map (λ name. string_bytes name) exceptions.items; channels = channels.items; globals = globals.items; procedures = procedures.items; main = main }) }
-        ensures { result ≡ record { hierarchy = hierarchy; exceptions = map (λ name. string_bytes name) exceptions.items; channels = channels.items; globals = globals.items; procedures = procedures.items; main = main } }
+        requires { IsGraph (record {
+          hierarchy = hierarchy;
+          exceptions = map (λ name. string_bytes name) exceptions.items;
+          channels = channels.items;
+          globals = globals.items;
+          procedures = procedures.items;
+          main = main;
+        }) }
+        ensures { result ≡ record {
+          hierarchy = hierarchy;
+          exceptions = map (λ name. string_bytes name) exceptions.items;
+          channels = channels.items;
+          globals = globals.items;
+          procedures = procedures.items;
+          main = main;
+        } }
     {
         Graph {
             hierarchy,

@@ -16,7 +16,8 @@ use std::alloc::{AllocError, Global};
 
 /// The same names.
 fn copy_names(alloc: Global, names: &[String]) -> Result<Vec<String>, AllocError>
-    ensures { IfOk result (λ made. map (λ name. string_bytes name) made.items ≡ map (λ name. string_bytes name) names.now) }
+    ensures { IfOk result (λ made.
+        map (λ name. string_bytes name) made.items ≡ map (λ name. string_bytes name) names.now) }
 {
     let mut made = Vec::new(alloc);
     for name in names {
@@ -38,7 +39,7 @@ fn copy_channels(alloc: Global, channels: &[Channel]) -> Result<Vec<Channel>, Al
     Ok(made)
 }
 
-/// The procedures with offsets in the place of positions.
+/// The procedures with byte offsets instead of positions.
 fn lay_out_procedures(alloc: Global, procedures: &[Procedure]) -> Result<Vec<Procedure>, AllocError>
     requires short { All (λ procedure. code_length procedure.code < 2 ^ 32) procedures.now }
     requires positions { All HasPositions procedures.now }
@@ -51,10 +52,10 @@ fn lay_out_procedures(alloc: Global, procedures: &[Procedure]) -> Result<Vec<Pro
     Ok(made)
 }
 
-/// The module that a graph is laid out as: the same, with the byte offset of each position in the position's place.
+/// The module that a graph is laid out as: the same with byte offsets instead of positions.
 ///
-/// The module runs as the graph does, has the graph's interface, and has a spelling. Each of its targets is an instruction's first
-/// byte.
+/// The module runs as the graph does, has the graph's interface, and has a spelling. Each of its
+/// targets is an instruction's first byte.
 ///
 /// # Errors
 ///

@@ -1,4 +1,5 @@
-//! Graphs, which are programs with positions for targets, and the modules that they are laid out as.
+//! Graphs, which are programs whose targets are positions, and the modules that they are laid
+//! out as.
 #![tactic(auto)]
 
 mod code;
