@@ -1,13 +1,17 @@
--- The table of offsets: how it is made, entry by entry.
-use Rattle.std.proofs.Common.{◌≡◌, ℕ, ◌+◌, ◌<◌, ◌≤◌, ◌∙◌, refl, sym, ap, List, [], ◌∷◌, ◌++◌, length, get_or, arith, add-one, below_more, length-append}
-use Rattle.std.proofs.lemmas.List.{get_or_append_left, get_or_push}
+-- The table of offsets: how it is made, entry by entry, and what code becomes by it.
+use Rattle.std.proofs.Common.{◌≡◌, ℕ, ◌+◌, ◌<◌, ◌≤◌, ◌∙◌, refl, sym, ap, List, [], ◌∷◌, ◌++◌, length, get_or, arith, add-one, below_more, length-append, map, take}
+use Rattle.std.proofs.lemmas.List.{get_or_append_left, get_or_push, map_more}
 use Rattle.std.proofs.lemmas.Option.{slice_get-get_or}
 use Rattle.bytecode.specs.declared.instruction.Instruction.{Instruction}
+use Rattle.bytecode.specs.declared.instruction.Instruction.TheVariants.{Jump, JumpIfFalse}
 use Rattle.bytecode.specs.declared.opcode.Operand.{Operand}
 use Rattle.bytecode.specs.declared.opcode.Operand.TheVariants.{Absent, Int, Boolean, Number}
 use Rattle.bytecode.specs.Code.{width_of, code_length}
 use Rattle.bytecode.specs.Opcodes.{row_of, operand_width}
+use Rattle.layout.specs.Targets.{renamed_instruction}
 use Rattle.layout.specs.Offsets.{offset}
+use Rattle.layout.specs.Graph.{HasTargetIn}
+use Rattle.layout.specs.Tables.{IsTableOf}
 use Rattle.layout.proofs.Offsets.{past, offset-most}
 
 few_bytes : (operand : Operand) → operand_width operand ≤ 4
@@ -40,3 +44,15 @@ entries_more code table new i n size pushed is before =
     below_more (λ (k : ℕ). get_or new k 0 ≡ offset code k) i
     (λ k h. ap (λ (l : List ℕ). get_or l k 0) pushed ∙ get_or_append_left table (n ∷ []) 0 k (omega (arith, size)) ∙ before k h)
     (ap (λ (l : List ℕ). get_or l i 0) pushed ∙ get_or_push table n 0 i size ∙ is)
+
+-- ---- code by a table
+
+pub instruction-by_table : (code : List Instruction) (table : List ℕ) (x : Instruction) → IsTableOf code table → HasTargetIn code x → renamed_instruction (λ position. get_or table position 0) x ≡ renamed_instruction (offset code) x
+instruction-by_table code table (Jump target) h below = ap (λ (k : ℕ). Jump k) (h.entries target (omega (arith, below)))
+instruction-by_table code table (JumpIfFalse target) h below = ap (λ (k : ℕ). JumpIfFalse k) (h.entries target (omega (arith, below)))
+instruction-by_table code table x h below = refl
+
+-- a list of what a function makes of the first elements, with one more
+pub made_more : {X Y : Type 0} (f : X → Y) (xs : List X) (made new : List Y) (i : ℕ) (d : X) (y : Y) → i < length xs → new ≡ made ++ y ∷ [] → made ≡ map f (take i xs) → y ≡ f (get_or xs i d) → new ≡ map f (take (i + 1) xs)
+made_more f xs made new i d y below pushed before same =
+    pushed ∙ ap (λ l. l ++ y ∷ []) before ∙ ap (λ z. map f (take i xs) ++ z ∷ []) same ∙ sym (map_more f xs i d below)
