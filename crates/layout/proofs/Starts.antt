@@ -21,7 +21,7 @@ use Rattle.layout.proofs.Fitting.{length-renamed}
 abbrev placed : List Instruction → List Instruction
 placed code = map (renamed_instruction (offset code)) code
 
-start-at : (code : List Instruction) (k : ℕ) → k < length code → IsStart (placed code) (offset code k)
+pub start-at : (code : List Instruction) (k : ℕ) → k < length code → IsStart (placed code) (offset code k)
 start-at code k below =
     let here : instruction_at (placed code) (offset code k) ≡ Some (renamed_instruction (offset code) (get_or code k Return)) =
     fetched (offset code) code k ∙ ap (option_map (renamed_instruction (offset code))) (slice_get-get_or code k Return below) in
