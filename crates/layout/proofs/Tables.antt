@@ -1,0 +1,58 @@
+-- The table of offsets: how it is made, entry by entry, and what code becomes by it.
+use Rattle.std.proofs.Common.{◌≡◌, ℕ, ◌+◌, ◌<◌, ◌≤◌, ◌∙◌, refl, sym, ap, List, [], ◌∷◌, ◌++◌, length, get_or, arith, add-one, below_more, length-append, map, take}
+use Rattle.std.proofs.lemmas.List.{get_or_append_left, get_or_push, map_more}
+use Rattle.std.proofs.lemmas.Option.{slice_get-get_or}
+use Rattle.bytecode.specs.declared.instruction.Instruction.{Instruction}
+use Rattle.bytecode.specs.declared.instruction.Instruction.TheVariants.{Jump, JumpIfFalse}
+use Rattle.bytecode.specs.declared.opcode.Operand.{Operand}
+use Rattle.bytecode.specs.declared.opcode.Operand.TheVariants.{Absent, Int, Boolean, Number}
+use Rattle.bytecode.specs.Code.{width_of, code_length}
+use Rattle.bytecode.specs.Opcodes.{row_of, operand_width}
+use Rattle.layout.specs.Targets.{renamed_instruction}
+use Rattle.layout.specs.Offsets.{offset}
+use Rattle.layout.specs.Graph.{HasTargetIn}
+use Rattle.layout.specs.Tables.{IsTableOf}
+use Rattle.layout.proofs.Offsets.{past, offset-most}
+
+few_bytes : (operand : Operand) → operand_width operand ≤ 4
+few_bytes Absent = omega arith
+few_bytes (Int n) = omega arith
+few_bytes (Boolean b) = omega arith
+few_bytes (Number n) = omega arith
+
+pub width-few : (x : Instruction) → width_of x ≤ 5
+width-few x = omega (arith, few_bytes (row_of x).operand)
+
+pub offset-end : (code : List Instruction) → offset code (length code) ≡ code_length code
+offset-end [] = refl
+offset-end (x ∷ code) = ap (λ (n : ℕ). width_of x + n) (offset-end code)
+
+-- no offset is behind the bytes of the code
+pub offset-within : (code : List Instruction) (k : ℕ) → k ≤ length code → offset code k ≤ code_length code
+offset-within code k h = omega (arith, offset-most code k (length code) h, offset-end code)
+
+-- the offset behind an instruction
+pub next-offset : (code : List Instruction) (i : ℕ) (d : Instruction) → i < length code → offset code i + width_of (get_or code i d) ≡ offset code (i + 1)
+next-offset code i d below = past code i (get_or code i d) (slice_get-get_or code i d below) ∙ ap (offset code) (sym (add-one i))
+
+-- a table with one more entry behind the others
+pub length_more : (table new : List ℕ) (i n : ℕ) → length table ≡ i → new ≡ table ++ n ∷ [] → length new ≡ i + 1
+length_more table new i n size pushed = ap length pushed ∙ length-append table (n ∷ []) ∙ ap (λ (k : ℕ). k + 1) size
+
+pub entries_more : (code : List Instruction) (table new : List ℕ) (i n : ℕ) → length table ≡ i → new ≡ table ++ n ∷ [] → n ≡ offset code i → ((k : ℕ) → k < i → get_or table k 0 ≡ offset code k) → (k : ℕ) → k < i + 1 → get_or new k 0 ≡ offset code k
+entries_more code table new i n size pushed is before =
+    below_more (λ (k : ℕ). get_or new k 0 ≡ offset code k) i
+    (λ k h. ap (λ (l : List ℕ). get_or l k 0) pushed ∙ get_or_append_left table (n ∷ []) 0 k (omega (arith, size)) ∙ before k h)
+    (ap (λ (l : List ℕ). get_or l i 0) pushed ∙ get_or_push table n 0 i size ∙ is)
+
+-- ---- code by a table
+
+pub instruction-by_table : (code : List Instruction) (table : List ℕ) (x : Instruction) → IsTableOf code table → HasTargetIn code x → renamed_instruction (λ position. get_or table position 0) x ≡ renamed_instruction (offset code) x
+instruction-by_table code table (Jump target) h below = ap (λ (k : ℕ). Jump k) (h.entries target (omega (arith, below)))
+instruction-by_table code table (JumpIfFalse target) h below = ap (λ (k : ℕ). JumpIfFalse k) (h.entries target (omega (arith, below)))
+instruction-by_table code table x h below = refl
+
+-- a list of what a function makes of the first elements, with one more
+pub made_more : {X Y : Type 0} (f : X → Y) (xs : List X) (made new : List Y) (i : ℕ) (d : X) (y : Y) → i < length xs → new ≡ made ++ y ∷ [] → made ≡ map f (take i xs) → y ≡ f (get_or xs i d) → new ≡ map f (take (i + 1) xs)
+made_more f xs made new i d y below pushed before same =
+    pushed ∙ ap (λ l. l ++ y ∷ []) before ∙ ap (λ z. map f (take i xs) ++ z ∷ []) same ∙ sym (map_more f xs i d below)

@@ -1,0 +1,110 @@
+//! Procedures with byte offsets instead of positions.
+ghost use Rattle.bytecode.specs.Code.{code_length};
+ghost use Rattle.layout.specs.Graph.{HasPositions, HasTargetIn, IsHandlerIn};
+ghost use Rattle.layout.specs.Offsets.{laid_out_procedure, offset};
+ghost use Rattle.layout.specs.Tables.{IsTableOf};
+ghost use Rattle.layout.specs.Targets.{renamed_handler, renamed_instruction, target_of};
+ghost use Rattle.std.specs.Prelude.{All, IfOk, IfSome, length, map, slice_index, ◌<◌, ◌^◌, ◌≡◌};
+
+use bytecode::{Handler, Instruction, Procedure};
+use std::alloc::{AllocError, Global};
+
+/// The offset of each position of the code, and of its end.
+fn make_table(alloc: Global, code: &[Instruction]) -> Result<Vec<u32>, AllocError>
+    requires { code_length code.now < 2 ^ 32 }
+    ensures { IfOk result (λ table. IsTableOf code.now table.items) }
+{
+    let mut table = Vec::new(alloc);
+    let mut next = 0;
+    for instruction in code {
+        table.push(next)?;
+        next += instruction.width() as u32;
+    }
+    table.push(next)?;
+    Ok(table)
+}
+
+/// The instruction with the offset of its target.
+fn lay_out_instruction(table: &[u32], instruction: Instruction) -> Instruction
+    requires { IfSome (target_of instruction) (λ target. target < length table.now) }
+    ensures { result ≡
+        renamed_instruction (λ position. slice_index table.now position) instruction }
+{
+    match instruction {
+        Instruction::Jump(target) => Instruction::Jump(table[target as usize]),
+        Instruction::JumpIfFalse(target) => Instruction::JumpIfFalse(table[target as usize]),
+        _ => instruction,
+    }
+}
+
+/// The handler with the offsets of its range and its target.
+fn lay_out_handler(table: &[u32], handler: Handler) -> Handler
+    requires start { handler.start < length table.now }
+    requires end { handler.end < length table.now }
+    requires target { handler.target < length table.now }
+    ensures { result ≡ renamed_handler (λ position. slice_index table.now position) handler }
+{
+    Handler {
+        start: table[handler.start as usize],
+        end: table[handler.end as usize],
+        exception: handler.exception,
+        target: table[handler.target as usize],
+    }
+}
+
+/// The code with the offset of each target.
+fn lay_out_code(
+    alloc: Global,
+    table: &[u32],
+    code: &[Instruction],
+) -> Result<Vec<Instruction>, AllocError>
+    requires table { IsTableOf code.now table.now }
+    requires targets { All (HasTargetIn code.now) code.now }
+    ensures { IfOk result (λ made. made.items ≡ map (renamed_instruction (offset code.now)) code.now) }
+{
+    let mut made = Vec::new(alloc);
+    for instruction in code {
+        made.push(lay_out_instruction(table, *instruction))?;
+    }
+    Ok(made)
+}
+
+/// The handlers of code with the offsets of their ranges and targets.
+fn lay_out_handlers(
+    alloc: Global,
+    table: &[u32],
+    code: &[Instruction],
+    handlers: &[Handler],
+) -> Result<Vec<Handler>, AllocError>
+    requires table { IsTableOf code.now table.now }
+    requires handlers { All (IsHandlerIn (length code.now)) handlers.now }
+    ensures { IfOk result (λ made. made.items ≡ map (renamed_handler (offset code.now)) handlers.now) }
+{
+    let mut made = Vec::new(alloc);
+    for handler in handlers {
+        made.push(lay_out_handler(table, *handler))?;
+    }
+    Ok(made)
+}
+
+/// The procedure with byte offsets instead of positions.
+pub(crate) fn lay_out_procedure(
+    alloc: Global,
+    procedure: &Procedure,
+) -> Result<Procedure, AllocError>
+    requires short { code_length procedure.now.code < 2 ^ 32 }
+    requires positions { HasPositions procedure.now }
+    ensures { IfOk result (λ made. made ≡ laid_out_procedure procedure.now) }
+{
+    let table = make_table(alloc, procedure.code())?;
+    let slots = Vec::from_slice(alloc, procedure.slots())?;
+    let code = lay_out_code(alloc, &table, procedure.code())?;
+    let handlers = lay_out_handlers(alloc, &table, procedure.code(), procedure.handlers())?;
+    Ok(Procedure::new(
+        procedure.returned(),
+        procedure.parameters(),
+        slots,
+        code,
+        handlers,
+    ))
+}

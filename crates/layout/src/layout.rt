@@ -1,0 +1,83 @@
+//! From graphs to modules.
+ghost use Rattle.bytecode.specs.Code.{code_length};
+ghost use Rattle.bytecode.specs.Form.{Fits};
+ghost use Rattle.bytecode.specs.Format.{module_file};
+ghost use Rattle.layout.specs.Graph.{HasPositions};
+ghost use Rattle.layout.specs.Kept.{SameInterface, SameRuns};
+ghost use Rattle.layout.specs.Offsets.{laid_out, laid_out_procedure};
+ghost use Rattle.layout.specs.Starts.{HasStarts};
+ghost use Rattle.std.specs.Prelude.{All, IfOk, map, ◌<◌, ◌^◌, ◌≡◌};
+ghost use Rattle.std.specs.String.{string_bytes};
+
+use crate::code::lay_out_procedure;
+use crate::graph::Graph;
+use bytecode::{Channel, Module, Procedure};
+use std::alloc::{AllocError, Global};
+
+/// The same names.
+fn copy_names(alloc: Global, names: &[String]) -> Result<Vec<String>, AllocError>
+    ensures { IfOk result (λ made.
+        map (λ name. string_bytes name) made.items ≡ map (λ name. string_bytes name) names.now) }
+{
+    let mut made = Vec::new(alloc);
+    for name in names {
+        made.push(name.clone()?)?;
+    }
+    Ok(made)
+}
+
+/// The same channels.
+fn copy_channels(alloc: Global, channels: &[Channel]) -> Result<Vec<Channel>, AllocError>
+    ensures { IfOk result (λ made. made.items ≡ channels.now) }
+{
+    let mut made = Vec::new(alloc);
+    for channel in channels {
+        let name = String::from_str(alloc, channel.name())?;
+        let label = channel.label().clone()?;
+        made.push(Channel::new(channel.direction(), name, label))?;
+    }
+    Ok(made)
+}
+
+/// The procedures with byte offsets instead of positions.
+fn lay_out_procedures(alloc: Global, procedures: &[Procedure]) -> Result<Vec<Procedure>, AllocError>
+    requires short { All (λ procedure. code_length procedure.code < 2 ^ 32) procedures.now }
+    requires positions { All HasPositions procedures.now }
+    ensures { IfOk result (λ made. made.items ≡ map laid_out_procedure procedures.now) }
+{
+    let mut made = Vec::new(alloc);
+    for procedure in procedures {
+        made.push(lay_out_procedure(alloc, procedure)?)?;
+    }
+    Ok(made)
+}
+
+/// The module that a graph is laid out as: the same with byte offsets instead of positions.
+///
+/// The module runs as the graph does, has the graph's interface, and has a spelling. Each of its
+/// targets is an instruction's first byte.
+///
+/// # Errors
+///
+/// Memory was refused.
+pub fn emit(alloc: Global, graph: &Graph) -> Result<Module, AllocError>
+    ensures exact { IfOk result (λ m. m ≡ laid_out graph.now) }
+    ensures runs { IfOk result (λ m. SameRuns graph.now m) }
+    ensures interface { IfOk result (λ m. SameInterface graph.now m) }
+    ensures spelled { IfOk result (λ m. Fits module_file m) }
+    ensures starts { IfOk result (λ m. All HasStarts m.procedures) }
+{
+    let hierarchy = graph.hierarchy().clone()?;
+    let exceptions = copy_names(alloc, graph.exceptions())?;
+    let channels = copy_channels(alloc, graph.channels())?;
+    let globals = Vec::from_slice(alloc, graph.globals())?;
+    let procedures = lay_out_procedures(alloc, graph.procedures())?;
+    Ok(Module::new(
+        hierarchy,
+        exceptions,
+        channels,
+        globals,
+        procedures,
+        graph.main(),
+    ))
+}
