@@ -14,7 +14,7 @@ use Rattle.verifier.specs.Faults.{HasNoFault}
 use Rattle.verifier.specs.Flow.{Effect, Leaves, Misses, and_then, all_popped, effect, exchanged, called, pushed, value_kinds}
 use Rattle.verifier.specs.declared.fault.Defect.TheVariants.{OperandKind}
 use Rattle.verifier.proofs.Holds.{same_of, holds_first}
-use Rattle.verifier.proofs.Tables.{start_in_flow}
+use Rattle.verifier.proofs.Laws.{start_in_flow}
 use Rattle.verifier.proofs.Rows.{right_kind}
 use Rattle.verifier.proofs.Runs.{Waits, Callers, inner, Stands, Good, runs, over, leaves_same, leaves_good, value_good}
 
@@ -67,8 +67,10 @@ module _ (m : ModuleContents) (free : HasNoFault m) (p : ProcedureContents) (s :
     where
       resumes : position_after (instruction_at (code_of (slice_get m.procedures s.frame.procedure)) s.frame.position) s.frame.position ≡ s.frame.position + width_of (Call number)
       resumes = ap (λ o. position_after (instruction_at (code_of o) s.frame.position) s.frame.position) st.there ∙ ap (λ o. position_after o s.frame.position) st.instruction
+
       caller : Caller
       caller = record { frame = record s.frame { operands = left }; resume = (program_of m).next s.frame.procedure s.frame.position }
+
       waits : Waits m p callee caller
       waits = record {
         there = st.there;
@@ -80,6 +82,7 @@ module _ (m : ModuleContents) (free : HasNoFault m) (p : ProcedureContents) (s :
         effect = e ∙ ap (λ l. Leaves (pushed callee.returned l)) (sym is);
         resumes = resumes;
       }
+
       split : (b : Bool) → Good m (if b then Running (record s { frame = machine.new_frame number callee.slots arguments; callers = caller ∷ s.callers }) else Ended Deep s.sent)
       split false = over Deep s.sent
       split true =

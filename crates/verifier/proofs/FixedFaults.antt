@@ -178,8 +178,8 @@ placed m p right = record {
   next = λ at i there. next_place p.code at i there;
   jumps = λ at i to there is. inr (started (instruction_at p.code to) (jump_right m p i to (right.instructions at i there) is));
   caught = λ h there.
-  let parts = and_parts (is_start p h.start) _ (handler_parts m p h (right.handlers h there)) in
-  inr (started (instruction_at p.code h.target) (and_parts (is_start p h.target) (is_end p h.end && nat_lt h.start h.end) parts.1).0);
+      let parts = and_parts (is_start p h.start) _ (handler_parts m p h (right.handlers h there)) in
+      inr (started (instruction_at p.code h.target) (and_parts (is_start p h.target) (is_end p h.end && nat_lt h.start h.end) parts.1).0);
   first = first_place p p.code refl;
 }
 
@@ -195,3 +195,15 @@ pub get_at : {A : Type 0} (xs : List A) (k : ℕ) (d : A) → k < length xs → 
 get_at [] k d h = absurd (omega arith)
 get_at (x ∷ xs) zero d h = refl
 get_at (x ∷ xs) (suc k) d h = get_at xs k d (omega arith)
+
+module _ (m q : ModuleContents) (number index : ℕ) (procedures : List ProcedureContents) (item body : ProcedureContents) (same_module : q ≡ m) (same_procedure : body ≡ item) (is : item ≡ get_or procedures index item) (inside : index < length procedures) (o : Option Fault) (found : o ≡ slice_get (own_faults q number body) 0) where
+  own_are : o ≡ slice_get (own_faults m number (get_or procedures index item)) 0
+  own_are =
+      found ∙ ap (λ x. slice_get (own_faults x number body) 0) same_module
+      ∙ ap (λ x. slice_get (own_faults m number x) 0) (same_procedure ∙ is)
+
+  pub procedure_some : (fault : Fault) → o ≡ Some fault → slice_get (procedure_faults m number (drop index procedures)) 0 ≡ Some fault
+  procedure_some fault e = first_procedure m number procedures index item fault inside (sym own_are ∙ e)
+
+  pub procedure_none : o ≡ None → slice_get (procedure_faults m number (drop index procedures)) 0 ≡ slice_get (procedure_faults m (number + 1) (drop (index + 1) procedures)) 0
+  procedure_none e = procedures_on m number procedures index item inside (sym own_are ∙ e)

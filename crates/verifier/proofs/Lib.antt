@@ -3,6 +3,7 @@ pub mod Bounds
 pub mod Calls
 pub mod FixedFaults
 pub mod Holds
+pub mod Laws
 pub mod Marks
 pub mod NeverStuck
 pub mod Offsets
@@ -11,4 +12,3 @@ pub mod Reported
 pub mod Rows
 pub mod Runs
 pub mod Shared
-pub mod Tables

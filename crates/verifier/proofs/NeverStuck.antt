@@ -25,7 +25,7 @@ use Rattle.verifier.proofs.Bounds.{IsBounded}
 use Rattle.verifier.proofs.Calls.{get_header, calls_good, returns_good, gives_back_good}
 use Rattle.verifier.proofs.FixedFaults.{IsRight, all_right, placed, right_of_unless}
 use Rattle.verifier.proofs.Holds.{AllOf, Holds, holds_changed, holds_empty, holds_globals}
-use Rattle.verifier.proofs.Tables.{IsInFlow, start_in_flow, changed_cases, flow_finds, flow_stays}
+use Rattle.verifier.proofs.Laws.{IsInFlow, start_in_flow, changed_cases, flow_finds, flow_stays}
 use Rattle.verifier.proofs.Rows.{loads_good, stores_good, loads_element_good, stores_element_good, clears_good, computes_good, compares_good, matches_good, drops_good, negates_good, inverts_good, branches_good, sends_good, receives_good}
 use Rattle.verifier.proofs.Runs.{Callers, outermost, Stands, Good, GoodState, runs, over, leaves_same, flows, next_good, jump_good, raised_good}
 
@@ -143,13 +143,13 @@ edge_placed m p placed at kinds _ _ (caught i h is there low high) = placed.caug
 flow_placed : (m : ModuleContents) (p : ProcedureContents) → IsPlaced p → (table : ℕ → Option (List Kind)) → Flow m p table → (at : ℕ) (kinds : List Kind) → table at ≡ Some kinds → IsPlace p at
 flow_placed m p placed _ starts at kinds e =
     elim (changed_cases nowhere 0 [] at kinds e) [
-      inl h ↦ subst (IsPlace p) (sym h.0) placed.first
-    | inr h ↦ absurd (let no : ◌≡◌ {A = Option (List Kind)} None (Some kinds) = h in cc)
+      | inl h ↦ subst (IsPlace p) (sym h.0) placed.first
+      | inr h ↦ absurd (let no : ◌≡◌ {A = Option (List Kind)} None (Some kinds) = h in cc)
     ]
 flow_placed m p placed _ (grows table from before to after f has edge none) at kinds e =
     elim (changed_cases table to after at kinds e) [
-      inl h ↦ subst (IsPlace p) (sym h.0) (edge_placed m p placed from before to after edge)
-    | inr h ↦ flow_placed m p placed table f at kinds h
+      | inl h ↦ subst (IsPlace p) (sym h.0) (edge_placed m p placed from before to after edge)
+      | inr h ↦ flow_placed m p placed table f at kinds h
     ]
 
 -- ---- steps
@@ -172,8 +172,8 @@ module _ (m : ModuleContents) (free : HasNoFault m) where
       let place = flow_placed m p (placed m p (all_right m free.fixed s.frame.procedure p g.there)) g.flow.table g.flow.flow at (map kind_of s.frame.operands) g.flow.has in
       let fetched : instruction_at (code_of (slice_get m.procedures s.frame.procedure)) at ≡ instruction_at p.code at = ap (λ o. instruction_at (code_of o) at) g.there in
       elim place [
-        inl ends ↦ absurd (flow_stays m p (flows m free s.frame.procedure p g.there) (map kind_of s.frame.operands) (subst (λ (n : ℕ). IsInFlow m p n (map kind_of s.frame.operands)) ends g.flow))
-      | inr found ↦ subst (λ o. Good m (acts (program_of m) s o)) (sym (fetched ∙ found.1)) (instruction_good s g found.0 found.1)
+        | inl ends ↦ absurd (flow_stays m p (flows m free s.frame.procedure p g.there) (map kind_of s.frame.operands) (subst (λ (n : ℕ). IsInFlow m p n (map kind_of s.frame.operands)) ends g.flow))
+        | inr found ↦ subst (λ o. Good m (acts (program_of m) s o)) (sym (fetched ∙ found.1)) (instruction_good s g found.0 found.1)
       ]
 
   step_good : (machine : Machine) → Good m machine → Good m (step (program_of m) machine)

@@ -18,7 +18,7 @@ use Rattle.verifier.specs.Search.{row, table, IsKept, IsGoing, IsAtEdge, Flowed,
 use Rattle.verifier.specs.declared.fault.Defect.TheVariants.{OperandKind, OperandDepth, FallsOffEnd}
 use Rattle.verifier.specs.declared.search.Search.{Search}
 use Rattle.verifier.proofs.Offsets.{start_inside}
-use Rattle.verifier.proofs.Tables.{IsDone, no_fault, changed_at}
+use Rattle.verifier.proofs.Laws.{IsDone, no_fault, changed_at}
 
 fun_ext : {f g : ℕ → Option (List Kind)} → ((x : ℕ) → f x ≡ g x) → f ≡ g
 fun_ext h = λ i x. h x i
@@ -75,10 +75,10 @@ module _ (m : ModuleContents) (p : ProcedureContents) (s new : Search) (at to li
 
   is_changed : (place : ℕ) → table new place ≡ changed (table s) to (Some (list_of s.operands list)) place
   is_changed place =
-    elim (number_cases place to) [
-      inl same ↦ ap (table new) same ∙ arrives ∙ sym (changed_at (table s) to (list_of s.operands list)) ∙ ap (changed (table s) to (Some (list_of s.operands list))) (sym same)
-    | inr ne ↦ others place ne ∙ not_at place ne
-    ]
+      elim (number_cases place to) [
+        | inl same ↦ ap (table new) same ∙ arrives ∙ sym (changed_at (table s) to (list_of s.operands list)) ∙ ap (changed (table s) to (Some (list_of s.operands list))) (sym same)
+        | inr ne ↦ others place ne ∙ not_at place ne
+      ]
     where
       not_at : (place : ℕ) → place ≢ to → table s place ≡ changed (table s) to (Some (list_of s.operands list)) place
       not_at place ne = split (place == to) refl
@@ -92,10 +92,10 @@ module _ (m : ModuleContents) (p : ProcedureContents) (s new : Search) (at to li
 
   keeps : (place : ℕ) (kinds : List Kind) → table s place ≡ Some kinds → table new place ≡ Some kinds
   keeps place kinds h =
-    elim (number_cases place to) [
-      inl same ↦ absurd (let f : None ≡ Some kinds = sym was_none ∙ ap (table s) (sym same) ∙ h in cc)
-    | inr ne ↦ others place ne ∙ h
-    ]
+      elim (number_cases place to) [
+        | inl same ↦ absurd (let f : None ≡ Some kinds = sym was_none ∙ ap (table s) (sym same) ∙ h in cc)
+        | inr ne ↦ others place ne ∙ h
+      ]
 
   kept : (place : ℕ) (kinds : List Kind) → IsKept m p s place kinds → IsKept m p new place kinds
   kept place kinds k = record {
@@ -117,25 +117,25 @@ module _ (m : ModuleContents) (p : ProcedureContents) (s new : Search) (at to li
       root = subst IsFirst (sym lists) g.root;
       sized = ap length shapes ∙ length-set s.shapes.items to (Some list) ∙ g.sized;
       numbers = λ place n h. elim (number_cases place to) [
-        inl same ↦ let f : Some list ≡ Some n = sym at_to ∙ ap (λ k. get_or new.shapes.items k None) (sym same) ∙ h in let n_is : list ≡ n = cc in omega (arith, ap length lists)
-      | inr ne ↦ omega (arith, ap length lists, g.numbers place n (sym (at_other place ne) ∙ h))
+        | inl same ↦ let f : Some list ≡ Some n = sym at_to ∙ ap (λ k. get_or new.shapes.items k None) (sym same) ∙ h in let n_is : list ≡ n = cc in omega (arith, ap length lists)
+        | inr ne ↦ omega (arith, ap length lists, g.numbers place n (sym (at_other place ne) ∙ h))
       ];
       begins = λ place kinds h. elim (number_cases place to) [
-        inl same ↦ subst (λ q. (i : Instruction) × (instruction_at p.code q ≡ Some i)) (sym same) (begins_at is_place)
-      | inr ne ↦ g.begins place kinds (sym (others place ne) ∙ h)
+        | inl same ↦ subst (λ q. (i : Instruction) × (instruction_at p.code q ≡ Some i)) (sym same) (begins_at is_place)
+        | inr ne ↦ g.begins place kinds (sym (others place ne) ∙ h)
       ];
       first = keeps 0 [] g.first;
       flow = subst (Flow m p) (sym (fun_ext is_changed)) (grows (table s) at e.kinds to (list_of s.operands list) g.flow e.has e.edge was_none);
       pending = λ place kinds h. elim (number_cases place to) [
-        inl same ↦ inl (subst (λ w. Contains w place) (sym work) (subst (Contains (s.work.items ++ to ∷ [])) (sym same) (Contains-push s.work.items to)))
-      | inr ne ↦ elim (g.pending place kinds (sym (others place ne) ∙ h)) [
-          inl w ↦ inl (subst (λ l. Contains l place) (sym work) (Contains-append_left s.work.items (to ∷ []) place w))
-        | inr b ↦ elim b [ inl busy ↦ inr (inl busy) | inr k ↦ inr (inr (kept place kinds k)) ]
+        | inl same ↦ inl (subst (λ w. Contains w place) (sym work) (subst (Contains (s.work.items ++ to ∷ [])) (sym same) (Contains-push s.work.items to)))
+        | inr ne ↦ elim (g.pending place kinds (sym (others place ne) ∙ h)) [
+          | inl w ↦ inl (subst (λ l. Contains l place) (sym work) (Contains-append_left s.work.items (to ∷ []) place w))
+          | inr b ↦ elim b [ inl busy ↦ inr (inl busy) | inr k ↦ inr (inr (kept place kinds k)) ]
         ]
       ];
       waits = λ place w. elim (Contains-push_cases s.work.items to place (subst (λ l. Contains l place) work w)) [
-        inl old ↦ let h = g.waits place old in (h.0, keeps place h.0 h.1)
-      | inr same ↦ (list_of s.operands list, ap (table new) (sym same) ∙ arrives)
+        | inl old ↦ let h = g.waits place old in (h.0, keeps place h.0 h.1)
+        | inr same ↦ (list_of s.operands list, ap (table new) (sym same) ∙ arrives)
       ];
     };
     keeps = keeps;
@@ -159,8 +159,8 @@ flowed_there m p s new at to list other g there same is =
 pub place_inside : (m : ModuleContents) (p : ProcedureContents) (s : Search) (busy : List ℕ) (to : ℕ) → IsGoing m p s busy → IsPlace p to → to ≢ length s.shapes.items → to < length s.shapes.items
 place_inside m p s busy to g place ne =
     elim place [
-      inl e ↦ absurd (ne (e ∙ sym g.sized))
-    | inr i ↦ omega (arith, g.sized, start_inside p.code to i.0 i.1)
+      | inl e ↦ absurd (ne (e ∙ sym g.sized))
+      | inr i ↦ omega (arith, g.sized, start_inside p.code to i.0 i.1)
     ]
 
 -- ---- the end of the search
@@ -170,7 +170,7 @@ pub going_done : (m : ModuleContents) (p : ProcedureContents) (s : Search) → I
 going_done m p s g empty = record {
   first = g.first;
   finds = λ at kinds i wrong h is e. let k = every at kinds h in
-    absurd (let f : Some k.instruction ≡ Some i = sym k.there ∙ is in let same : k.instruction ≡ i = cc in let t : Leaves k.after ≡ Misses wrong = sym k.finds ∙ ap (λ j. effect m p j kinds) same ∙ e in cc);
+      absurd (let f : Some k.instruction ≡ Some i = sym k.there ∙ is in let same : k.instruction ≡ i = cc in let t : Leaves k.after ≡ Misses wrong = sym k.finds ∙ ap (λ j. effect m p j kinds) same ∙ e in cc);
   keeps = λ at kinds to after h edge. along at kinds (every at kinds h) to after edge;
   none_at_end = none_at_end m p s [] g;
 }
@@ -178,12 +178,13 @@ going_done m p s g empty = record {
     every : (at : ℕ) (kinds : List Kind) → table s at ≡ Some kinds → IsKept m p s at kinds
     every at kinds h =
         elim (g.pending at kinds h) [
-          inl w ↦ absurd (nothing at (subst (λ l. Contains l at) empty w))
-        | inr b ↦ elim b [ inl busy ↦ absurd (nothing at busy) | inr k ↦ k ]
+          | inl w ↦ absurd (nothing at (subst (λ l. Contains l at) empty w))
+          | inr b ↦ elim b [ inl busy ↦ absurd (nothing at busy) | inr k ↦ k ]
         ]
       where
         nothing : (at : ℕ) → Contains [] at → ⊥
         nothing at c = omega (arith, c.1)
+
     along : (at : ℕ) (kinds : List Kind) → IsKept m p s at kinds → (to : ℕ) (after : List Kind) → Edge m p at kinds to after → table s to ≡ Some after
     along at kinds k _ _ (next i to after is e goes to_is) =
         let f : Some k.instruction ≡ Some i = sym k.there ∙ is in let same : k.instruction ≡ i = cc in
@@ -210,8 +211,8 @@ looked_at m p s at g kept = record {
   first = g.first;
   flow = g.flow;
   pending = λ place kinds h. elim (g.pending place kinds h) [
-    inl w ↦ inl w
-  | inr b ↦ elim b [ inl busy ↦ inr (inr (here place kinds h (one at place busy))) | inr k ↦ inr (inr k) ]
+    | inl w ↦ inl w
+    | inr b ↦ elim b [ inl busy ↦ inr (inr (here place kinds h (one at place busy))) | inr k ↦ inr (inr k) ]
   ];
   waits = g.waits;
 }
@@ -222,6 +223,7 @@ looked_at m p s at g kept = record {
         single : (k : ℕ) → k < 1 → get_or (at ∷ []) k place ≡ place → at ≡ place
         single zero h e = e
         single (suc k) h e = absurd (omega arith)
+
     here : (place : ℕ) (kinds : List Kind) → table s place ≡ Some kinds → at ≡ place → IsKept m p s place kinds
     here place kinds h e = subst (λ a. IsKept m p s a kinds) e (kept kinds (ap (table s) e ∙ h))
 
@@ -244,8 +246,8 @@ module _ (m : ModuleContents) (p : ProcedureContents) (s new : Search) (busy : L
     first = same_table 0 ∙ g.first;
     flow = subst (Flow m p) (sym (fun_ext same_table)) g.flow;
     pending = λ place kinds h. elim (g.pending place kinds (sym (same_table place) ∙ h)) [
-      inl w ↦ inl (subst (λ v. Contains v.items place) (sym work) w)
-    | inr b ↦ elim b [ inl busy ↦ inr (inl busy) | inr k ↦ inr (inr (kept place kinds k)) ]
+      | inl w ↦ inl (subst (λ v. Contains v.items place) (sym work) w)
+      | inr b ↦ elim b [ inl busy ↦ inr (inl busy) | inr k ↦ inr (inr (kept place kinds k)) ]
     ];
     waits = λ place w. let h = g.waits place (subst (λ v. Contains v.items place) work w) in (h.0, same_table place ∙ h.1);
   }
@@ -314,18 +316,18 @@ has_effect m p s new at kinds rest after i a has is own e is_after = record {
 pub all_followed : (m : ModuleContents) (p : ProcedureContents) (s one two three four : Search) (at : ℕ) (i : Instruction) (after : List Kind) → HasEffect m p one at i after → (goes_on i ≡ true → table two (at + width_of i) ≡ Some after) → ((to : ℕ) → target_of i ≡ Some to → table three to ≡ Some after) → ((h : Handler) → Contains p.handlers h → h.start ≤ at → at < h.end → table four h.target ≡ Some []) → Steps m p one two at → Steps m p two three at → Steps m p three four at → IsGoing m p four []
 all_followed m p s one two three four at i after e a b c f g h =
     looked_at m p four at h.going (λ kinds has.
-      let here : table four at ≡ Some e.kinds = h.keeps at e.kinds (g.keeps at e.kinds (f.keeps at e.kinds e.has)) in
-      let some : Some e.kinds ≡ Some kinds = sym here ∙ has in
-      let same : e.kinds ≡ kinds = cc in
-      record {
-        instruction = i;
-        there = e.there;
-        after = after;
-        finds = ap (effect m p i) (sym same) ∙ e.effect;
-        next = λ goes. h.keeps (at + width_of i) after (g.keeps (at + width_of i) after (a goes));
-        jumps = λ to is. h.keeps to after (b to is);
-        caught = c;
-      })
+    let here : table four at ≡ Some e.kinds = h.keeps at e.kinds (g.keeps at e.kinds (f.keeps at e.kinds e.has)) in
+    let some : Some e.kinds ≡ Some kinds = sym here ∙ has in
+    let same : e.kinds ≡ kinds = cc in
+    record {
+      instruction = i;
+      there = e.there;
+      after = after;
+      finds = ap (effect m p i) (sym same) ∙ e.effect;
+      next = λ goes. h.keeps (at + width_of i) after (g.keeps (at + width_of i) after (a goes));
+      jumps = λ to is. h.keeps to after (b to is);
+      caught = c;
+    })
 
 pub steps_more : (m : ModuleContents) (p : ProcedureContents) (old between new : Search) (at to list : ℕ) → Steps m p old between at → Flowed m p between new at to list → Steps m p old new at
 steps_more m p old between new at to list f h = record {
@@ -339,8 +341,8 @@ steps_more m p old between new at to list f h = record {
 pub caught_more : (s new : Search) (at : ℕ) (handlers : List Handler) (k : ℕ) (d : Handler) → k < length handlers → ((place : ℕ) (kinds : List Kind) → table s place ≡ Some kinds → table new place ≡ Some kinds) → ((h : Handler) → Contains (take k handlers) h → h.start ≤ at → at < h.end → table s h.target ≡ Some []) → ((get_or handlers k d).start ≤ at → at < (get_or handlers k d).end → table new (get_or handlers k d).target ≡ Some []) → (h : Handler) → Contains (take (k + 1) handlers) h → h.start ≤ at → at < h.end → table new h.target ≡ Some []
 caught_more s new at handlers k d l keeps before here h c a b =
     elim (Contains-push_cases (take k handlers) (get_or handlers k d) h (subst (λ hs. Contains hs h) (take_more handlers k d l) c)) [
-      inl old ↦ keeps h.target [] (before h old a b)
-    | inr same ↦ subst (λ (x : Handler). table new x.target ≡ Some []) same (here (subst (λ (x : Handler). x.start ≤ at) (sym same) a) (subst (λ (x : Handler). at < x.end) (sym same) b))
+      | inl old ↦ keeps h.target [] (before h old a b)
+      | inr same ↦ subst (λ (x : Handler). table new x.target ≡ Some []) same (here (subst (λ (x : Handler). x.start ≤ at) (sym same) a) (subst (λ (x : Handler). at < x.end) (sym same) b))
     ]
 
 pub whole_front : {A : Type 0} (xs : List A) (n : ℕ) → length xs ≤ n → take n xs ≡ xs
@@ -381,11 +383,11 @@ module _ (m : ModuleContents) (p : ProcedureContents) (s new : Search) (at : ℕ
     first = taken_table 0 ∙ g.first;
     flow = subst (Flow m p) (sym (fun_ext taken_table)) g.flow;
     pending = λ place kinds h. elim (g.pending place kinds (sym (taken_table place) ∙ h)) [
-      inl w ↦ elim (Contains-push_cases new.work.items at place (subst (λ l. Contains l place) work w)) [
-        inl rest ↦ inl rest
-      | inr same ↦ inr (inl (subst (Contains (at ∷ [])) same (Contains-push [] at)))
+      | inl w ↦ elim (Contains-push_cases new.work.items at place (subst (λ l. Contains l place) work w)) [
+        | inl rest ↦ inl rest
+        | inr same ↦ inr (inl (subst (Contains (at ∷ [])) same (Contains-push [] at)))
       ]
-    | inr b ↦ elim b [ inl busy ↦ absurd (omega (arith, busy.1)) | inr k ↦ inr (inr (taken_kept place kinds k)) ]
+      | inr b ↦ elim b [ inl busy ↦ absurd (omega (arith, busy.1)) | inr k ↦ inr (inr (taken_kept place kinds k)) ]
     ];
     waits = λ place w. let h = g.waits place (subst (λ l. Contains l place) (sym work) (Contains-append_left new.work.items (at ∷ []) place w)) in (h.0, taken_table place ∙ h.1);
   }

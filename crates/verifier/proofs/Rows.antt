@@ -26,7 +26,7 @@ use Rattle.verifier.specs.declared.fault.Defect.{Defect}
 use Rattle.verifier.specs.declared.fault.Defect.TheVariants.{OperandKind, SlotOrIndex}
 use Rattle.verifier.proofs.FixedFaults.{right_of_unless}
 use Rattle.verifier.proofs.Holds.{AllOf, Holds, same_of, all_zero, element_kind, with_element_kind, scalar_kind, holds_changed, holds_first}
-use Rattle.verifier.proofs.Tables.{start_in_flow}
+use Rattle.verifier.proofs.Laws.{start_in_flow}
 use Rattle.verifier.proofs.Runs.{Waits, Callers, inner, Stands, Good, GoodState, runs, over, leaves_same, next_good, jump_good, raised_good, leaves_good, value_good}
 
 -- an operand that was popped was of the kind

@@ -20,7 +20,7 @@ use Rattle.verifier.specs.Faults.{HasNoFault}
 use Rattle.verifier.specs.Flow.{Edge, next, jumps, caught, Leaves, effect, goes_on, target_of, pushed, FlowsWell}
 use Rattle.verifier.proofs.FixedFaults.{all_right}
 use Rattle.verifier.proofs.Holds.{Holds}
-use Rattle.verifier.proofs.Tables.{IsInFlow, start_in_flow, along_in_flow}
+use Rattle.verifier.proofs.Laws.{IsInFlow, start_in_flow, along_in_flow}
 
 -- the procedure of a number flows well
 pub flows : (m : ModuleContents) → HasNoFault m → (k : ℕ) (p : ProcedureContents) → slice_get m.procedures k ≡ Some p → FlowsWell m p

@@ -39,18 +39,15 @@ abbrev pub HasTails : List (List Kind) → Type 0
 HasTails lists = (r : ℕ) (kind : Kind) (tail : List Kind) → r < length lists → list_of lists r ≡ kind ∷ tail → (b : ℕ) × (b < length lists) × (list_of lists b ≡ tail)
 
 module _ (lists : List (List Kind)) (kind : Kind) (below : ℕ) (there : below < length lists) (fresh : (k : ℕ) → k < length lists → list_of lists k ≢ kind ∷ list_of lists below) where
-
-
-
   -- no list has the new one as its tail
   not_on_new : ((r : ℕ) (q : Kind) (tail : List Kind) → r < length lists → list_of lists r ≡ q ∷ tail → (b : ℕ) × (b < length lists) × (list_of lists b ≡ tail)) → (q : Kind) (r : ℕ) → r < length lists + 1 → list_of (lists ++ (kind ∷ list_of lists below) ∷ []) r ≢ q ∷ (kind ∷ list_of lists below)
   not_on_new tails q r h e =
       elim (place_cases r (length lists) h) [
-        inl l ↦ let t = tails r q (kind ∷ list_of lists below) l (sym (old lists (kind ∷ list_of lists below) r l) ∙ e) in fresh t.0 t.1 t.2
-      | inr same ↦
-          let f : kind ∷ list_of lists below ≡ q ∷ (kind ∷ list_of lists below) = sym (new lists (kind ∷ list_of lists below)) ∙ ap (list_of (lists ++ (kind ∷ list_of lists below) ∷ [])) (sym same) ∙ e in
-          let g : length (kind ∷ list_of lists below) ≡ length (q ∷ (kind ∷ list_of lists below)) = ap length f in
-          absurd (omega arith)
+        | inl l ↦ let t = tails r q (kind ∷ list_of lists below) l (sym (old lists (kind ∷ list_of lists below) r l) ∙ e) in fresh t.0 t.1 t.2
+        | inr same ↦
+            let f : kind ∷ list_of lists below ≡ q ∷ (kind ∷ list_of lists below) = sym (new lists (kind ∷ list_of lists below)) ∙ ap (list_of (lists ++ (kind ∷ list_of lists below) ∷ [])) (sym same) ∙ e in
+            let g : length (kind ∷ list_of lists below) ≡ length (q ∷ (kind ∷ list_of lists below)) = ap length f in
+            absurd (omega arith)
       ]
 
   is_new : (r : ℕ) → r ≡ length lists → kind ∷ list_of lists below ≡ list_of (lists ++ (kind ∷ list_of lists below) ∷ []) r
@@ -79,15 +76,15 @@ module _ (lists : List (List Kind)) (kind : Kind) (below : ℕ) (there : below <
   above_other q above ne tails h = record {
     long = omega (arith, length-append lists ((kind ∷ list_of lists below) ∷ []), length-append above (None ∷ []), h.long);
     some = λ k r l e. elim (place_cases k (length lists) (omega (arith, l, longer_one lists (kind ∷ list_of lists below)))) [
-      inl lk ↦ some_old q above h k r lk e
-    | inr ek ↦ some_none q above h k r ek e
+      | inl lk ↦ some_old q above h k r lk e
+      | inr ek ↦ some_none q above h k r ek e
     ];
     none = λ k l e r m same. elim (place_cases k (length lists) (omega (arith, l, longer_one lists (kind ∷ list_of lists below)))) [
-      inl lk ↦ elim (place_cases r (length lists) (omega (arith, m, longer_one lists (kind ∷ list_of lists below)))) [
-        inl lr ↦ none_old q above h k r lk lr e same
-      | inr er ↦ ne (let f : kind ∷ list_of lists below ≡ q ∷ list_of (lists ++ (kind ∷ list_of lists below) ∷ []) k = is_new r er ∙ same in cc)
+      | inl lk ↦ elim (place_cases r (length lists) (omega (arith, m, longer_one lists (kind ∷ list_of lists below)))) [
+        | inl lr ↦ none_old q above h k r lk lr e same
+        | inr er ↦ ne (let f : kind ∷ list_of lists below ≡ q ∷ list_of (lists ++ (kind ∷ list_of lists below) ∷ []) k = is_new r er ∙ same in cc)
       ]
-    | inr ek ↦ not_on_new tails q r (omega (arith, m, longer_one lists (kind ∷ list_of lists below))) (same ∙ ap (λ t. q ∷ t) (sym (is_new k ek)))
+      | inr ek ↦ not_on_new tails q r (omega (arith, m, longer_one lists (kind ∷ list_of lists below))) (same ∙ ap (λ t. q ∷ t) (sym (is_new k ek)))
     ];
   }
 
@@ -95,31 +92,31 @@ module _ (lists : List (List Kind)) (kind : Kind) (below : ℕ) (there : below <
   above_same above tails distinct h = record {
     long = omega (arith, length-append lists ((kind ∷ list_of lists below) ∷ []), length-append above (None ∷ []), length-set (above ++ None ∷ []) below (Some (length lists)), h.long);
     some = λ k r l e. elim (number_cases k below) [
-      inl ek ↦
+      | inl ek ↦
           let f : Some (length lists) ≡ Some r = sym (at_below above h k ek) ∙ e in
           let r_is : length lists ≡ r = cc in (
             omega (arith, longer_one lists (kind ∷ list_of lists below)),
             ap (list_of (lists ++ (kind ∷ list_of lists below) ∷ [])) (sym r_is) ∙ new lists (kind ∷ list_of lists below) ∙ ap (λ t. kind ∷ t) (sym (old lists (kind ∷ list_of lists below) below there) ∙ ap (list_of (lists ++ (kind ∷ list_of lists below) ∷ [])) (sym ek)),
           )
-    | inr nk ↦
+      | inr nk ↦
           let f : get_or (above ++ None ∷ []) k None ≡ Some r = sym (get_or-set_other (above ++ None ∷ []) below k (Some (length lists)) None nk) ∙ e in
           elim (place_cases k (length lists) (omega (arith, l, longer_one lists (kind ∷ list_of lists below)))) [
-            inl lk ↦ some_old kind above h k r lk f
-          | inr e2 ↦ some_none kind above h k r e2 f
+            | inl lk ↦ some_old kind above h k r lk f
+            | inr e2 ↦ some_none kind above h k r e2 f
           ]
     ];
     none = λ k l e r m same. elim (number_cases k below) [
-      inl ek ↦ absurd (let f : Some (length lists) ≡ None = sym (at_below above h k ek) ∙ e in cc)
-    | inr nk ↦
+      | inl ek ↦ absurd (let f : Some (length lists) ≡ None = sym (at_below above h k ek) ∙ e in cc)
+      | inr nk ↦
           let f : get_or (above ++ None ∷ []) k None ≡ None = sym (get_or-set_other (above ++ None ∷ []) below k (Some (length lists)) None nk) ∙ e in
           elim (place_cases k (length lists) (omega (arith, l, longer_one lists (kind ∷ list_of lists below)))) [
-            inl lk ↦ elim (place_cases r (length lists) (omega (arith, m, longer_one lists (kind ∷ list_of lists below)))) [
-              inl lr ↦ none_old kind above h k r lk lr f same
-            | inr er ↦
-                let g : kind ∷ list_of lists below ≡ kind ∷ list_of lists k = is_new r er ∙ same ∙ ap (λ t. kind ∷ t) (old lists (kind ∷ list_of lists below) k lk) in
-                nk (distinct k below lk there (let tails_same : list_of lists below ≡ list_of lists k = cc in sym tails_same))
+            | inl lk ↦ elim (place_cases r (length lists) (omega (arith, m, longer_one lists (kind ∷ list_of lists below)))) [
+              | inl lr ↦ none_old kind above h k r lk lr f same
+              | inr er ↦
+                  let g : kind ∷ list_of lists below ≡ kind ∷ list_of lists k = is_new r er ∙ same ∙ ap (λ t. kind ∷ t) (old lists (kind ∷ list_of lists below) k lk) in
+                  nk (distinct k below lk there (let tails_same : list_of lists below ≡ list_of lists k = cc in sym tails_same))
             ]
-          | inr e2 ↦ not_on_new tails kind r (omega (arith, m, longer_one lists (kind ∷ list_of lists below))) (same ∙ ap (λ t. kind ∷ t) (sym (is_new k e2)))
+            | inr e2 ↦ not_on_new tails kind r (omega (arith, m, longer_one lists (kind ∷ list_of lists below))) (same ∙ ap (λ t. kind ∷ t) (sym (is_new k e2)))
           ]
     ];
   }
@@ -127,13 +124,13 @@ module _ (lists : List (List Kind)) (kind : Kind) (below : ℕ) (there : below <
   pub distinct_more : ((a b : ℕ) → a < length lists → b < length lists → list_of lists a ≡ list_of lists b → a ≡ b) → (a b : ℕ) → a < length lists + 1 → b < length lists + 1 → list_of (lists ++ (kind ∷ list_of lists below) ∷ []) a ≡ list_of (lists ++ (kind ∷ list_of lists below) ∷ []) b → a ≡ b
   distinct_more distinct a b ha hb e =
       elim (place_cases a (length lists) ha) [
-        inl la ↦ elim (place_cases b (length lists) hb) [
-          inl lb ↦ distinct a b la lb (sym (old lists (kind ∷ list_of lists below) a la) ∙ e ∙ old lists (kind ∷ list_of lists below) b lb)
-        | inr eb ↦ absurd (fresh a la (sym (old lists (kind ∷ list_of lists below) a la) ∙ e ∙ ap (list_of (lists ++ (kind ∷ list_of lists below) ∷ [])) eb ∙ new lists (kind ∷ list_of lists below)))
+        | inl la ↦ elim (place_cases b (length lists) hb) [
+          | inl lb ↦ distinct a b la lb (sym (old lists (kind ∷ list_of lists below) a la) ∙ e ∙ old lists (kind ∷ list_of lists below) b lb)
+          | inr eb ↦ absurd (fresh a la (sym (old lists (kind ∷ list_of lists below) a la) ∙ e ∙ ap (list_of (lists ++ (kind ∷ list_of lists below) ∷ [])) eb ∙ new lists (kind ∷ list_of lists below)))
         ]
-      | inr ea ↦ elim (place_cases b (length lists) hb) [
-          inl lb ↦ absurd (fresh b lb (sym (old lists (kind ∷ list_of lists below) b lb) ∙ sym e ∙ ap (list_of (lists ++ (kind ∷ list_of lists below) ∷ [])) ea ∙ new lists (kind ∷ list_of lists below)))
-        | inr eb ↦ ea ∙ sym eb
+        | inr ea ↦ elim (place_cases b (length lists) hb) [
+          | inl lb ↦ absurd (fresh b lb (sym (old lists (kind ∷ list_of lists below) b lb) ∙ sym e ∙ ap (list_of (lists ++ (kind ∷ list_of lists below) ∷ [])) ea ∙ new lists (kind ∷ list_of lists below)))
+          | inr eb ↦ ea ∙ sym eb
         ]
       ]
 
@@ -151,23 +148,23 @@ tails_of lists links ints booleans s (suc r) q tail l e =
 pub link_more : (lists : List (List Kind)) (links : List Link) (n : List Kind) (link : Link) → length lists ≡ length links + 1 → ((k : ℕ) (d : Link) → k < length links → IsLink lists (k + 1) (get_or links k d)) → link.below < length lists → n ≡ link.kind ∷ list_of lists link.below → link.depth ≡ length n → link.depth ≤ length lists → (k : ℕ) (d : Link) → k < length links + 1 → IsLink (lists ++ n ∷ []) (k + 1) (get_or (links ++ link ∷ []) k d)
 link_more lists links n link long h below list depth few k d l =
     elim (place_cases k (length links) l) [
-      inl lk ↦
-        let old_link = h k d lk in
-        subst (IsLink (lists ++ n ∷ []) (k + 1)) (sym (get_or_append_left links (link ∷ []) d k lk)) (record {
-          list = old lists n (k + 1) (omega arith) ∙ old_link.list ∙ ap (λ t. (get_or links k d).kind ∷ t) (sym (old lists n (get_or links k d).below (omega (arith, old_link.below))));
-          below = old_link.below;
-          depth = old_link.depth ∙ ap length (sym (old lists n (k + 1) (omega arith)));
-          few = old_link.few;
-        })
-    | inr ek ↦
-        let link_is : link ≡ get_or (links ++ link ∷ []) k d = sym (get_or-append_seam links link [] d) ∙ ap (λ j. get_or (links ++ link ∷ []) j d) (sym ek) in
-        let number : k + 1 ≡ length lists = omega arith in
-        subst (IsLink (lists ++ n ∷ []) (k + 1)) link_is (record {
-          list = ap (list_of (lists ++ n ∷ [])) number ∙ new lists n ∙ list ∙ ap (λ t. link.kind ∷ t) (sym (old lists n link.below below));
-          below = omega arith;
-          depth = depth ∙ ap length (sym (new lists n) ∙ ap (list_of (lists ++ n ∷ [])) (sym number));
-          few = omega arith;
-        })
+      | inl lk ↦
+          let old_link = h k d lk in
+          subst (IsLink (lists ++ n ∷ []) (k + 1)) (sym (get_or_append_left links (link ∷ []) d k lk)) (record {
+            list = old lists n (k + 1) (omega arith) ∙ old_link.list ∙ ap (λ t. (get_or links k d).kind ∷ t) (sym (old lists n (get_or links k d).below (omega (arith, old_link.below))));
+            below = old_link.below;
+            depth = old_link.depth ∙ ap length (sym (old lists n (k + 1) (omega arith)));
+            few = old_link.few;
+          })
+      | inr ek ↦
+          let link_is : link ≡ get_or (links ++ link ∷ []) k d = sym (get_or-append_seam links link [] d) ∙ ap (λ j. get_or (links ++ link ∷ []) j d) (sym ek) in
+          let number : k + 1 ≡ length lists = omega arith in
+          subst (IsLink (lists ++ n ∷ []) (k + 1)) link_is (record {
+            list = ap (list_of (lists ++ n ∷ [])) number ∙ new lists n ∙ list ∙ ap (λ t. link.kind ∷ t) (sym (old lists n link.below below));
+            below = omega arith;
+            depth = depth ∙ ap length (sym (new lists n) ∙ ap (list_of (lists ++ n ∷ [])) (sym number));
+            few = omega arith;
+          })
     ]
 
 differ_int : Int ≢ Boolean

@@ -5,8 +5,8 @@ mod body;
 mod effects;
 pub mod fault;
 mod fixed;
-pub mod laws;
 mod operands;
+pub mod safety;
 mod search;
 pub mod verified;
 

@@ -100,7 +100,11 @@ impl Operands {
             self.ints.pop();
             return Err(fault.into());
         }
-        if let Err(fault) = self.links.push(Link { kind, below: list, depth }) {
+        if let Err(fault) = self.links.push(Link {
+            kind,
+            below: list,
+            depth,
+        }) {
             self.ints.pop();
             self.booleans.pop();
             return Err(fault.into());
@@ -159,7 +163,11 @@ impl Operands {
         ensures few { result ≤ list }
     {
         let _ = &self.links;
-        if list == 0 { 0 } else { self.links[list as usize - 1].depth }
+        if list == 0 {
+            0
+        } else {
+            self.links[list as usize - 1].depth
+        }
     }
 
     /// Whether two lists are the same, or else what is wrong where they meet.

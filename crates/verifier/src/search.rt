@@ -205,8 +205,12 @@ impl Search {
         ensures few { OnOk result (length self.new.operands ≤ length self.old.operands + 1) }
         ensures err { IfErr result (λ stop. IsStop body.now.program.now body.now.procedure.now stop) }
     {
-        let Some(list) = self.shapes[at as usize] else { unreachable!() };
-        let Some(instruction) = body.at(at) else { unreachable!() };
+        let Some(list) = self.shapes[at as usize] else {
+            unreachable!()
+        };
+        let Some(instruction) = body.at(at) else {
+            unreachable!()
+        };
         self.visit(body, at, instruction, list)
     }
 

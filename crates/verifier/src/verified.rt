@@ -1,10 +1,9 @@
-ghost use Rattle.bytecode.specs.Code.{code_length};
-ghost use Rattle.bytecode.specs.Contents.{ProcedureContents};
-ghost use Rattle.std.specs.Prelude.{IfErr, IfOk, OnOk, Some, length, slice_get, [], ◌<◌, ◌^◌, ◌≡◌, ℕ};
+ghost use Rattle.std.specs.Prelude.{IfErr, IfOk, OnOk, [], ◌≡◌};
 ghost use Rattle.verifier.specs.Faults.{HasNoFault, IsRefusal};
 ghost use Rattle.verifier.specs.Fixed.{fixed_faults};
 ghost use Rattle.verifier.specs.Safety.{IsNeverStuck};
 ghost use Rattle.verifier.specs.Search.{stop_fault};
+ghost use Rattle.verifier.specs.Verified.{IsVerified};
 
 use crate::body::Body;
 use crate::fault::{Fault, VerifyFault};
@@ -60,10 +59,9 @@ pub fn verify(alloc: Global, program: Module) -> Result<Verified, VerifyFault>
 
 // Looks for a fault of a module.
 fn look_for_faults(alloc: Global, program: &Module) -> Result<(), VerifyFault>
-    ensures ok { OnOk result (HasNoFault program.now) }
+    ensures ok { OnOk result (IsVerified program.now) }
     ensures err { IfErr result (λ fault. IsRefusal program.now fault) }
 {
-    let _ = program.procedures();
     match fixed_fault(alloc, program) {
         Ok(None) => look_for_flow_faults(alloc, program),
         Ok(Some(fault)) => Err(VerifyFault::Wrong(fault)),
@@ -73,10 +71,8 @@ fn look_for_faults(alloc: Global, program: &Module) -> Result<(), VerifyFault>
 
 // Looks for a fault of the flow of a module, where no instruction and no handler has one by itself.
 fn look_for_flow_faults(alloc: Global, program: &Module) -> Result<(), VerifyFault>
-    requires fixed { fixed_faults program.now ≡ [] }
-    requires few { length program.now.procedures < 2 ^ 32 }
-    requires short { (k : ℕ) (p : ProcedureContents) → slice_get program.now.procedures k ≡ Some p → code_length p.code < 2 ^ 32 }
-    ensures ok { OnOk result (HasNoFault program.now) }
+    requires { fixed_faults program.now ≡ [] }
+    ensures ok { OnOk result (IsVerified program.now) }
     ensures err { IfErr result (λ fault. IsRefusal program.now fault) }
 {
     let procedures = program.procedures();

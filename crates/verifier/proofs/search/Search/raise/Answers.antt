@@ -24,15 +24,15 @@ pub loop-handler-preserved : goal.loop-handler-preserved
 loop-handler-preserved c =
     let d : Handler = record { start = 0; end = 0; exception = 0; target = 0 } in
     elim c.if-handler-at.branch [
-      then-handler-at+then-at-handler+in_ok-reach w ↦ record {
+      | then-handler-at+then-at-handler+in_ok-reach w ↦ record {
         steps = subst (λ s. Steps c.args.body.now.program.now c.args.body.now.procedure.now c.args.self.now s c.args.at) (sym w.self-is) (steps_more c.args.body.now.program.now c.args.body.now.procedure.now c.args.self.now c.loop-handler.self w.reach.new.self c.args.at _ 0 c.loop-handler.invariant.steps w.in_ok-reach.ensures.ok);
         caught = subst (λ s. (h : Handler) → Contains (take (c.loop-handler.handler-index + 1) c.handlers-handlers.result.now) h → h.start ≤ c.args.at → c.args.at < h.end → table s h.target ≡ Some []) (sym w.self-is) (caught_more c.loop-handler.self w.reach.new.self c.args.at c.handlers-handlers.result.now c.loop-handler.handler-index d c.loop-handler-test.true w.in_ok-reach.ensures.ok.keeps c.loop-handler.invariant.caught (λ a b. w.in_ok-reach.ensures.ok.arrives ∙ ap Some c.loop-handler.invariant.steps.going.root.1));
       }
-    | else-handler-at w ↦ record {
+      | else-handler-at w ↦ record {
         steps = subst (λ s. Steps c.args.body.now.program.now c.args.body.now.procedure.now c.args.self.now s c.args.at) (sym w.self-is) c.loop-handler.invariant.steps;
         caught = subst (λ s. (h : Handler) → Contains (take (c.loop-handler.handler-index + 1) c.handlers-handlers.result.now) h → h.start ≤ c.args.at → c.args.at < h.end → table s h.target ≡ Some []) (sym w.self-is) (caught_more c.loop-handler.self c.loop-handler.self c.args.at c.handlers-handlers.result.now c.loop-handler.handler-index d c.loop-handler-test.true (λ place kinds h. h) c.loop-handler.invariant.caught (λ a b. elim w.else-handler-at.branch [
-          else-handler-at-via-then-handler-at+else-at-handler v ↦ absurd (omega (arith, v.if-at-handler.false))
-        | else-handler-at-via-else-handler-at v ↦ absurd (omega (arith, v.if-handler-at.false))
+          | else-handler-at-via-then-handler-at+else-at-handler v ↦ absurd (omega (arith, v.if-at-handler.false))
+          | else-handler-at-via-else-handler-at v ↦ absurd (omega (arith, v.if-handler-at.false))
         ]));
       }
     ]

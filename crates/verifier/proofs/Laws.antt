@@ -39,13 +39,13 @@ changed_at table to after = ap (λ (b : Bool). if b then Some after else table t
 pub flow_within : (m : ModuleContents) (p : ProcedureContents) (done table : ℕ → Option (List Kind)) → IsDone m p done → Flow m p table → (at : ℕ) (kinds : List Kind) → table at ≡ Some kinds → done at ≡ Some kinds
 flow_within m p done _ d starts at kinds e =
     elim (changed_cases nowhere 0 [] at kinds e) [
-      inl h ↦ subst (λ a. done a ≡ Some kinds) (sym h.0) (d.first ∙ ap Some h.1)
-    | inr h ↦ absurd (let no : ◌≡◌ {A = Option (List Kind)} None (Some kinds) = h in cc)
+      | inl h ↦ subst (λ a. done a ≡ Some kinds) (sym h.0) (d.first ∙ ap Some h.1)
+      | inr h ↦ absurd (let no : ◌≡◌ {A = Option (List Kind)} None (Some kinds) = h in cc)
     ]
 flow_within m p done _ d (grows table from before to after f has edge none) at kinds e =
     elim (changed_cases table to after at kinds e) [
-      inl h ↦ subst (λ a. done a ≡ Some kinds) (sym h.0) (d.keeps from before to after (flow_within m p done table d f from before has) edge ∙ ap Some h.1)
-    | inr h ↦ flow_within m p done table d f at kinds h
+      | inl h ↦ subst (λ a. done a ≡ Some kinds) (sym h.0) (d.keeps from before to after (flow_within m p done table d f from before has) edge ∙ ap Some h.1)
+      | inr h ↦ flow_within m p done table d f at kinds h
     ]
 
 pub no_fault : (m : ModuleContents) (p : ProcedureContents) (done : ℕ → Option (List Kind)) → IsDone m p done → FlowsWell m p
@@ -76,10 +76,10 @@ same_or_not [] (k ∷ b) = inr (λ e. let no : ◌≡◌ {A = List Kind} [] (k �
 same_or_not (k ∷ a) [] = inr (λ e. let no : ◌≡◌ {A = List Kind} (k ∷ a) [] = e in cc)
 same_or_not (k ∷ a) (l ∷ b) =
     elim (kind_cases k l) [
-      inr ne ↦ inr (λ e. ne (let h : ◌≡◌ {A = List Kind} (k ∷ a) (l ∷ b) = e in cc))
-    | inl same ↦ elim (same_or_not a b) [
-        inr ne ↦ inr (λ e. ne (let h : ◌≡◌ {A = List Kind} (k ∷ a) (l ∷ b) = e in cc))
-      | inl rest ↦ inl (cc)
+      | inr ne ↦ inr (λ e. ne (let h : ◌≡◌ {A = List Kind} (k ∷ a) (l ∷ b) = e in cc))
+      | inl same ↦ elim (same_or_not a b) [
+        | inr ne ↦ inr (λ e. ne (let h : ◌≡◌ {A = List Kind} (k ∷ a) (l ∷ b) = e in cc))
+        | inl rest ↦ inl (cc)
       ]
     ]
 
@@ -106,10 +106,10 @@ along_in_flow m p free at kinds to after h edge = cases (h.table to) refl
     cases None e = record { table = changed h.table to (Some after); flow = grows h.table at kinds to after h.flow h.has edge e; has = changed_at h.table to after }
     cases (Some others) e =
         elim (same_or_not after others) [
-          inl same ↦ record { table = h.table; flow = h.flow; has = e ∙ ap Some (sym same) }
-        | inr ne ↦ elim (number_cases to (code_length p.code)) [
-            inl ends ↦ absurd (free (code_length p.code) FallsOffEnd (falls h.table others h.flow (ap h.table (sym ends) ∙ e)))
-          | inr inside ↦ absurd (free to (between after others) (meets h.table at kinds to after others h.flow h.has edge inside e ne))
+          | inl same ↦ record { table = h.table; flow = h.flow; has = e ∙ ap Some (sym same) }
+          | inr ne ↦ elim (number_cases to (code_length p.code)) [
+            | inl ends ↦ absurd (free (code_length p.code) FallsOffEnd (falls h.table others h.flow (ap h.table (sym ends) ∙ e)))
+            | inr inside ↦ absurd (free to (between after others) (meets h.table at kinds to after others h.flow h.has edge inside e ne))
           ]
         ]
 

@@ -1,4 +1,4 @@
-//! Laws of verification.
+//! Laws: what it means that a module has a fault, or none.
 
 ghost use Rattle.bytecode.specs.Contents.{ModuleContents};
 ghost use Rattle.bytecode.specs.Form.{Fits};
