@@ -27,7 +27,7 @@ use Rattle.checker.specs.declared.refusal.EndDefect.TheVariants as ends
 use Rattle.bytecode.specs.Contents.{ModuleContents}
 use Rattle.bytecode.specs.Decoded.{refusal_of as stop_of}
 use Rattle.bytecode.proofs.Both.{module_again}
-use Rattle.bytecode.specs.Form.{Spells}
+use Rattle.bytecode.specs.Form.{Spells, Fits}
 use Rattle.bytecode.specs.Format.{module_file}
 use Rattle.lowering.specs.Interface.{SameInterface}
 use Rattle.lowering.specs.Kept.{MeaningKept}
@@ -37,6 +37,7 @@ use Rattle.lowering.proofs.Characters.{channel_names-utf8}
 use Rattle.lowering.proofs.Faultless.{module_verified}
 use Rattle.lowering.proofs.Isolating.{isolated-module}
 use Rattle.lowering.proofs.Naming.{has_names, principals_short}
+use Rattle.lowering.proofs.Spelled.{Fits-module}
 use Rattle.principals.specs.declared.fault.HierFault.{HierFault}
 use Rattle.principals.specs.declared.fault.HierFault.TheVariants as hier
 use Rattle.compiler.specs.declared.fault.Cause.{Cause}
@@ -78,7 +79,8 @@ stands_for hierarchy source text h program same characters said accepted only =
 pub code_of_module : (program : Program) (m : ModuleContents) (code : List ℕ) → IsTrue (well_formed program) → IsTrue (is_straight_line program) →
     HasNames program → Isolated program → m ≡ module_of program → MeaningKept program m → SameInterface program m → Spells module_file m code → IsCodeOf program code
 code_of_module program m code well straight named isolated is kept interface spelled =
-    let verified = module_verified program well straight in
+    let fits : Fits module_file (module_of program) = Fits-module program straight well named in
+    let verified = module_verified program well straight fits in
     record {
       not_refused = ap (stop_of code) (module_again code m spelled);
       whole = m;
