@@ -1,0 +1,5 @@
+pub mod Covered
+pub mod Nodes
+pub mod Outcomes
+pub mod Tree
+pub mod Written
