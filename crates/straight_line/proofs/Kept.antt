@@ -29,7 +29,7 @@ record Keeps {W T : Type 0} (f : W → ℕ) (g : T → ℕ) (P : W → Type 0) (
   nodes : g t ≤ f w
   written : P w → Q t
 
-some_is : {A : Type 0} {x y : A} → Some x ≡ Some y → x ≡ y
+pub some_is : {A : Type 0} {x y : A} → Some x ≡ Some y → x ≡ y
 some_is e = cc
 
 -- what a narrowed part is that is made of another one
@@ -189,7 +189,7 @@ module _ (fits : ℕ → Type 0) (longest : ℕ) where
       sum_by-cons whole_nodes.statement_nodes statement (statement_list rest)
       ∙ ap (λ n. whole_nodes.statement_nodes statement + n) (listed_nodes rest)
 
-  listed_written : (statements : whole.StatementTrees) → whole_written.AreWrittenStatements fits longest statements
+  pub listed_written : (statements : whole.StatementTrees) → whole_written.AreWrittenStatements fits longest statements
       → All (whole_written.IsWrittenStatement fits longest) (statement_list statements)
   listed_written whole.NoStatement h = All-nil (whole_written.IsWrittenStatement fits longest)
   listed_written (whole.StatementThen statement rest) h =

@@ -1,2 +1,3 @@
 mod Loops
 pub mod Kept
+pub mod Places
