@@ -19,17 +19,20 @@ SpellsOneTree =
 abbrev pub SpelledIsTerminated : Type 0
 SpelledIsTerminated = (tokens : List Terminal) (tree : ProgramTree) → Spells tokens tree → IsTerminated tokens
 
--- a tree has at most as many nodes as the tokens that spell it
+-- where each token has the text of its kind, a tree has at most as many nodes as the tokens that spell it
 abbrev pub SpelledHasFewNodes : Type 0
 SpelledHasFewNodes =
-    (tokens : List Terminal) (tree : ProgramTree) → Spells tokens tree → program_nodes tree ≤ length tokens
+    (tokens : List Terminal) (tree : ProgramTree) → Spells tokens tree → All IsSpelled tokens
+    → program_nodes tree ≤ length tokens
 
--- a tree that tokens spell is nested at most so deep
+-- and it is nested at most so deep
 abbrev pub SpelledIsNested : Type 0
-SpelledIsNested = (tokens : List Terminal) (tree : ProgramTree) → Spells tokens tree → IsNested most_levels tree
+SpelledIsNested =
+    (tokens : List Terminal) (tree : ProgramTree) → Spells tokens tree → All IsSpelled tokens
+    → IsNested most_levels tree
 
--- what tokens spell is written: where each token is spelled and has at most so many bytes, the tree's names are names of at
--- most so many bytes, its integers are small enough, and its nodes stand where tokens begin
+-- what tokens spell is written: where each token has the text of its kind, which has at most so many bytes, the tree's names are
+-- names of at most so many bytes, its integers are small enough, and its nodes stand where tokens begin
 abbrev pub SpelledIsWritten : Type 0
 SpelledIsWritten =
     (longest : ℕ) (tokens : List Terminal) (tree : ProgramTree) → Spells tokens tree → All IsSpelled tokens
