@@ -40,7 +40,7 @@ of_tree h source tree only accepted =
 
 module _ (h : PrincipalHierarchy) (source : List ℕ) (tree : ProgramTree) (ok : IsUtf8 source) (short : length source ≤ greatest_source)
     (spelled : IsStraightLineOf source tree) where
-  pub written_anywhere : IsWritten (λ _. Unit {0}) 1048576 tree
+  written_anywhere : IsWritten (λ _. Unit {0}) 1048576 tree
   written_anywhere = tree_written (λ _. Unit {0}) source 1048576 tree ok short (λ at there. tt) spelled
 
   written_here : IsWritten (λ at. IsTrue (is_boundary source at)) 1048576 tree
