@@ -33,13 +33,13 @@ pub some_is : {A : Type 0} {x y : A} → Some x ≡ Some y → x ≡ y
 some_is e = cc
 
 -- what a narrowed part is that is made of another one
-inside : {A B : Type 0} (make : A → B) (found : Option A) (y : B) → option_map make found ≡ Some y → (x : A) × (found ≡ Some x) × (make x ≡ y)
+pub inside : {A B : Type 0} (make : A → B) (found : Option A) (y : B) → option_map make found ≡ Some y → (x : A) × (found ≡ Some x) × (make x ≡ y)
 inside make None y e = absurd (cc)
 inside make (Some x) y e = (x, refl, some_is e)
 
 -- ---- one procedure
 
-second_none : (first second : Option ℕ) → or_else first second ≡ None → second ≡ None
+pub second_none : (first second : Option ℕ) → or_else first second ≡ None → second ≡ None
 second_none None second e = e
 second_none (Some at) second e = absurd (cc)
 
@@ -76,21 +76,22 @@ module _ {W T : Type 0} {f : W → ℕ} {g : T → ℕ} {P : W → Type 0} {Q : 
 -- ---- expressions
 
 -- the parts of a binary expression that is narrowed
-record IsBinary (at : ℕ) (operator : Option BinaryOperator) (left right : Option ExpressionTree) (tree : ExpressionTree) : Type 0 where
-  sign : BinaryOperator
-  first : ExpressionTree
-  second : ExpressionTree
-  left_is : left ≡ Some first
-  right_is : right ≡ Some second
-  tree_is : BinaryTree at sign first second ≡ tree
+pub record IsBinary (at : ℕ) (operator : Option BinaryOperator) (left right : Option ExpressionTree) (tree : ExpressionTree) : Type 0 where
+  pub sign : BinaryOperator
+  pub first : ExpressionTree
+  pub second : ExpressionTree
+  pub operator_is : operator ≡ Some sign
+  pub left_is : left ≡ Some first
+  pub right_is : right ≡ Some second
+  pub tree_is : BinaryTree at sign first second ≡ tree
 
-binary_parts : (at : ℕ) (operator : Option BinaryOperator) (left right : Option ExpressionTree) (tree : ExpressionTree)
+pub binary_parts : (at : ℕ) (operator : Option BinaryOperator) (left right : Option ExpressionTree) (tree : ExpressionTree)
     → binary_of at operator left right ≡ Some tree → IsBinary at operator left right tree
 binary_parts at None left right tree e = absurd (cc)
 binary_parts at (Some operator) None right tree e = absurd (cc)
 binary_parts at (Some operator) (Some left) None tree e = absurd (cc)
 binary_parts at (Some operator) (Some left) (Some right) tree e =
-    record { sign = operator; first = left; second = right; left_is = refl; right_is = refl; tree_is = some_is e }
+    record { sign = operator; first = left; second = right; operator_is = refl; left_is = refl; right_is = refl; tree_is = some_is e }
 
 module _ (fits : ℕ → Type 0) (longest : ℕ) where
   abbrev KeepsExpression : whole.ExpressionTree → ExpressionTree → Type 0

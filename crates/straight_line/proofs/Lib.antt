@@ -1,3 +1,4 @@
-mod Loops
+mod Inverse
 pub mod Kept
+mod Loops
 pub mod Places

@@ -1,4 +1,5 @@
 pub mod Covered
+pub mod Laws
 pub mod Nodes
 pub mod Outcomes
 pub mod Tree
