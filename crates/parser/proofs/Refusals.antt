@@ -64,7 +64,7 @@ record Stop (tokens : List Terminal) : Type 0 where
   begun : BeginsWithin front
   stopped : BeginsWithin (front ++ token ∷ []) → ⊥
 
-of_unexpected : (tokens : List Terminal) (at : ℕ) → IsUnexpectedAt tokens at → Stop tokens
+abbrev of_unexpected : (tokens : List Terminal) (at : ℕ) → IsUnexpectedAt tokens at → Stop tokens
 of_unexpected tokens at u = record {
   front = u.before;
   token = u.token;
@@ -74,7 +74,7 @@ of_unexpected tokens at u = record {
   stopped = λ b. u.unexpected (within_begins (u.before ++ u.token ∷ []) b);
 }
 
-of_too_deep : (tokens : List Terminal) (at : ℕ) → IsTooDeepAt tokens at → Stop tokens
+abbrev of_too_deep : (tokens : List Terminal) (at : ℕ) → IsTooDeepAt tokens at → Stop tokens
 of_too_deep tokens at u =
     record { front = u.before; token = u.token; after = u.after; split = u.split; begun = u.begun; stopped = u.too_deep }
 

@@ -61,8 +61,10 @@ pub fn parse(alloc: Global, tokens: &[Token<'_>]) -> Result<Program, ParseFault>
         alloc,
         rest: tokens,
     };
-    let items = parser.program()?;
-    Ok(Program::new(items))
+    match parser.program() {
+        Ok(items) => Ok(Program::new(items)),
+        Err(fault) => Err(fault),
+    }
 }
 
 /// The laws that tokens spell at most one tree, that what they spell ends in the one end marker, that a tree has at most as many
