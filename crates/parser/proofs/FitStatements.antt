@@ -17,7 +17,7 @@ use Rattle.parser.proofs.Fits.{Fit, Fitting, Fits, Has, FitExpression, FitExpres
 use Rattle.parser.proofs.FitLabels.{name_fits, optional_label_fits, base_fits, size_fits}
 use Rattle.parser.proofs.FitExpressions.{others_fit, index_fits, expression_fits, operand_fits, unary_symbol_fits, expressions_fit, arguments_fit}
 
--- the nodes of what is read for a part that leaves no part of the tree of its own
+-- the nodes of what is only read as a piece of a statement
 abbrev first_nodes : FirstTree → ℕ
 first_nodes (FirstValue value) = right_nodes value
 first_nodes (FirstSize size) = 1
