@@ -1,14 +1,12 @@
 -- Refusals exclude trees and one another, and where tokens spell no tree there is one.
-use Rattle.std.proofs.Common.{◌≡◌, ◌⊎◌, ℕ, ◌≤◌, List, [], ◌∷◌, ◌++◌, length, length-append, Result, Ok, Err, refl, sym, ◌∙◌, ap, subst, inl, inr, append_assoc, arith}
-use Rattle.std.specs.Prelude.{MatchResult}
+use Rattle.std.proofs.Common.{◌≡◌, ◌⊎◌, ℕ, List, [], ◌∷◌, ◌++◌, length, length-append, Result, Ok, Err, refl, sym, ◌∙◌, ap, subst, inl, inr, append_assoc, arith}
 use Rattle.lexer.specs.Terminal.{Terminal, IsTerminated}
 use Rattle.parser.specs.declared.fault.ParseFault.{ParseFault}
 use Rattle.parser.specs.declared.fault.ParseFault.TheVariants as faults
 use Rattle.parser.specs.Reading.{Reason, OutOfPlace, OverLimit, Refusal, read}
 use Rattle.parser.specs.Refusal.{BeginsWithin, Begins, IsUnexpectedAt, IsTooDeepAt, IsRefused}
-use Rattle.syntax.specs.declared.tree.Item.{Item}
 use Rattle.syntax.specs.Grammar.{Spells, SpellsBut, program}
-use Rattle.syntax.specs.Tree.{ProgramTree, program_tree}
+use Rattle.syntax.specs.Tree.{ProgramTree}
 use Rattle.parser.proofs.Growing.{grows}
 use Rattle.parser.proofs.Programs.{Refuses, Verdict, verdict}
 

@@ -1,8 +1,8 @@
 -- What holds of a tree that tokens spell.
-use Rattle.std.proofs.Common.{◌≡◌, ℕ, ◌+◌, ◌-◌, ◌≤◌, List, [], ◌∷◌, length, map, refl, ap, subst, sum_by, arith}
+use Rattle.std.proofs.Common.{ℕ, ◌+◌, ◌-◌, ◌≤◌, List, [], ◌∷◌, length, map, ap, subst, sum_by, arith}
 use Rattle.std.specs.List.{All, Contains}
 use Rattle.std.proofs.lemmas.List.{length-map, length-take, length-drop, get_or-map}
-use Rattle.std.proofs.lemmas.List.Elements.{All-nil, All-cons, All-head, All-tail, All-weaker, Contains-get_or}
+use Rattle.std.proofs.lemmas.List.Elements.{All-nil, All-cons, All-weaker, Contains-get_or}
 use Rattle.std.proofs.lemmas.List.Sums.{sum_by-cons}
 use Rattle.std.proofs.Math.ListN.{drop}
 use Rattle.std.specs.Str.{IsUtf8, IsCharBoundary}
@@ -17,7 +17,7 @@ use Rattle.syntax.specs.Nodes.{program_nodes}
 use Rattle.syntax.specs.Tree.{ProgramTree}
 use Rattle.syntax.specs.Written.{Anywhere, IsWritten}
 use Rattle.parser.specs.OfText.{IsOfText}
-use Rattle.parser.proofs.Holds.{Taken, Held, Holds, spelled_taken}
+use Rattle.parser.proofs.Holds.{spelled_taken}
 use Rattle.parser.proofs.Fits.{Fit, Fitting, Fits}
 use Rattle.parser.proofs.FitStatements.{symbols_fit}
 use Rattle.parser.proofs.FitItems.{program_fits}
