@@ -1,14 +1,13 @@
 -- Expressions fit.
-use Rattle.std.proofs.Common.{◌≡◌, ◌⊎◌, ℕ, zero, suc, pred, ◌+◌, ◌≤◌, ◌<◌, List, [], ◌∷◌, length, refl, sym, ◌∙◌, ap, subst, inl, inr, sum_by, arith}
-use Rattle.std.specs.Prelude.{Option, None, Some}
+use Rattle.std.proofs.Common.{◌≡◌, ℕ, zero, suc, pred, ◌+◌, ◌≤◌, ◌<◌, List, [], ◌∷◌, sym, subst, inl, inr, sum_by, arith}
+use Rattle.std.specs.Prelude.{Option}
 use Rattle.std.specs.List.{All}
 use Rattle.lexer.specs.declared.token.Kind.TheVariants as kinds
-use Rattle.lexer.specs.Terminal.{Terminal}
 use Rattle.syntax.specs.declared.tree.BinaryOperator.{BinaryOperator}
 use Rattle.syntax.specs.declared.line.Line.{Line}
 use Rattle.syntax.specs.declared.line.Line.TheVariants.{Product, Sum, Relation, Equality, Conjunction, Disjunction}
 use Rattle.syntax.specs.Form.{Form, level, only}
-use Rattle.syntax.specs.Grammar.{optional, chain, others_of, grouped, name, index, integer, truth, variable, parenthesised, primary, signed, unary, term, sum, relation, equality, conjunction, expression, variable_tree, operand_of, expressions, arguments}
+use Rattle.syntax.specs.Grammar.{optional, chain, others_of, grouped, name, index, integer, variable, parenthesised, primary, signed, unary, term, sum, relation, equality, conjunction, expression, variable_tree, operand_of, expressions, arguments}
 use Rattle.syntax.specs.Nesting.{IsNestedExpression}
 use Rattle.syntax.specs.Nodes.{expression_nodes}
 use Rattle.syntax.specs.Symbol.{Expression, Arguments}

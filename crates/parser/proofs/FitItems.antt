@@ -1,19 +1,17 @@
 -- Items and programs fit.
-use Rattle.std.proofs.Common.{◌≡◌, ◌⊎◌, ℕ, zero, suc, ◌+◌, ◌≤◌, List, [], ◌∷◌, length, refl, sym, ◌∙◌, ap, subst, inl, inr, sum_by, arith}
-use Rattle.std.specs.Prelude.{Option, None, Some}
+use Rattle.std.proofs.Common.{◌≡◌, ℕ, ◌+◌, ◌≤◌, List, sym, subst, inl, inr, sum_by, arith}
+use Rattle.std.specs.Prelude.{Option}
 use Rattle.std.specs.List.{All}
 use Rattle.std.proofs.lemmas.List.Elements.{All-nil}
 use Rattle.lexer.specs.declared.token.Kind.TheVariants as kinds
-use Rattle.lexer.specs.Terminal.{Terminal}
-use Rattle.syntax.specs.declared.tree.BaseType.{BaseType}
 use Rattle.syntax.specs.declared.tree.Direction.{Direction}
 use Rattle.syntax.specs.Form.{Form, many, ◌·◌}
 use Rattle.syntax.specs.Grammar.{at, key, ◌◂◌, base, name, optional_label, label, direction, channel, exception, negative_constant, constant, global_value, global, valued, outcome, parameter, parameters, end_label, thrown, thrown_list, some_throws, throws, procedure, item, program}
 use Rattle.syntax.specs.Nesting.{IsNestedItem, IsNested}
-use Rattle.syntax.specs.Nodes.{label_nodes, optional_label_nodes, outcome_nodes, parameter_nodes, thrown_nodes, item_nodes, program_nodes}
+use Rattle.syntax.specs.Nodes.{optional_label_nodes, outcome_nodes, parameter_nodes, thrown_nodes, item_nodes, program_nodes}
 use Rattle.syntax.specs.Tree.{LabelTree, ConstantTree, GlobalValueTree, OutcomeTree, ParameterTree, ThrownTree, ItemTree, ProgramTree}
 use Rattle.syntax.specs.Written.{IsWrittenOptionalLabel, IsWrittenConstant, IsWrittenGlobalValue, IsWrittenOutcome, IsWrittenParameter, IsWrittenThrown, IsWrittenItem, IsWritten}
-use Rattle.parser.proofs.Fits.{Fit, Fitting, Has, from_key, from_at, from_after, from_before, each_fits, separated_fits, some_fit}
+use Rattle.parser.proofs.Fits.{Fit, Has, from_at, from_after, from_before, each_fits, separated_fits, some_fit}
 use Rattle.parser.proofs.FitLabels.{Nothing, name_fits, label_fits, optional_label_fits, base_fits, integer_fits, truth_fits, size_fits}
 use Rattle.parser.proofs.FitStatements.{block_fits}
 

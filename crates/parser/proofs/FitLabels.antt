@@ -1,5 +1,5 @@
 -- Names, labels, integers and base types fit.
-use Rattle.std.proofs.Common.{◌≡◌, ◌⊎◌, ℕ, zero, suc, ◌+◌, ◌≤◌, List, [], ◌∷◌, length, Bool, true, false, cond, refl, sym, ◌∙◌, ap, subst, inl, inr, sum_by, arith}
+use Rattle.std.proofs.Common.{◌≡◌, ℕ, ◌+◌, ◌≤◌, List, [], ◌∷◌, length, Bool, true, false, cond, refl, sym, subst, inl, inr, sum_by, arith}
 use Rattle.std.specs.Prelude.{Option, None, Some}
 use Rattle.std.specs.List.{All}
 use Rattle.std.proofs.lemmas.List.Sums.{sum_by-cons}
@@ -7,7 +7,6 @@ use Rattle.lexer.specs.declared.token.Kind.{Kind}
 use Rattle.lexer.specs.declared.token.Kind.TheVariants as kinds
 use Rattle.lexer.specs.Lexeme.{greatest_literal}
 use Rattle.lexer.specs.Listing as listing
-use Rattle.lexer.specs.Terminal.{Terminal}
 use Rattle.syntax.specs.declared.tree.BaseType.{BaseType}
 use Rattle.syntax.specs.Form.{Form, ◌·◌, only, shape, same_kind}
 use Rattle.syntax.specs.Grammar.{at, ◌▸◌, name, readers, policy, policies, label, optional_label, base, integer, truth, size, value_of}
@@ -15,7 +14,7 @@ use Rattle.syntax.specs.Nodes.{policy_nodes, label_nodes, optional_label_nodes}
 use Rattle.syntax.specs.Tree.{NameTree, PolicyTree, LabelTree, SizeTree}
 use Rattle.syntax.specs.Written.{IsWrittenName, IsWrittenPolicy, IsWrittenLabel, IsWrittenOptionalLabel, IsWrittenSize}
 use Rattle.parser.proofs.SameKind.{same_kind-equal}
-use Rattle.parser.proofs.Fits.{Fit, Fitting, Has, from_key, from_at, from_after, from_before, some_fit}
+use Rattle.parser.proofs.Fits.{Fit, Has, from_at, from_after, from_before, some_fit}
 
 abbrev pub Nothing : {A : Type 0} → A → Type 0
 Nothing tree = Unit {0}

@@ -1,23 +1,23 @@
 -- Statements and blocks fit, and so do the trees of all symbols.
-use Rattle.std.proofs.Common.{◌≡◌, ◌⊎◌, ℕ, zero, suc, pred, ◌+◌, ◌≤◌, ◌<◌, List, [], ◌∷◌, length, refl, sym, ◌∙◌, ap, subst, inl, inr, sum_by, arith}
+use Rattle.std.proofs.Common.{◌≡◌, ℕ, pred, ◌+◌, ◌≤◌, ◌<◌, List, [], ◌∷◌, sym, subst, inl, inr, sum_by, arith}
 use Rattle.std.specs.Prelude.{Option, None, Some}
 use Rattle.std.specs.List.{All}
 use Rattle.lexer.specs.declared.token.Kind.{Kind}
 use Rattle.lexer.specs.declared.token.Kind.TheVariants as kinds
 use Rattle.syntax.specs.declared.tree.BaseType.{BaseType}
-use Rattle.syntax.specs.Form.{Form, level, many, ◌·◌, only}
-use Rattle.syntax.specs.Grammar.{at, ◌▸◌, ◌◂◌, base, optional_label, name, index, expression, call, right, block, condition, otherwise, catch, catches, first_with, declare_with, behind_with, named_with, receive, send, conditional, while_statement, break_statement, continue_statement, throw_statement, returned, return_statement, attempt, nested, statement_with, statement, production}
-use Rattle.syntax.specs.Nesting.{IsNestedExpression, IsNestedOptionalExpression, IsNestedCall, IsNestedRight, IsNestedStatement, IsNestedBlock, AreNestedStatements, AreNestedCatches}
-use Rattle.syntax.specs.Nodes.{optional_label_nodes, expression_nodes, optional_expression_nodes, call_nodes, right_nodes, statement_nodes, block_nodes, statements_nodes, catches_nodes}
+use Rattle.syntax.specs.Form.{Form, level, ◌·◌, only}
+use Rattle.syntax.specs.Grammar.{at, ◌▸◌, ◌◂◌, base, optional_label, name, index, expression, call, right, block, condition, otherwise, catch, catches, first_with, declare_with, behind_with, named_with, receive, send, conditional, while_statement, break_statement, continue_statement, throw_statement, returned, return_statement, attempt, nested, statement, production}
+use Rattle.syntax.specs.Nesting.{IsNestedExpression, IsNestedOptionalExpression, IsNestedCall, IsNestedRight, IsNestedStatement, IsNestedBlock, AreNestedCatches}
+use Rattle.syntax.specs.Nodes.{optional_label_nodes, expression_nodes, optional_expression_nodes, call_nodes, right_nodes, statement_nodes, block_nodes, catches_nodes}
 use Rattle.syntax.specs.Symbol.{Symbol, Expression, Unary, Operands, Arguments, Statements, tree_of}
-use Rattle.syntax.specs.Tree.{NameTree, LabelTree, ExpressionTree, CallTree, RightTree, SizeTree, FirstTree, FirstValue, FirstSize, BehindTree, AssignedTree, AtIndexTree, ArgumentsTree, local_tree, named_tree, StatementTree, BlockTree, CatchTree, if_tree, statements_of, catches_of}
-use Rattle.syntax.specs.Written.{IsWrittenName, IsWrittenOptionalLabel, IsWrittenExpression, IsWrittenOptionalExpression, IsWrittenCall, IsWrittenRight, IsWrittenSize, IsWrittenStatement, IsWrittenBlock, AreWrittenStatements, AreWrittenCatches}
-use Rattle.parser.proofs.Holds.{Each, Holds}
-use Rattle.parser.proofs.Fits.{Fit, Fitting, Fits, Has, FitExpression, FitExpressions, FitStatements, from_at, from_after, from_before}
+use Rattle.syntax.specs.Tree.{NameTree, LabelTree, ExpressionTree, CallTree, RightTree, FirstTree, FirstValue, FirstSize, BehindTree, AssignedTree, AtIndexTree, ArgumentsTree, local_tree, named_tree, StatementTree, BlockTree, CatchTree, if_tree, catches_of}
+use Rattle.syntax.specs.Written.{IsWrittenName, IsWrittenOptionalLabel, IsWrittenExpression, IsWrittenOptionalExpression, IsWrittenCall, IsWrittenRight, IsWrittenSize, IsWrittenStatement, IsWrittenBlock, AreWrittenCatches}
+use Rattle.parser.proofs.Holds.{Each}
+use Rattle.parser.proofs.Fits.{Fit, Fits, Has, FitStatements, from_at, from_after, from_before}
 use Rattle.parser.proofs.FitLabels.{name_fits, optional_label_fits, base_fits, size_fits}
 use Rattle.parser.proofs.FitExpressions.{others_fit, index_fits, expression_fits, operand_fits, unary_symbol_fits, expressions_fit, arguments_fit}
 
--- the nodes of what is read for a part that leaves no part of the tree of its own
+-- the nodes of what is only read as a piece of a statement
 abbrev first_nodes : FirstTree → ℕ
 first_nodes (FirstValue value) = right_nodes value
 first_nodes (FirstSize size) = 1

@@ -1,20 +1,18 @@
 -- Trees that fit: they are written, have no more nodes than tokens, and are nested in the room; and what a form's tokens say of
 -- its tree, form by form.
-use Rattle.std.proofs.Common.{◌≡◌, ◌⊎◌, ℕ, zero, suc, pred, ◌+◌, ◌≤◌, ◌<◌, List, [], ◌∷◌, length, refl, sym, ◌∙◌, ap, subst, inl, inr, sum_by, arith}
-use Rattle.std.specs.Prelude.{Option, None, Some}
+use Rattle.std.proofs.Common.{◌≡◌, ℕ, pred, ◌+◌, ◌≤◌, ◌<◌, List, [], ◌∷◌, length, sym, subst, inl, inr, sum_by, arith}
 use Rattle.std.specs.List.{All}
 use Rattle.std.proofs.lemmas.List.Elements.{All-nil, All-cons}
 use Rattle.std.proofs.lemmas.List.Sums.{sum_by-cons}
 use Rattle.lexer.specs.declared.token.Kind.{Kind}
-use Rattle.lexer.specs.declared.token.Kind.TheVariants as kinds
 use Rattle.lexer.specs.Listing.{IsSpelled}
 use Rattle.lexer.specs.Terminal.{Terminal}
 use Rattle.syntax.specs.declared.tree.BinaryOperator.{BinaryOperator}
-use Rattle.syntax.specs.Form.{Form, give, ◌·◌, ◌or◌, many, ◌gives◌}
+use Rattle.syntax.specs.Form.{Form}
 use Rattle.syntax.specs.Grammar.{key, at, ◌▸◌, ◌◂◌, separated, some}
 use Rattle.syntax.specs.Nesting.{IsNestedExpression, AreNestedStatements}
 use Rattle.syntax.specs.Nodes.{expression_nodes, statements_nodes}
-use Rattle.syntax.specs.Symbol.{Symbol, Expression, Unary, Operands, Arguments, Statements, tree_of}
+use Rattle.syntax.specs.Symbol.{Expression, Unary, Operands, Arguments, Statements}
 use Rattle.syntax.specs.Tree.{ExpressionTree, StatementTree, statements_of}
 use Rattle.syntax.specs.Written.{IsWrittenExpression, AreWrittenStatements}
 use Rattle.parser.proofs.Holds.{Each, Held, Holds}

@@ -1,10 +1,10 @@
 -- Where the levels of more tokens don't count, what was spelled still is.
-use Rattle.std.proofs.Common.{◌≡◌, ◌⊎◌, ℕ, zero, suc, pred, ◌≤◌, ◌<◌, List, [], ◌∷◌, length, inl, inr, refl, arith}
+use Rattle.std.proofs.Common.{◌⊎◌, ℕ, zero, suc, pred, ◌≤◌, ◌<◌, List, length, inl, inr, arith}
 use Rattle.lexer.specs.Terminal.{Terminal}
-use Rattle.syntax.specs.Form.{Form, give, one_of, level, ◌·◌, ◌or◌, many, ◌gives◌, Phrase, Token, Level, Both, Many, none, more, Gives, means}
+use Rattle.syntax.specs.Form.{Form, give, one_of, level, ◌·◌, ◌or◌, many, ◌gives◌, Phrase, Many, none, more, means}
 use Rattle.syntax.specs.Symbol.{Symbol, tree_of}
 use Rattle.syntax.specs.Grammar.{production, within, Spelled}
-use Rattle.parser.proofs.Derivations.{Inside, many_more}
+use Rattle.parser.proofs.Derivations.{Inside}
 
 abbrev Grows : Inside → Type 0
 Grows i = (symbol : Symbol) (room n m : ℕ) → n ≤ m → (tokens : List Terminal) (tree : tree_of symbol) (rest : List Terminal) → i symbol room n tokens tree rest → i symbol room m tokens tree rest

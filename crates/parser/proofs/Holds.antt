@@ -1,11 +1,11 @@
 -- What holds of the trees of a form: how many tokens they have, what holds of each token, and that levels are opened in the room.
-use Rattle.std.proofs.Common.{◌≡◌, ◌⊎◌, ℕ, zero, suc, pred, ◌+◌, ◌≤◌, ◌<◌, List, [], ◌∷◌, length, refl, sym, ◌∙◌, ap, subst, inl, inr, arith}
+use Rattle.std.proofs.Common.{◌≡◌, ◌⊎◌, ℕ, zero, suc, pred, ◌+◌, ◌<◌, List, [], ◌∷◌, length, refl, sym, ap, subst, inl, inr, arith}
 use Rattle.std.specs.Prelude.{Option, Some}
 use Rattle.std.specs.List.{All}
 use Rattle.std.proofs.lemmas.List.Elements.{All-head, All-tail}
 use Rattle.lexer.specs.declared.token.Kind.{Kind}
 use Rattle.lexer.specs.Terminal.{Terminal}
-use Rattle.syntax.specs.Form.{Form, give, one_of, level, ◌·◌, ◌or◌, many, ◌gives◌, shape, Phrase, Token, Level, Both, Many, none, more, Gives, means}
+use Rattle.syntax.specs.Form.{Form, give, one_of, level, ◌·◌, ◌or◌, many, ◌gives◌, shape, Phrase, Token, Many, none, more, means}
 use Rattle.syntax.specs.Symbol.{Symbol, tree_of}
 use Rattle.syntax.specs.Grammar.{production, within, Spelled}
 use Rattle.parser.proofs.Derivations.{Inside}

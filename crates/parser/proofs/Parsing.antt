@@ -1,6 +1,5 @@
 -- What the parser answers, from what reading a program gives.
-use Rattle.std.proofs.Common.{◌≡◌, ◌⊎◌, ℕ, ◌≤◌, List, length, Result, Ok, Err, IfOk, refl, sym, ap, subst, inl, inr, arith}
-use Rattle.std.specs.Prelude.{MatchResult}
+use Rattle.std.proofs.Common.{◌≡◌, ◌⊎◌, ℕ, ◌≤◌, List, length, Result, Ok, Err, refl, sym, subst, inl, inr, arith}
 use Rattle.std.proofs.lemmas.List.{length-map}
 use Rattle.lexer.specs.declared.token.Token.{Token}
 use Rattle.lexer.specs.Terminal.{IsTerminated, terminal_of, terminals_of}
@@ -61,3 +60,13 @@ module _ (tokens : List Token) (terminated : IsTerminated (terminals_of tokens))
     | inl none ↦ inr none
     | inr here ↦ inl (one_refusal (terminals_of tokens) fault other here refused)
   ]
+
+  pub fault_unexpected : (fault : ParseFault) (left : List Token) → WasRead (Err fault) left → (at : ℕ) → ◌≡◌ {A = Result (List Item) ParseFault} (Err fault) (Err (faults.Unexpected at)) → IsUnexpectedAt (terminals_of tokens) at
+  fault_unexpected fault left e at which =
+      let found = subst (λ one. WasRead one left) which e in
+      (subst (Verdict (terminals_of tokens)) found (verdict (terminals_of tokens) terminated)).0
+
+  pub fault_too_deep : (fault : ParseFault) (left : List Token) → WasRead (Err fault) left → (at : ℕ) → ◌≡◌ {A = Result (List Item) ParseFault} (Err fault) (Err (faults.TooDeep at)) → IsTooDeepAt (terminals_of tokens) at
+  fault_too_deep fault left e at which =
+      let found = subst (λ one. WasRead one left) which e in
+      (subst (Verdict (terminals_of tokens)) found (verdict (terminals_of tokens) terminated)).0

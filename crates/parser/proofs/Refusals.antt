@@ -1,14 +1,12 @@
 -- Refusals exclude trees and one another, and where tokens spell no tree there is one.
-use Rattle.std.proofs.Common.{◌≡◌, ◌⊎◌, ℕ, ◌≤◌, List, [], ◌∷◌, ◌++◌, length, length-append, Result, Ok, Err, refl, sym, ◌∙◌, ap, subst, inl, inr, append_assoc, arith}
-use Rattle.std.specs.Prelude.{MatchResult}
+use Rattle.std.proofs.Common.{◌≡◌, ◌⊎◌, ℕ, List, [], ◌∷◌, ◌++◌, length, length-append, Result, Ok, Err, refl, sym, ◌∙◌, ap, subst, inl, inr, append_assoc, arith}
 use Rattle.lexer.specs.Terminal.{Terminal, IsTerminated}
 use Rattle.parser.specs.declared.fault.ParseFault.{ParseFault}
 use Rattle.parser.specs.declared.fault.ParseFault.TheVariants as faults
 use Rattle.parser.specs.Reading.{Reason, OutOfPlace, OverLimit, Refusal, read}
 use Rattle.parser.specs.Refusal.{BeginsWithin, Begins, IsUnexpectedAt, IsTooDeepAt, IsRefused}
-use Rattle.syntax.specs.declared.tree.Item.{Item}
 use Rattle.syntax.specs.Grammar.{Spells, SpellsBut, program}
-use Rattle.syntax.specs.Tree.{ProgramTree, program_tree}
+use Rattle.syntax.specs.Tree.{ProgramTree}
 use Rattle.parser.proofs.Growing.{grows}
 use Rattle.parser.proofs.Programs.{Refuses, Verdict, verdict}
 
@@ -64,7 +62,7 @@ record Stop (tokens : List Terminal) : Type 0 where
   begun : BeginsWithin front
   stopped : BeginsWithin (front ++ token ∷ []) → ⊥
 
-of_unexpected : (tokens : List Terminal) (at : ℕ) → IsUnexpectedAt tokens at → Stop tokens
+abbrev of_unexpected : (tokens : List Terminal) (at : ℕ) → IsUnexpectedAt tokens at → Stop tokens
 of_unexpected tokens at u = record {
   front = u.before;
   token = u.token;
@@ -74,7 +72,7 @@ of_unexpected tokens at u = record {
   stopped = λ b. u.unexpected (within_begins (u.before ++ u.token ∷ []) b);
 }
 
-of_too_deep : (tokens : List Terminal) (at : ℕ) → IsTooDeepAt tokens at → Stop tokens
+abbrev of_too_deep : (tokens : List Terminal) (at : ℕ) → IsTooDeepAt tokens at → Stop tokens
 of_too_deep tokens at u =
     record { front = u.before; token = u.token; after = u.after; split = u.split; begun = u.begun; stopped = u.too_deep }
 

@@ -1,10 +1,14 @@
 -- What holds of a tree that tokens spell.
-use Rattle.std.proofs.Common.{◌≡◌, ℕ, ◌+◌, ◌≤◌, List, [], ◌∷◌, length, map, refl, subst, sum_by, arith}
+use Rattle.std.proofs.Common.{ℕ, ◌+◌, ◌-◌, ◌≤◌, List, [], ◌∷◌, length, map, ap, subst, sum_by, arith}
 use Rattle.std.specs.List.{All, Contains}
-use Rattle.std.proofs.lemmas.List.{length-map, get_or-map}
-use Rattle.std.proofs.lemmas.List.Elements.{All-nil, All-cons, All-head, All-tail, All-weaker, Contains-get_or}
+use Rattle.std.proofs.lemmas.List.{length-map, length-take, length-drop, get_or-map}
+use Rattle.std.proofs.lemmas.List.Elements.{All-nil, All-cons, All-weaker, Contains-get_or}
 use Rattle.std.proofs.lemmas.List.Sums.{sum_by-cons}
-use Rattle.lexer.specs.Listing.{IsSpelled}
+use Rattle.std.proofs.Math.ListN.{drop}
+use Rattle.std.specs.Str.{IsUtf8, IsCharBoundary}
+use Rattle.lexer.proofs.Listed.{listed}
+use Rattle.lexer.specs.Cut.{IsCut}
+use Rattle.lexer.specs.Listing.{IsSpelled, IsSliceOf}
 use Rattle.lexer.specs.Terminal.{Terminal}
 use Rattle.syntax.specs.Grammar.{Spells, program}
 use Rattle.syntax.specs.Limits.{IsProgram, longest_name}
@@ -13,7 +17,7 @@ use Rattle.syntax.specs.Nodes.{program_nodes}
 use Rattle.syntax.specs.Tree.{ProgramTree}
 use Rattle.syntax.specs.Written.{Anywhere, IsWritten}
 use Rattle.parser.specs.OfText.{IsOfText}
-use Rattle.parser.proofs.Holds.{Taken, Held, Holds, spelled_taken}
+use Rattle.parser.proofs.Holds.{spelled_taken}
 use Rattle.parser.proofs.Fits.{Fit, Fitting, Fits}
 use Rattle.parser.proofs.FitStatements.{symbols_fit}
 use Rattle.parser.proofs.FitItems.{program_fits}
@@ -63,3 +67,29 @@ few_nodes tokens tree d spelled = (fits_anywhere tokens tree d spelled).few
 
 pub spelled_nested : (tokens : List Terminal) (tree : ProgramTree) → Spells tokens tree → All IsSpelled tokens → IsNested 64 tree
 spelled_nested tokens tree d spelled = (fits_anywhere tokens tree d spelled).nested
+
+-- Tokens that the lexer makes.
+
+pub slice_short : (source : List ℕ) (longest : ℕ) → length source ≤ longest → (token : Terminal) → IsSliceOf source token → length token.text ≤ longest
+slice_short source longest few token slice =
+    omega (arith, few, ap length slice, length-take (token.end - token.start) (drop token.start source), length-drop token.start source)
+
+-- those of a text of at most 1 MiB are as a parse wants them
+pub cut_of_text : (source : List ℕ) (tokens : List Terminal) → IsUtf8 source → IsCut source tokens → length source ≤ longest_name → IsOfText tokens
+cut_of_text source tokens ok cut few =
+    let each = listed source tokens ok cut in
+    record {
+      spelled = each.spelled;
+      short = All-weaker (IsSliceOf source) (IsShort longest_name) (slice_short source longest_name few) tokens each.slices;
+      few = omega (arith, few, each.count);
+    }
+
+-- what they spell is written in words no longer than the text, at its characters, and has few nodes
+pub cut_written : (source : List ℕ) (longest : ℕ) (tokens : List Terminal) (tree : ProgramTree) → IsUtf8 source → length source ≤ longest → IsCut source tokens → Spells tokens tree → IsWritten (IsCharBoundary source) longest tree
+cut_written source longest tokens tree ok few cut d =
+    let each = listed source tokens ok cut in
+    spelled_written (IsCharBoundary source) longest tokens tree d each.spelled (All-weaker (IsSliceOf source) (IsShort longest) (slice_short source longest few) tokens each.slices) each.at_characters
+
+pub cut_nodes : (source : List ℕ) (tokens : List Terminal) (tree : ProgramTree) → IsUtf8 source → IsCut source tokens → Spells tokens tree → program_nodes tree ≤ 1 + length source
+cut_nodes source tokens tree ok cut d =
+    let each = listed source tokens ok cut in omega (arith, each.count, few_nodes tokens tree d each.spelled)

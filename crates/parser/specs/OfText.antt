@@ -1,6 +1,6 @@
 -- What holds of the tokens of a text of at most 1 MiB.
 -- Source: our own.
-use Rattle.std.specs.Prelude.{ℕ, ◌≤◌, List, length, All}
+use Rattle.std.specs.Prelude.{◌≤◌, List, length, All}
 use Rattle.lexer.specs.Listing.{IsSpelled}
 use Rattle.lexer.specs.Terminal.{Terminal}
 use Rattle.syntax.specs.Limits.{longest_name, most_nodes}

@@ -1,13 +1,13 @@
-ghost use Rattle.std.specs.Prelude.{◌≡◌, ◌⊎◌, ◌≤◌, ℕ, length, IfOk, Err, MatchResult};
+ghost use Rattle.std.specs.Prelude.{◌≤◌, length, IfOk};
 ghost use Rattle.lexer.specs.Terminal.{IsTerminated, terminals_of};
 ghost use Rattle.syntax.specs.Grammar.{Spells, program};
 ghost use Rattle.syntax.specs.Laws.{SpellsOneTree, SpelledIsTerminated, SpelledHasFewNodes, SpelledIsNested, SpelledIsWritten};
 ghost use Rattle.syntax.specs.Nodes.{program_nodes};
-ghost use Rattle.syntax.specs.Tree.{ProgramTree, program_tree};
+ghost use Rattle.syntax.specs.Tree.{program_tree};
 ghost use Rattle.parser.specs.Laws.{IsSpelledOrRefused, IsNotSpelledAndRefused, HasOneRefusal};
 ghost use Rattle.parser.specs.OfText.{IsOfText};
 ghost use Rattle.parser.specs.Reading.{IsRead, read};
-ghost use Rattle.parser.specs.Refusal.{IsRefused, IsUnexpectedAt, IsTooDeepAt, IsTreeOrNoMemory};
+ghost use Rattle.parser.specs.Refusal.{AnswersOnly, AnswersUnexpected, AnswersTooDeep, AnswersFirst};
 
 use crate::cursor::Parser;
 use crate::fault::ParseFault;
@@ -30,44 +30,43 @@ impl<'a> Parser<'a> {
     }
 }
 
-/// The program that tokens spell. The caller owes tokens as the lexer makes them of a text of at most 1 MiB; their last one, and
-/// no other, is the end marker.
+/// The program that tokens spell.
+///
+/// Precondition: the tokens are as the lexer makes them of a text of at most 1 MiB. The last one, and no other, is the end marker.
 ///
 /// # Errors
 ///
-/// The first fault in the order of the tokens: one that is unexpected, or one that opens a level too many. At one token the
-/// first comes before the second. Or out of memory.
+/// The first fault in the order of the tokens: one that is unexpected, or one that opens a level where 64 are open. At one token
+/// the first comes before the second. Or out of memory.
 pub fn parse(alloc: Global, tokens: &[Token<'_>]) -> Result<Program, ParseFault>
     requires terminated { IsTerminated (terminals_of tokens.now) }
     requires of_text { IsOfText (terminals_of tokens.now) }
 
-    // The answer is spelled by all the tokens.
+    // All the tokens together spell the answer, which has at most as many nodes.
     ensures spelled { IfOk result (λ items. Spells (terminals_of tokens.now) (program_tree items)) }
-
-    // It has at most as many nodes as there are tokens.
     ensures bounded { IfOk result (λ items. program_nodes (program_tree items) ≤ length tokens.now) }
 
-    // Where the tokens spell a tree, the answer is that tree, unless memory ran out.
-    ensures only { (tree : ProgramTree) → Spells (terminals_of tokens.now) tree → IsTreeOrNoMemory result tree }
+    // Where the tokens spell a tree, that tree is the answer, unless memory ran out.
+    ensures only { AnswersOnly (terminals_of tokens.now) result }
 
-    // A refusal stands at the first token that is at fault.
-    ensures unexpected { (at : ℕ) → result ≡ Err (ParseFault.Unexpected at) → IsUnexpectedAt (terminals_of tokens.now) at }
-    ensures too_deep { (at : ℕ) → result ≡ Err (ParseFault.TooDeep at) → IsTooDeepAt (terminals_of tokens.now) at }
-
-    // Where the tokens are refused, the answer is that refusal, unless memory ran out.
-    ensures first { (fault : ParseFault) → IsRefused (terminals_of tokens.now) fault → MatchResult result (λ items. ⊥) (λ found. (found ≡ fault) ⊎ (found ≡ ParseFault.NoMemory)) }
+    // A refusal is the first fault, and where the tokens have a fault it is the answer, unless memory ran out.
+    ensures unexpected { AnswersUnexpected (terminals_of tokens.now) result }
+    ensures too_deep { AnswersTooDeep (terminals_of tokens.now) result }
+    ensures first { AnswersFirst (terminals_of tokens.now) result }
 {
     let mut parser = Parser {
         alloc,
         rest: tokens,
     };
-    let items = parser.program()?;
-    Ok(Program::new(items))
+    match parser.program() {
+        Ok(items) => Ok(Program::new(items)),
+        Err(fault) => Err(fault),
+    }
 }
 
-/// The laws that tokens spell at most one tree, that what they spell ends in the one end marker, that a tree has at most as many
-/// nodes as the tokens that spell it and is nested at most 64 levels deep, and that its names, integers and places are those of
-/// the tokens.
+/// The laws that tokens spell at most one tree, and that what they spell ends in the one end marker; and, where each token has the
+/// text of its kind, that a tree has at most as many nodes as there are tokens, is nested at most 64 levels deep, and has its
+/// names, integers and places of the tokens.
 pub fn spelling_laws()
     ensures one_tree { SpellsOneTree }
     ensures terminated { SpelledIsTerminated }

@@ -38,7 +38,7 @@ impl<'a> Parser<'a> {
         self.expression(room)
     }
 
-    /// Expressions parted by commas.
+    /// One expression or more, with commas between them.
     fn some_expressions(&mut self, room: u32) -> Result<Vec<Expression>, ParseFault>
         ensures { IsRead (λ list. map expression_tree list.items) result self.new.rest.now (read room (separated Comma expression) (terminals_of self.old.rest.now)) }
     {
@@ -168,22 +168,22 @@ impl<'a> Parser<'a> {
     fn is_at_statement(&self) -> bool
         ensures { result ≡ begins_statement (kind_at (terminals_of self.now.rest.now)) }
     {
-        match self.kind() {
+        matches!(
+            self.kind(),
             Kind::Int
-            | Kind::Boolean
-            | Kind::Name
-            | Kind::Receive
-            | Kind::Send
-            | Kind::If
-            | Kind::While
-            | Kind::Break
-            | Kind::Continue
-            | Kind::Throw
-            | Kind::Return
-            | Kind::Try
-            | Kind::OpenBrace => true,
-            _ => false,
-        }
+                | Kind::Boolean
+                | Kind::Name
+                | Kind::Receive
+                | Kind::Send
+                | Kind::If
+                | Kind::While
+                | Kind::Break
+                | Kind::Continue
+                | Kind::Throw
+                | Kind::Return
+                | Kind::Try
+                | Kind::OpenBrace
+        )
     }
 
     #[cycle(statement)]
@@ -200,7 +200,7 @@ impl<'a> Parser<'a> {
         })
     }
 
-    /// Statements, as many as there are.
+    /// Statements up to the first token that begins none.
     #[cycle(statement)]
     fn statements(&mut self, room: u32) -> Result<Vec<Statement>, ParseFault>
         ensures { IsRead (λ list. map statement_tree list.items) result self.new.rest.now (read room (many statement_read) (terminals_of self.old.rest.now)) }
@@ -274,7 +274,7 @@ impl<'a> Parser<'a> {
         })
     }
 
-    /// What is done at exceptions: once at least.
+    /// Handlers, one at least.
     #[cycle(statement)]
     fn catches(&mut self, room: u32) -> Result<Vec<Catch>, ParseFault>
         ensures { IsRead (λ list. map catch_tree list.items) result self.new.rest.now (read room catches (terminals_of self.old.rest.now)) }
@@ -423,7 +423,7 @@ impl<'a> Parser<'a> {
         self.right(room)
     }
 
-    /// Behind the name of a local.
+    /// What stands behind the name of a local.
     #[tactic(auto, using(crate::proofs::Rights::first_reads))]
     fn first(&mut self, room: u32) -> Result<First, ParseFault>
         ensures { IsRead first_tree result self.new.rest.now (read room first_read (terminals_of self.old.rest.now)) }
@@ -477,7 +477,7 @@ impl<'a> Parser<'a> {
         Ok((index, value))
     }
 
-    /// Behind the name that a statement begins with.
+    /// What stands behind the name that a statement begins with.
     #[tactic(auto, using(crate::proofs::Rights::behind_reads))]
     fn behind(&mut self, room: u32) -> Result<Behind, ParseFault>
         ensures { IsRead behind_tree result self.new.rest.now (read room behind_read (terminals_of self.old.rest.now)) }

@@ -1,12 +1,12 @@
 -- The tree of a statement that holds blocks or handlers is that of its parts: rows of the declared types are lists.
-use Rattle.std.proofs.Common.{◌≡◌, ℕ, List, [], ◌∷◌, map, Option, None, Some, refl, sym, ◌∙◌, ap, Vec, Global}
+use Rattle.std.proofs.Common.{◌≡◌, ℕ, List, map, Option, None, Some, refl, sym, ◌∙◌, ap, Vec, Global}
 use Rattle.syntax.specs.declared.tree.Statement as declared_statement
 use Rattle.syntax.specs.declared.tree.Statement.{Statement, Row_of-Statement, end_of-Statement, more_of-Statement, Row_of-Catch, end_of-Catch, more_of-Catch, items-the_row-Statement, items_hidden-the_row-Statement-0, items_shown-the_row-Statement-0, items-the_row-Catch, items_hidden-the_row-Catch-1}
 use Rattle.syntax.specs.declared.tree.Statement.TheBlock.{hidden-the_row-Statement-0, hidden-the_row-Catch-1}
 use Rattle.syntax.specs.declared.tree.Expression.{Expression}
 use Rattle.syntax.specs.declared.tree.Block.{Block}
 use Rattle.syntax.specs.declared.tree.Catch.{Catch}
-use Rattle.syntax.specs.Tree.{StatementTree, StatementTrees, CatchTrees, BlockTree, BlockOf, StatementThen, CatchThen, WhileTree, TryTree, NestedTree, NameTree, IfElseTree, IfTree, if_tree, name_tree, expression_tree, statements_of, catches_of, statement_tree, row_trees, catch_trees, block_tree, optional_block_tree, catch_tree}
+use Rattle.syntax.specs.Tree.{CatchTrees, BlockTree, BlockOf, StatementThen, CatchThen, WhileTree, TryTree, NestedTree, NameTree, IfTree, if_tree, expression_tree, statements_of, catches_of, statement_tree, row_trees, catch_trees, block_tree, optional_block_tree, catch_tree}
 
 row_is : (n : _) (row : Row_of-Statement n) → row_trees row ≡ statements_of (map statement_tree (items-the_row-Statement n row))
 row_is n end_of-Statement = refl
