@@ -1,13 +1,11 @@
 -- What the lexer and the parser tell of a source, as why it is refused.
-use Rattle.std.proofs.Common.{◌≤◌, ◌+◌, ◌-◌, length, ◌≡◌, ℕ, ◌++◌, ◌∷◌, List, [], ◌⊎◌, ⊎_elim, subst, refl, ap, ◌∙◌, arith}
-use Rattle.std.proofs.Math.ListN.{drop}
-use Rattle.std.proofs.lemmas.List.{length-take, length-drop}
+use Rattle.std.proofs.Common.{◌≤◌, length, ◌≡◌, ℕ, ◌++◌, ◌∷◌, List, [], ◌⊎◌, ⊎_elim, subst, refl, ap, ◌∙◌}
 use Rattle.std.specs.List.{All}
 use Rattle.std.proofs.lemmas.List.Elements.{All-head, All-tail, All-weaker}
 use Rattle.std.specs.Str.{IsCharBoundary, IsUtf8}
 use Rattle.lexer.specs.Cut.{IsRefused}
 use Rattle.lexer.proofs.Listed.{listed}
-use Rattle.lexer.specs.Listing.{IsAtCharacter, IsSliceOf, IsSpelled}
+use Rattle.lexer.specs.Listing.{IsAtCharacter, IsSliceOf}
 use Rattle.lexer.specs.Terminal.{Terminal}
 use Rattle.lexer.specs.declared.fault.LexFault.{LexFault}
 use Rattle.lexer.specs.declared.fault.LexFault.TheVariants as lexical
@@ -16,11 +14,10 @@ use Rattle.parser.specs.declared.fault.ParseFault.{ParseFault}
 use Rattle.parser.specs.declared.fault.ParseFault.TheVariants as faults
 use Rattle.std.specs.Prelude.{Result, Err, Some}
 use Rattle.syntax.specs.declared.tree.Item.{Item}
-use Rattle.syntax.specs.Limits.{longest_name, most_nodes}
+use Rattle.syntax.specs.Limits.{longest_name}
 use Rattle.syntax.specs.Tree.{ProgramTree as WholeTree}
 use Rattle.syntax.specs.Written.{IsWritten as IsWholeWritten}
-use Rattle.parser.specs.OfText.{IsOfText}
-use Rattle.parser.proofs.Spelled.{spelled_written}
+use Rattle.parser.proofs.Spelled.{spelled_written, slice_short}
 use Rattle.straight_line.specs.Covered.{first_uncovered, straight_of}
 use Rattle.straight_line.specs.Tree.{ProgramTree}
 use Rattle.straight_line.specs.Written.{IsWritten}
@@ -56,31 +53,13 @@ no_tree answer faults.NoMemory tree e other told = other refl
 no_tree answer (faults.Unexpected at) tree e other told = subst (λ a. IsTreeOrNoMemory a tree) e told
 no_tree answer (faults.TooDeep at) tree e other told = subst (λ a. IsTreeOrNoMemory a tree) e told
 
--- the tokens of a short source are those of a text
-slice_short : (source : List ℕ) (longest : ℕ) → length source ≤ longest → (token : Terminal) → IsSliceOf source token → length token.text ≤ longest
-slice_short source longest few token slice =
-    omega (arith, few, ap length slice, length-take (token.end - token.start) (drop token.start source), length-drop token.start source)
-
-all_short : (source : List ℕ) (longest : ℕ) (tokens : List Terminal) → length source ≤ longest → All (IsSliceOf source) tokens →
-    All (λ token. length token.text ≤ longest) tokens
-all_short source longest tokens short slices =
-    All-weaker (IsSliceOf source) (λ token. length token.text ≤ longest) (slice_short source longest short) tokens slices
-
-pub of_text : (source : List ℕ) (tokens : List Terminal) → length source ≤ greatest_source → All IsSpelled tokens → All (IsSliceOf source) tokens →
-    length tokens ≤ length source + 1 → IsOfText tokens
-of_text source tokens short spelled slices count = record {
-  spelled = spelled;
-  short = all_short source longest_name tokens short slices;
-  few = omega (arith, short, count);
-}
-
 -- the tree of a source of at most so many bytes is written so, with places that are characters' places
 whole_written : (fits : ℕ → Type 0) (source : List ℕ) (longest : ℕ) (tree : WholeTree) → IsUtf8 source → length source ≤ longest →
     ((at : ℕ) → IsCharBoundary source at → fits at) → IsTreeOf source tree → IsWholeWritten fits longest tree
 whole_written fits source longest tree ok short there spelled =
     let each = listed source spelled.tokens ok spelled.cut in
     spelled_written fits longest spelled.tokens tree spelled.spelled each.spelled
-    (all_short source longest spelled.tokens short each.slices)
+    (All-weaker (IsSliceOf source) (λ token. length token.text ≤ longest) (slice_short source longest short) spelled.tokens each.slices)
     (All-weaker (IsAtCharacter source) (λ token. fits token.start) (λ token. there token.start) spelled.tokens each.at_characters)
 
 -- and so is the straight-line program that it is

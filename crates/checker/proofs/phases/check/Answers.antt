@@ -1,4 +1,4 @@
-use Rattle.std.proofs.Common.{◌≡◌, refl, sym, ap, ◌∙◌, subst, inr, arith, Some, None, IsTrue}
+use Rattle.std.proofs.Common.{◌≡◌, refl, sym, ap, ◌∙◌, subst, inr, Some, None, IsTrue}
 use Rattle.straight_line.specs.Tree.{program_tree}
 use Rattle.resolved.specs.CoreOf.{program_of}
 use Rattle.resolved.specs.EndFaults.{end_faults}

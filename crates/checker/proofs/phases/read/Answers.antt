@@ -1,4 +1,4 @@
-use Rattle.std.proofs.Common.{◌≡◌, Some, None, sym, ◌∙◌, ap, inr, refl}
+use Rattle.std.proofs.Common.{◌≡◌, Some, None, sym, ◌∙◌, ap, inr}
 use Rattle.std.specs.Prelude.{Err}
 use Rattle.syntax.specs.Tree.{program_tree as whole_tree}
 use Rattle.straight_line.specs.Covered.{first_uncovered}

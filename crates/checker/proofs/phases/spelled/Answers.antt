@@ -6,7 +6,8 @@ use Rattle.lexer.specs.declared.fault.LexFault.TheVariants as lexical
 use Rattle.parser.specs.declared.fault.ParseFault.TheVariants as faults
 use Rattle.syntax.specs.Grammar.{Spells}
 use Rattle.std.proofs.lemmas.Str.{IsCharBoundary-start}
-use Rattle.checker.proofs.Reading.{of_text, refusal_of, unexpected_boundary, deep_boundary, no_tree}
+use Rattle.parser.proofs.Spelled.{cut_of_text}
+use Rattle.checker.proofs.Reading.{refusal_of, unexpected_boundary, deep_boundary, no_tree}
 use Rattle.checker.proofs.phases.spelled.Goals as goal
 
 pub refused-requires : goal.refused-requires
@@ -51,7 +52,7 @@ returns-in-Err-UnclosedComment-clause-not_accepted c =
 pub parse-requires-clause-of_text : goal.parse-requires-clause-of_text
 parse-requires-clause-of_text c =
     rw c.as_slice.ensures.value
-    (of_text c.args.source.now (terminals_of c.in-Ok.tokens.items) (omega (arith, c.if-source-gt-GREATEST_SOURCE.false)) c.in-Ok.ensures.spelled c.in-Ok.ensures.slices c.in-Ok.ensures.count)
+    (cut_of_text c.args.source.now (terminals_of c.in-Ok.tokens.items) c.utf8.source c.in-Ok.ensures.cut (omega (arith, c.if-source-gt-GREATEST_SOURCE.false)))
 
 pub refused-requires-in-Err-Unexpected : goal.refused-requires-in-Err-Unexpected
 refused-requires-in-Err-Unexpected c =
