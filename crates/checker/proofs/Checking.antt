@@ -6,8 +6,8 @@ use Rattle.std.proofs.lemmas.Str.{IsCharBoundary-start}
 use Rattle.principals.specs.ActsFor.{PrincipalHierarchy}
 use Rattle.labels.specs.Constraints.{holds, is_written, label_lattice}
 use Rattle.labels.proofs.Constraints.{found-in}
-use Rattle.syntax.specs.Tree.{ProgramTree}
-use Rattle.syntax.specs.Written.{IsWritten}
+use Rattle.straight_line.specs.Tree.{ProgramTree}
+use Rattle.straight_line.specs.Written.{IsWritten}
 use Rattle.resolved.specs.Program.{Program}
 use Rattle.resolved.specs.EndFaults.{EndFault, end_faults}
 use Rattle.resolved.specs.Labelled.{Labelled, program_demands}
@@ -20,7 +20,7 @@ use Rattle.types.specs.declared.fault.TypeFault.{TypeFault}
 use Rattle.types.specs.declared.fault.TypeFault.TheVariants as type_faults
 use Rattle.types.proofs.Places.{fault_place_fits, places}
 use Rattle.types.proofs.Straight.{straight_line}
-use Rattle.checker.specs.Accepted.{greatest_source, IsTreeOf, IsAccepted}
+use Rattle.checker.specs.Accepted.{greatest_source, IsStraightLineOf, IsAccepted}
 use Rattle.checker.specs.FirstDemand.{ReportsUnmet}
 use Rattle.checker.specs.FirstFault.{first_of}
 use Rattle.checker.specs.declared.refusal.UnmetDemand.{UnmetDemand}
@@ -33,14 +33,14 @@ pub record OfTree (h : PrincipalHierarchy) (tree : ProgramTree) : Type 0 where
   pub ended : end_faults (resolved_of h tree) ≡ []
   pub labelled : Labelled (resolved_of h tree)
 
-pub of_tree : (h : PrincipalHierarchy) (source : List ℕ) (tree : ProgramTree) → ((other : ProgramTree) → IsTreeOf source other → tree ≡ other) →
+pub of_tree : (h : PrincipalHierarchy) (source : List ℕ) (tree : ProgramTree) → ((other : ProgramTree) → IsStraightLineOf source other → tree ≡ other) →
     IsAccepted h source → OfTree h tree
 of_tree h source tree only accepted =
     subst (OfTree h) (sym (only accepted.tree accepted.spelled)) (record { named = accepted.named; ended = accepted.ended; labelled = accepted.labelled })
 
 module _ (h : PrincipalHierarchy) (source : List ℕ) (tree : ProgramTree) (ok : IsUtf8 source) (short : length source ≤ greatest_source)
-    (spelled : IsTreeOf source tree) where
-  pub written_anywhere : IsWritten (λ _. Unit {0}) 1048576 tree
+    (spelled : IsStraightLineOf source tree) where
+  written_anywhere : IsWritten (λ _. Unit {0}) 1048576 tree
   written_anywhere = tree_written (λ _. Unit {0}) source 1048576 tree ok short (λ at there. tt) spelled
 
   written_here : IsWritten (λ at. IsTrue (is_boundary source at)) 1048576 tree

@@ -9,15 +9,17 @@ use Rattle.lexer.specs.declared.token.Place.{Place}
 use Rattle.lexer.specs.declared.fault.LexFault.TheVariants as lexical
 use Rattle.parser.specs.Refusal.{IsUnexpectedAt, IsTooDeepAt}
 use Rattle.principals.specs.ActsFor.{PrincipalHierarchy}
-use Rattle.syntax.specs.Tree.{ProgramTree}
+use Rattle.straight_line.specs.Covered.{first_uncovered}
+use Rattle.straight_line.specs.Tree.{ProgramTree}
+use Rattle.syntax.specs.Tree.{ProgramTree as WholeTree}
 use Rattle.resolved.specs.EndFaults.{end_faults}
 use Rattle.types.specs.FirstFault.{first_fault}
 use Rattle.types.specs.Resolution.{resolved_of}
-use Rattle.checker.specs.Accepted.{greatest_source, IsTreeOf}
+use Rattle.checker.specs.Accepted.{greatest_source, IsTreeOf, IsStraightLineOf}
 use Rattle.checker.specs.FirstDemand.{ReportsUnmet}
 use Rattle.checker.specs.FirstFault.{first_of, fault_of}
 use Rattle.checker.specs.declared.fault.Cause.{Cause}
-use Rattle.checker.specs.declared.fault.Cause.TheVariants.{TextTooLong, NoToken, LiteralTooLarge, OpenComment, UnexpectedToken, TooDeep, Names, Ends, FlowNotAllowed}
+use Rattle.checker.specs.declared.fault.Cause.TheVariants.{TextTooLong, NoToken, LiteralTooLarge, OpenComment, UnexpectedToken, TooDeep, NotInStage, Names, Ends, FlowNotAllowed}
 use Rattle.checker.specs.declared.fault.Fault.{Fault}
 use Rattle.checker.specs.declared.fault.Fault.TheVariants.{NoMemory, Refused}
 
@@ -33,13 +35,14 @@ IsWrongAt h source LiteralTooLarge at = IsRefused source (lexical.LiteralTooLarg
 IsWrongAt h source OpenComment at = IsRefused source (lexical.UnclosedComment at)
 IsWrongAt h source UnexpectedToken at = TokensRefused source IsUnexpectedAt at
 IsWrongAt h source TooDeep at = TokensRefused source IsTooDeepAt at
+IsWrongAt h source NotInStage at = (tree : WholeTree) × IsTreeOf source tree × (first_uncovered tree ≡ Some at)
 IsWrongAt h source (Names refusal) at =
-    (tree : ProgramTree) × IsTreeOf source tree × (first_fault h tree ≡ Some (record { refusal = refusal; at = at }))
+    (tree : ProgramTree) × IsStraightLineOf source tree × (first_fault h tree ≡ Some (record { refusal = refusal; at = at }))
 IsWrongAt h source (Ends defect) at =
-    (tree : ProgramTree) × IsTreeOf source tree × (first_fault h tree ≡ None)
+    (tree : ProgramTree) × IsStraightLineOf source tree × (first_fault h tree ≡ None)
     × (first_of (end_faults (resolved_of h tree)) ≡ Some (fault_of (record { defect = defect; at = at })))
 IsWrongAt h source (FlowNotAllowed unmet) at =
-    (tree : ProgramTree) × IsTreeOf source tree × (first_fault h tree ≡ None) × (end_faults (resolved_of h tree) ≡ [])
+    (tree : ProgramTree) × IsStraightLineOf source tree × (first_fault h tree ≡ None) × (end_faults (resolved_of h tree) ≡ [])
     × ReportsUnmet (resolved_of h tree) unmet × (unmet.at ≡ at)
 
 -- why the source is refused, and the byte at which that stands: a text that is too long is refused at its begin

@@ -27,6 +27,9 @@ pub enum Cause {
     /// More than 64 levels are open.
     #[error("nested too deep")]
     TooDeep,
+    /// An item or a statement that is not covered yet.
+    #[error("not in this stage")]
+    NotInStage,
     /// A fault of names or sizes.
     #[error("{0}")]
     Names(types::Refusal),

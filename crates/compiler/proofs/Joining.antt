@@ -12,7 +12,7 @@ use Rattle.resolved.specs.Isolated.{Isolated}
 use Rattle.resolved.specs.Program.{Program}
 use Rattle.resolved.specs.StraightLine.{is_straight_line}
 use Rattle.resolved.specs.WellFormed.{well_formed}
-use Rattle.syntax.specs.Tree.{ProgramTree}
+use Rattle.straight_line.specs.Tree.{ProgramTree}
 use Rattle.types.specs.Resolution.{resolved_of}
 use Rattle.types.proofs.Channels.{channels_named, channel_labels_canonical}
 use Rattle.types.proofs.Meaning.{names_differ}
@@ -67,7 +67,7 @@ straight_of core source h accepted resolved =
 
 -- two texts stand for the program of the one tree of the second
 pub stands_for : (hierarchy source text : List ℕ) (h : PrincipalHierarchy) (program : Program) → text ≡ source → IsTrue (is_utf8 hierarchy) →
-    IsHierarchyOf hierarchy h → checker.IsAccepted h text → ((tree : ProgramTree) → checker.IsTreeOf text tree → program ≡ resolved_of h tree) →
+    IsHierarchyOf hierarchy h → checker.IsAccepted h text → ((tree : ProgramTree) → checker.IsStraightLineOf text tree → program ≡ resolved_of h tree) →
     StandsFor hierarchy source program
 stands_for hierarchy source text h program same characters said accepted only =
     subst (λ (s : List ℕ). StandsFor hierarchy s program) same
@@ -103,6 +103,7 @@ source_refused h source checks.LiteralTooLarge at ok told = (ok, checks.LiteralT
 source_refused h source checks.OpenComment at ok told = (ok, checks.OpenComment, refl, told)
 source_refused h source checks.UnexpectedToken at ok told = (ok, checks.UnexpectedToken, refl, told)
 source_refused h source checks.TooDeep at ok told = (ok, checks.TooDeep, refl, told)
+source_refused h source checks.NotInStage at ok told = (ok, checks.NotInStage, refl, told)
 source_refused h source (checks.Names names.UnknownName) at ok told = (ok, checks.Names names.UnknownName, refl, told)
 source_refused h source (checks.Names names.DeclaredTwice) at ok told = (ok, checks.Names names.DeclaredTwice, refl, told)
 source_refused h source (checks.Names names.UnknownPrincipal) at ok told = (ok, checks.Names names.UnknownPrincipal, refl, told)
@@ -130,6 +131,7 @@ hierarchy_no_text bytes cause.Syntax at wrong = absurd wrong
 hierarchy_no_text bytes cause.PrincipalTwice at wrong = absurd wrong
 hierarchy_no_text bytes cause.UnknownPrincipal at wrong = absurd wrong
 hierarchy_no_text bytes cause.TooManyPrincipals at wrong = absurd wrong
+hierarchy_no_text bytes cause.NotInStage at wrong = wrong
 hierarchy_no_text bytes cause.UnexpectedToken at wrong = wrong
 hierarchy_no_text bytes cause.TooDeep at wrong = wrong
 hierarchy_no_text bytes cause.UnknownName at wrong = wrong
@@ -155,6 +157,7 @@ source_no_text h bytes cause.Syntax at wrong = absurd wrong
 source_no_text h bytes cause.PrincipalTwice at wrong = absurd wrong
 source_no_text h bytes cause.UnknownPrincipal at wrong = absurd wrong
 source_no_text h bytes cause.TooManyPrincipals at wrong = absurd wrong
+source_no_text h bytes cause.NotInStage at wrong = absurd wrong
 source_no_text h bytes cause.UnexpectedToken at wrong = absurd wrong
 source_no_text h bytes cause.TooDeep at wrong = absurd wrong
 source_no_text h bytes cause.UnknownName at wrong = absurd wrong

@@ -64,6 +64,7 @@ cause_of checks.LiteralTooLarge = cause.LiteralTooLarge
 cause_of checks.OpenComment = cause.OpenComment
 cause_of checks.UnexpectedToken = cause.UnexpectedToken
 cause_of checks.TooDeep = cause.TooDeep
+cause_of checks.NotInStage = cause.NotInStage
 cause_of (checks.Names names.UnknownName) = cause.UnknownName
 cause_of (checks.Names names.DeclaredTwice) = cause.DeclaredTwice
 cause_of (checks.Names names.UnknownPrincipal) = cause.UnknownPrincipalInLabel

@@ -1,7 +1,7 @@
 //! The compiler: from a hierarchy text and a source to the bytes of a module.
 
 ghost use Rattle.checker.specs.Accepted as checker;
-ghost use Rattle.checker.specs.Accepted.{IsTreeOf};
+ghost use Rattle.checker.specs.Accepted.{IsStraightLineOf};
 ghost use Rattle.compiler.specs.Built.{IsAccepted, IsCompiled, IsHierarchyRefused, IsNoText, IsRefusal, StandsFor, TellsFault, cause_of};
 ghost use Rattle.compiler.specs.Compiled.{IsCodeOf};
 ghost use Rattle.compiler.specs.declared.fault.Fault.TheVariants.{NoMemory};
@@ -13,7 +13,7 @@ ghost use Rattle.resolved.specs.StraightLine.{is_straight_line};
 ghost use Rattle.lowering.specs.Names.{HasNames};
 ghost use Rattle.std.specs.Prelude.{IfErr, IfOk, IsTrue, List, OnOk, length, ℕ, ◌≡◌, ◌≤◌, ◌⊎◌};
 ghost use Rattle.std.specs.Str.{is_utf8, IsCharBoundary};
-ghost use Rattle.syntax.specs.Tree.{ProgramTree};
+ghost use Rattle.straight_line.specs.Tree.{ProgramTree};
 ghost use Rattle.types.specs.Resolution.{resolved_of};
 
 use crate::fault::{Cause, Fault, Text};
@@ -34,7 +34,7 @@ const BEGIN: Place = Place { line: 1, column: 1 };
 /// Compiles a source under a hierarchy text to the bytes of a module.
 ///
 /// Of each text its length is tested first, then that it is UTF-8. The hierarchy text is read first; the source is then checked
-/// phase by phase: tokens, form, names and sizes, ends of procedures, labels.
+/// phase by phase: tokens, form, whether all of it is covered, names and sizes, ends of procedures, labels.
 ///
 /// # Errors
 ///
@@ -87,7 +87,7 @@ fn people(alloc: Global, bytes: &[u8]) -> Result<Hierarchy, Fault>
 // The accepted program of a source.
 fn checked(alloc: Global, people: &Hierarchy, bytes: &[u8]) -> Result<Checked, Fault>
     ensures accepted { OnOk result (checker.IsAccepted people.now bytes.now) }
-    ensures program { IfOk result (λ checked. (tree : ProgramTree) → IsTreeOf bytes.now tree → program_of checked.core ≡ resolved_of people.now tree) }
+    ensures program { IfOk result (λ checked. (tree : ProgramTree) → IsStraightLineOf bytes.now tree → program_of checked.core ≡ resolved_of people.now tree) }
     ensures stands { IfOk result (λ checked. (hierarchy : List ℕ) → IsTrue (is_utf8 hierarchy) → IsHierarchyOf hierarchy people.now → StandsFor hierarchy bytes.now (program_of checked.core)) }
     ensures isolated { IfOk result (λ checked. Isolated (program_of checked.core)) }
     ensures told { IfErr result (λ fault. (hierarchy : List ℕ) → IsTrue (is_utf8 hierarchy) → IsHierarchyOf hierarchy people.now → TellsFault hierarchy bytes.now fault) }
@@ -191,6 +191,7 @@ fn source_cause(cause: &Refused) -> Cause
         Refused::OpenComment => Cause::OpenComment,
         Refused::UnexpectedToken => Cause::UnexpectedToken,
         Refused::TooDeep => Cause::TooDeep,
+        Refused::NotInStage => Cause::NotInStage,
         Refused::Names(refusal) => names_cause(*refusal),
         Refused::Ends(defect) => ends_cause(*defect),
         Refused::FlowNotAllowed(_) => Cause::FlowNotAllowed,

@@ -35,6 +35,8 @@ pub enum Cause {
     UnknownPrincipal,
     /// 154: the 257th principal.
     TooManyPrincipals,
+    /// 199: an item or a statement that is not covered yet.
+    NotInStage,
     /// 201: no program goes on so.
     UnexpectedToken,
     /// 202: more than 64 levels are open.
@@ -81,6 +83,7 @@ impl Cause {
             Cause::PrincipalTwice => 152,
             Cause::UnknownPrincipal => 153,
             Cause::TooManyPrincipals => 154,
+            Cause::NotInStage => 199,
             Cause::UnexpectedToken => 201,
             Cause::TooDeep => 202,
             Cause::UnknownName => 301,
@@ -112,6 +115,7 @@ impl Cause {
             Cause::PrincipalTwice => "declared twice",
             Cause::UnknownPrincipal => "unknown principal",
             Cause::TooManyPrincipals => "too many principals",
+            Cause::NotInStage => "not in this stage",
             Cause::UnexpectedToken => "unexpected token",
             Cause::TooDeep => "nested too deep",
             Cause::UnknownName => "unknown name",

@@ -1,44 +1,72 @@
--- What the parser gives, from what reading a program gives.
-use Rattle.std.proofs.Common.{◌≡◌, ℕ, ◌≤◌, List, length, Result, Ok, Err, IfOk, sym, subst, arith}
+-- What the parser answers, from what reading a program gives.
+use Rattle.std.proofs.Common.{◌≡◌, ◌⊎◌, ℕ, ◌≤◌, List, length, Result, Ok, Err, refl, sym, subst, inl, inr, arith}
 use Rattle.std.proofs.lemmas.List.{length-map}
 use Rattle.lexer.specs.declared.token.Token.{Token}
 use Rattle.lexer.specs.Terminal.{IsTerminated, terminal_of, terminals_of}
 use Rattle.parser.specs.declared.fault.ParseFault.{ParseFault}
 use Rattle.parser.specs.declared.fault.ParseFault.TheVariants as faults
-use Rattle.parser.specs.Readers.{Gives, program_at}
-use Rattle.parser.specs.Refusal.{IsUnexpectedAt, IsTooDeepAt, IsTreeOrNoMemory}
-use Rattle.syntax.specs.declared.tree.Program.{Program}
-use Rattle.syntax.specs.Grammar.{Spells}
+use Rattle.parser.specs.OfText.{IsOfText}
+use Rattle.parser.specs.Reading.{IsRead, read}
+use Rattle.parser.specs.Refusal.{IsUnexpectedAt, IsTooDeepAt, IsTreeOrNoMemory, IsRefused}
+use Rattle.syntax.specs.declared.tree.Item.{Item}
+use Rattle.syntax.specs.Grammar.{Spells, program}
+use Rattle.syntax.specs.Limits.{IsProgram}
 use Rattle.syntax.specs.Nodes.{program_nodes}
 use Rattle.syntax.specs.Tree.{ProgramTree, program_tree}
-use Rattle.parser.proofs.Prices.{program_costs}
 use Rattle.parser.proofs.Programs.{Verdict, verdict}
+use Rattle.parser.proofs.Refusals.{one_refusal, spelled_not_refused}
+use Rattle.parser.proofs.Spelled.{few_nodes, spelled_program}
 
+-- what is said of the items, and of the fault, by what reading gives
 module _ (tokens : List Token) (terminated : IsTerminated (terminals_of tokens)) where
-  pub is_spelled : (result : Result Program ParseFault) (left : List Token) → Gives program_tree result left (program_at (terminals_of tokens)) → IfOk result (λ program. Spells (terminals_of tokens) (program_tree program))
-  is_spelled (Ok program) left e = (subst (Verdict (terminals_of tokens)) e (verdict (terminals_of tokens) terminated)).0
-  is_spelled (Err fault) left e = tt
+  abbrev WasRead : Result (List Item) ParseFault → List Token → Type 0
+  WasRead result left = IsRead program_tree result left (read 64 program (terminals_of tokens))
 
-  pub is_only : (result : Result Program ParseFault) (left : List Token) → Gives program_tree result left (program_at (terminals_of tokens)) → (tree : ProgramTree) → Spells (terminals_of tokens) tree → IsTreeOrNoMemory result tree
-  is_only (Ok program) left e tree spelled =
+  pub items_spelled : (items : List Item) (left : List Token) → WasRead (Ok items) left → Spells (terminals_of tokens) (program_tree items)
+  items_spelled items left e = (subst (Verdict (terminals_of tokens)) e (verdict (terminals_of tokens) terminated)).0
+
+  pub items_only : (items : List Item) (left : List Token) → WasRead (Ok items) left → (tree : ProgramTree) → Spells (terminals_of tokens) tree → program_tree items ≡ tree
+  items_only items left e tree spelled =
       sym ((subst (Verdict (terminals_of tokens)) e (verdict (terminals_of tokens) terminated)).2 0 tree spelled)
-  is_only (Err faults.NoMemory) left e tree spelled = tt
-  is_only (Err (faults.Unexpected at)) left e tree spelled =
+
+  pub items_bounded : (items : List Item) (left : List Token) → IsOfText (terminals_of tokens) → WasRead (Ok items) left → program_nodes (program_tree items) ≤ length tokens
+  items_bounded items left text e =
+      omega (arith, few_nodes (terminals_of tokens) (program_tree items) (items_spelled items left e) text.spelled, length-map tokens terminal_of)
+
+  pub items_program : (items : List Item) (left : List Token) → IsOfText (terminals_of tokens) → WasRead (Ok items) left → IsProgram (program_tree items)
+  items_program items left text e =
+      spelled_program (terminals_of tokens) (program_tree items) text (items_spelled items left e)
+
+  pub items_not_refused : (items : List Item) (left : List Token) → WasRead (Ok items) left → (fault : ParseFault) → IsRefused (terminals_of tokens) fault → ⊥
+  items_not_refused items left e fault refused =
+      spelled_not_refused (terminals_of tokens) (program_tree items) fault (items_spelled items left e) refused
+
+  pub fault_only : (fault : ParseFault) (left : List Token) → WasRead (Err fault) left → (tree : ProgramTree) → Spells (terminals_of tokens) tree → IsTreeOrNoMemory (Err fault) tree
+  fault_only faults.NoMemory left e tree spelled = tt
+  fault_only (faults.Unexpected at) left e tree spelled =
       (subst (Verdict (terminals_of tokens)) e (verdict (terminals_of tokens) terminated)).1 tree spelled
-  is_only (Err (faults.TooDeep at)) left e tree spelled =
+  fault_only (faults.TooDeep at) left e tree spelled =
       (subst (Verdict (terminals_of tokens)) e (verdict (terminals_of tokens) terminated)).1 tree spelled
 
-  pub is_unexpected : (result : Result Program ParseFault) (left : List Token) → Gives program_tree result left (program_at (terminals_of tokens)) → (at : ℕ) → result ≡ Err (faults.Unexpected at) → IsUnexpectedAt (terminals_of tokens) at
-  is_unexpected result left e at which =
-      let found = subst (λ one. Gives program_tree one left (program_at (terminals_of tokens))) which e in
+  pub fault_refused : (fault : ParseFault) (left : List Token) → WasRead (Err fault) left → (fault ≡ faults.NoMemory) ⊎ IsRefused (terminals_of tokens) fault
+  fault_refused faults.NoMemory left e = inl refl
+  fault_refused (faults.Unexpected at) left e =
+      inr (subst (Verdict (terminals_of tokens)) e (verdict (terminals_of tokens) terminated)).0
+  fault_refused (faults.TooDeep at) left e =
+      inr (subst (Verdict (terminals_of tokens)) e (verdict (terminals_of tokens) terminated)).0
+
+  pub fault_first : (fault : ParseFault) (left : List Token) → WasRead (Err fault) left → (other : ParseFault) → IsRefused (terminals_of tokens) other → (fault ≡ other) ⊎ (fault ≡ faults.NoMemory)
+  fault_first fault left e other refused = elim (fault_refused fault left e) [
+    | inl none ↦ inr none
+    | inr here ↦ inl (one_refusal (terminals_of tokens) fault other here refused)
+  ]
+
+  pub fault_unexpected : (fault : ParseFault) (left : List Token) → WasRead (Err fault) left → (at : ℕ) → ◌≡◌ {A = Result (List Item) ParseFault} (Err fault) (Err (faults.Unexpected at)) → IsUnexpectedAt (terminals_of tokens) at
+  fault_unexpected fault left e at which =
+      let found = subst (λ one. WasRead one left) which e in
       (subst (Verdict (terminals_of tokens)) found (verdict (terminals_of tokens) terminated)).0
 
-  pub is_too_deep : (result : Result Program ParseFault) (left : List Token) → Gives program_tree result left (program_at (terminals_of tokens)) → (at : ℕ) → result ≡ Err (faults.TooDeep at) → IsTooDeepAt (terminals_of tokens) at
-  is_too_deep result left e at which =
-      let found = subst (λ one. Gives program_tree one left (program_at (terminals_of tokens))) which e in
+  pub fault_too_deep : (fault : ParseFault) (left : List Token) → WasRead (Err fault) left → (at : ℕ) → ◌≡◌ {A = Result (List Item) ParseFault} (Err fault) (Err (faults.TooDeep at)) → IsTooDeepAt (terminals_of tokens) at
+  fault_too_deep fault left e at which =
+      let found = subst (λ one. WasRead one left) which e in
       (subst (Verdict (terminals_of tokens)) found (verdict (terminals_of tokens) terminated)).0
-
-pub is_bounded : (tokens : List Token) (result : Result Program ParseFault) (left : List Token) → Gives program_tree result left (program_at (terminals_of tokens)) → IfOk result (λ program. program_nodes (program_tree program) ≤ length tokens)
-is_bounded tokens (Ok program) left e =
-    omega (arith, program_costs.at (terminals_of tokens) (program_tree program) (terminals_of left) e, length-map tokens terminal_of)
-is_bounded tokens (Err fault) left e = tt

@@ -1,7 +1,9 @@
 pub use Rattle.lexer.specs.Terminal
 pub use Rattle.syntax.specs.Grammar
-pub use Rattle.syntax.specs.Laws
-pub use Rattle.syntax.specs.Nodes
+pub use Rattle.syntax.specs.Form
+pub use Rattle.syntax.specs.Symbol
 pub use Rattle.syntax.specs.Tree
-pub mod Readers
+pub mod Laws
+pub mod OfText
+pub mod Reading
 pub mod Refusal

@@ -4,9 +4,10 @@
 mod cursor;
 mod expression;
 pub mod fault;
+mod item;
 mod label;
 pub mod program;
 mod statement;
 
 pub use fault::ParseFault;
-pub use program::{MAX_LEVELS, parse, spelling_laws};
+pub use program::{MAX_LEVELS, one_reading, parse, spelling_laws};

@@ -1,61 +1,70 @@
+ghost use Rattle.std.specs.Prelude.{◌≡◌, ℕ, map};
 ghost use Rattle.lexer.specs.Terminal.{terminals_of};
-ghost use Rattle.syntax.specs.Tree.{right_tree, statement_tree, block_tree};
-ghost use Rattle.parser.specs.Readers.{Gives, statement_trees, right_at, declare_at, assign_at, receive_at, send_at, statement_at, statements_at, block_at};
+ghost use Rattle.lexer.specs.declared.token.Kind.TheVariants.{Comma, Else, Assign, OpenParenthesis};
+ghost use Rattle.syntax.specs.Form.{many, ◌·◌, ◌gives◌};
+ghost use Rattle.syntax.specs.Grammar.{expression, expressions, arguments, integer, condition, size, receive, send, conditional, while_statement, break_statement, continue_statement, throw_statement, return_statement, returned, attempt, nested, block, otherwise, catch, catches, index, separated, ◌▸◌, ◌◂◌};
+ghost use Rattle.syntax.specs.Tree.{name_tree, optional_label_tree, expression_tree, optional_expression_tree, right_tree, size_tree, statement_tree, block_tree, optional_block_tree, catch_tree, AtIndexTree};
+ghost use Rattle.parser.specs.Reading.{IsRead, read, maps, right_read, right_behind, is_at, first_read, first_tree, behind_read, behind_tree, declare_read, named_read, statement_read, begins_statement, begins_expression, kind_at};
 
 use crate::cursor::Parser;
 use crate::fault::ParseFault;
 use lexer::Kind;
-use syntax::{Block, RightSide, Statement};
+use syntax::{Block, Call, Catch, Expression, Name, RightSide, Size, Statement};
+
+/// What stands behind the name of a local.
+#[derive(Drop)]
+pub enum First {
+    Value(RightSide),
+    Array(Size),
+}
+
+/// What stands behind the name that a statement begins with.
+#[derive(Drop)]
+pub enum Behind {
+    Assigned(RightSide),
+    Element {
+        index: Expression,
+        value: Expression,
+    },
+    Arguments(Vec<Expression>),
+}
 
 impl<'a> Parser<'a> {
-    #[tactic(auto, unfolding(crate::specs::Readers::right_at, crate::specs::Readers::received_at, crate::specs::Readers::value_at))]
-    fn right(&mut self, room: u32) -> Result<RightSide, ParseFault>
-        ensures { Gives right_tree result self.new.rest.now (right_at room (terminals_of self.old.rest.now)) }
+    #[tactic(auto, unfolding(crate::specs::Reading::read))]
+    fn another_expression(&mut self, room: u32) -> Result<Expression, ParseFault>
+        ensures { IsRead expression_tree result self.new.rest.now (read room (Comma ▸ expression) (terminals_of self.old.rest.now)) }
     {
-        if self.is_at(Kind::Receive) {
-            let token = self.expect(Kind::Receive)?;
-            let channel = self.name()?;
-            return Ok(RightSide::Receive {
-                at: token.span.start,
-                channel,
-            });
+        self.expect(Kind::Comma)?;
+        self.expression(room)
+    }
+
+    /// One expression or more, with commas between them.
+    fn some_expressions(&mut self, room: u32) -> Result<Vec<Expression>, ParseFault>
+        ensures { IsRead (λ list. map expression_tree list.items) result self.new.rest.now (read room (separated Comma expression) (terminals_of self.old.rest.now)) }
+    {
+        let mut expressions = Vec::new(self.alloc);
+        let first = self.expression(room)?;
+        expressions.push(first)?;
+        while self.is_at(Kind::Comma) {
+            let expression = self.another_expression(room)?;
+            expressions.push(expression)?;
         }
-        let value = self.expression(room)?;
-        Ok(RightSide::Value(value))
+        Ok(expressions)
     }
 
-    #[tactic(auto, unfolding(crate::specs::Readers::declare_at))]
-    fn declare(&mut self, room: u32) -> Result<Statement, ParseFault>
-        ensures { Gives statement_tree result self.new.rest.now (declare_at room (terminals_of self.old.rest.now)) }
+    #[tactic(auto, unfolding(syntax::specs::Grammar::condition, crate::specs::Reading::read))]
+    fn condition(&mut self, room: u32) -> Result<Expression, ParseFault>
+        ensures { IsRead expression_tree result self.new.rest.now (read room condition (terminals_of self.old.rest.now)) }
     {
-        let token = self.expect(Kind::Int)?;
-        let label = self.label()?;
-        let name = self.name()?;
-        self.expect(Kind::Assign)?;
-        let value = self.right(room)?;
-        self.expect(Kind::Semicolon)?;
-        Ok(Statement::Declare {
-            at: token.span.start,
-            label,
-            name,
-            value,
-        })
+        self.expect(Kind::OpenParenthesis)?;
+        let condition = self.expression(room)?;
+        self.expect(Kind::CloseParenthesis)?;
+        Ok(condition)
     }
 
-    #[tactic(auto, unfolding(crate::specs::Readers::assign_at))]
-    fn assign(&mut self, room: u32) -> Result<Statement, ParseFault>
-        ensures { Gives statement_tree result self.new.rest.now (assign_at room (terminals_of self.old.rest.now)) }
-    {
-        let target = self.name()?;
-        self.expect(Kind::Assign)?;
-        let value = self.right(room)?;
-        self.expect(Kind::Semicolon)?;
-        Ok(Statement::Assign { target, value })
-    }
-
-    #[tactic(auto, unfolding(crate::specs::Readers::receive_at))]
+    #[tactic(auto, unfolding(syntax::specs::Grammar::receive, crate::specs::Reading::read))]
     fn receive(&mut self) -> Result<Statement, ParseFault>
-        ensures { Gives statement_tree result self.new.rest.now (receive_at (terminals_of self.old.rest.now)) }
+        ensures { (room : ℕ) → IsRead statement_tree result self.new.rest.now (read room receive (terminals_of self.old.rest.now)) }
     {
         let token = self.expect(Kind::Receive)?;
         let channel = self.name()?;
@@ -66,9 +75,9 @@ impl<'a> Parser<'a> {
         })
     }
 
-    #[tactic(auto, unfolding(crate::specs::Readers::send_at))]
+    #[tactic(auto, unfolding(syntax::specs::Grammar::send, crate::specs::Reading::read))]
     fn send(&mut self, room: u32) -> Result<Statement, ParseFault>
-        ensures { Gives statement_tree result self.new.rest.now (send_at room (terminals_of self.old.rest.now)) }
+        ensures { IsRead statement_tree result self.new.rest.now (read room send (terminals_of self.old.rest.now)) }
     {
         let token = self.expect(Kind::Send)?;
         let channel = self.name()?;
@@ -82,34 +91,105 @@ impl<'a> Parser<'a> {
         })
     }
 
-    #[tactic(auto, unfolding(crate::specs::Readers::statement_at))]
-    fn statement(&mut self, room: u32) -> Result<Statement, ParseFault>
-        ensures { Gives statement_tree result self.new.rest.now (statement_at room (terminals_of self.old.rest.now)) }
+    #[tactic(auto, unfolding(syntax::specs::Grammar::break_statement, crate::specs::Reading::read))]
+    fn break_loop(&mut self) -> Result<Statement, ParseFault>
+        ensures { (room : ℕ) → IsRead statement_tree result self.new.rest.now (read room break_statement (terminals_of self.old.rest.now)) }
     {
-        match self.kind() {
-            Kind::Int => self.declare(room),
-            Kind::Name => self.assign(room),
-            Kind::Receive => self.receive(),
-            Kind::Send => self.send(room),
-            _ => Err(self.unexpected()),
-        }
+        let token = self.expect(Kind::Break)?;
+        self.expect(Kind::Semicolon)?;
+        Ok(Statement::Break {
+            at: token.span.start,
+        })
     }
 
-    /// Statements up to the brace that closes them.
-    fn statements(&mut self, room: u32) -> Result<Vec<Statement>, ParseFault>
-        ensures { Gives statement_trees result self.new.rest.now (statements_at room (terminals_of self.old.rest.now)) }
+    #[tactic(auto, unfolding(syntax::specs::Grammar::throw_statement, crate::specs::Reading::read))]
+    fn throw(&mut self) -> Result<Statement, ParseFault>
+        ensures { (room : ℕ) → IsRead statement_tree result self.new.rest.now (read room throw_statement (terminals_of self.old.rest.now)) }
     {
-        let mut statements = Vec::new(self.alloc);
-        while !self.is_at(Kind::CloseBrace) {
-            let statement = self.statement(room)?;
-            statements.push(statement)?;
-        }
-        Ok(statements)
+        let token = self.expect(Kind::Throw)?;
+        let exception = self.name()?;
+        self.expect(Kind::Semicolon)?;
+        Ok(Statement::Throw {
+            at: token.span.start,
+            exception,
+        })
     }
 
-    #[tactic(auto, unfolding(crate::specs::Readers::block_at))]
+    #[tactic(auto, unfolding(syntax::specs::Grammar::continue_statement, crate::specs::Reading::read))]
+    fn continue_loop(&mut self) -> Result<Statement, ParseFault>
+        ensures { (room : ℕ) → IsRead statement_tree result self.new.rest.now (read room continue_statement (terminals_of self.old.rest.now)) }
+    {
+        let token = self.expect(Kind::Continue)?;
+        self.expect(Kind::Semicolon)?;
+        Ok(Statement::Continue {
+            at: token.span.start,
+        })
+    }
+
+    fn is_at_expression(&self) -> bool
+        ensures { result ≡ begins_expression (kind_at (terminals_of self.now.rest.now)) }
+    {
+        matches!(
+            self.kind(),
+            Kind::Minus
+                | Kind::Not
+                | Kind::Integer(_)
+                | Kind::True
+                | Kind::False
+                | Kind::Name
+                | Kind::OpenParenthesis
+        )
+    }
+
+    #[tactic(auto, using(crate::proofs::Blocks::returned_reads))]
+    fn returned(&mut self, room: u32) -> Result<Option<Expression>, ParseFault>
+        ensures { IsRead optional_expression_tree result self.new.rest.now (read room returned (terminals_of self.old.rest.now)) }
+    {
+        if self.is_at_expression() {
+            let value = self.expression(room)?;
+            return Ok(Some(value));
+        }
+        Ok(None)
+    }
+
+    #[tactic(auto, unfolding(syntax::specs::Grammar::return_statement, crate::specs::Reading::read))]
+    fn return_value(&mut self, room: u32) -> Result<Statement, ParseFault>
+        ensures { IsRead statement_tree result self.new.rest.now (read room return_statement (terminals_of self.old.rest.now)) }
+    {
+        let token = self.expect(Kind::Return)?;
+        let value = self.returned(room)?;
+        self.expect(Kind::Semicolon)?;
+        Ok(Statement::Return {
+            at: token.span.start,
+            value,
+        })
+    }
+
+    fn is_at_statement(&self) -> bool
+        ensures { result ≡ begins_statement (kind_at (terminals_of self.now.rest.now)) }
+    {
+        matches!(
+            self.kind(),
+            Kind::Int
+                | Kind::Boolean
+                | Kind::Name
+                | Kind::Receive
+                | Kind::Send
+                | Kind::If
+                | Kind::While
+                | Kind::Break
+                | Kind::Continue
+                | Kind::Throw
+                | Kind::Return
+                | Kind::Try
+                | Kind::OpenBrace
+        )
+    }
+
+    #[cycle(statement)]
+    #[tactic(auto, using(crate::proofs::Blocks::block_reads))]
     pub fn block(&mut self, room: u32) -> Result<Block, ParseFault>
-        ensures { Gives block_tree result self.new.rest.now (block_at room (terminals_of self.old.rest.now)) }
+        ensures { IsRead block_tree result self.new.rest.now (read room block (terminals_of self.old.rest.now)) }
     {
         let token = self.enter(Kind::OpenBrace, room)?;
         let statements = self.statements(room - 1)?;
@@ -117,6 +197,328 @@ impl<'a> Parser<'a> {
         Ok(Block {
             at: token.span.start,
             statements,
+        })
+    }
+
+    /// Statements up to the first token that begins none.
+    #[cycle(statement)]
+    fn statements(&mut self, room: u32) -> Result<Vec<Statement>, ParseFault>
+        ensures { IsRead (λ list. map statement_tree list.items) result self.new.rest.now (read room (many statement_read) (terminals_of self.old.rest.now)) }
+    {
+        let mut statements = Vec::new(self.alloc);
+        while self.is_at_statement() {
+            let statement = self.statement(room)?;
+            statements.push(statement)?;
+        }
+        Ok(statements)
+    }
+
+    #[cycle(statement)]
+    #[tactic(auto, unfolding(crate::specs::Reading::read))]
+    fn else_block(&mut self, room: u32) -> Result<Block, ParseFault>
+        ensures { IsRead block_tree result self.new.rest.now (read room (Else ▸ block) (terminals_of self.old.rest.now)) }
+    {
+        self.expect(Kind::Else)?;
+        self.block(room)
+    }
+
+    #[cycle(statement)]
+    #[tactic(auto, using(crate::proofs::Blocks::otherwise_reads))]
+    fn otherwise(&mut self, room: u32) -> Result<Option<Block>, ParseFault>
+        ensures { IsRead optional_block_tree result self.new.rest.now (read room otherwise (terminals_of self.old.rest.now)) }
+    {
+        if self.is_at(Kind::Else) {
+            let block = self.else_block(room)?;
+            return Ok(Some(block));
+        }
+        Ok(None)
+    }
+
+    #[cycle(statement)]
+    #[tactic(auto, unfolding(syntax::specs::Grammar::conditional, crate::specs::Reading::read))]
+    fn conditional(&mut self, room: u32) -> Result<Statement, ParseFault>
+        ensures { IsRead statement_tree result self.new.rest.now (read room conditional (terminals_of self.old.rest.now)) }
+    {
+        let token = self.expect(Kind::If)?;
+        let condition = self.condition(room)?;
+        let accepted = self.block(room)?;
+        let otherwise = self.otherwise(room)?;
+        Ok(Statement::make_if(token.span.start, condition, accepted, otherwise))
+    }
+
+    #[cycle(statement)]
+    #[tactic(auto, unfolding(syntax::specs::Grammar::while_statement, crate::specs::Reading::read))]
+    fn while_loop(&mut self, room: u32) -> Result<Statement, ParseFault>
+        ensures { IsRead statement_tree result self.new.rest.now (read room while_statement (terminals_of self.old.rest.now)) }
+    {
+        let token = self.expect(Kind::While)?;
+        let condition = self.condition(room)?;
+        let body = self.block(room)?;
+        Ok(Statement::make_while(token.span.start, condition, body))
+    }
+
+    #[cycle(statement)]
+    #[tactic(auto, unfolding(syntax::specs::Grammar::catch, crate::specs::Reading::read))]
+    fn catch(&mut self, room: u32) -> Result<Catch, ParseFault>
+        ensures { IsRead catch_tree result self.new.rest.now (read room catch (terminals_of self.old.rest.now)) }
+    {
+        let token = self.expect(Kind::Catch)?;
+        self.expect(Kind::OpenParenthesis)?;
+        let exception = self.name()?;
+        self.expect(Kind::CloseParenthesis)?;
+        let body = self.block(room)?;
+        Ok(Catch {
+            at: token.span.start,
+            exception,
+            body,
+        })
+    }
+
+    /// Handlers, one at least.
+    #[cycle(statement)]
+    fn catches(&mut self, room: u32) -> Result<Vec<Catch>, ParseFault>
+        ensures { IsRead (λ list. map catch_tree list.items) result self.new.rest.now (read room catches (terminals_of self.old.rest.now)) }
+    {
+        let mut catches = Vec::new(self.alloc);
+        let first = self.catch(room)?;
+        catches.push(first)?;
+        while self.is_at(Kind::Catch) {
+            let one = self.catch(room)?;
+            catches.push(one)?;
+        }
+        Ok(catches)
+    }
+
+    #[cycle(statement)]
+    #[tactic(auto, unfolding(syntax::specs::Grammar::attempt, crate::specs::Reading::read))]
+    fn attempt(&mut self, room: u32) -> Result<Statement, ParseFault>
+        ensures { IsRead statement_tree result self.new.rest.now (read room attempt (terminals_of self.old.rest.now)) }
+    {
+        let token = self.expect(Kind::Try)?;
+        let body = self.block(room)?;
+        let catches = self.catches(room)?;
+        Ok(Statement::make_try(token.span.start, body, catches))
+    }
+
+    #[cycle(statement)]
+    #[tactic(auto, unfolding(syntax::specs::Grammar::nested, crate::specs::Reading::read))]
+    fn nested(&mut self, room: u32) -> Result<Statement, ParseFault>
+        ensures { IsRead statement_tree result self.new.rest.now (read room nested (terminals_of self.old.rest.now)) }
+    {
+        let body = self.block(room)?;
+        Ok(Statement::make_nested(body))
+    }
+
+    #[cycle(statement)]
+    #[tactic(auto, using(crate::proofs::Blocks::statement_reads))]
+    fn statement(&mut self, room: u32) -> Result<Statement, ParseFault>
+        ensures { IsRead statement_tree result self.new.rest.now (read room statement_read (terminals_of self.old.rest.now)) }
+    {
+        match self.kind() {
+            Kind::Int | Kind::Boolean => self.declare(room),
+            Kind::Name => self.named(room),
+            Kind::Receive => self.receive(),
+            Kind::Send => self.send(room),
+            Kind::If => self.conditional(room),
+            Kind::While => self.while_loop(room),
+            Kind::Break => self.break_loop(),
+            Kind::Continue => self.continue_loop(),
+            Kind::Throw => self.throw(),
+            Kind::Return => self.return_value(room),
+            Kind::Try => self.attempt(room),
+            _ => self.nested(room),
+        }
+    }
+
+    #[tactic(auto, using(crate::proofs::Steps::integer_reads))]
+    pub fn integer(&mut self) -> Result<(usize, u32), ParseFault>
+        ensures { (room : ℕ) → IsRead (λ found. (found.0, found.1)) result self.new.rest.now (read room integer (terminals_of self.old.rest.now)) }
+    {
+        match self.kind() {
+            Kind::Integer(value) => {
+                let token = self.advance()?;
+                Ok((token.span.start, value))
+            }
+            _ => Err(self.unexpected()),
+        }
+    }
+
+    #[tactic(auto, unfolding(syntax::specs::Grammar::size, crate::specs::Reading::read))]
+    pub fn size(&mut self) -> Result<Size, ParseFault>
+        ensures { (room : ℕ) → IsRead size_tree result self.new.rest.now (read room size (terminals_of self.old.rest.now)) }
+    {
+        self.expect(Kind::OpenBracket)?;
+        let (at, size) = self.integer()?;
+        self.expect(Kind::CloseBracket)?;
+        Ok(Size { at, size })
+    }
+
+    #[tactic(auto, using(crate::proofs::Blocks::expressions_reads))]
+    fn expressions(&mut self, room: u32) -> Result<Vec<Expression>, ParseFault>
+        ensures { IsRead (λ list. map expression_tree list.items) result self.new.rest.now (read room expressions (terminals_of self.old.rest.now)) }
+    {
+        if self.is_at_expression() {
+            return self.some_expressions(room);
+        }
+        Ok(Vec::new(self.alloc))
+    }
+
+    /// The arguments of a call, in parentheses.
+    #[tactic(auto, using(crate::proofs::Blocks::arguments_reads))]
+    fn arguments(&mut self, room: u32) -> Result<Vec<Expression>, ParseFault>
+        ensures { IsRead (λ list. map expression_tree list.items) result self.new.rest.now (read room arguments (terminals_of self.old.rest.now)) }
+    {
+        self.enter(Kind::OpenParenthesis, room)?;
+        let arguments = self.expressions(room - 1)?;
+        self.expect(Kind::CloseParenthesis)?;
+        Ok(arguments)
+    }
+
+    /// A right side behind the name that it begins with: a call, or an expression.
+    #[tactic(auto)]
+    fn right_by_name(&mut self, name: Name, room: u32) -> Result<RightSide, ParseFault>
+        ensures { IsRead right_tree result self.new.rest.now (right_behind room (name_tree name) (is_at OpenParenthesis (terminals_of self.old.rest.now)) (terminals_of self.old.rest.now)) }
+    {
+        if self.is_at(Kind::OpenParenthesis) {
+            let arguments = self.arguments(room)?;
+            return Ok(RightSide::Call(Call {
+                procedure: name,
+                arguments,
+            }));
+        }
+        let first = self.indexed(name, room)?;
+        let value = self.climb(first, room)?;
+        Ok(RightSide::Value(value))
+    }
+
+    #[tactic(auto, using(crate::proofs::Rights::right_reads))]
+    fn right(&mut self, room: u32) -> Result<RightSide, ParseFault>
+        ensures { IsRead right_tree result self.new.rest.now (read room right_read (terminals_of self.old.rest.now)) }
+    {
+        match self.kind() {
+            Kind::Receive => {
+                let token = self.advance()?;
+                let channel = self.name()?;
+                Ok(RightSide::Receive {
+                    at: token.span.start,
+                    channel,
+                })
+            }
+            Kind::Name => {
+                let name = self.name()?;
+                self.right_by_name(name, room)
+            }
+            _ => {
+                let value = self.expression(room)?;
+                Ok(RightSide::Value(value))
+            }
+        }
+    }
+
+    #[tactic(auto, unfolding(crate::specs::Reading::read))]
+    fn assigned(&mut self, room: u32) -> Result<RightSide, ParseFault>
+        ensures { IsRead right_tree result self.new.rest.now (read room (Assign ▸ right_read) (terminals_of self.old.rest.now)) }
+    {
+        self.expect(Kind::Assign)?;
+        self.right(room)
+    }
+
+    /// What stands behind the name of a local.
+    #[tactic(auto, using(crate::proofs::Rights::first_reads))]
+    fn first(&mut self, room: u32) -> Result<First, ParseFault>
+        ensures { IsRead first_tree result self.new.rest.now (read room first_read (terminals_of self.old.rest.now)) }
+    {
+        match self.kind() {
+            Kind::Assign => {
+                let value = self.assigned(room)?;
+                Ok(First::Value(value))
+            }
+            _ => {
+                let size = self.size()?;
+                Ok(First::Array(size))
+            }
+        }
+    }
+
+    #[tactic(auto, unfolding(crate::specs::Reading::read, crate::specs::Reading::declare_read, crate::specs::Reading::first_read))]
+    fn declare(&mut self, room: u32) -> Result<Statement, ParseFault>
+        ensures { IsRead statement_tree result self.new.rest.now (read room declare_read (terminals_of self.old.rest.now)) }
+    {
+        let (at, base) = self.base()?;
+        let label = self.optional_label()?;
+        let name = self.name()?;
+        let first = self.first(room)?;
+        self.expect(Kind::Semicolon)?;
+        Ok(match first {
+            First::Value(value) => Statement::Declare {
+                at,
+                base,
+                label,
+                name,
+                value,
+            },
+            First::Array(size) => Statement::DeclareArray {
+                at,
+                base,
+                label,
+                name,
+                size,
+            },
+        })
+    }
+
+    #[tactic(auto, unfolding(crate::specs::Reading::read))]
+    fn element(&mut self, room: u32) -> Result<(Expression, Expression), ParseFault>
+        ensures { IsRead (λ pair. AtIndexTree (expression_tree pair.0) (expression_tree pair.1)) result self.new.rest.now (read room (index ◂ Assign · expression gives λ pair. AtIndexTree pair.0 pair.1) (terminals_of self.old.rest.now)) }
+    {
+        let index = self.index(room)?;
+        self.expect(Kind::Assign)?;
+        let value = self.expression(room)?;
+        Ok((index, value))
+    }
+
+    /// What stands behind the name that a statement begins with.
+    #[tactic(auto, using(crate::proofs::Rights::behind_reads))]
+    fn behind(&mut self, room: u32) -> Result<Behind, ParseFault>
+        ensures { IsRead behind_tree result self.new.rest.now (read room behind_read (terminals_of self.old.rest.now)) }
+    {
+        match self.kind() {
+            Kind::Assign => {
+                let value = self.assigned(room)?;
+                Ok(Behind::Assigned(value))
+            }
+            Kind::OpenBracket => {
+                let (index, value) = self.element(room)?;
+                Ok(Behind::Element { index, value })
+            }
+            _ => {
+                let arguments = self.arguments(room)?;
+                Ok(Behind::Arguments(arguments))
+            }
+        }
+    }
+
+    #[tactic(auto, unfolding(crate::specs::Reading::read, crate::specs::Reading::named_read, crate::specs::Reading::behind_read))]
+    fn named(&mut self, room: u32) -> Result<Statement, ParseFault>
+        ensures { IsRead statement_tree result self.new.rest.now (read room named_read (terminals_of self.old.rest.now)) }
+    {
+        let name = self.name()?;
+        let behind = self.behind(room)?;
+        self.expect(Kind::Semicolon)?;
+        Ok(match behind {
+            Behind::Assigned(value) => Statement::Assign {
+                target: name,
+                value,
+            },
+            Behind::Element { index, value } => Statement::AssignElement {
+                array: name,
+                index,
+                value,
+            },
+            Behind::Arguments(arguments) => Statement::Call(Call {
+                procedure: name,
+                arguments,
+            }),
         })
     }
 }

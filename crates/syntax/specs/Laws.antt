@@ -4,7 +4,9 @@ use Rattle.std.specs.Prelude.{◌≡◌, ℕ, ◌≤◌, List, length, map, All,
 use Rattle.lexer.specs.Listing.{IsSpelled}
 use Rattle.lexer.specs.Terminal.{Terminal, IsTerminated}
 use Rattle.syntax.specs.Grammar.{Spells}
+use Rattle.syntax.specs.Nesting.{IsNested}
 use Rattle.syntax.specs.Nodes.{program_nodes}
+use Rattle.syntax.specs.Limits.{most_levels}
 use Rattle.syntax.specs.Tree.{ProgramTree}
 use Rattle.syntax.specs.Written.{IsWritten}
 
@@ -17,13 +19,20 @@ SpellsOneTree =
 abbrev pub SpelledIsTerminated : Type 0
 SpelledIsTerminated = (tokens : List Terminal) (tree : ProgramTree) → Spells tokens tree → IsTerminated tokens
 
--- a tree has at most as many nodes as the tokens that spell it
+-- where each token has the text of its kind, a tree has at most as many nodes as the tokens that spell it
 abbrev pub SpelledHasFewNodes : Type 0
 SpelledHasFewNodes =
-    (tokens : List Terminal) (tree : ProgramTree) → Spells tokens tree → program_nodes tree ≤ length tokens
+    (tokens : List Terminal) (tree : ProgramTree) → Spells tokens tree → All IsSpelled tokens
+    → program_nodes tree ≤ length tokens
 
--- what tokens spell is written: where each token is spelled and has at most so many bytes, the tree's names are names of at
--- most so many bytes, its integers are small enough, its nodes stand where tokens begin, and it has at most one procedure
+-- and it is nested at most so deep
+abbrev pub SpelledIsNested : Type 0
+SpelledIsNested =
+    (tokens : List Terminal) (tree : ProgramTree) → Spells tokens tree → All IsSpelled tokens
+    → IsNested most_levels tree
+
+-- what tokens spell is written: where each token has the text of its kind, which has at most so many bytes, the tree's names are
+-- names of at most so many bytes, its integers are small enough, and its nodes stand where tokens begin
 abbrev pub SpelledIsWritten : Type 0
 SpelledIsWritten =
     (longest : ℕ) (tokens : List Terminal) (tree : ProgramTree) → Spells tokens tree → All IsSpelled tokens

@@ -1,7 +1,10 @@
 pub use Rattle.lexer.specs.Terminal
+pub mod Form
 pub mod Grammar
 pub mod Laws
+pub mod Limits
+pub mod Nesting
 pub mod Nodes
-pub mod Phrase
+pub mod Symbol
 pub mod Tree
 pub mod Written

@@ -1,8 +1,9 @@
 -- How many nodes a tree has. A name is a node, but for a variable, which is one together with its name; what is only a choice
--- of forms, as an item or the value of a right side, is none of its own.
--- Source: our own. No tree has more nodes than the text has tokens, so numbers of nodes stay small where texts do.
-use Rattle.std.specs.Prelude.{ℕ, ◌+◌, length, sum_by}
-use Rattle.syntax.specs.Tree.{PolicyTree, LabelTree, ExpressionTree, IntegerTree, VariableTree, BinaryTree, RightTree, ReceivedTree, ValueTree, StatementTree, DeclareTree, AssignTree, ReceiveTree, SendTree, BlockTree, ThrownTree, ItemTree, ChannelItem, ProcedureItem, ProgramTree}
+-- of forms, as an item or the value of a right side, is none of its own. No tree has more nodes than the text has tokens, so
+-- numbers of nodes stay small where texts do.
+-- Source: our own.
+use Rattle.std.specs.Prelude.{ℕ, ◌+◌, Option, None, Some, length, sum_by}
+use Rattle.syntax.specs.Tree.{PolicyTree, LabelTree, ExpressionTree, IntegerTree, TruthTree, VariableTree, ElementTree, UnaryTree, BinaryTree, CallTree, RightTree, ReceivedTree, CalledTree, ValueTree, StatementTree, DeclareTree, DeclareArrayTree, AssignTree, AssignElementTree, CallTree', ReceiveTree, SendTree, IfTree, IfElseTree, WhileTree, BreakTree, ContinueTree, ThrowTree, ReturnTree, TryTree, NestedTree, BlockTree, BlockOf, StatementTrees, NoStatement, StatementThen, CatchTrees, NoCatch, CatchThen, OutcomeTree, NothingTree, ResultTree, ParameterTree, ThrownTree, ProcedureTree, ItemTree, ChannelItem, ExceptionItem, GlobalItem, ProcedureItem, ProgramTree}
 
 -- itself, the owner and the readers
 abbrev pub policy_nodes : PolicyTree → ℕ
@@ -11,30 +12,80 @@ policy_nodes policy = 2 + length policy.readers
 abbrev pub label_nodes : LabelTree → ℕ
 label_nodes label = 1 + sum_by policy_nodes label.policies
 
+abbrev pub optional_label_nodes : Option LabelTree → ℕ
+optional_label_nodes None = 0
+optional_label_nodes (Some label) = label_nodes label
+
 abbrev pub expression_nodes : ExpressionTree → ℕ
 expression_nodes (IntegerTree at value) = 1
+expression_nodes (TruthTree at value) = 1
 expression_nodes (VariableTree name) = 1
+expression_nodes (ElementTree array index) = 1 + expression_nodes index
+expression_nodes (UnaryTree at operator operand) = 1 + expression_nodes operand
 expression_nodes (BinaryTree at operator left right) = 1 + (expression_nodes left + expression_nodes right)
+
+abbrev pub optional_expression_nodes : Option ExpressionTree → ℕ
+optional_expression_nodes None = 0
+optional_expression_nodes (Some value) = expression_nodes value
+
+abbrev pub call_nodes : CallTree → ℕ
+call_nodes call = 2 + sum_by expression_nodes call.arguments
 
 abbrev pub right_nodes : RightTree → ℕ
 right_nodes (ReceivedTree at channel) = 2
+right_nodes (CalledTree call) = call_nodes call
 right_nodes (ValueTree value) = expression_nodes value
 
-abbrev pub statement_nodes : StatementTree → ℕ
-statement_nodes (DeclareTree at label name value) = 2 + (label_nodes label + right_nodes value)
-statement_nodes (AssignTree target value) = 2 + right_nodes value
-statement_nodes (ReceiveTree at channel) = 2
-statement_nodes (SendTree at channel value) = 2 + expression_nodes value
+abbrev mutual
+  pub statement_nodes : StatementTree → ℕ
+  statement_nodes (DeclareTree at base label name value) = 2 + (optional_label_nodes label + right_nodes value)
+  statement_nodes (DeclareArrayTree at base label name size) = 3 + optional_label_nodes label
+  statement_nodes (AssignTree target value) = 2 + right_nodes value
+  statement_nodes (AssignElementTree array index value) = 2 + (expression_nodes index + expression_nodes value)
+  statement_nodes (CallTree' call) = 1 + call_nodes call
+  statement_nodes (ReceiveTree at channel) = 2
+  statement_nodes (SendTree at channel value) = 2 + expression_nodes value
+  statement_nodes (IfTree at condition body) = 1 + (expression_nodes condition + block_nodes body)
+  statement_nodes (IfElseTree at condition body otherwise) =
+      1 + (expression_nodes condition + (block_nodes body + block_nodes otherwise))
+  statement_nodes (WhileTree at condition body) = 1 + (expression_nodes condition + block_nodes body)
+  statement_nodes (BreakTree at) = 1
+  statement_nodes (ContinueTree at) = 1
+  statement_nodes (ThrowTree at exception) = 2
+  statement_nodes (ReturnTree at value) = 1 + optional_expression_nodes value
+  statement_nodes (TryTree at body catches) = 1 + (block_nodes body + catches_nodes catches)
+  statement_nodes (NestedTree body) = 1 + block_nodes body
 
-abbrev pub block_nodes : BlockTree → ℕ
-block_nodes block = 1 + sum_by statement_nodes block.statements
+  pub block_nodes : BlockTree → ℕ
+  block_nodes (BlockOf at statements) = 1 + statements_nodes statements
+
+  pub statements_nodes : StatementTrees → ℕ
+  statements_nodes NoStatement = 0
+  statements_nodes (StatementThen statement rest) = statement_nodes statement + statements_nodes rest
+
+  pub catches_nodes : CatchTrees → ℕ
+  catches_nodes NoCatch = 0
+  catches_nodes (CatchThen at exception body rest) = 2 + (block_nodes body + catches_nodes rest)
+
+abbrev pub outcome_nodes : OutcomeTree → ℕ
+outcome_nodes NothingTree = 0
+outcome_nodes (ResultTree base label) = label_nodes label
+
+abbrev pub parameter_nodes : ParameterTree → ℕ
+parameter_nodes parameter = 2 + label_nodes parameter.label
 
 abbrev pub thrown_nodes : ThrownTree → ℕ
 thrown_nodes thrown = 2 + label_nodes thrown.label
 
+abbrev pub procedure_nodes : ProcedureTree → ℕ
+procedure_nodes procedure =
+    2 + outcome_nodes procedure.outcome + optional_label_nodes procedure.begin + sum_by parameter_nodes procedure.parameters + optional_label_nodes procedure.end + sum_by thrown_nodes procedure.throws + block_nodes procedure.body
+
 abbrev pub item_nodes : ItemTree → ℕ
 item_nodes (ChannelItem channel) = 2 + label_nodes channel.label
-item_nodes (ProcedureItem procedure) = 2 + (sum_by thrown_nodes procedure.throws + block_nodes procedure.body)
+item_nodes (ExceptionItem at name) = 2
+item_nodes (GlobalItem global) = 3 + label_nodes global.label
+item_nodes (ProcedureItem procedure) = procedure_nodes procedure
 
 abbrev pub program_nodes : ProgramTree → ℕ
 program_nodes program = 1 + sum_by item_nodes program.items

@@ -1,107 +1,227 @@
--- Syntax trees as contracts see them: texts are lists of bytes, repetitions are lists, and nothing says where a node lies in
--- memory. Each tree has a view, which gives it for the value of the program.
--- Source: our own, an abstract syntax in the usual sense. A place is that of a node's first byte in the text; a node that begins
--- with another node has its place.
-use Rattle.std.specs.Prelude.{ℕ, List, map, string_bytes}
+-- Syntax trees as contracts see them: texts are lists of bytes, repetitions are lists, and a node lies nowhere in memory. Behind
+-- them the tree that each value of the code stands for.
+-- Source: the usual abstract syntax of a small imperative language with exceptions; that labels are written in it is of Myers 1999.
+use Rattle.std.specs.Prelude.{ℕ, Bool, List, [], ◌∷◌, map, Option, None, Some, string_bytes}
 use Rattle.syntax.specs.declared.tree.Name.{Name}
 use Rattle.syntax.specs.declared.tree.WrittenPolicy.{WrittenPolicy}
 use Rattle.syntax.specs.declared.tree.WrittenLabel.{WrittenLabel}
+use Rattle.syntax.specs.declared.tree.BaseType.{BaseType}
+use Rattle.syntax.specs.declared.tree.UnaryOperator.{UnaryOperator}
 use Rattle.syntax.specs.declared.tree.BinaryOperator.{BinaryOperator}
 use Rattle.syntax.specs.declared.tree.Expression as declared_expression
 use Rattle.syntax.specs.declared.tree.Expression.{Expression}
+use Rattle.syntax.specs.declared.tree.Call.{Call}
 use Rattle.syntax.specs.declared.tree.RightSide.{RightSide}
 use Rattle.syntax.specs.declared.tree.RightSide.TheVariants as right_sides
-use Rattle.syntax.specs.declared.tree.Statement.{Statement}
-use Rattle.syntax.specs.declared.tree.Statement.TheVariants as statements
+use Rattle.syntax.specs.declared.tree.Size.{Size}
+use Rattle.syntax.specs.declared.tree.Statement as declared_statement
+use Rattle.syntax.specs.declared.tree.Statement.{Statement, Row_of-Statement, end_of-Statement, more_of-Statement, Row_of-Catch, end_of-Catch, more_of-Catch, Held-Statement-If-3}
 use Rattle.syntax.specs.declared.tree.Block.{Block}
+use Rattle.syntax.specs.declared.tree.Catch.{Catch}
 use Rattle.syntax.specs.declared.tree.Direction.{Direction}
 use Rattle.syntax.specs.declared.tree.Channel.{Channel}
+use Rattle.syntax.specs.declared.tree.Constant.{Constant}
+use Rattle.syntax.specs.declared.tree.Constant.TheVariants as constants
+use Rattle.syntax.specs.declared.tree.GlobalValue.{GlobalValue}
+use Rattle.syntax.specs.declared.tree.GlobalValue.TheVariants as global_values
+use Rattle.syntax.specs.declared.tree.GlobalVariable.{GlobalVariable}
+use Rattle.syntax.specs.declared.tree.Outcome.{Outcome}
+use Rattle.syntax.specs.declared.tree.Outcome.TheVariants as outcomes
+use Rattle.syntax.specs.declared.tree.Parameter.{Parameter}
 use Rattle.syntax.specs.declared.tree.Thrown.{Thrown}
 use Rattle.syntax.specs.declared.tree.Procedure.{Procedure}
 use Rattle.syntax.specs.declared.tree.Item.{Item}
 use Rattle.syntax.specs.declared.tree.Item.TheVariants as items
-use Rattle.syntax.specs.declared.tree.Program.{Program}
 
 -- a name where it stands
 pub record NameTree : Type 0 where
   pub at : ℕ
   pub text : List ℕ
 
--- a policy as written: its owner and the readers that are named
 pub record PolicyTree : Type 0 where
   pub owner : NameTree
   pub readers : List NameTree
 
--- a label as written
 pub record LabelTree : Type 0 where
   pub at : ℕ
   pub policies : List PolicyTree
 
--- an expression; the operands of a binary one stand in the order of the text
 pub data ExpressionTree : Type 0 where
   IntegerTree : (at value : ℕ) → ExpressionTree
+  TruthTree : (at : ℕ) → Bool → ExpressionTree
   VariableTree : NameTree → ExpressionTree
+  ElementTree : NameTree → ExpressionTree → ExpressionTree
+  UnaryTree : (at : ℕ) → UnaryOperator → ExpressionTree → ExpressionTree
   BinaryTree : (at : ℕ) → BinaryOperator → ExpressionTree → ExpressionTree → ExpressionTree
 
--- what is assigned: the next number of an input, or the value of an expression
+pub record CallTree : Type 0 where
+  pub procedure : NameTree
+  pub arguments : List ExpressionTree
+
 pub data RightTree : Type 0 where
   ReceivedTree : (at : ℕ) → NameTree → RightTree
+  CalledTree : CallTree → RightTree
   ValueTree : ExpressionTree → RightTree
 
--- a statement: a declaration, an assignment, a receive without a target, or a send
-pub data StatementTree : Type 0 where
-  DeclareTree : (at : ℕ) → LabelTree → NameTree → RightTree → StatementTree
-  AssignTree : NameTree → RightTree → StatementTree
-  ReceiveTree : (at : ℕ) → NameTree → StatementTree
-  SendTree : (at : ℕ) → NameTree → ExpressionTree → StatementTree
-
--- statements in braces
-pub record BlockTree : Type 0 where
+pub record SizeTree : Type 0 where
   pub at : ℕ
-  pub statements : List StatementTree
+  pub size : ℕ
 
--- the declaration of a channel
+-- statements, and what holds them; lists of them are types of their own, since they hold one another
+mutual
+  pub data StatementTree : Type 0 where
+    DeclareTree : (at : ℕ) → BaseType → Option LabelTree → NameTree → RightTree → StatementTree
+    DeclareArrayTree : (at : ℕ) → BaseType → Option LabelTree → NameTree → SizeTree → StatementTree
+    AssignTree : NameTree → RightTree → StatementTree
+    AssignElementTree : NameTree → ExpressionTree → ExpressionTree → StatementTree
+    CallTree' : CallTree → StatementTree
+    ReceiveTree : (at : ℕ) → NameTree → StatementTree
+    SendTree : (at : ℕ) → NameTree → ExpressionTree → StatementTree
+    IfTree : (at : ℕ) → ExpressionTree → BlockTree → StatementTree
+    IfElseTree : (at : ℕ) → ExpressionTree → BlockTree → BlockTree → StatementTree
+    WhileTree : (at : ℕ) → ExpressionTree → BlockTree → StatementTree
+    BreakTree : (at : ℕ) → StatementTree
+    ContinueTree : (at : ℕ) → StatementTree
+    ThrowTree : (at : ℕ) → NameTree → StatementTree
+    ReturnTree : (at : ℕ) → Option ExpressionTree → StatementTree
+    TryTree : (at : ℕ) → BlockTree → CatchTrees → StatementTree
+    NestedTree : BlockTree → StatementTree
+
+  pub data BlockTree : Type 0 where
+    BlockOf : (at : ℕ) → StatementTrees → BlockTree
+
+  pub data StatementTrees : Type 0 where
+    NoStatement : StatementTrees
+    StatementThen : StatementTree → StatementTrees → StatementTrees
+
+  pub data CatchTrees : Type 0 where
+    NoCatch : CatchTrees
+    CatchThen : (at : ℕ) → NameTree → BlockTree → CatchTrees → CatchTrees
+
+-- what stands behind the name of a local, and behind the name that a statement begins with
+pub data FirstTree : Type 0 where
+  FirstValue : RightTree → FirstTree
+  FirstSize : SizeTree → FirstTree
+
+pub data BehindTree : Type 0 where
+  AssignedTree : RightTree → BehindTree
+  AtIndexTree : (index value : ExpressionTree) → BehindTree
+  ArgumentsTree : List ExpressionTree → BehindTree
+
+abbrev pub local_tree : (at : ℕ) → BaseType → Option LabelTree → NameTree → FirstTree → StatementTree
+local_tree at base label name (FirstValue value) = DeclareTree at base label name value
+local_tree at base label name (FirstSize size) = DeclareArrayTree at base label name size
+
+abbrev pub named_tree : NameTree → BehindTree → StatementTree
+named_tree name (AssignedTree value) = AssignTree name value
+named_tree name (AtIndexTree index value) = AssignElementTree name index value
+named_tree name (ArgumentsTree arguments) = CallTree' (record { procedure = name; arguments = arguments })
+
+-- lists of statements, and of handlers, as these types
+abbrev pub statements_of : List StatementTree → StatementTrees
+statements_of [] = NoStatement
+statements_of (statement ∷ rest) = StatementThen statement (statements_of rest)
+
+-- the handler of an exception
+pub record CatchTree : Type 0 where
+  pub at : ℕ
+  pub exception : NameTree
+  pub body : BlockTree
+
+abbrev pub catches_of : List CatchTree → CatchTrees
+catches_of [] = NoCatch
+catches_of (one ∷ rest) = CatchThen one.at one.exception one.body (catches_of rest)
+
 pub record ChannelTree : Type 0 where
   pub at : ℕ
   pub direction : Direction
   pub label : LabelTree
   pub name : NameTree
 
--- an exception that a procedure may throw, with its label
+pub data ConstantTree : Type 0 where
+  IntegerConstant : (at : ℕ) (negative : Bool) (value : ℕ) → ConstantTree
+  TruthConstant : (at : ℕ) → Bool → ConstantTree
+
+pub data GlobalValueTree : Type 0 where
+  ScalarTree : ConstantTree → GlobalValueTree
+  ArrayTree : SizeTree → GlobalValueTree
+
+pub record GlobalTree : Type 0 where
+  pub at : ℕ
+  pub base : BaseType
+  pub label : LabelTree
+  pub name : NameTree
+  pub value : GlobalValueTree
+
+pub data OutcomeTree : Type 0 where
+  NothingTree : OutcomeTree
+  ResultTree : BaseType → LabelTree → OutcomeTree
+
+pub record ParameterTree : Type 0 where
+  pub at : ℕ
+  pub base : BaseType
+  pub label : LabelTree
+  pub name : NameTree
+
 pub record ThrownTree : Type 0 where
   pub name : NameTree
   pub label : LabelTree
 
--- the declaration of a procedure
 pub record ProcedureTree : Type 0 where
   pub at : ℕ
+  pub outcome : OutcomeTree
   pub name : NameTree
+  pub begin : Option LabelTree
+  pub parameters : List ParameterTree
+  pub end : Option LabelTree
   pub throws : List ThrownTree
   pub body : BlockTree
 
--- what stands at the top of a program
 pub data ItemTree : Type 0 where
   ChannelItem : ChannelTree → ItemTree
+  ExceptionItem : (at : ℕ) → NameTree → ItemTree
+  GlobalItem : GlobalTree → ItemTree
   ProcedureItem : ProcedureTree → ItemTree
 
--- a program: its items in the order of the text
 pub record ProgramTree : Type 0 where
   pub items : List ItemTree
 
--- the place of an expression
 abbrev pub expression_place : ExpressionTree → ℕ
 expression_place (IntegerTree at value) = at
+expression_place (TruthTree at value) = at
 expression_place (VariableTree name) = name.at
+expression_place (ElementTree array index) = array.at
+expression_place (UnaryTree at operator operand) = at
 expression_place (BinaryTree at operator left right) = at
 
--- the place of a statement
+abbrev pub block_place : BlockTree → ℕ
+block_place (BlockOf at statements) = at
+
 abbrev pub statement_place : StatementTree → ℕ
-statement_place (DeclareTree at label name value) = at
+statement_place (DeclareTree at base label name value) = at
+statement_place (DeclareArrayTree at base label name size) = at
 statement_place (AssignTree target value) = target.at
+statement_place (AssignElementTree array index value) = array.at
+statement_place (CallTree' call) = call.procedure.at
 statement_place (ReceiveTree at channel) = at
 statement_place (SendTree at channel value) = at
+statement_place (IfTree at condition body) = at
+statement_place (IfElseTree at condition body otherwise) = at
+statement_place (WhileTree at condition body) = at
+statement_place (BreakTree at) = at
+statement_place (ContinueTree at) = at
+statement_place (ThrowTree at exception) = at
+statement_place (ReturnTree at value) = at
+statement_place (TryTree at body catches) = at
+statement_place (NestedTree body) = block_place body
 
--- Views: the tree of a value.
+abbrev pub item_place : ItemTree → ℕ
+item_place (ChannelItem channel) = channel.at
+item_place (ExceptionItem at name) = at
+item_place (GlobalItem global) = global.at
+item_place (ProcedureItem procedure) = procedure.at
+
+-- The trees of the code's values.
 abbrev pub name_tree : Name → NameTree
 name_tree name = record { at = name.at; text = string_bytes name.text }
 
@@ -111,25 +231,85 @@ policy_tree policy = record { owner = name_tree policy.owner; readers = map name
 abbrev pub label_tree : WrittenLabel → LabelTree
 label_tree label = record { at = label.at; policies = map policy_tree label.policies.items }
 
+abbrev pub optional_label_tree : Option WrittenLabel → Option LabelTree
+optional_label_tree None = None
+optional_label_tree (Some label) = Some (label_tree label)
+
 abbrev pub expression_tree : Expression → ExpressionTree
 expression_tree (declared_expression.Integer at value) = IntegerTree at value
+expression_tree (declared_expression.Truth at value) = TruthTree at value
 expression_tree (declared_expression.Variable name) = VariableTree (name_tree name)
+expression_tree (declared_expression.Element' array p index) = ElementTree (name_tree array) (expression_tree index)
+expression_tree (declared_expression.Unary' at operator p operand) = UnaryTree at operator (expression_tree operand)
 expression_tree (declared_expression.Binary' at operator p left q right) =
     BinaryTree at operator (expression_tree left) (expression_tree right)
 
+abbrev pub optional_expression_tree : Option Expression → Option ExpressionTree
+optional_expression_tree None = None
+optional_expression_tree (Some value) = Some (expression_tree value)
+
+abbrev pub call_tree : Call → CallTree
+call_tree call = record { procedure = name_tree call.procedure; arguments = map expression_tree call.arguments.items }
+
 abbrev pub right_tree : RightSide → RightTree
 right_tree (right_sides.Receive at channel) = ReceivedTree at (name_tree channel)
+right_tree (right_sides.Call call) = CalledTree (call_tree call)
 right_tree (right_sides.Value value) = ValueTree (expression_tree value)
 
-abbrev pub statement_tree : Statement → StatementTree
-statement_tree (statements.Declare at label name value) =
-    DeclareTree at (label_tree label) (name_tree name) (right_tree value)
-statement_tree (statements.Assign target value) = AssignTree (name_tree target) (right_tree value)
-statement_tree (statements.Receive at channel) = ReceiveTree at (name_tree channel)
-statement_tree (statements.Send at channel value) = SendTree at (name_tree channel) (expression_tree value)
+abbrev pub size_tree : Size → SizeTree
+size_tree size = record { at = size.at; size = size.size }
+
+-- with an `else` or without
+abbrev pub if_tree : (at : ℕ) → ExpressionTree → BlockTree → Option BlockTree → StatementTree
+if_tree at condition body None = IfTree at condition body
+if_tree at condition body (Some otherwise) = IfElseTree at condition body otherwise
+
+abbrev mutual
+  pub statement_tree : Statement → StatementTree
+  statement_tree (declared_statement.Declare at base label name value) =
+      DeclareTree at base (optional_label_tree label) (name_tree name) (right_tree value)
+  statement_tree (declared_statement.DeclareArray at base label name size) =
+      DeclareArrayTree at base (optional_label_tree label) (name_tree name) (size_tree size)
+  statement_tree (declared_statement.Assign target value) = AssignTree (name_tree target) (right_tree value)
+  statement_tree (declared_statement.AssignElement array index value) =
+      AssignElementTree (name_tree array) (expression_tree index) (expression_tree value)
+  statement_tree (declared_statement.Call call) = CallTree' (call_tree call)
+  statement_tree (declared_statement.Receive at channel) = ReceiveTree at (name_tree channel)
+  statement_tree (declared_statement.Send at channel value) = SendTree at (name_tree channel) (expression_tree value)
+  statement_tree (declared_statement.If' at condition first shape row otherwise) =
+      if_tree at (expression_tree condition) (BlockOf first (row_trees row)) (otherwise_tree otherwise)
+  statement_tree (declared_statement.While' at condition first shape row) =
+      WhileTree at (expression_tree condition) (BlockOf first (row_trees row))
+  statement_tree (declared_statement.Break at) = BreakTree at
+  statement_tree (declared_statement.Continue at) = ContinueTree at
+  statement_tree (declared_statement.Throw at exception) = ThrowTree at (name_tree exception)
+  statement_tree (declared_statement.Return at value) = ReturnTree at (optional_expression_tree value)
+  statement_tree (declared_statement.Try' at first shape row others catches) =
+      TryTree at (BlockOf first (row_trees row)) (catch_trees catches)
+  statement_tree (declared_statement.Nested' first shape row) = NestedTree (BlockOf first (row_trees row))
+
+  pub otherwise_tree : Held-Statement-If-3 → Option BlockTree
+  otherwise_tree declared_statement.None' = None
+  otherwise_tree (declared_statement.Some' first shape row) = Some (BlockOf first (row_trees row))
+
+  pub row_trees : {m : _} → Row_of-Statement m → StatementTrees
+  row_trees end_of-Statement = NoStatement
+  row_trees (more_of-Statement statement rest) = StatementThen (statement_tree statement) (row_trees rest)
+
+  pub catch_trees : {m : _} → Row_of-Catch m → CatchTrees
+  catch_trees end_of-Catch = NoCatch
+  catch_trees (more_of-Catch at exception first shape row rest) =
+      CatchThen at (name_tree exception) (BlockOf first (row_trees row)) (catch_trees rest)
 
 abbrev pub block_tree : Block → BlockTree
-block_tree block = record { at = block.at; statements = map statement_tree block.statements.items }
+block_tree block = BlockOf block.at (statements_of (map statement_tree block.statements.items))
+
+abbrev pub optional_block_tree : Option Block → Option BlockTree
+optional_block_tree None = None
+optional_block_tree (Some block) = Some (block_tree block)
+
+abbrev pub catch_tree : Catch → CatchTree
+catch_tree one = record { at = one.at; exception = name_tree one.exception; body = block_tree one.body }
 
 abbrev pub channel_tree : Channel → ChannelTree
 channel_tree channel = record {
@@ -139,20 +319,56 @@ channel_tree channel = record {
   name = name_tree channel.name;
 }
 
+abbrev pub constant_tree : Constant → ConstantTree
+constant_tree (constants.Integer at negative value) = IntegerConstant at negative value
+constant_tree (constants.Truth at value) = TruthConstant at value
+
+abbrev pub global_value_tree : GlobalValue → GlobalValueTree
+global_value_tree (global_values.Scalar constant) = ScalarTree (constant_tree constant)
+global_value_tree (global_values.Array size) = ArrayTree (size_tree size)
+
+abbrev pub global_tree : GlobalVariable → GlobalTree
+global_tree global = record {
+  at = global.at;
+  base = global.base;
+  label = label_tree global.label;
+  name = name_tree global.name;
+  value = global_value_tree global.value;
+}
+
+abbrev pub outcome_tree : Outcome → OutcomeTree
+outcome_tree outcomes.Nothing = NothingTree
+outcome_tree (outcomes.Value base label) = ResultTree base (label_tree label)
+
+abbrev pub parameter_tree : Parameter → ParameterTree
+parameter_tree parameter = record {
+  at = parameter.at;
+  base = parameter.base;
+  label = label_tree parameter.label;
+  name = name_tree parameter.name;
+}
+
 abbrev pub thrown_tree : Thrown → ThrownTree
 thrown_tree thrown = record { name = name_tree thrown.name; label = label_tree thrown.label }
 
 abbrev pub procedure_tree : Procedure → ProcedureTree
 procedure_tree procedure = record {
   at = procedure.at;
+  outcome = outcome_tree procedure.outcome;
   name = name_tree procedure.name;
+  begin = optional_label_tree procedure.begin;
+  parameters = map parameter_tree procedure.parameters.items;
+  end = optional_label_tree procedure.end;
   throws = map thrown_tree procedure.throws.items;
   body = block_tree procedure.body;
 }
 
 abbrev pub item_tree : Item → ItemTree
 item_tree (items.Channel channel) = ChannelItem (channel_tree channel)
+item_tree (items.Exception at name) = ExceptionItem at (name_tree name)
+item_tree (items.Global global) = GlobalItem (global_tree global)
 item_tree (items.Procedure procedure) = ProcedureItem (procedure_tree procedure)
 
-abbrev pub program_tree : Program → ProgramTree
-program_tree program = record { items = map item_tree program.items.items }
+-- the tree of a program, which is the list of its items
+abbrev pub program_tree : List Item → ProgramTree
+program_tree items = record { items = map item_tree items }

@@ -1,60 +1,129 @@
--- What holds of the tree of a text beside its form: its names are names and not too long, its integers are small enough, its
--- nodes stand at places that fit, and it has at most one procedure.
+-- What holds of the tree of a text beside its form: its names are names and not too long, its integers are small enough, and
+-- its nodes stand at places that fit.
 -- Source: our own.
-use Rattle.std.specs.Prelude.{ℕ, ◌≤◌, List, [], ◌∷◌, length, flat_map, IsTrue, All}
+use Rattle.std.specs.Prelude.{ℕ, ◌≤◌, Option, None, Some, length, IsTrue, All}
 use Rattle.lexer.specs.Lexeme.{greatest_literal}
 use Rattle.lexer.specs.Words.{is_name_text}
-use Rattle.syntax.specs.Tree.{NameTree, PolicyTree, LabelTree, ExpressionTree, IntegerTree, VariableTree, BinaryTree, RightTree, ReceivedTree, ValueTree, StatementTree, DeclareTree, AssignTree, ReceiveTree, SendTree, ThrownTree, ProcedureTree, ItemTree, ChannelItem, ProcedureItem, ProgramTree}
+use Rattle.syntax.specs.Tree.{NameTree, PolicyTree, LabelTree, ExpressionTree, IntegerTree, TruthTree, VariableTree, ElementTree, UnaryTree, BinaryTree, CallTree, RightTree, ReceivedTree, CalledTree, ValueTree, SizeTree, StatementTree, DeclareTree, DeclareArrayTree, AssignTree, AssignElementTree, CallTree', ReceiveTree, SendTree, IfTree, IfElseTree, WhileTree, BreakTree, ContinueTree, ThrowTree, ReturnTree, TryTree, NestedTree, BlockTree, BlockOf, StatementTrees, NoStatement, StatementThen, CatchTrees, NoCatch, CatchThen, ChannelTree, ConstantTree, IntegerConstant, TruthConstant, GlobalValueTree, ScalarTree, ArrayTree, GlobalTree, OutcomeTree, NothingTree, ResultTree, ParameterTree, ThrownTree, ProcedureTree, ItemTree, ChannelItem, ExceptionItem, GlobalItem, ProcedureItem, ProgramTree}
 
--- a name of at most so many bytes, at a place that fits
-abbrev pub IsWrittenName : (fits : ℕ → Type 0) (longest : ℕ) → NameTree → Type 0
-IsWrittenName fits longest name = fits name.at × IsTrue (is_name_text name.text) × (length name.text ≤ longest)
+-- no place is refused
+abbrev pub Anywhere : ℕ → Type 0
+Anywhere at = Unit {0}
 
-abbrev pub IsWrittenPolicy : (fits : ℕ → Type 0) (longest : ℕ) → PolicyTree → Type 0
-IsWrittenPolicy fits longest policy = IsWrittenName fits longest policy.owner × All (IsWrittenName fits longest) policy.readers
+-- Places have to fit, and names have at most so many bytes.
+module _ (fits : ℕ → Type 0) (longest : ℕ) where
+  abbrev pub IsWrittenName : NameTree → Type 0
+  IsWrittenName name = fits name.at × IsTrue (is_name_text name.text) × (length name.text ≤ longest)
 
-abbrev pub IsWrittenLabel : (fits : ℕ → Type 0) (longest : ℕ) → LabelTree → Type 0
-IsWrittenLabel fits longest label = fits label.at × All (IsWrittenPolicy fits longest) label.policies
+  abbrev pub IsWrittenPolicy : PolicyTree → Type 0
+  IsWrittenPolicy policy = IsWrittenName policy.owner × All IsWrittenName policy.readers
 
-abbrev pub IsWrittenExpression : (fits : ℕ → Type 0) (longest : ℕ) → ExpressionTree → Type 0
-IsWrittenExpression fits longest (IntegerTree at value) = fits at × (value ≤ greatest_literal)
-IsWrittenExpression fits longest (VariableTree name) = IsWrittenName fits longest name
-IsWrittenExpression fits longest (BinaryTree at operator left right) =
-    fits at × IsWrittenExpression fits longest left × IsWrittenExpression fits longest right
+  abbrev pub IsWrittenLabel : LabelTree → Type 0
+  IsWrittenLabel label = fits label.at × All IsWrittenPolicy label.policies
 
-abbrev pub IsWrittenRight : (fits : ℕ → Type 0) (longest : ℕ) → RightTree → Type 0
-IsWrittenRight fits longest (ReceivedTree at channel) = fits at × IsWrittenName fits longest channel
-IsWrittenRight fits longest (ValueTree value) = IsWrittenExpression fits longest value
+  abbrev pub IsWrittenOptionalLabel : Option LabelTree → Type 0
+  IsWrittenOptionalLabel None = Unit {0}
+  IsWrittenOptionalLabel (Some label) = IsWrittenLabel label
 
-abbrev pub IsWrittenStatement : (fits : ℕ → Type 0) (longest : ℕ) → StatementTree → Type 0
-IsWrittenStatement fits longest (DeclareTree at label name value) =
-    fits at × IsWrittenLabel fits longest label × IsWrittenName fits longest name × IsWrittenRight fits longest value
-IsWrittenStatement fits longest (AssignTree target value) = IsWrittenName fits longest target × IsWrittenRight fits longest value
-IsWrittenStatement fits longest (ReceiveTree at channel) = fits at × IsWrittenName fits longest channel
-IsWrittenStatement fits longest (SendTree at channel value) =
-    fits at × IsWrittenName fits longest channel × IsWrittenExpression fits longest value
+  abbrev pub IsWrittenExpression : ExpressionTree → Type 0
+  IsWrittenExpression (IntegerTree at value) = fits at × (value ≤ greatest_literal)
+  IsWrittenExpression (TruthTree at value) = fits at
+  IsWrittenExpression (VariableTree name) = IsWrittenName name
+  IsWrittenExpression (ElementTree array index) = IsWrittenName array × IsWrittenExpression index
+  IsWrittenExpression (UnaryTree at operator operand) = fits at × IsWrittenExpression operand
+  IsWrittenExpression (BinaryTree at operator left right) = fits at × IsWrittenExpression left × IsWrittenExpression right
 
-abbrev pub IsWrittenThrown : (fits : ℕ → Type 0) (longest : ℕ) → ThrownTree → Type 0
-IsWrittenThrown fits longest thrown = IsWrittenName fits longest thrown.name × IsWrittenLabel fits longest thrown.label
+  abbrev pub IsWrittenOptionalExpression : Option ExpressionTree → Type 0
+  IsWrittenOptionalExpression None = Unit {0}
+  IsWrittenOptionalExpression (Some value) = IsWrittenExpression value
 
-abbrev pub IsWrittenItem : (fits : ℕ → Type 0) (longest : ℕ) → ItemTree → Type 0
-IsWrittenItem fits longest (ChannelItem channel) =
-    fits channel.at × IsWrittenLabel fits longest channel.label × IsWrittenName fits longest channel.name
-IsWrittenItem fits longest (ProcedureItem procedure) =
-    fits procedure.at
-    × IsWrittenName fits longest procedure.name
-    × All (IsWrittenThrown fits longest) procedure.throws
-    × All (IsWrittenStatement fits longest) procedure.body.statements
+  abbrev pub IsWrittenCall : CallTree → Type 0
+  IsWrittenCall call = IsWrittenName call.procedure × All IsWrittenExpression call.arguments
 
--- the procedures of some items, in order
-abbrev pub procedure_of : ItemTree → List ProcedureTree
-procedure_of (ChannelItem channel) = []
-procedure_of (ProcedureItem procedure) = procedure ∷ []
+  abbrev pub IsWrittenRight : RightTree → Type 0
+  IsWrittenRight (ReceivedTree at channel) = fits at × IsWrittenName channel
+  IsWrittenRight (CalledTree call) = IsWrittenCall call
+  IsWrittenRight (ValueTree value) = IsWrittenExpression value
 
-abbrev pub procedures_of : List ItemTree → List ProcedureTree
-procedures_of items = flat_map procedure_of items
+  abbrev pub IsWrittenSize : SizeTree → Type 0
+  IsWrittenSize size = fits size.at × (size.size ≤ greatest_literal)
 
--- a program as a text can have it
-pub record IsWritten (fits : ℕ → Type 0) (longest : ℕ) (program : ProgramTree) : Type 0 where
-  pub items : All (IsWrittenItem fits longest) program.items
-  pub single : length (procedures_of program.items) ≤ 1
+  abbrev mutual
+    pub IsWrittenStatement : StatementTree → Type 0
+    IsWrittenStatement (DeclareTree at base label name value) =
+        fits at × IsWrittenOptionalLabel label × IsWrittenName name × IsWrittenRight value
+    IsWrittenStatement (DeclareArrayTree at base label name size) =
+        fits at × IsWrittenOptionalLabel label × IsWrittenName name × IsWrittenSize size
+    IsWrittenStatement (AssignTree target value) = IsWrittenName target × IsWrittenRight value
+    IsWrittenStatement (AssignElementTree array index value) =
+        IsWrittenName array × IsWrittenExpression index × IsWrittenExpression value
+    IsWrittenStatement (CallTree' call) = IsWrittenCall call
+    IsWrittenStatement (ReceiveTree at channel) = fits at × IsWrittenName channel
+    IsWrittenStatement (SendTree at channel value) = fits at × IsWrittenName channel × IsWrittenExpression value
+    IsWrittenStatement (IfTree at condition body) = fits at × IsWrittenExpression condition × IsWrittenBlock body
+    IsWrittenStatement (IfElseTree at condition body otherwise) =
+        fits at × IsWrittenExpression condition × IsWrittenBlock body × IsWrittenBlock otherwise
+    IsWrittenStatement (WhileTree at condition body) = fits at × IsWrittenExpression condition × IsWrittenBlock body
+    IsWrittenStatement (BreakTree at) = fits at
+    IsWrittenStatement (ContinueTree at) = fits at
+    IsWrittenStatement (ThrowTree at exception) = fits at × IsWrittenName exception
+    IsWrittenStatement (ReturnTree at value) = fits at × IsWrittenOptionalExpression value
+    IsWrittenStatement (TryTree at body catches) = fits at × IsWrittenBlock body × AreWrittenCatches catches
+    IsWrittenStatement (NestedTree body) = IsWrittenBlock body
+
+    pub IsWrittenBlock : BlockTree → Type 0
+    IsWrittenBlock (BlockOf at statements) = fits at × AreWrittenStatements statements
+
+    pub AreWrittenStatements : StatementTrees → Type 0
+    AreWrittenStatements NoStatement = Unit {0}
+    AreWrittenStatements (StatementThen statement rest) = IsWrittenStatement statement × AreWrittenStatements rest
+
+    pub AreWrittenCatches : CatchTrees → Type 0
+    AreWrittenCatches NoCatch = Unit {0}
+    AreWrittenCatches (CatchThen at exception body rest) =
+        fits at × IsWrittenName exception × IsWrittenBlock body × AreWrittenCatches rest
+
+  abbrev pub IsWrittenChannel : ChannelTree → Type 0
+  IsWrittenChannel channel = fits channel.at × IsWrittenLabel channel.label × IsWrittenName channel.name
+
+  abbrev pub IsWrittenConstant : ConstantTree → Type 0
+  IsWrittenConstant (IntegerConstant at negative value) = fits at × (value ≤ greatest_literal)
+  IsWrittenConstant (TruthConstant at value) = fits at
+
+  abbrev pub IsWrittenGlobalValue : GlobalValueTree → Type 0
+  IsWrittenGlobalValue (ScalarTree constant) = IsWrittenConstant constant
+  IsWrittenGlobalValue (ArrayTree size) = IsWrittenSize size
+
+  abbrev pub IsWrittenGlobal : GlobalTree → Type 0
+  IsWrittenGlobal global =
+      fits global.at × IsWrittenLabel global.label × IsWrittenName global.name × IsWrittenGlobalValue global.value
+
+  abbrev pub IsWrittenOutcome : OutcomeTree → Type 0
+  IsWrittenOutcome NothingTree = Unit {0}
+  IsWrittenOutcome (ResultTree base label) = IsWrittenLabel label
+
+  abbrev pub IsWrittenParameter : ParameterTree → Type 0
+  IsWrittenParameter parameter = fits parameter.at × IsWrittenLabel parameter.label × IsWrittenName parameter.name
+
+  abbrev pub IsWrittenThrown : ThrownTree → Type 0
+  IsWrittenThrown thrown = IsWrittenName thrown.name × IsWrittenLabel thrown.label
+
+  pub record IsWrittenProcedure (procedure : ProcedureTree) : Type 0 where
+    pub at : fits procedure.at
+    pub outcome : IsWrittenOutcome procedure.outcome
+    pub name : IsWrittenName procedure.name
+    pub begin : IsWrittenOptionalLabel procedure.begin
+    pub parameters : All IsWrittenParameter procedure.parameters
+    pub end : IsWrittenOptionalLabel procedure.end
+    pub throws : All IsWrittenThrown procedure.throws
+    pub body : IsWrittenBlock procedure.body
+
+  abbrev pub IsWrittenItem : ItemTree → Type 0
+  IsWrittenItem (ChannelItem channel) = IsWrittenChannel channel
+  IsWrittenItem (ExceptionItem at name) = fits at × IsWrittenName name
+  IsWrittenItem (GlobalItem global) = IsWrittenGlobal global
+  IsWrittenItem (ProcedureItem procedure) = IsWrittenProcedure procedure
+
+  -- a program as a text can have it
+  abbrev pub IsWritten : ProgramTree → Type 0
+  IsWritten program = All IsWrittenItem program.items

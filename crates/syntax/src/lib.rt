@@ -1,9 +1,14 @@
-//! The syntax tree of a program, with the places of its nodes. It owns its texts.
+//! The syntax tree of a program, with the places of its nodes, and the grammar that says which tokens spell which tree.
 #![tactic(auto)]
 
+pub mod line;
+pub mod program;
 pub mod tree;
 
+pub use line::Line;
+pub use program::Program;
 pub use tree::{
-    BinaryOperator, Block, Channel, Direction, Expression, Item, Name, Procedure, Program,
-    RightSide, Statement, Thrown, WrittenLabel, WrittenPolicy,
+    BaseType, BinaryOperator, Block, Call, Catch, Channel, Constant, Direction, Expression,
+    GlobalValue, GlobalVariable, Item, Name, Outcome, Parameter, Procedure, RightSide, Size,
+    Statement, Thrown, UnaryOperator, WrittenLabel, WrittenPolicy,
 };

@@ -6,7 +6,7 @@ use std::test::Fail;
 
 #[test]
 fn has_a_number_and_words_for_each_cause(rt: HostRuntime) -> Result<(), Fail> {
-    let causes: [(Cause, u32, &str); 23] = [
+    let causes: [(Cause, u32, &str); 24] = [
         (Cause::NotUtf8, 100, "not UTF-8"),
         (Cause::NoToken, 101, "no token"),
         (Cause::LiteralTooLarge, 102, "literal too large"),
@@ -15,6 +15,7 @@ fn has_a_number_and_words_for_each_cause(rt: HostRuntime) -> Result<(), Fail> {
         (Cause::PrincipalTwice, 152, "declared twice"),
         (Cause::UnknownPrincipal, 153, "unknown principal"),
         (Cause::TooManyPrincipals, 154, "too many principals"),
+        (Cause::NotInStage, 199, "not in this stage"),
         (Cause::UnexpectedToken, 201, "unexpected token"),
         (Cause::TooDeep, 202, "nested too deep"),
         (Cause::UnknownName, 301, "unknown name"),

@@ -32,6 +32,8 @@ fn laws_of_compiling(_rt: HostRuntime) {
     types::laws::resolves_to_straight_line();
     types::laws::places_stay();
     parser::spelling_laws();
+    parser::one_reading();
+    straight_line::covered_programs_are_straight_lines();
     lowering::laws::meaning_is_kept();
 }
 

@@ -6,7 +6,8 @@ use Rattle.std.specs.List.{list_any}
 use Rattle.std.proofs.lemmas.List.{length-append}
 use Rattle.principals.specs.ActsFor.{PrincipalHierarchy, number_of}
 use Rattle.labels.specs.Canonical.{written_policy, written_label}
-use Rattle.syntax.specs.Tree.{NameTree, PolicyTree, LabelTree, ExpressionTree, IntegerTree, VariableTree, BinaryTree, RightTree, ReceivedTree, ValueTree, StatementTree, DeclareTree, AssignTree, ReceiveTree, SendTree, ThrownTree}
+use Rattle.syntax.specs.Tree.{NameTree, PolicyTree, LabelTree, ThrownTree}
+use Rattle.straight_line.specs.Tree.{ExpressionTree, IntegerTree, VariableTree, BinaryTree, RightTree, ReceivedTree, ValueTree, StatementTree, DeclareTree, AssignTree, ReceiveTree, SendTree}
 use Rattle.resolved.specs.declared.expression.Variable.TheVariants.{Local}
 use Rattle.resolved.specs.Tree.{Read, Binary, Statement, Assign, Receive, Send}
 use Rattle.resolved.specs.Program.{SlotEntry, ThrownEntry}

@@ -7,8 +7,9 @@ use Rattle.principals.specs.ActsFor.{PrincipalHierarchy}
 use Rattle.labels.specs.Label.{Label}
 use Rattle.labels.specs.Canonical.{IsCanonicalLabel, joined}
 use Rattle.labels.proofs.Written.{IsCanonicalLabel-least, IsCanonicalLabel-joined}
-use Rattle.syntax.specs.Tree.{StatementTree, DeclareTree, AssignTree, ReceiveTree, SendTree, ThrownTree, ItemTree, ChannelItem, ProcedureItem, ProgramTree}
-use Rattle.syntax.specs.Written.{IsWrittenItem, IsWritten}
+use Rattle.syntax.specs.Tree.{ThrownTree}
+use Rattle.straight_line.specs.Tree.{StatementTree, DeclareTree, AssignTree, ReceiveTree, SendTree, ItemTree, ChannelItem, ProcedureItem, ProgramTree}
+use Rattle.straight_line.specs.Written.{IsWrittenItem, IsWritten}
 use Rattle.resolved.specs.declared.expression.Base.TheVariants.{Int}
 use Rattle.resolved.specs.Program.{ChannelEntry, SlotEntry, ThrownEntry, ProcedureEntry}
 use Rattle.types.specs.Scope.{Declaration, top_scope}

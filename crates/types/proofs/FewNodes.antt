@@ -3,9 +3,11 @@ use Rattle.std.proofs.Common.{ℕ, ◌+◌, ◌<◌, ◌≤◌, List, [], ◌∷
 use Rattle.std.specs.Prelude.{flat_map, sum_by}
 use Rattle.std.proofs.lemmas.List.Sums.{sum_by-cons}
 use Rattle.principals.specs.ActsFor.{PrincipalHierarchy}
-use Rattle.syntax.specs.declared.tree.BinaryOperator.TheVariants.{Add}
-use Rattle.syntax.specs.Tree.{ExpressionTree, IntegerTree, VariableTree, BinaryTree, RightTree, ReceivedTree, ValueTree, StatementTree, DeclareTree, AssignTree, ReceiveTree, SendTree, ThrownTree, ProcedureTree, ItemTree, ChannelItem, ProcedureItem, ProgramTree}
-use Rattle.syntax.specs.Nodes as written
+use Rattle.straight_line.specs.declared.tree.BinaryOperator.TheVariants.{Add}
+use Rattle.syntax.specs.Tree.{ThrownTree}
+use Rattle.straight_line.specs.Tree.{ExpressionTree, IntegerTree, VariableTree, BinaryTree, RightTree, ReceivedTree, ValueTree, StatementTree, DeclareTree, AssignTree, ReceiveTree, SendTree, ProcedureTree, ItemTree, ChannelItem, ProcedureItem, ProgramTree}
+use Rattle.syntax.specs.Nodes.{thrown_nodes}
+use Rattle.straight_line.specs.Nodes as written
 use Rattle.resolved.specs.Program.{ChannelEntry}
 use Rattle.resolved.specs.WellFormed.{expression_nodes, statement_nodes, block_nodes, label_nodes, procedure_nodes, program_nodes}
 use Rattle.types.specs.Scope.{Declaration, look_up, top_scope, Place, body_begin, behind}
@@ -49,9 +51,9 @@ body_shorter h place (SendTree at channel value ∷ rest) =
       sum_by-cons written.statement_nodes (SendTree at channel value) rest,
     )
 
-throws_shorter : (throws : List ThrownTree) → length throws ≤ sum_by written.thrown_nodes throws
+throws_shorter : (throws : List ThrownTree) → length throws ≤ sum_by thrown_nodes throws
 throws_shorter [] = omega arith
-throws_shorter (thrown ∷ rest) = omega (arith, throws_shorter rest, sum_by-cons written.thrown_nodes thrown rest)
+throws_shorter (thrown ∷ rest) = omega (arith, throws_shorter rest, sum_by-cons thrown_nodes thrown rest)
 
 procedure_shorter : (h : PrincipalHierarchy) (top : List Declaration) (procedure : ProcedureTree)
     → procedure_nodes (procedure_of h top procedure) ≤ written.item_nodes (ProcedureItem procedure)

@@ -5,9 +5,10 @@ use Rattle.std.specs.List.{AllZip}
 use Rattle.std.proofs.lemmas.List.Elements.{All-nil, All-cons, All-weaker}
 use Rattle.std.proofs.lemmas.List.Kept.{AllPairs-cons}
 use Rattle.principals.specs.ActsFor.{PrincipalHierarchy, AllDifferent}
-use Rattle.syntax.specs.declared.tree.BinaryOperator.TheVariants.{Add}
-use Rattle.syntax.specs.Tree.{NameTree, ExpressionTree, IntegerTree, VariableTree, BinaryTree, RightTree, ReceivedTree, ValueTree, StatementTree, DeclareTree, AssignTree, ReceiveTree, SendTree, ThrownTree, ProcedureTree, ItemTree, ChannelItem, ProcedureItem, ProgramTree}
-use Rattle.syntax.specs.Written.{procedures_of}
+use Rattle.straight_line.specs.declared.tree.BinaryOperator.TheVariants.{Add}
+use Rattle.syntax.specs.Tree.{NameTree, ThrownTree}
+use Rattle.straight_line.specs.Tree.{ExpressionTree, IntegerTree, VariableTree, BinaryTree, RightTree, ReceivedTree, ValueTree, StatementTree, DeclareTree, AssignTree, ReceiveTree, SendTree, ProcedureTree, ItemTree, ChannelItem, ProcedureItem, ProgramTree}
+use Rattle.straight_line.specs.Written.{procedures_of}
 use Rattle.resolved.specs.declared.expression.Base.TheVariants.{Int}
 use Rattle.resolved.specs.declared.tables.Direction.TheVariants as ways
 use Rattle.resolved.specs.Program.{ChannelEntry, SlotEntry}

@@ -5,7 +5,7 @@ use Rattle.std.proofs.lemmas.Slice.Eq.{bytes_eq-Decides}
 use Rattle.principals.specs.ActsFor.{PrincipalHierarchy}
 use Rattle.syntax.specs.declared.tree.Direction.{Direction}
 use Rattle.syntax.specs.declared.tree.Direction.TheVariants as directions
-use Rattle.syntax.specs.Tree.{ItemTree, ChannelItem, ProcedureItem, ProgramTree}
+use Rattle.straight_line.specs.Tree.{ItemTree, ChannelItem, ProcedureItem, ProgramTree}
 use Rattle.resolved.specs.declared.tables.Direction.{Direction as Way}
 use Rattle.resolved.specs.declared.tables.Direction.TheVariants as ways
 use Rattle.resolved.specs.Program.{ChannelEntry, ProcedureEntry, SlotEntry}

@@ -2,7 +2,8 @@
 use Rattle.std.proofs.Common.{◌≡◌, refl, ℕ, List, [], ◌∷◌, ◌++◌, Bool, true, false}
 use Rattle.std.specs.Prelude.{Option, Some, None, flat_map, codes}
 use Rattle.principals.specs.ActsFor.{PrincipalHierarchy}
-use Rattle.syntax.specs.Tree.{NameTree, ProgramTree}
+use Rattle.syntax.specs.Tree.{NameTree}
+use Rattle.straight_line.specs.Tree.{ProgramTree}
 use Rattle.types.specs.declared.fault.Refusal.{Refusal}
 use Rattle.types.specs.declared.scope.Meaning.{Meaning}
 use Rattle.types.specs.declared.scope.Meaning.TheVariants as meanings

@@ -4,8 +4,10 @@ use Rattle.std.specs.Prelude.{Option, Some, None, All, IsTrue, is_none, is_some,
 use Rattle.std.specs.List.{list_any}
 use Rattle.std.proofs.lemmas.List.Elements.{All-nil, All-cons, All-head, All-tail}
 use Rattle.principals.specs.ActsFor.{PrincipalHierarchy, number_of}
-use Rattle.syntax.specs.Tree.{NameTree, PolicyTree, LabelTree, ExpressionTree, IntegerTree, VariableTree, BinaryTree, RightTree, ReceivedTree, ValueTree, StatementTree, DeclareTree, AssignTree, ReceiveTree, SendTree, ThrownTree, ItemTree, ChannelItem, ProcedureItem, ProgramTree}
-use Rattle.syntax.specs.Written.{IsWrittenName, IsWrittenPolicy, IsWrittenLabel, IsWrittenExpression, IsWrittenRight, IsWrittenStatement, IsWrittenThrown, IsWrittenItem, IsWritten}
+use Rattle.syntax.specs.Tree.{NameTree, PolicyTree, LabelTree, ThrownTree}
+use Rattle.straight_line.specs.Tree.{ExpressionTree, IntegerTree, VariableTree, BinaryTree, RightTree, ReceivedTree, ValueTree, StatementTree, DeclareTree, AssignTree, ReceiveTree, SendTree, ItemTree, ChannelItem, ProcedureItem, ProgramTree}
+use Rattle.syntax.specs.Written.{IsWrittenName, IsWrittenPolicy, IsWrittenLabel, IsWrittenThrown}
+use Rattle.straight_line.specs.Written.{IsWrittenExpression, IsWrittenRight, IsWrittenStatement, IsWrittenItem, IsWritten}
 use Rattle.resolved.specs.Tree.{place_of}
 use Rattle.resolved.specs.Program.{ProcedureEntry}
 use Rattle.resolved.specs.WellFormed.{cell_limit}

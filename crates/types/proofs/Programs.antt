@@ -3,7 +3,8 @@ use Rattle.std.proofs.Common.{◌≡◌, ℕ, ◌+◌, List, [], ◌∷◌, ◌+
 use Rattle.std.specs.declared.alloc.Global.{Global}
 use Rattle.std.specs.Prelude.{String, flat_map, not, nat_le, codes}
 use Rattle.principals.specs.ActsFor.{PrincipalHierarchy}
-use Rattle.syntax.specs.Tree.{StatementTree, DeclareTree, AssignTree, ReceiveTree, SendTree, ProcedureTree, ChannelTree, ItemTree, ChannelItem, ProcedureItem, ProgramTree}
+use Rattle.syntax.specs.Tree.{ChannelTree}
+use Rattle.straight_line.specs.Tree.{StatementTree, DeclareTree, AssignTree, ReceiveTree, SendTree, ProcedureTree, ItemTree, ChannelItem, ProcedureItem, ProgramTree}
 use Rattle.resolved.specs.Program.{Program}
 use Rattle.resolved.specs.declared.tables.Channel.{Channel}
 use Rattle.resolved.specs.declared.tables.GlobalVariable.{GlobalVariable}

@@ -2,11 +2,11 @@
 use Rattle.std.proofs.Common.{◌≡◌, ℕ, ◌<◌, ◌≤◌, List, [], ◌∷◌, map, length, get_or, sym, ◌∙◌, ap, subst, sum_by, arith}
 use Rattle.std.proofs.lemmas.List.{length-map, get_or-map}
 use Rattle.std.proofs.lemmas.List.Sums.{sum_by-cons, get_or-le-sum_by}
-use Rattle.syntax.specs.declared.tree.Item.{Item}
-use Rattle.syntax.specs.declared.tree.Item.TheVariants as items
-use Rattle.syntax.specs.declared.tree.Procedure.{Procedure}
-use Rattle.syntax.specs.Nodes.{statement_nodes, item_nodes}
-use Rattle.syntax.specs.Tree.{StatementTree, DeclareTree, AssignTree, ReceiveTree, SendTree, ItemTree, ChannelItem, ProcedureItem, statement_tree, item_tree}
+use Rattle.straight_line.specs.declared.tree.Item.{Item}
+use Rattle.straight_line.specs.declared.tree.Item.TheVariants as items
+use Rattle.straight_line.specs.declared.tree.Procedure.{Procedure}
+use Rattle.straight_line.specs.Nodes.{statement_nodes, item_nodes}
+use Rattle.straight_line.specs.Tree.{StatementTree, DeclareTree, AssignTree, ReceiveTree, SendTree, ItemTree, ChannelItem, ProcedureItem, statement_tree, item_tree}
 
 length_within : {X : Type 0} (f : X → ℕ) → ((x : X) → 1 ≤ f x) → (xs : List X) → length xs ≤ sum_by f xs
 length_within f one [] = omega arith

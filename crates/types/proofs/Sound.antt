@@ -6,9 +6,9 @@ use Rattle.std.proofs.lemmas.Bool.{le-leb}
 use Rattle.std.proofs.lemmas.List.Elements.{All-head, All-tail}
 use Rattle.std.proofs.lemmas.List.Sums.{sum_by-cons}
 use Rattle.principals.specs.ActsFor.{PrincipalHierarchy, IsHierarchy}
-use Rattle.syntax.specs.Tree.{StatementTree, DeclareTree, AssignTree, ReceiveTree, SendTree, ProcedureTree, ItemTree, ChannelItem, ProcedureItem, ProgramTree}
-use Rattle.syntax.specs.Written.{IsWrittenItem, IsWritten}
-use Rattle.syntax.specs.Nodes.{program_nodes as written_nodes}
+use Rattle.straight_line.specs.Tree.{StatementTree, DeclareTree, AssignTree, ReceiveTree, SendTree, ProcedureTree, ItemTree, ChannelItem, ProcedureItem, ProgramTree}
+use Rattle.straight_line.specs.Written.{IsWrittenItem, IsWritten}
+use Rattle.straight_line.specs.Nodes.{program_nodes as written_nodes}
 use Rattle.resolved.specs.declared.expression.Base.TheVariants.{Int}
 use Rattle.resolved.specs.Program.{ChannelEntry, ProcedureEntry, SlotEntry}
 use Rattle.resolved.specs.WellFormed.{size_fits, written_fits, cell_count, cell_limit, label_fits, block_loops, counts_from, procedure_fits, principal_limit, main_fits, program_nodes, node_limit, well_formed}

@@ -4,9 +4,9 @@ use Rattle.std.specs.Prelude.{Some, slice_get, flat_map, map, ◌==◌}
 use Rattle.std.specs.List.{list_all}
 use Rattle.std.proofs.lemmas.Bool.{eq-eqb}
 use Rattle.principals.specs.ActsFor.{PrincipalHierarchy}
-use Rattle.syntax.specs.declared.tree.BinaryOperator.TheVariants.{Add}
-use Rattle.syntax.specs.Tree.{ExpressionTree, IntegerTree, VariableTree, BinaryTree, RightTree, ReceivedTree, ValueTree, StatementTree, DeclareTree, AssignTree, ReceiveTree, SendTree, ProcedureTree, ItemTree, ChannelItem, ProcedureItem}
-use Rattle.syntax.specs.Written.{procedures_of}
+use Rattle.straight_line.specs.declared.tree.BinaryOperator.TheVariants.{Add}
+use Rattle.straight_line.specs.Tree.{ExpressionTree, IntegerTree, VariableTree, BinaryTree, RightTree, ReceivedTree, ValueTree, StatementTree, DeclareTree, AssignTree, ReceiveTree, SendTree, ProcedureTree, ItemTree, ChannelItem, ProcedureItem}
+use Rattle.straight_line.specs.Written.{procedures_of}
 use Rattle.resolved.specs.Program.{ProcedureEntry}
 use Rattle.resolved.specs.StraightLine.{is_sum, is_straight_statement, is_straight_block, is_labelled_int, is_straight_procedure, is_only_procedure}
 use Rattle.resolved.proofs.Parts.{both_back}

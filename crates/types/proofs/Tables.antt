@@ -4,7 +4,8 @@ use Rattle.std.specs.Prelude.{bytes_eq, string_bytes, String}
 use Rattle.std.specs.HashMap.{HashMap}
 use Rattle.std.specs.Map.{lookup}
 use Rattle.std.specs.declared.alloc.Global.{Global}
-use Rattle.syntax.specs.Tree.{ChannelTree, ProcedureTree, ChannelItem, ProcedureItem}
+use Rattle.syntax.specs.Tree.{ChannelTree}
+use Rattle.straight_line.specs.Tree.{ProcedureTree, ChannelItem, ProcedureItem}
 use Rattle.types.specs.declared.scope.Meaning.{Meaning}
 use Rattle.types.specs.declared.scope.Meaning.TheVariants as meanings
 use Rattle.types.specs.FirstFault.{Fault}

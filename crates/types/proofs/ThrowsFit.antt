@@ -6,7 +6,8 @@ use Rattle.std.specs.List.{list_all, list_any}
 use Rattle.std.proofs.lemmas.Bool.{eq-eqb, eqb-true, lt-ltb}
 use Rattle.std.proofs.lemmas.Option.{slice_get_within}
 use Rattle.principals.specs.ActsFor.{PrincipalHierarchy}
-use Rattle.syntax.specs.Tree.{ThrownTree, ProgramTree}
+use Rattle.syntax.specs.Tree.{ThrownTree}
+use Rattle.straight_line.specs.Tree.{ProgramTree}
 use Rattle.resolved.specs.Program.{ThrownEntry}
 use Rattle.resolved.specs.WellFormed.{is_exception, label_fits, throws_fit}
 use Rattle.resolved.proofs.Parts.{both_back}

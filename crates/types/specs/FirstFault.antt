@@ -3,7 +3,8 @@
 use Rattle.std.specs.Prelude.{◌≡◌, ℕ, List, [], ◌∷◌, ◌++◌, Bool, true, false, not, ◌==◌, flat_map, if◌then◌else◌, Option, Some, None, is_some, is_none, nat_le, codes}
 use Rattle.std.specs.List.{list_any}
 use Rattle.principals.specs.ActsFor.{PrincipalHierarchy, number_of}
-use Rattle.syntax.specs.Tree.{NameTree, PolicyTree, LabelTree, ExpressionTree, IntegerTree, VariableTree, BinaryTree, RightTree, ReceivedTree, ValueTree, StatementTree, DeclareTree, AssignTree, ReceiveTree, SendTree, ThrownTree, ItemTree, ChannelItem, ProcedureItem, ProgramTree}
+use Rattle.syntax.specs.Tree.{NameTree, PolicyTree, LabelTree, ThrownTree}
+use Rattle.straight_line.specs.Tree.{ExpressionTree, IntegerTree, VariableTree, BinaryTree, RightTree, ReceivedTree, ValueTree, StatementTree, DeclareTree, AssignTree, ReceiveTree, SendTree, ItemTree, ChannelItem, ProcedureItem, ProgramTree}
 use Rattle.resolved.specs.WellFormed.{cell_limit}
 use Rattle.types.specs.declared.fault.Refusal.{Refusal}
 use Rattle.types.specs.declared.fault.Refusal.TheVariants as refusals

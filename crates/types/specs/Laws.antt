@@ -3,8 +3,8 @@
 use Rattle.std.specs.Prelude.{◌≡◌, ℕ, ◌≤◌, ◌++◌, map, length, All, Bool, None, Some, IsTrue, codes}
 use Rattle.std.specs.List.{AllZip}
 use Rattle.principals.specs.ActsFor.{PrincipalHierarchy, AllDifferent}
-use Rattle.syntax.specs.Tree.{ProgramTree}
-use Rattle.syntax.specs.Written.{IsWritten, procedures_of}
+use Rattle.straight_line.specs.Tree.{ProgramTree}
+use Rattle.straight_line.specs.Written.{IsWritten, procedures_of}
 use Rattle.resolved.specs.Tree.{Block, Empty, Then, place_of}
 use Rattle.resolved.specs.Program.{ChannelEntry, ProcedureEntry}
 use Rattle.resolved.specs.StraightLine.{is_straight_line}

@@ -1,4 +1,4 @@
-pub use Rattle.syntax.specs.Tree
+pub use Rattle.straight_line.specs.Tree
 pub use Rattle.resolved.specs.CoreOf
 pub mod Scope
 pub mod FirstFault

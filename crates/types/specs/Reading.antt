@@ -3,8 +3,9 @@
 use Rattle.std.specs.Prelude.{◌≡◌, ℕ, List, [], ◌∷◌, map, Some, None, slice_get, codes}
 use Rattle.std.specs.List.{AllZip}
 use Rattle.principals.specs.ActsFor.{AllDifferent}
-use Rattle.syntax.specs.declared.tree.BinaryOperator.TheVariants.{Add}
-use Rattle.syntax.specs.Tree.{ExpressionTree, IntegerTree, VariableTree, BinaryTree, RightTree, ReceivedTree, ValueTree, StatementTree, DeclareTree, AssignTree, ReceiveTree, SendTree, ThrownTree, ProcedureTree}
+use Rattle.straight_line.specs.declared.tree.BinaryOperator.TheVariants.{Add}
+use Rattle.syntax.specs.Tree.{ThrownTree}
+use Rattle.straight_line.specs.Tree.{ExpressionTree, IntegerTree, VariableTree, BinaryTree, RightTree, ReceivedTree, ValueTree, StatementTree, DeclareTree, AssignTree, ReceiveTree, SendTree, ProcedureTree}
 use Rattle.resolved.specs.declared.expression.Variable.TheVariants.{Local}
 use Rattle.resolved.specs.declared.expression.Operator.TheVariants as operators
 use Rattle.resolved.specs.declared.tables.Direction.{Direction}

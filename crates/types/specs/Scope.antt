@@ -4,7 +4,8 @@
 use Rattle.std.specs.Prelude.{ℕ, ◌+◌, List, [], ◌∷◌, Option, Some, None, if◌then◌else◌, bytes_eq, codes}
 use Rattle.syntax.specs.declared.tree.Direction.{Direction}
 use Rattle.syntax.specs.declared.tree.Direction.TheVariants as directions
-use Rattle.syntax.specs.Tree.{NameTree, ItemTree, ChannelItem, ProcedureItem, ProgramTree, StatementTree, DeclareTree}
+use Rattle.syntax.specs.Tree.{NameTree}
+use Rattle.straight_line.specs.Tree.{ItemTree, ChannelItem, ProcedureItem, ProgramTree, StatementTree, DeclareTree}
 use Rattle.types.specs.declared.scope.Meaning.{Meaning}
 use Rattle.types.specs.declared.scope.Meaning.TheVariants as meanings
 

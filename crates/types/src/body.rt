@@ -2,7 +2,8 @@
 
 ghost use Rattle.std.specs.Prelude.{OnOk, length, map, ◌+◌, ◌<◌, ◌≡◌, ◌≤◌, [], None, Option};
 ghost use Rattle.resolved.specs.TreeOf.{expression_of, statement_of};
-ghost use Rattle.syntax.specs.Tree.{expression_tree, label_tree, name_tree, right_tree, statement_tree};
+ghost use Rattle.syntax.specs.Tree.{label_tree, name_tree};
+ghost use Rattle.straight_line.specs.Tree.{expression_tree, right_tree, statement_tree};
 ghost use Rattle.types.specs.Checks.{Gives, assign_checked, assigned_checked, body_state, declare_checked, declared_behind, expression_checked, found_in, give, receive_checked, send_checked, statement_checked, statements_checked, statements_list};
 
 use crate::fault::TypeFault;
@@ -15,7 +16,8 @@ use resolved::expression::{Base, Expression, Operator, Variable};
 use resolved::statement::Statement;
 use resolved::tables::Slot;
 use std::alloc::Global;
-use syntax::{BinaryOperator, Name, RightSide, WrittenLabel};
+use straight_line::{BinaryOperator, RightSide};
+use syntax::{Name, WrittenLabel};
 
 /// A place in a body: the names of the top level, the locals in scope, and the slots so far.
 #[derive(Drop)]
@@ -57,16 +59,16 @@ impl<'a> Body<'a> {
 
     /// An expression.
     #[tactic(auto, unfolding(crate::specs::Checks::expression_checked))]
-    fn expression(&self, written: &syntax::Expression) -> Result<Expression, TypeFault>
+    fn expression(&self, written: &straight_line::Expression) -> Result<Expression, TypeFault>
         ensures { Gives expression_of result (expression_checked (body_state self.now).find (expression_tree written.now)) }
     {
         match written {
-            syntax::Expression::Integer { value, .. } => Ok(Expression::Integer(*value)),
-            syntax::Expression::Variable(name) => {
+            straight_line::Expression::Integer { value, .. } => Ok(Expression::Integer(*value)),
+            straight_line::Expression::Variable(name) => {
                 let slot = local(self.meaning(name), name.at)?;
                 Ok(Expression::Read(Variable::Local(slot)))
             }
-            syntax::Expression::Binary {
+            straight_line::Expression::Binary {
                 operator: BinaryOperator::Add,
                 left,
                 right,
@@ -158,7 +160,7 @@ impl<'a> Body<'a> {
         &self,
         at: usize,
         channel: &Name,
-        value: &syntax::Expression,
+        value: &straight_line::Expression,
     ) -> Result<Statement, TypeFault>
         ensures { Gives statement_of result (send_checked (body_state self.now).find at (name_tree channel.now) (expression_tree value.now)) }
     {
@@ -168,26 +170,29 @@ impl<'a> Body<'a> {
 
     /// A statement, which leads to the place behind it.
     #[tactic(auto, unfolding(crate::specs::Checks::statement_checked))]
-    fn statement(&mut self, statement: &syntax::Statement) -> Result<Statement, TypeFault>
+    fn statement(&mut self, statement: &straight_line::Statement) -> Result<Statement, TypeFault>
         requires { length self.old.slots.items < 1048577 }
         ensures grows { OnOk result (length self.new.slots.items ≤ length self.old.slots.items + 1) }
         ensures made { Gives (λ made. (body_state self.new, statement_of made)) result (statement_checked (body_state self.old) (statement_tree statement.now)) }
     {
         match statement {
-            syntax::Statement::Declare {
+            straight_line::Statement::Declare {
                 at,
                 label,
                 name,
                 value,
             } => self.declare(*at, label, name, value),
-            syntax::Statement::Assign { target, value } => self.assign(target, value),
-            syntax::Statement::Receive { at, channel } => self.receive(*at, channel),
-            syntax::Statement::Send { at, channel, value } => self.send(*at, channel, value),
+            straight_line::Statement::Assign { target, value } => self.assign(target, value),
+            straight_line::Statement::Receive { at, channel } => self.receive(*at, channel),
+            straight_line::Statement::Send { at, channel, value } => self.send(*at, channel, value),
         }
     }
 
     /// Statements in a row.
-    pub fn statements(&mut self, written: &[syntax::Statement]) -> Result<Vec<Statement>, TypeFault>
+    pub fn statements(
+        &mut self,
+        written: &[straight_line::Statement],
+    ) -> Result<Vec<Statement>, TypeFault>
         requires { length self.old.slots.items + length written.now ≤ 1048577 }
         ensures { Gives (λ made. (body_state self.new, statements_list made)) result (statements_checked (body_state self.old) (map statement_tree written.now)) }
     {

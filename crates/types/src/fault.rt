@@ -27,7 +27,7 @@ pub enum Refusal {
     TooManyCells,
 }
 
-/// Why a syntax tree gave no resolved one.
+/// Why a straight-line program gave no resolved one.
 #[derive(Clone, Copy, Debug, PartialEq, Eq, Drop, Error)]
 pub enum TypeFault {
     /// Memory was refused.

@@ -1,4 +1,4 @@
-//! Names, base types and sizes: from a syntax tree to a resolved program.
+//! Names, base types and sizes: from a straight-line program to a resolved one.
 #![tactic(auto)]
 
 mod body;

@@ -2,7 +2,8 @@
 
 ghost use Rattle.std.specs.Prelude.{IfOk, length, map, ◌≡◌, ◌≤◌, [], List, ℕ};
 ghost use Rattle.resolved.specs.ProgramOf.{procedure_entry, thrown_entry};
-ghost use Rattle.syntax.specs.Tree.{procedure_tree, thrown_tree};
+ghost use Rattle.syntax.specs.Tree.{thrown_tree};
+ghost use Rattle.straight_line.specs.Tree.{procedure_tree};
 ghost use Rattle.types.specs.Checks.{Gives, found_in, name_checked, procedure_checked, throws_checked, throws_list};
 ghost use Rattle.types.specs.Resolution.{joined_all};
 
@@ -65,7 +66,7 @@ pub fn procedure(
     alloc: Global,
     hierarchy: &Hierarchy,
     top: &IndexMap<String, Meaning>,
-    written: &syntax::Procedure,
+    written: &straight_line::Procedure,
 ) -> Result<Procedure, TypeFault>
     requires { length written.now.body.statements.items ≤ 1048577 }
     ensures { Gives procedure_entry result (procedure_checked hierarchy.now (λ (name : List ℕ). found_in top.now name) (procedure_tree written.now)) }

@@ -3,9 +3,9 @@
 ghost use Rattle.std.specs.Prelude.{[], IfErr, IfOk, None, Some, map, sum_by, ◌≡◌, ◌≤◌, List, ℕ};
 ghost use Rattle.resolved.specs.CoreOf.{program_of};
 ghost use Rattle.resolved.specs.ProgramOf.{channel_entry, procedure_entry, program_from};
-ghost use Rattle.syntax.specs.Nodes.{item_nodes, program_nodes};
-ghost use Rattle.syntax.specs.Tree.{channel_tree, item_tree, program_tree};
-ghost use Rattle.syntax.specs.Written.{IsWritten};
+ghost use Rattle.straight_line.specs.Nodes.{item_nodes};
+ghost use Rattle.syntax.specs.Tree.{channel_tree};
+ghost use Rattle.straight_line.specs.Tree.{item_tree, program_tree};
 ghost use Rattle.types.specs.Checks.{Gives, cells_checked, channel_checked, entries_of, found_in, items_checked, itself, main_checked, program_checked};
 ghost use Rattle.types.specs.FirstFault.{IsTold, first_fault};
 ghost use Rattle.types.specs.Resolution.{resolved_of};
@@ -20,7 +20,7 @@ use principals::Hierarchy;
 use resolved::program::Core;
 use resolved::tables::{Channel, Direction, Procedure};
 use std::alloc::Global;
-use syntax::Item;
+use straight_line::Item;
 
 /// How many cells the locals of a procedure may have.
 pub const MAX_CELLS: usize = 1_048_576;
@@ -115,21 +115,17 @@ fn parts_of(alloc: Global, hierarchy: &Hierarchy, written: &[Item]) -> Result<Pa
     })
 }
 
-/// The resolved program that a syntax tree stands for under a hierarchy: names give way to numbers, and labels to their canonical
-/// forms. The tree owes to be that of a text: few nodes, names that are names, literals that are small enough, and at most one
-/// procedure.
+/// The resolved program that a straight-line program stands for under a hierarchy: names give way to numbers, and labels to their
+/// canonical forms.
 ///
 /// # Errors
 ///
-/// The first fault in the order in which the rules look, or want of memory.
+/// The first fault in the order in which the rules look; or out of memory.
 pub fn resolve(
     alloc: Global,
-    tree: syntax::Program,
+    tree: straight_line::Program,
     hierarchy: &Hierarchy,
 ) -> Result<Core, TypeFault>
-    requires few { program_nodes (program_tree tree) ≤ 1048577 }
-    requires written { IsWritten (λ _. Unit {0}) 1048576 (program_tree tree) }
-
     // Where there is an answer, the program has no fault.
     ensures clean { IfOk result (λ core. first_fault hierarchy.now (program_tree tree) ≡ None) }
 
@@ -144,7 +140,7 @@ pub fn resolve(
         channels,
         procedures,
         main,
-    } = parts_of(alloc, hierarchy, tree.items.as_slice())?;
+    } = parts_of(alloc, hierarchy, tree.items())?;
     Ok(Core {
         hierarchy: hierarchy.clone()?,
         channels,

@@ -1,7 +1,7 @@
 //! The top level of a program.
 
 ghost use Rattle.std.specs.Prelude.{OnOk, length, map, ◌+◌, ◌<◌, ◌≡◌, ◌≤◌};
-ghost use Rattle.syntax.specs.Tree.{item_tree};
+ghost use Rattle.straight_line.specs.Tree.{item_tree};
 ghost use Rattle.types.specs.Scope.{channel_meaning};
 ghost use Rattle.types.specs.Checks.{Gives, give, next_name, top_begin, top_checked, top_state};
 
@@ -9,7 +9,8 @@ use crate::fault::TypeFault;
 use crate::scope::{Meaning, find, fresh, insert};
 use indexmap::IndexMap;
 use std::alloc::Global;
-use syntax::{Direction, Item};
+use straight_line::Item;
+use syntax::Direction;
 
 /// What the names of the top level stand for, and how many channels and procedures there are.
 #[derive(Drop)]

@@ -1,5 +1,5 @@
-use Rattle.std.proofs.Common.{◌≡◌, refl, sym, ap, ◌∙◌, subst, inr, arith, Some, None, IsTrue}
-use Rattle.syntax.specs.Tree.{program_tree}
+use Rattle.std.proofs.Common.{◌≡◌, refl, sym, ap, ◌∙◌, subst, inr, Some, None, IsTrue}
+use Rattle.straight_line.specs.Tree.{program_tree}
 use Rattle.resolved.specs.CoreOf.{program_of}
 use Rattle.resolved.specs.EndFaults.{end_faults}
 use Rattle.resolved.specs.StraightLine.{is_straight_line}
@@ -10,20 +10,11 @@ use Rattle.resolved.specs.Labelled.{Labelled}
 use Rattle.types.specs.Resolution.{resolved_of}
 use Rattle.checker.specs.FirstDemand.{ReportsUnmet, ReportsRefusal, RulesOut}
 use Rattle.checker.specs.declared.refusal.FlowRefusal.TheVariants.{Unmet}
-use Rattle.checker.proofs.Checking.{of_tree, written_anywhere, names_boundary, straight_here, end_boundary, demand_boundary, names_told}
-use Rattle.checker.proofs.Reading.{tree_nodes}
+use Rattle.checker.proofs.Checking.{of_tree, names_boundary, straight_here, end_boundary, demand_boundary, names_told}
 use Rattle.checker.proofs.phases.check.Goals as goal
 
 pub returns-in-Err-clause-refused : goal.returns-in-Err-clause-refused
 returns-in-Err-clause-refused c = c.in-Err.ensures.refused c.args.hierarchy.now
-
-pub resolve-requires-clause-few : goal.resolve-requires-clause-few
-resolve-requires-clause-few c =
-    omega (arith, c.in-Ok.ensures.short, tree_nodes c.args.source.now (program_tree c.in-Ok.tree) c.utf8.source c.in-Ok.ensures.spelled)
-
-pub resolve-requires-clause-written : goal.resolve-requires-clause-written
-resolve-requires-clause-written c =
-    written_anywhere c.args.hierarchy.now c.args.source.now (program_tree c.in-Ok.tree) c.utf8.source c.in-Ok.ensures.short c.in-Ok.ensures.spelled
 
 pub refused-requires : goal.refused-requires
 refused-requires c =

@@ -1,6 +1,6 @@
 use Rattle.std.proofs.Common.{map}
 use Rattle.resolved.specs.ProgramOf.{channel_entry, procedure_entry}
-use Rattle.syntax.specs.Tree.{item_tree}
+use Rattle.straight_line.specs.Tree.{item_tree}
 use Rattle.types.specs.Checks.{found_in, next_item, items_checked}
 use Rattle.types.proofs.Loops.{GoesOn}
 use Rattle.types.proofs.program.items.Given as goal

@@ -1,5 +1,5 @@
 use Rattle.std.proofs.Common.{◌+◌, ◌≤◌, length, map}
-use Rattle.syntax.specs.Tree.{statement_tree}
+use Rattle.straight_line.specs.Tree.{statement_tree}
 use Rattle.types.specs.Checks.{next_statement, statements_checked, statements_list, body_state}
 use Rattle.types.proofs.Loops.{GoesOn}
 use Rattle.types.proofs.body.Body.statements.Given as goal

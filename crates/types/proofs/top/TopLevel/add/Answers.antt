@@ -1,4 +1,5 @@
-use Rattle.syntax.specs.Tree.{channel_tree, procedure_tree}
+use Rattle.syntax.specs.Tree.{channel_tree}
+use Rattle.straight_line.specs.Tree.{procedure_tree}
 use Rattle.types.specs.Checks.{top_state}
 use Rattle.types.proofs.Tables.{channel_named, procedure_named}
 use Rattle.std.proofs.Common.{refl}

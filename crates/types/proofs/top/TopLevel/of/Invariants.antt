@@ -1,5 +1,5 @@
 use Rattle.std.proofs.Common.{◌+◌, ◌≤◌, map}
-use Rattle.syntax.specs.Tree.{item_tree}
+use Rattle.straight_line.specs.Tree.{item_tree}
 use Rattle.types.specs.Checks.{next_name, top_checked, top_state}
 use Rattle.types.proofs.Loops.{GoesOn}
 use Rattle.types.proofs.top.TopLevel.of.Given as goal

@@ -1,0 +1,445 @@
+-- Statements and blocks fit, and so do the trees of all symbols.
+use Rattle.std.proofs.Common.{◌≡◌, ℕ, pred, ◌+◌, ◌≤◌, ◌<◌, List, [], ◌∷◌, sym, subst, inl, inr, sum_by, arith}
+use Rattle.std.specs.Prelude.{Option, None, Some}
+use Rattle.std.specs.List.{All}
+use Rattle.lexer.specs.declared.token.Kind.{Kind}
+use Rattle.lexer.specs.declared.token.Kind.TheVariants as kinds
+use Rattle.syntax.specs.declared.tree.BaseType.{BaseType}
+use Rattle.syntax.specs.Form.{Form, level, ◌·◌, only}
+use Rattle.syntax.specs.Grammar.{at, ◌▸◌, ◌◂◌, base, optional_label, name, index, expression, call, right, block, condition, otherwise, catch, catches, first_with, declare_with, behind_with, named_with, receive, send, conditional, while_statement, break_statement, continue_statement, throw_statement, returned, return_statement, attempt, nested, statement, production}
+use Rattle.syntax.specs.Nesting.{IsNestedExpression, IsNestedOptionalExpression, IsNestedCall, IsNestedRight, IsNestedStatement, IsNestedBlock, AreNestedCatches}
+use Rattle.syntax.specs.Nodes.{optional_label_nodes, expression_nodes, optional_expression_nodes, call_nodes, right_nodes, statement_nodes, block_nodes, catches_nodes}
+use Rattle.syntax.specs.Symbol.{Symbol, Expression, Unary, Operands, Arguments, Statements, tree_of}
+use Rattle.syntax.specs.Tree.{NameTree, LabelTree, ExpressionTree, CallTree, RightTree, FirstTree, FirstValue, FirstSize, BehindTree, AssignedTree, AtIndexTree, ArgumentsTree, local_tree, named_tree, StatementTree, BlockTree, CatchTree, if_tree, catches_of}
+use Rattle.syntax.specs.Written.{IsWrittenName, IsWrittenOptionalLabel, IsWrittenExpression, IsWrittenOptionalExpression, IsWrittenCall, IsWrittenRight, IsWrittenSize, IsWrittenStatement, IsWrittenBlock, AreWrittenCatches}
+use Rattle.parser.proofs.Holds.{Each}
+use Rattle.parser.proofs.Fits.{Fit, Fits, Has, FitStatements, from_at, from_after, from_before}
+use Rattle.parser.proofs.FitLabels.{name_fits, optional_label_fits, base_fits, size_fits}
+use Rattle.parser.proofs.FitExpressions.{others_fit, index_fits, expression_fits, operand_fits, unary_symbol_fits, expressions_fit, arguments_fit}
+
+-- the nodes of what is only read as a piece of a statement
+abbrev first_nodes : FirstTree → ℕ
+first_nodes (FirstValue value) = right_nodes value
+first_nodes (FirstSize size) = 1
+
+abbrev behind_nodes : BehindTree → ℕ
+behind_nodes (AssignedTree value) = right_nodes value
+behind_nodes (AtIndexTree index value) = expression_nodes index + expression_nodes value
+behind_nodes (ArgumentsTree arguments) = 1 + sum_by expression_nodes arguments
+
+abbrev otherwise_nodes : Option BlockTree → ℕ
+otherwise_nodes None = 0
+otherwise_nodes (Some body) = block_nodes body
+
+module _ (fits : ℕ → Type 0) (longest room : ℕ) where
+  abbrev Having : {A : Type 0} → Form A → A → ℕ → Type 0
+  Having F tree k = Has fits longest room F tree k
+
+  abbrev FitCall : CallTree → ℕ → Type 0
+  FitCall tree k = Fit (IsWrittenCall fits longest tree) (call_nodes tree) (IsNestedCall room tree) k
+
+  abbrev FitRight : RightTree → ℕ → Type 0
+  FitRight tree k = Fit (IsWrittenRight fits longest tree) (right_nodes tree) (IsNestedRight room tree) k
+
+  abbrev FitBlock : BlockTree → ℕ → Type 0
+  FitBlock tree k = Fit (IsWrittenBlock fits longest tree) (1 + block_nodes tree) (IsNestedBlock room tree) k
+
+  abbrev FitStatement : StatementTree → ℕ → Type 0
+  FitStatement tree k = Fit (IsWrittenStatement fits longest tree) (statement_nodes tree) (IsNestedStatement room tree) k
+
+  call_fits : (tree : CallTree) (k : ℕ) → Having call tree k → FitCall tree k
+  unfolding call
+  call_fits tree k h =
+      let both = h.1 in
+      let named = name_fits fits longest room h.0.0 both.0 both.2 in
+      let list = arguments_fit fits longest room h.0.1 both.1 both.3 in
+      subst (λ t. FitCall t k) (sym h.2) (record {
+        written = (named.written, list.written);
+        few = omega (arith, list.few, named.few, both.4);
+        nested = list.nested;
+      })
+
+  -- a keyword and a name
+  keyed : (kind : Kind) (pair : ℕ × NameTree) (k : ℕ) → Having (at kind · name) pair k → fits pair.0 × IsWrittenName fits longest pair.1 × (2 ≤ k)
+  keyed kind pair k h =
+      let word = from_at fits longest room kind pair.0 h.0 h.2 in
+      let named = name_fits fits longest room pair.1 h.1 h.3 in
+      (word.0, named.written, omega (arith, word.1, named.few, h.4))
+
+  pub right_fits : (tree : RightTree) (k : ℕ) → Having right tree k → FitRight tree k
+  unfolding right
+  right_fits tree k h = elim h [
+    | inl one ↦
+        let both = keyed kinds.Receive one.0 k one.1 in
+        subst (λ t. FitRight t k) (sym one.2) (record { written = (both.0, both.1); few = both.2; nested = tt })
+    | inr h ↦ elim h [
+      | inl one ↦
+          let inner = call_fits one.0 k one.1 in
+          subst (λ t. FitRight t k) (sym one.2) (record { written = inner.written; few = inner.few; nested = inner.nested })
+      | inr one ↦
+          let inner = expression_fits fits longest room one.0 k one.1 in
+          subst (λ t. FitRight t k) (sym one.2) (record { written = inner.written; few = inner.few; nested = inner.nested })
+    ]
+  ]
+
+  pub block_fits : (tree : BlockTree) (k : ℕ) → Having block tree k → FitBlock tree k
+  unfolding block
+  block_fits tree k h =
+      let front = from_before fits longest room (level (only kinds.OpenBrace) Statements) kinds.CloseBrace h.0 k h.1 in
+      let inner = front.1.3 in
+      subst (λ t. FitBlock t k) (sym h.2) (record {
+        written = (front.1.2.place, inner.written);
+        few = omega (arith, inner.few, front.1.4, front.2);
+        nested = (front.1.1, inner.nested);
+      })
+
+  condition_fits : (tree : ExpressionTree) (k : ℕ) → Having condition tree k → Fit (IsWrittenExpression fits longest tree) (2 + expression_nodes tree) (IsNestedExpression room tree) k
+  unfolding condition
+  condition_fits tree k h =
+      let front = from_before fits longest room (kinds.OpenParenthesis ▸ expression) kinds.CloseParenthesis tree k h in
+      let inner = from_after fits longest room kinds.OpenParenthesis expression tree front.0 front.1 in
+      let one = expression_fits fits longest room tree inner.0 inner.1 in
+      record { written = one.written; few = omega (arith, one.few, inner.2, front.2); nested = one.nested }
+
+  -- what stands behind the name of a local
+  abbrev FirstWritten : FirstTree → Type 0
+  FirstWritten (FirstValue value) = IsWrittenRight fits longest value
+  FirstWritten (FirstSize size) = IsWrittenSize fits longest size
+
+  abbrev FirstNested : FirstTree → Type 0
+  FirstNested (FirstValue value) = IsNestedRight room value
+  FirstNested (FirstSize size) = Unit {0}
+
+  first_fits : (tree : FirstTree) (k : ℕ) → Having (first_with right) tree k → Fit (FirstWritten tree) (1 + first_nodes tree) (FirstNested tree) k
+  first_fits tree k (inl h) =
+      let inner = from_after fits longest room kinds.Assign right h.0 k h.1 in
+      let one = right_fits h.0 inner.0 inner.1 in
+      subst (λ t. Fit (FirstWritten t) (1 + first_nodes t) (FirstNested t) k) (sym h.2) (record { written = one.written; few = omega (arith, one.few, inner.2); nested = one.nested })
+  first_fits tree k (inr h) =
+      let one = size_fits fits longest room h.0 k h.1 in
+      subst (λ t. Fit (FirstWritten t) (1 + first_nodes t) (FirstNested t) k) (sym h.2) (record { written = one.written; few = omega (arith, one.few); nested = tt })
+
+  local_fits : (place : ℕ) (base : BaseType) (label : Option LabelTree) (named : NameTree) (first : FirstTree) (k : ℕ) → fits place → IsWrittenOptionalLabel fits longest label → IsWrittenName fits longest named → Fit (FirstWritten first) (2 + (optional_label_nodes label + first_nodes first)) (FirstNested first) k → FitStatement (local_tree place base label named first) k
+  local_fits place base label named (FirstValue value) k here labelled written one =
+      record { written = (here, labelled, written, one.written); few = omega (arith, one.few); nested = one.nested }
+  local_fits place base label named (FirstSize size) k here labelled written one =
+      record { written = (here, labelled, written, one.written); few = omega (arith, one.few); nested = tt }
+
+  declare_fits : (tree : StatementTree) (k : ℕ) → Having (declare_with right) tree k → FitStatement tree k
+  declare_fits tree k h =
+      let line = from_before fits longest room (base · optional_label · name · first_with right) kinds.Semicolon h.0 k h.1 in
+      let a = line.1 in
+      let b = a.2 in
+      let c = b.2 in
+      let typed = base_fits fits longest room h.0.0.0.0 c.0 c.2 in
+      let labelled = optional_label_fits fits longest room h.0.0.0.1 c.1 c.3 in
+      let named = name_fits fits longest room h.0.0.1 b.1 b.3 in
+      let first = first_fits h.0.1 a.1 a.3 in
+      subst (λ t. FitStatement t k) (sym h.2) (local_fits h.0.0.0.0.0 h.0.0.0.0.1 h.0.0.0.1 h.0.0.1 h.0.1 k typed.0 labelled.written named.written (record {
+        written = first.written;
+        few = omega (arith, typed.1, labelled.few, named.few, first.few, line.2, a.4, b.4, c.4);
+        nested = first.nested;
+      }))
+
+  -- what stands behind the name that a statement begins with
+  abbrev BehindWritten : BehindTree → Type 0
+  BehindWritten (AssignedTree value) = IsWrittenRight fits longest value
+  BehindWritten (AtIndexTree index value) = IsWrittenExpression fits longest index × IsWrittenExpression fits longest value
+  BehindWritten (ArgumentsTree arguments) = All (IsWrittenExpression fits longest) arguments
+
+  abbrev BehindNested : BehindTree → Type 0
+  BehindNested (AssignedTree value) = IsNestedRight room value
+  BehindNested (AtIndexTree index value) = (0 < room) × IsNestedExpression (pred room) index × IsNestedExpression room value
+  BehindNested (ArgumentsTree arguments) = (0 < room) × All (IsNestedExpression (pred room)) arguments
+
+  abbrev FitBehind : BehindTree → ℕ → Type 0
+  FitBehind tree k = Fit (BehindWritten tree) (1 + behind_nodes tree) (BehindNested tree) k
+
+  behind_fits : (tree : BehindTree) (k : ℕ) → Having (behind_with right) tree k → FitBehind tree k
+  behind_fits tree k h = elim h [
+    | inl one ↦
+        let inner = from_after fits longest room kinds.Assign right one.0 k one.1 in
+        let value = right_fits one.0 inner.0 inner.1 in
+        subst (λ t. FitBehind t k) (sym one.2) (record { written = value.written; few = omega (arith, value.few, inner.2); nested = value.nested })
+    | inr h ↦ elim h [
+      | inl one ↦
+          let both = one.1 in
+          let front = from_before fits longest room index kinds.Assign one.0.0 both.0 both.2 in
+          let index = index_fits fits longest room one.0.0 front.0 front.1 in
+          let value = expression_fits fits longest room one.0.1 both.1 both.3 in
+          subst (λ t. FitBehind t k) (sym one.2) (record {
+            written = (index.written, value.written);
+            few = omega (arith, index.few, value.few, front.2, both.4);
+            nested = (index.nested.0, index.nested.1, value.nested);
+          })
+      | inr one ↦
+          let list = arguments_fit fits longest room one.0 k one.1 in
+          subst (λ t. FitBehind t k) (sym one.2) (record { written = list.written; few = omega (arith, list.few); nested = list.nested })
+    ]
+  ]
+
+  with_name : (named : NameTree) (behind : BehindTree) (k : ℕ) → IsWrittenName fits longest named → Fit (BehindWritten behind) (2 + behind_nodes behind) (BehindNested behind) k → FitStatement (named_tree named behind) k
+  with_name named (AssignedTree value) k written one =
+      record { written = (written, one.written); few = omega (arith, one.few); nested = one.nested }
+  with_name named (AtIndexTree index value) k written one =
+      record { written = (written, one.written.0, one.written.1); few = omega (arith, one.few); nested = one.nested }
+  with_name named (ArgumentsTree arguments) k written one =
+      record { written = (written, one.written); few = omega (arith, one.few); nested = one.nested }
+
+  named_fits : (tree : StatementTree) (k : ℕ) → Having (named_with right) tree k → FitStatement tree k
+  named_fits tree k h =
+      let line = from_before fits longest room (name · behind_with right) kinds.Semicolon h.0 k h.1 in
+      let both = line.1 in
+      let named = name_fits fits longest room h.0.0 both.0 both.2 in
+      let behind = behind_fits h.0.1 both.1 both.3 in
+      subst (λ t. FitStatement t k) (sym h.2) (with_name h.0.0 h.0.1 k named.written (record {
+        written = behind.written;
+        few = omega (arith, named.few, behind.few, line.2, both.4);
+        nested = behind.nested;
+      }))
+
+  receive_fits : (tree : StatementTree) (k : ℕ) → Having receive tree k → FitStatement tree k
+  unfolding receive
+  receive_fits tree k h =
+      let line = from_before fits longest room (at kinds.Receive · name) kinds.Semicolon h.0 k h.1 in
+      let both = keyed kinds.Receive h.0 line.0 line.1 in
+      subst (λ t. FitStatement t k) (sym h.2) (record { written = (both.0, both.1); few = omega (arith, both.2, line.2); nested = tt })
+
+  send_fits : (tree : StatementTree) (k : ℕ) → Having send tree k → FitStatement tree k
+  unfolding send
+  send_fits tree k h =
+      let line = from_before fits longest room (at kinds.Send · name ◂ kinds.Comma · expression) kinds.Semicolon h.0 k h.1 in
+      let a = line.1 in
+      let front = from_before fits longest room (at kinds.Send · name) kinds.Comma h.0.0 a.0 a.2 in
+      let both = keyed kinds.Send h.0.0 front.0 front.1 in
+      let value = expression_fits fits longest room h.0.1 a.1 a.3 in
+      subst (λ t. FitStatement t k) (sym h.2) (record {
+        written = (both.0, both.1, value.written);
+        few = omega (arith, both.2, value.few, front.2, a.4, line.2);
+        nested = value.nested;
+      })
+
+  -- an `else`, or none
+  abbrev OtherwiseWritten : Option BlockTree → Type 0
+  OtherwiseWritten None = Unit {0}
+  OtherwiseWritten (Some body) = IsWrittenBlock fits longest body
+
+  abbrev OtherwiseNested : Option BlockTree → Type 0
+  OtherwiseNested None = Unit {0}
+  OtherwiseNested (Some body) = IsNestedBlock room body
+
+  abbrev FitOtherwise : Option BlockTree → ℕ → Type 0
+  FitOtherwise tree k = Fit (OtherwiseWritten tree) (otherwise_nodes tree) (OtherwiseNested tree) k
+
+  otherwise_fits : (tree : Option BlockTree) (k : ℕ) → Having otherwise tree k → FitOtherwise tree k
+  unfolding otherwise
+  otherwise_fits tree k (inl h) =
+      let inner = from_after fits longest room kinds.Else block h.0 k h.1 in
+      let body = block_fits h.0 inner.0 inner.1 in
+      subst (λ t. FitOtherwise t k) (sym h.2) (record { written = body.written; few = omega (arith, body.few, inner.2); nested = body.nested })
+  otherwise_fits tree k (inr h) =
+      subst (λ t. FitOtherwise t k) (sym h.0) (record { written = tt; few = omega arith; nested = tt })
+
+  if_fits : (place : ℕ) (condition : ExpressionTree) (body : BlockTree) (otherwise : Option BlockTree) (k : ℕ) → fits place → IsWrittenExpression fits longest condition → IsNestedExpression room condition → IsWrittenBlock fits longest body → IsNestedBlock room body → Fit (OtherwiseWritten otherwise) (1 + (expression_nodes condition + (block_nodes body + otherwise_nodes otherwise))) (OtherwiseNested otherwise) k → FitStatement (if_tree place condition body otherwise) k
+  if_fits place condition body None k here a b c d one =
+      record { written = (here, a, c); few = omega (arith, one.few); nested = (b, d) }
+  if_fits place condition body (Some otherwise) k here a b c d one =
+      record { written = (here, a, c, one.written); few = omega (arith, one.few); nested = (b, d, one.nested) }
+
+  conditional_fits : (tree : StatementTree) (k : ℕ) → Having conditional tree k → FitStatement tree k
+  unfolding conditional
+  conditional_fits tree k h =
+      let a = h.1 in
+      let b = a.2 in
+      let c = b.2 in
+      let word = from_at fits longest room kinds.If h.0.0.0.0 c.0 c.2 in
+      let test = condition_fits h.0.0.0.1 c.1 c.3 in
+      let body = block_fits h.0.0.1 b.1 b.3 in
+      let other = otherwise_fits h.0.1 a.1 a.3 in
+      subst (λ t. FitStatement t k) (sym h.2) (if_fits h.0.0.0.0 h.0.0.0.1 h.0.0.1 h.0.1 k word.0 test.written test.nested body.written body.nested (record {
+        written = other.written;
+        few = omega (arith, word.1, test.few, body.few, other.few, a.4, b.4, c.4);
+        nested = other.nested;
+      }))
+
+  while_fits : (tree : StatementTree) (k : ℕ) → Having while_statement tree k → FitStatement tree k
+  unfolding while_statement
+  while_fits tree k h =
+      let a = h.1 in
+      let b = a.2 in
+      let word = from_at fits longest room kinds.While h.0.0.0 b.0 b.2 in
+      let test = condition_fits h.0.0.1 b.1 b.3 in
+      let body = block_fits h.0.1 a.1 a.3 in
+      subst (λ t. FitStatement t k) (sym h.2) (record {
+        written = (word.0, test.written, body.written);
+        few = omega (arith, word.1, test.few, body.few, a.4, b.4);
+        nested = (test.nested, body.nested);
+      })
+
+  break_fits : (tree : StatementTree) (k : ℕ) → Having break_statement tree k → FitStatement tree k
+  unfolding break_statement
+  break_fits tree k h =
+      let line = from_before fits longest room (at kinds.Break) kinds.Semicolon h.0 k h.1 in
+      let word = from_at fits longest room kinds.Break h.0 line.0 line.1 in
+      subst (λ t. FitStatement t k) (sym h.2) (record { written = word.0; few = omega (arith, word.1, line.2); nested = tt })
+
+  continue_fits : (tree : StatementTree) (k : ℕ) → Having continue_statement tree k → FitStatement tree k
+  unfolding continue_statement
+  continue_fits tree k h =
+      let line = from_before fits longest room (at kinds.Continue) kinds.Semicolon h.0 k h.1 in
+      let word = from_at fits longest room kinds.Continue h.0 line.0 line.1 in
+      subst (λ t. FitStatement t k) (sym h.2) (record { written = word.0; few = omega (arith, word.1, line.2); nested = tt })
+
+  throw_fits : (tree : StatementTree) (k : ℕ) → Having throw_statement tree k → FitStatement tree k
+  unfolding throw_statement
+  throw_fits tree k h =
+      let line = from_before fits longest room (at kinds.Throw · name) kinds.Semicolon h.0 k h.1 in
+      let both = keyed kinds.Throw h.0 line.0 line.1 in
+      subst (λ t. FitStatement t k) (sym h.2) (record { written = (both.0, both.1); few = omega (arith, both.2, line.2); nested = tt })
+
+  abbrev FitReturned : Option ExpressionTree → ℕ → Type 0
+  FitReturned tree k =
+      Fit (IsWrittenOptionalExpression fits longest tree) (optional_expression_nodes tree) (IsNestedOptionalExpression room tree) k
+
+  returned_fits : (tree : Option ExpressionTree) (k : ℕ) → Having returned tree k → FitReturned tree k
+  unfolding returned
+  returned_fits tree k (inl h) =
+      let one = expression_fits fits longest room h.0 k h.1 in
+      subst (λ t. FitReturned t k) (sym h.2) (record { written = one.written; few = one.few; nested = one.nested })
+  returned_fits tree k (inr h) =
+      subst (λ t. FitReturned t k) (sym h.0) (record { written = tt; few = omega arith; nested = tt })
+
+  return_fits : (tree : StatementTree) (k : ℕ) → Having return_statement tree k → FitStatement tree k
+  unfolding return_statement
+  return_fits tree k h =
+      let line = from_before fits longest room (at kinds.Return · returned) kinds.Semicolon h.0 k h.1 in
+      let both = line.1 in
+      let word = from_at fits longest room kinds.Return h.0.0 both.0 both.2 in
+      let value = returned_fits h.0.1 both.1 both.3 in
+      subst (λ t. FitStatement t k) (sym h.2) (record {
+        written = (word.0, value.written);
+        few = omega (arith, word.1, value.few, both.4, line.2);
+        nested = value.nested;
+      })
+
+  abbrev FitCatch : CatchTree → ℕ → Type 0
+  FitCatch tree k =
+      Fit (fits tree.at × IsWrittenName fits longest tree.exception × IsWrittenBlock fits longest tree.body) (2 + block_nodes tree.body) (IsNestedBlock room tree.body) k
+
+  catch_fits : (tree : CatchTree) (k : ℕ) → Having catch tree k → FitCatch tree k
+  unfolding catch
+  catch_fits tree k h =
+      let a = h.1 in
+      let close = from_before fits longest room (at kinds.Catch ◂ kinds.OpenParenthesis · name) kinds.CloseParenthesis h.0.0 a.0 a.2 in
+      let b = close.1 in
+      let front = from_before fits longest room (at kinds.Catch) kinds.OpenParenthesis h.0.0.0 b.0 b.2 in
+      let word = from_at fits longest room kinds.Catch h.0.0.0 front.0 front.1 in
+      let named = name_fits fits longest room h.0.0.1 b.1 b.3 in
+      let body = block_fits h.0.1 a.1 a.3 in
+      subst (λ t. FitCatch t k) (sym h.2) (record {
+        written = (word.0, named.written, body.written);
+        few = omega (arith, word.1, named.few, body.few, a.4, b.4, front.2, close.2);
+        nested = body.nested;
+      })
+
+  abbrev FitCatches : List CatchTree → ℕ → Type 0
+  FitCatches trees k =
+      Fit (AreWrittenCatches fits longest (catches_of trees)) (catches_nodes (catches_of trees)) (AreNestedCatches room (catches_of trees)) k
+
+  one_more : (tree : CatchTree) (trees : List CatchTree) (i j k : ℕ) → FitCatch tree i → FitCatches trees j → k ≡ i + j → FitCatches (tree ∷ trees) k
+  one_more tree trees i j k one others e = record {
+    written = (one.written.0, one.written.1, one.written.2, others.written);
+    few = omega (arith, one.few, others.few, e);
+    nested = (one.nested, others.nested);
+  }
+
+  each_catch : (trees : List CatchTree) (k : ℕ) → Each (Having catch) trees k → FitCatches trees k
+  each_catch [] k h = record { written = tt; few = omega arith; nested = tt }
+  each_catch (tree ∷ trees) k h = one_more tree trees h.0 h.1 k (catch_fits tree h.0 h.2) (each_catch trees h.1 h.3) h.4
+
+  catches_fit : (trees : List CatchTree) (k : ℕ) → Having catches trees k → FitCatches trees k
+  unfolding catches
+  catches_fit trees k h =
+      let both = h.1 in
+      subst (λ list. FitCatches list k) (sym h.2) (one_more h.0.0 h.0.1 both.0 both.1 k (catch_fits h.0.0 both.0 both.2) (each_catch h.0.1 both.1 both.3) both.4)
+
+  attempt_fits : (tree : StatementTree) (k : ℕ) → Having attempt tree k → FitStatement tree k
+  unfolding attempt
+  attempt_fits tree k h =
+      let a = h.1 in
+      let b = a.2 in
+      let word = from_at fits longest room kinds.Try h.0.0.0 b.0 b.2 in
+      let body = block_fits h.0.0.1 b.1 b.3 in
+      let list = catches_fit h.0.1 a.1 a.3 in
+      subst (λ t. FitStatement t k) (sym h.2) (record {
+        written = (word.0, body.written, list.written);
+        few = omega (arith, word.1, body.few, list.few, a.4, b.4);
+        nested = (body.nested, list.nested);
+      })
+
+  nested_fits : (tree : StatementTree) (k : ℕ) → Having nested tree k → FitStatement tree k
+  unfolding nested
+  nested_fits tree k h =
+      let body = block_fits h.0 k h.1 in
+      subst (λ t. FitStatement t k) (sym h.2) (record { written = body.written; few = body.few; nested = body.nested })
+
+  statement_fits : (tree : StatementTree) (k : ℕ) → Having statement tree k → FitStatement tree k
+  unfolding statement
+  statement_fits tree k h = elim h [
+    | inl one ↦ declare_fits tree k one
+    | inr h ↦ elim h [
+      | inl one ↦ named_fits tree k one
+      | inr h ↦ elim h [
+        | inl one ↦ receive_fits tree k one
+        | inr h ↦ elim h [
+          | inl one ↦ send_fits tree k one
+          | inr h ↦ elim h [
+            | inl one ↦ conditional_fits tree k one
+            | inr h ↦ elim h [
+              | inl one ↦ while_fits tree k one
+              | inr h ↦ elim h [
+                | inl one ↦ break_fits tree k one
+                | inr h ↦ elim h [
+                  | inl one ↦ continue_fits tree k one
+                  | inr h ↦ elim h [
+                    | inl one ↦ throw_fits tree k one
+                    | inr h ↦ elim h [
+                      | inl one ↦ return_fits tree k one
+                      | inr h ↦ elim h [ inl one ↦ attempt_fits tree k one | inr one ↦ nested_fits tree k one ]
+                    ]
+                  ]
+                ]
+              ]
+            ]
+          ]
+        ]
+      ]
+    ]
+  ]
+
+  each_statement : (trees : List StatementTree) (k : ℕ) → Each (Having statement) trees k → FitStatements fits longest room trees k
+  each_statement [] k h = record { written = tt; few = omega arith; nested = tt }
+  each_statement (tree ∷ trees) k h =
+      let one = statement_fits tree h.0 h.2 in
+      let others = each_statement trees h.1 h.3 in
+      record {
+        written = (one.written, others.written);
+        few = omega (arith, one.few, others.few, h.4);
+        nested = (one.nested, others.nested);
+      }
+
+-- what holds of each symbol's form holds of the symbol
+pub symbols_fit : (fits : ℕ → Type 0) (longest : ℕ) (symbol : Symbol) (room : ℕ) (tree : tree_of symbol) (k : ℕ) → Has fits longest room (production symbol) tree k → Fits fits longest symbol room tree k
+unfolding production
+symbols_fit fits longest Expression room tree k h = expression_fits fits longest room tree k h
+symbols_fit fits longest Unary room tree k h = unary_symbol_fits fits longest room tree k h
+symbols_fit fits longest (Operands line) room tree k h =
+    let one = operand_fits fits longest room line tree.0 h.0 h.2 in
+    let others = others_fit fits longest room line tree.1 h.1 h.3 in
+    record {
+      written = (one.written, others.written);
+      few = omega (arith, one.few, others.few, h.4);
+      nested = (one.nested, others.nested);
+    }
+symbols_fit fits longest Arguments room tree k h = expressions_fit fits longest room tree k h
+symbols_fit fits longest Statements room tree k h = each_statement fits longest room tree k h

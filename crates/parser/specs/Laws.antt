@@ -1,0 +1,22 @@
+-- Laws of refusals: tokens with their end marker have one tree or one refusal, and not both.
+-- Source: our own; that a predictive parser decides its grammar is folklore.
+use Rattle.std.specs.Prelude.{◌≡◌, ◌⊎◌, List}
+use Rattle.lexer.specs.Terminal.{Terminal, IsTerminated}
+use Rattle.parser.specs.declared.fault.ParseFault.{ParseFault}
+use Rattle.parser.specs.Refusal.{IsRefused}
+use Rattle.syntax.specs.Grammar.{Spells}
+use Rattle.syntax.specs.Tree.{ProgramTree}
+
+-- tokens spell a tree, or they are refused
+abbrev pub IsSpelledOrRefused : Type 0
+IsSpelledOrRefused =
+    (tokens : List Terminal) → IsTerminated tokens
+    → ((tree : ProgramTree) × Spells tokens tree) ⊎ ((fault : ParseFault) × IsRefused tokens fault)
+
+-- tokens that spell a tree are not refused
+abbrev pub IsNotSpelledAndRefused : Type 0
+IsNotSpelledAndRefused = (tokens : List Terminal) (tree : ProgramTree) (fault : ParseFault) → Spells tokens tree → IsRefused tokens fault → ⊥
+
+-- tokens are refused for one reason at most, at one token
+abbrev pub HasOneRefusal : Type 0
+HasOneRefusal = (tokens : List Terminal) (fault other : ParseFault) → IsRefused tokens fault → IsRefused tokens other → fault ≡ other

@@ -1,0 +1,354 @@
+ghost use Rattle.std.specs.Prelude.{◌≡◌, ℕ, map};
+ghost use Rattle.lexer.specs.Terminal.{terminals_of};
+ghost use Rattle.lexer.specs.declared.token.Kind.TheVariants.{Comma, Assign, Colon, Minus};
+ghost use Rattle.syntax.specs.Form.{many, ◌·◌, ◌gives◌};
+ghost use Rattle.syntax.specs.Grammar.{constant, negative_constant, global_value, channel, exception, global, outcome, parameter, parameters, end_label, thrown, thrown_list, throws, some_throws, procedure, direction, valued, item, label, separated, ◌▸◌};
+ghost use Rattle.syntax.specs.Tree.{label_tree, optional_label_tree, constant_tree, global_value_tree, outcome_tree, parameter_tree, thrown_tree, item_tree};
+ghost use Rattle.parser.specs.Reading.{IsRead, read, kind_at, begins_item};
+
+use crate::cursor::Parser;
+use crate::fault::ParseFault;
+use crate::program::MAX_LEVELS;
+use lexer::Kind;
+use syntax::{
+    Channel, Constant, Direction, GlobalValue, GlobalVariable, Item, Outcome, Parameter, Procedure,
+    Thrown, WrittenLabel,
+};
+
+impl<'a> Parser<'a> {
+    #[tactic(auto, unfolding(syntax::specs::Grammar::negative_constant, crate::specs::Reading::read))]
+    fn negative_constant(&mut self) -> Result<Constant, ParseFault>
+        ensures { (room : ℕ) → IsRead constant_tree result self.new.rest.now (read room negative_constant (terminals_of self.old.rest.now)) }
+    {
+        let token = self.expect(Kind::Minus)?;
+        let (_, value) = self.integer()?;
+        Ok(Constant::Integer {
+            at: token.span.start,
+            negative: true,
+            value,
+        })
+    }
+
+    #[tactic(auto, using(crate::proofs::Items::constant_reads))]
+    fn constant(&mut self) -> Result<Constant, ParseFault>
+        ensures { (room : ℕ) → IsRead constant_tree result self.new.rest.now (read room constant (terminals_of self.old.rest.now)) }
+    {
+        match self.kind() {
+            Kind::Minus => self.negative_constant(),
+            Kind::Integer(value) => {
+                let token = self.advance()?;
+                Ok(Constant::Integer {
+                    at: token.span.start,
+                    negative: false,
+                    value,
+                })
+            }
+            Kind::True => {
+                let token = self.advance()?;
+                Ok(Constant::Truth {
+                    at: token.span.start,
+                    value: true,
+                })
+            }
+            Kind::False => {
+                let token = self.advance()?;
+                Ok(Constant::Truth {
+                    at: token.span.start,
+                    value: false,
+                })
+            }
+            _ => Err(self.unexpected()),
+        }
+    }
+
+    #[tactic(auto, unfolding(crate::specs::Reading::read))]
+    fn assigned_constant(&mut self) -> Result<Constant, ParseFault>
+        ensures { (room : ℕ) → IsRead constant_tree result self.new.rest.now (read room (Assign ▸ constant) (terminals_of self.old.rest.now)) }
+    {
+        self.expect(Kind::Assign)?;
+        self.constant()
+    }
+
+    #[tactic(auto, using(crate::proofs::Items::global_value_reads))]
+    fn global_value(&mut self) -> Result<GlobalValue, ParseFault>
+        ensures { (room : ℕ) → IsRead global_value_tree result self.new.rest.now (read room global_value (terminals_of self.old.rest.now)) }
+    {
+        match self.kind() {
+            Kind::Assign => {
+                let constant = self.assigned_constant()?;
+                Ok(GlobalValue::Scalar(constant))
+            }
+            _ => {
+                let size = self.size()?;
+                Ok(GlobalValue::Array(size))
+            }
+        }
+    }
+
+    #[tactic(auto, unfolding(syntax::specs::Grammar::global, crate::specs::Reading::read))]
+    fn global(&mut self) -> Result<Item, ParseFault>
+        ensures { (room : ℕ) → IsRead item_tree result self.new.rest.now (read room global (terminals_of self.old.rest.now)) }
+    {
+        let token = self.expect(Kind::Global)?;
+        let (_, base) = self.base()?;
+        let label = self.label()?;
+        let name = self.name()?;
+        let value = self.global_value()?;
+        self.expect(Kind::Semicolon)?;
+        Ok(Item::Global(GlobalVariable {
+            at: token.span.start,
+            base,
+            label,
+            name,
+            value,
+        }))
+    }
+
+    #[tactic(auto, unfolding(syntax::specs::Grammar::exception, crate::specs::Reading::read))]
+    fn exception(&mut self) -> Result<Item, ParseFault>
+        ensures { (room : ℕ) → IsRead item_tree result self.new.rest.now (read room exception (terminals_of self.old.rest.now)) }
+    {
+        let token = self.expect(Kind::Exception)?;
+        let name = self.name()?;
+        self.expect(Kind::Semicolon)?;
+        Ok(Item::Exception {
+            at: token.span.start,
+            name,
+        })
+    }
+
+    #[tactic(auto, using(crate::proofs::Items::direction_reads))]
+    fn direction(&mut self) -> Result<(usize, Direction), ParseFault>
+        ensures { (room : ℕ) → IsRead (λ found. (found.0, found.1)) result self.new.rest.now (read room direction (terminals_of self.old.rest.now)) }
+    {
+        match self.kind() {
+            Kind::Input => {
+                let token = self.advance()?;
+                Ok((token.span.start, Direction::Input))
+            }
+            Kind::Output => {
+                let token = self.advance()?;
+                Ok((token.span.start, Direction::Output))
+            }
+            _ => Err(self.unexpected()),
+        }
+    }
+
+    #[tactic(auto, unfolding(syntax::specs::Grammar::channel, crate::specs::Reading::read))]
+    fn channel(&mut self) -> Result<Item, ParseFault>
+        ensures { (room : ℕ) → IsRead item_tree result self.new.rest.now (read room channel (terminals_of self.old.rest.now)) }
+    {
+        let (at, direction) = self.direction()?;
+        let label = self.label()?;
+        let name = self.name()?;
+        self.expect(Kind::Semicolon)?;
+        Ok(Item::Channel(Channel {
+            at,
+            direction,
+            label,
+            name,
+        }))
+    }
+
+    #[tactic(auto, unfolding(syntax::specs::Grammar::valued, crate::specs::Reading::read))]
+    fn valued(&mut self) -> Result<(usize, Outcome), ParseFault>
+        ensures { (room : ℕ) → IsRead (λ found. (found.0, outcome_tree found.1)) result self.new.rest.now (read room valued (terminals_of self.old.rest.now)) }
+    {
+        let (at, base) = self.base()?;
+        let label = self.label()?;
+        Ok((at, Outcome::Value { base, label }))
+    }
+
+    #[tactic(auto, using(crate::proofs::Items::outcome_reads))]
+    fn outcome(&mut self) -> Result<(usize, Outcome), ParseFault>
+        ensures { (room : ℕ) → IsRead (λ found. (found.0, outcome_tree found.1)) result self.new.rest.now (read room outcome (terminals_of self.old.rest.now)) }
+    {
+        match self.kind() {
+            Kind::Void => {
+                let token = self.advance()?;
+                Ok((token.span.start, Outcome::Nothing))
+            }
+            _ => self.valued(),
+        }
+    }
+
+    #[tactic(auto, unfolding(syntax::specs::Grammar::parameter, crate::specs::Reading::read))]
+    fn parameter(&mut self) -> Result<Parameter, ParseFault>
+        ensures { (room : ℕ) → IsRead parameter_tree result self.new.rest.now (read room parameter (terminals_of self.old.rest.now)) }
+    {
+        let (at, base) = self.base()?;
+        let label = self.label()?;
+        let name = self.name()?;
+        Ok(Parameter {
+            at,
+            base,
+            label,
+            name,
+        })
+    }
+
+    #[tactic(auto, unfolding(crate::specs::Reading::read))]
+    fn another_parameter(&mut self) -> Result<Parameter, ParseFault>
+        ensures { (room : ℕ) → IsRead parameter_tree result self.new.rest.now (read room (Comma ▸ parameter) (terminals_of self.old.rest.now)) }
+    {
+        self.expect(Kind::Comma)?;
+        self.parameter()
+    }
+
+    fn some_parameters(&mut self) -> Result<Vec<Parameter>, ParseFault>
+        ensures { (room : ℕ) → IsRead (λ parameters. map parameter_tree parameters.items) result self.new.rest.now (read room (separated Comma parameter) (terminals_of self.old.rest.now)) }
+    {
+        let mut parameters = Vec::new(self.alloc);
+        let first = self.parameter()?;
+        parameters.push(first)?;
+        while self.is_at(Kind::Comma) {
+            let parameter = self.another_parameter()?;
+            parameters.push(parameter)?;
+        }
+        Ok(parameters)
+    }
+
+    #[tactic(auto, using(crate::proofs::Items::parameters_reads))]
+    fn parameters(&mut self) -> Result<Vec<Parameter>, ParseFault>
+        ensures { (room : ℕ) → IsRead (λ parameters. map parameter_tree parameters.items) result self.new.rest.now (read room parameters (terminals_of self.old.rest.now)) }
+    {
+        match self.kind() {
+            Kind::Int | Kind::Boolean => self.some_parameters(),
+            _ => Ok(Vec::new(self.alloc)),
+        }
+    }
+
+    #[tactic(auto, unfolding(crate::specs::Reading::read))]
+    fn label_behind_colon(&mut self) -> Result<WrittenLabel, ParseFault>
+        ensures { (room : ℕ) → IsRead label_tree result self.new.rest.now (read room (Colon ▸ label) (terminals_of self.old.rest.now)) }
+    {
+        self.expect(Kind::Colon)?;
+        self.label()
+    }
+
+    #[tactic(auto, using(crate::proofs::Items::end_label_reads))]
+    fn end_label(&mut self) -> Result<Option<WrittenLabel>, ParseFault>
+        ensures { (room : ℕ) → IsRead optional_label_tree result self.new.rest.now (read room end_label (terminals_of self.old.rest.now)) }
+    {
+        if self.is_at(Kind::Colon) {
+            let label = self.label_behind_colon()?;
+            return Ok(Some(label));
+        }
+        Ok(None)
+    }
+
+    #[tactic(auto, unfolding(syntax::specs::Grammar::thrown, crate::specs::Reading::read))]
+    fn thrown(&mut self) -> Result<Thrown, ParseFault>
+        ensures { (room : ℕ) → IsRead thrown_tree result self.new.rest.now (read room thrown (terminals_of self.old.rest.now)) }
+    {
+        let name = self.name()?;
+        let label = self.label()?;
+        Ok(Thrown { name, label })
+    }
+
+    #[tactic(auto, unfolding(crate::specs::Reading::read))]
+    fn another_thrown(&mut self) -> Result<Thrown, ParseFault>
+        ensures { (room : ℕ) → IsRead thrown_tree result self.new.rest.now (read room (Comma ▸ thrown) (terminals_of self.old.rest.now)) }
+    {
+        self.expect(Kind::Comma)?;
+        self.thrown()
+    }
+
+    fn thrown_list(&mut self) -> Result<Vec<Thrown>, ParseFault>
+        ensures { (room : ℕ) → IsRead (λ list. map thrown_tree list.items) result self.new.rest.now (read room thrown_list (terminals_of self.old.rest.now)) }
+    {
+        let mut list = Vec::new(self.alloc);
+        let first = self.thrown()?;
+        list.push(first)?;
+        while self.is_at(Kind::Comma) {
+            let thrown = self.another_thrown()?;
+            list.push(thrown)?;
+        }
+        Ok(list)
+    }
+
+    #[tactic(auto, unfolding(syntax::specs::Grammar::some_throws, crate::specs::Reading::read))]
+    fn some_throws(&mut self) -> Result<Vec<Thrown>, ParseFault>
+        ensures { (room : ℕ) → IsRead (λ list. map thrown_tree list.items) result self.new.rest.now (read room some_throws (terminals_of self.old.rest.now)) }
+    {
+        self.expect(Kind::Throws)?;
+        self.expect(Kind::OpenParenthesis)?;
+        let list = self.thrown_list()?;
+        self.expect(Kind::CloseParenthesis)?;
+        Ok(list)
+    }
+
+    #[tactic(auto, using(crate::proofs::Items::throws_reads))]
+    fn throws(&mut self) -> Result<Vec<Thrown>, ParseFault>
+        ensures { (room : ℕ) → IsRead (λ list. map thrown_tree list.items) result self.new.rest.now (read room throws (terminals_of self.old.rest.now)) }
+    {
+        if self.is_at(Kind::Throws) {
+            return self.some_throws();
+        }
+        Ok(Vec::new(self.alloc))
+    }
+
+    #[tactic(auto, unfolding(syntax::specs::Grammar::procedure, crate::specs::Reading::read))]
+    fn procedure(&mut self) -> Result<Item, ParseFault>
+        ensures { IsRead item_tree result self.new.rest.now (read 64 procedure (terminals_of self.old.rest.now)) }
+    {
+        let (at, outcome) = self.outcome()?;
+        let name = self.name()?;
+        let begin = self.optional_label()?;
+        self.expect(Kind::OpenParenthesis)?;
+        let parameters = self.parameters()?;
+        self.expect(Kind::CloseParenthesis)?;
+        let end = self.end_label()?;
+        let throws = self.throws()?;
+        let body = self.block(MAX_LEVELS)?;
+        Ok(Item::Procedure(Procedure {
+            at,
+            outcome,
+            name,
+            begin,
+            parameters,
+            end,
+            throws,
+            body,
+        }))
+    }
+
+    #[tactic(auto, using(crate::proofs::Items::item_reads))]
+    fn item(&mut self) -> Result<Item, ParseFault>
+        ensures { IsRead item_tree result self.new.rest.now (read 64 item (terminals_of self.old.rest.now)) }
+    {
+        match self.kind() {
+            Kind::Input | Kind::Output => self.channel(),
+            Kind::Exception => self.exception(),
+            Kind::Global => self.global(),
+            _ => self.procedure(),
+        }
+    }
+
+    fn is_at_item(&self) -> bool
+        ensures { result ≡ begins_item (kind_at (terminals_of self.now.rest.now)) }
+    {
+        matches!(
+            self.kind(),
+            Kind::Input
+                | Kind::Output
+                | Kind::Exception
+                | Kind::Global
+                | Kind::Void
+                | Kind::Int
+                | Kind::Boolean
+        )
+    }
+
+    /// The items up to the first token that begins none.
+    pub fn items(&mut self) -> Result<Vec<Item>, ParseFault>
+        ensures { IsRead (λ list. map item_tree list.items) result self.new.rest.now (read 64 (many item) (terminals_of self.old.rest.now)) }
+    {
+        let mut items = Vec::new(self.alloc);
+        while self.is_at_item() {
+            let item = self.item()?;
+            items.push(item)?;
+        }
+        Ok(items)
+    }
+}

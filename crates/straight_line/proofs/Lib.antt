@@ -1,0 +1,4 @@
+mod Inverse
+pub mod Kept
+mod Loops
+pub mod Places

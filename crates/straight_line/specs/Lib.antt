@@ -1,0 +1,6 @@
+pub mod Covered
+pub mod Laws
+pub mod Nodes
+pub mod Outcomes
+pub mod Tree
+pub mod Written

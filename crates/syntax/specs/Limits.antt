@@ -1,0 +1,22 @@
+-- What holds of every program that was read.
+-- Source: our own; the limits are those of a text of 1 MiB, which has at most that many tokens and the end marker.
+use Rattle.std.specs.Prelude.{ℕ, ◌≤◌}
+use Rattle.syntax.specs.Nesting.{IsNested}
+use Rattle.syntax.specs.Nodes.{program_nodes}
+use Rattle.syntax.specs.Tree.{ProgramTree}
+use Rattle.syntax.specs.Written.{Anywhere, IsWritten}
+
+-- the most bytes of a name, the most nodes of a program, the most levels that are open at a time
+abbrev pub longest_name : ℕ
+longest_name = 1048576
+
+abbrev pub most_nodes : ℕ
+most_nodes = 1048577
+
+abbrev pub most_levels : ℕ
+most_levels = 64
+
+pub record IsProgram (program : ProgramTree) : Type 0 where
+  pub written : IsWritten Anywhere longest_name program
+  pub few : program_nodes program ≤ most_nodes
+  pub nested : IsNested most_levels program

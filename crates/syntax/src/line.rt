@@ -1,0 +1,16 @@
+/// A line of binary operators. Those of an earlier line bind tighter.
+#[derive(Clone, Copy, Debug, PartialEq, Eq)]
+pub enum Line {
+    /// `*`, `/` and `%`
+    Product,
+    /// `+` and `-`
+    Sum,
+    /// `<`, `<=`, `>` and `>=`
+    Relation,
+    /// `==` and `!=`
+    Equality,
+    /// `&&`
+    Conjunction,
+    /// `||`
+    Disjunction,
+}

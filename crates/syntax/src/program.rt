@@ -1,0 +1,59 @@
+//! A program, which is made only of a tree that a text can have.
+
+ghost use Rattle.std.specs.Prelude.{◌≡◌, ◌≤◌};
+ghost use Rattle.syntax.specs.Limits.{IsProgram, longest_name, most_levels, most_nodes};
+ghost use Rattle.syntax.specs.Nesting.{IsNested};
+ghost use Rattle.syntax.specs.Nodes.{program_nodes};
+ghost use Rattle.syntax.specs.Tree.{program_tree};
+ghost use Rattle.syntax.specs.Written.{Anywhere, IsWritten};
+
+use crate::tree::Item;
+use std::marker::Model;
+
+/// A program: its items, in the order of the text. It owns its texts.
+#[derive(Debug, Drop)]
+pub struct Program {
+    items: Vec<Item>,
+}
+
+impl Model for Program {
+    ghost use Rattle.std.specs.Prelude.{List};
+    ghost use Rattle.syntax.specs.declared.tree.Item.{Item};
+    ghost use Rattle.syntax.specs.contracts.tree.Statement as statements;
+    ghost use Rattle.std.specs.Coded.{codes};
+
+    ghost Value = { List Item };
+
+    ghost coded = { Prim.hlevel (codes, statements.the_row.coded) };
+
+    ghost use Rattle.syntax.specs.Limits.{IsProgram};
+    ghost use Rattle.syntax.specs.Tree.{program_tree};
+
+    ghost view = { λ program. program.items.items };
+
+    ghost invariant = { λ program. IsProgram (program_tree program.items.items) };
+}
+
+impl Program {
+    /// The program of these items.
+    pub fn new(items: Vec<Item>) -> Program
+        requires program { IsProgram (program_tree items.items) }
+        ensures same { result ≡ items.items }
+    {
+        Program { items }
+    }
+
+    /// The items, in the order of the text.
+    pub fn items(&self) -> &[Item]
+        ensures same { result.now ≡ self.now }
+
+        // Names are names of at most 1 MiB, and integers are at most 2147483647.
+        ensures written { IsWritten Anywhere longest_name (program_tree self.now) }
+
+        // There are at most 1,048,577 nodes, nested at most 64 levels deep.
+        ensures few { program_nodes (program_tree self.now) ≤ most_nodes }
+        ensures nested { IsNested most_levels (program_tree self.now) }
+    {
+        self.items.as_slice()
+    }
+}
