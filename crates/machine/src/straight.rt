@@ -1,6 +1,7 @@
 //! Whether a module is straight-line code over ints, which is all that a machine runs so far.
 ghost use Rattle.machine.specs.StraightLine as spec;
 ghost use Rattle.machine.specs.StraightLine.{is_straight_line};
+ghost use Rattle.std.specs.List.{list_all};
 ghost use Rattle.std.specs.Prelude.{◌≡◌};
 
 use bytecode::{Arithmetic, Instruction, Kind, Module, Procedure, Slot};
@@ -19,8 +20,21 @@ fn is_covered_procedure(procedure: &Procedure) -> bool
     procedure.returned().is_none()
         && procedure.parameters() == 0
         && procedure.handlers().is_empty()
-        && procedure.slots().iter().all(|slot| is_covered_slot(*slot))
-        && procedure.code().iter().all(|instruction| is_covered_instruction(*instruction))
+        && are_covered_slots(procedure.slots())
+        && is_covered_code(procedure.code())
+}
+
+fn are_covered_slots(slots: &[Slot]) -> bool
+    ensures { result ≡ list_all spec.is_int_slot slots.now }
+{
+    slots.iter().all(|slot| is_covered_slot(*slot))
+}
+
+fn is_covered_code(code: &[Instruction]) -> bool
+    ensures { result ≡ list_all spec.is_straight code.now }
+{
+    code.iter()
+        .all(|instruction| is_covered_instruction(*instruction))
 }
 
 fn is_covered_slot(slot: Slot) -> bool
