@@ -1,10 +1,15 @@
 //! The machine: runs of verified modules, step by step.
 #![tactic(auto)]
 
+mod arithmetic;
 pub mod fault;
+mod frames;
+mod globals;
+mod index;
 mod input;
-mod parts;
+mod live;
 pub mod run;
+mod shape;
 pub mod status;
 
 pub use fault::NewFault;

@@ -1,7 +1,7 @@
 use Rattle.std.proofs.Common.{refl, ◌+◌, ◌<◌, ◌^◌, ◌≡◌, sym, ap, ◌∙◌, slice_get, List, arith, Some}
 use Rattle.machine.specs.declared.shape.Span.{Span}
 use Rattle.machine.proofs.Cuts.{placed, by_span_in, by_span_out, span_within}
-use Rattle.machine.proofs.shape.Shape.position.Goals as goal
+use Rattle.machine.proofs.shape.Shape.place.Goals as goal
 
 pub returns-in_default : goal.returns-in_default
 returns-in_default c =
