@@ -79,7 +79,8 @@ stands_for hierarchy source text h program same characters said accepted only =
 pub code_of_module : (program : Program) (m : ModuleContents) (code : List ℕ) → IsTrue (well_formed program) → IsTrue (is_straight_line program) →
     HasNames program → Isolated program → m ≡ module_of program → MeaningKept program m → SameInterface program m → Spells module_file m code → IsCodeOf program code
 code_of_module program m code well straight named isolated is kept interface spelled =
-    let verified = module_verified program well straight in
+    let fits : Fits module_file (module_of program) = Fits-module program straight well named in
+    let verified = module_verified program well straight fits in
     record {
       not_refused = ap (stop_of code) (module_again code m spelled);
       whole = m;

@@ -1,4 +1,4 @@
--- The module of a well-formed straight-line program has no fault, and no run of it is stuck: the verifier takes it.
+-- The module of a well-formed straight-line program has no fault: the verifier takes it.
 use Rattle.std.proofs.Common.{◌≡◌, ℕ, zero, suc, ◌+◌, ◌<◌, Bool, true, false, List, [], ◌∷◌, ◌++◌, length, map, replicate, Option, Some, None, refl, sym, ap, ◌∙◌, subst, arith, slice_get, ◌&&◌, append_assoc}
 use Rattle.std.specs.Prelude.{IsTrue, ◌==◌, is_none}
 use Rattle.std.specs.List.{list_all}
@@ -18,6 +18,8 @@ use Rattle.resolved.specs.StraightLine.{is_straight_line, is_sum, is_straight_st
 use Rattle.resolved.proofs.Parts.{procedure_there, procedure_at_is}
 use Rattle.bytecode.specs.Code.{width_of}
 use Rattle.bytecode.specs.Contents.{ChannelContents, ProcedureContents, ModuleContents}
+use Rattle.bytecode.specs.Form.{Fits}
+use Rattle.bytecode.specs.Format.{module_file}
 use Rattle.bytecode.specs.declared.instruction.Arithmetic.TheVariants.{Add}
 use Rattle.bytecode.specs.declared.instruction.Instruction.{Instruction}
 use Rattle.bytecode.specs.declared.instruction.Instruction.TheVariants.{Push, Load, Store, Compute, Return, Receive, Send}
@@ -26,11 +28,13 @@ use Rattle.bytecode.specs.declared.value.Kind.TheVariants.{Int}
 use Rattle.bytecode.specs.declared.declaration.Slot.TheVariants.{Scalar}
 use Rattle.verifier.specs.Fixed.{instruction_defect, instruction_faults, is_scalar, is_input, is_output, unless}
 use Rattle.verifier.specs.Flow.{Leaves, effect, exchange, exchanged, kind_in, slot_kind, target_of, FlowsWell}
+use Rattle.verifier.specs.Faults.{HasNoFault}
 use Rattle.verifier.specs.Verified.{IsVerified}
+use Rattle.verifier.proofs.Bounds.{bounded}
+use Rattle.verifier.proofs.NeverStuck.{never_stuck}
 use Rattle.verifier.specs.declared.fault.Defect.TheVariants.{SlotOrIndex}
 use Rattle.lowering.specs.Interface.{channel_contents}
 use Rattle.lowering.proofs.Flowing.{FlowsOn, flows_well}
-use Rattle.lowering.proofs.Runs.{straight-never-stuck}
 use Rattle.lowering.specs.StraightCode.{sum_code, statement_code, block_code, procedure_contents, module_of, target_slot}
 
 -- ---- each instruction by itself
@@ -228,9 +232,10 @@ only_one : {X : Type 0} (x y : X) (k : ℕ) → slice_get (x ∷ []) k ≡ Some 
 only_one x y zero e = cc
 only_one x y (suc k) e = absurd (let no : None ≡ Some y = e in cc)
 
--- the module of a well-formed straight-line program is one that the verifier takes
-pub module_verified : (program : Program) → IsTrue (well_formed program) → IsTrue (is_straight_line program) → IsVerified (module_of program)
-module_verified program well s =
+-- the module of a well-formed straight-line program that has a spelling is one that the verifier takes
+pub module_verified : (program : Program) → IsTrue (well_formed program) → IsTrue (is_straight_line program) →
+    Fits module_file (module_of program) → IsVerified (module_of program)
+module_verified program well s fits =
     let only = only_procedure program s in
     let p = only.0 in
     let m = module_of program in
@@ -243,13 +248,12 @@ module_verified program well s =
     right-append m (procedure_contents p) (block_code (length p.slots) p.body) (Return ∷ []) (block_right program p p.body body there.body_fits) (refl, tt) in
     let fixed : instruction_faults m 0 (procedure_contents p) 0 (procedure_contents p).code ≡ [] = none_of_right m (procedure_contents p) 0 (procedure_contents p).code all in
     let flows : FlowsWell m (procedure_contents p) = flows_well m (procedure_contents p) refl (body_flows m p body) in
+    let no_fault : HasNoFault m =
     record {
-      no_fault = record {
-        fixed = ap (λ q. (instruction_faults m 0 (procedure_contents q) 0 (procedure_contents q).code ++ []) ++ []) is_main ∙ ap (λ faults. (faults ++ []) ++ []) fixed;
-        flow = λ fault found.
-            let same : procedure_contents p ≡ found.procedure =
-            ap procedure_contents (sym is_main) ∙ only_one (procedure_contents (procedure_at program program.main)) found.procedure fault.procedure found.there in
-            subst (FlowsWell m) same flows fault.offset fault.defect found.defect;
-      };
-      never_stuck = straight-never-stuck program well s;
-    }
+      fixed = ap (λ q. (instruction_faults m 0 (procedure_contents q) 0 (procedure_contents q).code ++ []) ++ []) is_main ∙ ap (λ faults. (faults ++ []) ++ []) fixed;
+      flow = λ fault found.
+          let same : procedure_contents p ≡ found.procedure =
+          ap procedure_contents (sym is_main) ∙ only_one (procedure_contents (procedure_at program program.main)) found.procedure fault.procedure found.there in
+          subst (FlowsWell m) same flows fault.offset fault.defect found.defect;
+    } in
+    record { no_fault = no_fault; never_stuck = never_stuck m (bounded m fits) no_fault }

@@ -1,6 +1,6 @@
 -- Code in which control goes on to a return without a jump has no fault of the flow: one table has the operands' kinds for each
 -- offset that control comes to.
-use Rattle.std.proofs.Common.{◌≡◌, ℕ, zero, suc, ◌+◌, ◌-◌, ◌<◌, ◌≤◌, eqb, ltb, Bool, true, false, cond, List, [], ◌∷◌, length, Option, Some, None, refl, sym, ap, ◌∙◌, subst, arith}
+use Rattle.std.proofs.Common.{◌≡◌, ℕ, zero, suc, ◌+◌, ◌-◌, ◌<◌, ◌≤◌, eqb, ltb, Bool, true, false, cond, List, [], ◌∷◌, Option, Some, None, refl, sym, ap, ◌∙◌, subst, arith}
 use Rattle.std.specs.List.{Contains}
 use Rattle.std.proofs.lemmas.Bool.{ltb-false}
 use Rattle.std.proofs.lemmas.Bool.Decides.{nat_tests}
@@ -9,7 +9,7 @@ use Rattle.bytecode.specs.Contents.{ProcedureContents, ModuleContents}
 use Rattle.bytecode.specs.declared.instruction.Instruction.{Instruction}
 use Rattle.bytecode.specs.declared.value.Kind.{Kind}
 use Rattle.verifier.specs.Flow.{Edge, next, jumps, caught, Effect, Leaves, Misses, effect, goes_on, target_of, FlowsWell}
-use Rattle.verifier.proofs.Laws.{IsDone, no_fault}
+use Rattle.verifier.proofs.Tables.{no_fault}
 use Rattle.verifier.proofs.Offsets.{width_of-pos}
 
 module _ (m : ModuleContents) (p : ProcedureContents) where

@@ -35,8 +35,7 @@ use Rattle.lowering.specs.Interface.{direction_of, channel_contents}
 use Rattle.lowering.specs.StraightCode.{block_code, procedure_contents, module_of}
 use Rattle.lowering.specs.Kept.{ending_of, MeaningKept, StraightCodeKeepsMeaning}
 use Rattle.labels.proofs.Begins.{Begins-itself}
-use Rattle.lowering.proofs.Steps.{Leads, leads-through, sent-before, ends-once, never-stuck}
-use Rattle.verifier.specs.Safety.{IsNeverStuck}
+use Rattle.lowering.proofs.Steps.{Leads, leads-through, sent-before, ends-once}
 use Rattle.lowering.proofs.Places.{Stands, stands-front, stands-back}
 use Rattle.lowering.proofs.Rows.{Serves, returns}
 use Rattle.lowering.proofs.Values.{Holds, Matches}
@@ -213,9 +212,3 @@ straight-kept program straight = record {
 
 pub straight-code-keeps : StraightCodeKeepsMeaning
 straight-code-keeps program fits straight = straight-kept program (straight-parts program fits straight)
-
--- and no run of it is stuck
-pub straight-never-stuck : (program : Program) → well_formed program ≡ true → is_straight_line program ≡ true → IsNeverStuck (module_of program)
-straight-never-stuck program fits straight = λ world n.
-    let run = run-within-limit program (straight-parts program fits straight) world 0 in
-    never-stuck (machine.program_of (module_of program)) run.leads.steps n _ run.ending _ run.leads.reached

@@ -2,8 +2,7 @@
 use Rattle.std.proofs.Common.{◌≡◌, ℕ, zero, suc, List, refl, sym, ap, ◌∙◌, subst}
 use Rattle.labels.specs.declared.sent.Pair.{Pair}
 use Rattle.labels.specs.Sent.{Begins}
-use Rattle.bytecode.specs.Machine.{Machine, Running, Ended, Stuck, Ending, Program, sent_of, step, exec}
-use Rattle.verifier.specs.Safety.{HasRow}
+use Rattle.bytecode.specs.Machine.{Machine, Ended, Ending, Program, sent_of, step, exec}
 use Rattle.labels.proofs.Begins.{Begins-itself}
 use Rattle.lowering.proofs.Sent.{exec-keeps}
 
@@ -40,21 +39,6 @@ sent-before p zero n m ending sent e =
 sent-before p (suc last) zero m ending sent e =
     subst (λ (x : Machine). Begins (sent_of m) (sent_of x)) e (exec-keeps p (suc last) m)
 sent-before p (suc last) (suc n) m ending sent e = sent-before p last n (step p m) ending sent e
-
-stuck-stays : (p : Program) (n : ℕ) (sent : List Pair) → exec p n (Stuck sent) ≡ Stuck sent
-stuck-stays p zero sent = refl
-stuck-stays p (suc n) sent = stuck-stays p n sent
-
--- a run that ends is at no time stuck
-pub never-stuck : (p : Program) (last n : ℕ) (m : Machine) (ending : Ending) (sent : List Pair) → exec p last m ≡ Ended ending sent → HasRow (exec p n m)
-never-stuck p zero n m ending sent e =
-    let stays : exec p n m ≡ Ended ending sent = ap (exec p n) e ∙ ended-stays p n ending sent in
-    subst HasRow (sym stays) tt
-never-stuck p (suc last) zero (Running s) ending sent e = tt
-never-stuck p (suc last) zero (Ended other more) ending sent e = tt
-never-stuck p (suc last) zero (Stuck more) ending sent e =
-    absurd (let no : ◌≡◌ {A = Machine} (Stuck more) (Ended ending sent) = sym (stuck-stays p last more) ∙ e in cc)
-never-stuck p (suc last) (suc n) m ending sent e = never-stuck p last n (step p m) ending sent e
 
 -- a run ends in one way
 pub ends-once : (p : Program) (last n : ℕ) (m : Machine) (ending other : Ending) (sent more : List Pair) → exec p last m ≡ Ended ending sent → exec p n m ≡ Ended other more → ◌≡◌ {A = Machine} (Ended ending sent) (Ended other more)

@@ -1,4 +1,9 @@
 pub mod Faults
+pub mod Fixed
+pub mod Flow
+pub mod Operands
+pub mod Places
 pub mod Safety
-pub mod Straight
+pub mod Search
+pub mod Verified
 pub mod Words

@@ -1,7 +1,13 @@
 //! The verifier of modules: no step of any run of a verified module lacks a row of the machine's table.
 #![tactic(auto)]
 
+mod body;
+mod effects;
 pub mod fault;
+mod fixed;
+mod operands;
+pub mod safety;
+mod search;
 pub mod verified;
 
 pub use fault::{Defect, Fault, VerifyFault};

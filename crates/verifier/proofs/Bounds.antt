@@ -1,0 +1,36 @@
+-- What a module that has a spelling keeps to: lengths of four bytes, and a procedure in which a run may start.
+use Rattle.std.proofs.Common.{◌≡◌, ℕ, zero, suc, ◌<◌, ◌^◌, true, List, [], ◌∷◌, ◌++◌, length, slice_get, Option, Some, None, sym, ap, ◌∙◌, subst, arith}
+use Rattle.bytecode.specs.Code.{code_length}
+use Rattle.bytecode.specs.Contents.{ProcedureContents, ModuleContents}
+use Rattle.bytecode.specs.Form.{Fits, FitEach}
+use Rattle.bytecode.specs.Format.{may_start, main, procedure, procedures, program, contents, module_file}
+use Rattle.bytecode.proofs.Spelling.{spelled-length}
+
+pub record IsBounded (m : ModuleContents) : Type 0 where
+  pub few : length m.procedures < 2 ^ 32
+  pub short : (k : ℕ) (p : ProcedureContents) → slice_get m.procedures k ≡ Some p → code_length p.code < 2 ^ 32
+  pub starts : may_start (slice_get m.procedures m.main) ≡ true
+
+code_short : (p : ProcedureContents) → Fits procedure p → code_length p.code < 2 ^ 32
+unfolding procedure
+code_short p h = omega (arith, h.0.1.1.1.0.0, spelled-length p.code)
+
+each_short : (before all : List ProcedureContents) → FitEach (λ seen p. Fits procedure p) before all → (k : ℕ) (p : ProcedureContents) → slice_get all k ≡ Some p → code_length p.code < 2 ^ 32
+each_short before [] h k p is = absurd (let no : None ≡ Some p = is in cc)
+each_short before (x ∷ all) h zero p is = let same : x ≡ p = cc in subst (λ (q : ProcedureContents). code_length q.code < 2 ^ 32) same (code_short x h.0)
+each_short before (x ∷ all) h (suc k) p is = each_short (before ++ x ∷ []) all h.1 k p is
+
+procedures_bounded : (all : List ProcedureContents) → Fits procedures all → (length all < 2 ^ 32) × ((k : ℕ) (p : ProcedureContents) → slice_get all k ≡ Some p → code_length p.code < 2 ^ 32)
+unfolding procedures
+procedures_bounded all h = (h.0, each_short [] all h.2)
+
+main_starts : (all : List ProcedureContents) (number : ℕ) → Fits (main all) number → may_start (slice_get all number) ≡ true
+unfolding main
+main_starts all number h = h.1
+
+pub bounded : (m : ModuleContents) → Fits module_file m → IsBounded m
+unfolding module_file contents program
+bounded m h =
+    let all = h.0.1.1.1 in
+    let b = procedures_bounded m.procedures all.0 in
+    record { few = b.0; short = b.1; starts = main_starts m.procedures m.main all.1 }

@@ -1,0 +1,209 @@
+-- The faults that instructions and handlers have by themselves: the loops that look for the first one, and what is known where
+-- there is none.
+use Rattle.std.proofs.Common.{◌≡◌, ◌⊎◌, inl, inr, ℕ, zero, suc, ◌+◌, ◌<◌, ◌≤◌, ◌-◌, ◌==◌, if◌then◌else◌, Bool, true, false, List, [], ◌∷◌, ◌++◌, length, drop, get_or, slice_get, Option, Some, None, refl, sym, ap, ◌∙◌, subst, arith}
+use Rattle.std.specs.List.{Contains}
+use Rattle.std.specs.Prelude.{◌&&◌, ◌||◌, is_some, nat_lt}
+use Rattle.std.proofs.lemmas.Bool.{and_parts}
+use Rattle.std.proofs.lemmas.Bool.Decides.{nat_tests}
+use Rattle.std.proofs.lemmas.List.{drop_more}
+use Rattle.bytecode.specs.Code.{width_of, code_length, instruction_at}
+use Rattle.bytecode.specs.Contents.{ProcedureContents, ModuleContents}
+use Rattle.bytecode.specs.declared.instruction.Instruction.{Instruction}
+use Rattle.bytecode.specs.declared.declaration.Handler.{Handler}
+use Rattle.verifier.specs.Fixed.{instruction_defect, instruction_faults, handler_defect, handler_faults, procedure_faults, fixed_faults, fault_list, unless, is_start, is_end, has_right_offsets}
+use Rattle.bytecode.specs.declared.instruction.Instruction.TheVariants.{Jump, JumpIfFalse}
+use Rattle.bytecode.specs.Machine.{program_of}
+use Rattle.verifier.specs.Flow.{target_of}
+use Rattle.verifier.specs.Places.{IsPlace, IsPlaced}
+use Rattle.verifier.specs.declared.fault.Defect.{Defect}
+use Rattle.verifier.specs.declared.fault.Defect.TheVariants as defect
+use Rattle.verifier.proofs.Offsets.{next_place}
+use Rattle.verifier.specs.declared.fault.Fault.{Fault}
+
+module _ (m : ModuleContents) (number : ℕ) (procedure : ProcedureContents) where
+  -- ---- the loop over instructions
+
+  -- an instruction without a defect adds none
+  pub faults_on : (offset : ℕ) (code : List Instruction) (k : ℕ) (d : Instruction) → k < length code → instruction_defect m procedure (get_or code k d) ≡ None → instruction_faults m number procedure offset (drop k code) ≡ instruction_faults m number procedure (offset + width_of (get_or code k d)) (drop (k + 1) code)
+  faults_on offset code k d h e =
+      ap (instruction_faults m number procedure offset) (drop_more code k d h)
+      ∙ ap (λ o. fault_list number offset o ++ instruction_faults m number procedure (offset + width_of (get_or code k d)) (drop (k + 1) code)) e
+
+  -- an instruction with a defect is the first fault of what is left
+  pub first_fault : (offset : ℕ) (code : List Instruction) (k : ℕ) (d : Instruction) (wrong : Defect) → k < length code → instruction_defect m procedure (get_or code k d) ≡ Some wrong → slice_get (instruction_faults m number procedure offset (drop k code)) 0 ≡ Some (record { defect = wrong; procedure = number; offset = offset })
+  first_fault offset code k d wrong h e =
+      ap (λ faults. slice_get faults 0)
+      (ap (instruction_faults m number procedure offset) (drop_more code k d h)
+      ∙ ap (λ o. fault_list number offset o ++ instruction_faults m number procedure (offset + width_of (get_or code k d)) (drop (k + 1) code)) e)
+
+  -- ---- the loop over handlers
+
+  pub handlers_on : (handlers : List Handler) (k : ℕ) (d : Handler) → k < length handlers → handler_defect m procedure (get_or handlers k d) ≡ None → handler_faults m number procedure (drop k handlers) ≡ handler_faults m number procedure (drop (k + 1) handlers)
+  handlers_on handlers k d h e =
+      ap (handler_faults m number procedure) (drop_more handlers k d h)
+      ∙ ap (λ o. fault_list number (get_or handlers k d).start o ++ handler_faults m number procedure (drop (k + 1) handlers)) e
+
+  pub first_handler : (handlers : List Handler) (k : ℕ) (d : Handler) (wrong : Defect) → k < length handlers → handler_defect m procedure (get_or handlers k d) ≡ Some wrong → slice_get (handler_faults m number procedure (drop k handlers)) 0 ≡ Some (record { defect = wrong; procedure = number; offset = (get_or handlers k d).start })
+  first_handler handlers k d wrong h e =
+      ap (λ faults. slice_get faults 0)
+      (ap (handler_faults m number procedure) (drop_more handlers k d h)
+      ∙ ap (λ o. fault_list number (get_or handlers k d).start o ++ handler_faults m number procedure (drop (k + 1) handlers)) e)
+
+-- the first of two lists together
+pub first_of_both : (xs ys : List Fault) → slice_get xs 0 ≡ None → slice_get (xs ++ ys) 0 ≡ slice_get ys 0
+first_of_both [] ys e = refl
+first_of_both (x ∷ xs) ys e = absurd (let no : Some x ≡ None = e in cc)
+
+pub first_of_front : (xs ys : List Fault) (x : Fault) → slice_get xs 0 ≡ Some x → slice_get (xs ++ ys) 0 ≡ Some x
+first_of_front [] ys x e = absurd (let no : None ≡ Some x = e in cc)
+first_of_front (y ∷ xs) ys x e = e
+
+pub nothing_first : (xs : List Fault) → slice_get xs 0 ≡ None → xs ≡ []
+nothing_first [] e = refl
+nothing_first (x ∷ xs) e = absurd (let no : Some x ≡ None = e in cc)
+
+-- ---- the loop over procedures
+
+module _ (m : ModuleContents) (number : ℕ) where
+  abbrev pub own_faults : ProcedureContents → List Fault
+  own_faults p = instruction_faults m number p 0 p.code ++ handler_faults m number p p.handlers
+
+  pub procedures_on : (procedures : List ProcedureContents) (k : ℕ) (d : ProcedureContents) → k < length procedures → slice_get (own_faults (get_or procedures k d)) 0 ≡ None → slice_get (procedure_faults m number (drop k procedures)) 0 ≡ slice_get (procedure_faults m (number + 1) (drop (k + 1) procedures)) 0
+  procedures_on procedures k d h e =
+      ap (λ (ps : List ProcedureContents). slice_get (procedure_faults m number ps) 0) (drop_more procedures k d h)
+      ∙ first_of_both (own_faults (get_or procedures k d)) (procedure_faults m (number + 1) (drop (k + 1) procedures)) e
+
+  pub first_procedure : (procedures : List ProcedureContents) (k : ℕ) (d : ProcedureContents) (x : Fault) → k < length procedures → slice_get (own_faults (get_or procedures k d)) 0 ≡ Some x → slice_get (procedure_faults m number (drop k procedures)) 0 ≡ Some x
+  first_procedure procedures k d x h e =
+      ap (λ (ps : List ProcedureContents). slice_get (procedure_faults m number ps) 0) (drop_more procedures k d h)
+      ∙ first_of_front (own_faults (get_or procedures k d)) (procedure_faults m (number + 1) (drop (k + 1) procedures)) x e
+
+-- ---- where there is no fault
+
+append_nothing : {X : Type 0} (xs ys : List X) → xs ++ ys ≡ [] → (xs ≡ []) × (ys ≡ [])
+append_nothing [] ys e = (refl, e)
+append_nothing {X} (x ∷ xs) ys e = absurd (let no : ◌≡◌ {A = List X} (x ∷ (xs ++ ys)) [] = e in cc)
+
+no_defect : (number offset : ℕ) (o : Option Defect) → fault_list number offset o ≡ [] → o ≡ None
+no_defect number offset None e = refl
+no_defect number offset (Some wrong) e = absurd (cc)
+
+module _ (m : ModuleContents) (number : ℕ) (procedure : ProcedureContents) where
+  instructions_right : (offset : ℕ) (code : List Instruction) → instruction_faults m number procedure offset code ≡ [] → (k : ℕ) (i : Instruction) → slice_get code k ≡ Some i → instruction_defect m procedure i ≡ None
+  instructions_right offset [] e k i is = absurd (let no : None ≡ Some i = is in cc)
+  instructions_right offset (x ∷ code) e zero i is =
+      let parts = append_nothing (fault_list number offset (instruction_defect m procedure x)) (instruction_faults m number procedure (offset + width_of x) code) e in
+      let same : x ≡ i = cc in
+      ap (instruction_defect m procedure) (sym same) ∙ no_defect number offset (instruction_defect m procedure x) parts.0
+  instructions_right offset (x ∷ code) e (suc k) i is =
+      let parts = append_nothing (fault_list number offset (instruction_defect m procedure x)) (instruction_faults m number procedure (offset + width_of x) code) e in
+      instructions_right (offset + width_of x) code parts.1 k i is
+
+  handlers_right : (handlers : List Handler) → handler_faults m number procedure handlers ≡ [] → (h : Handler) (k : ℕ) → k < length handlers → get_or handlers k h ≡ h → handler_defect m procedure h ≡ None
+  handlers_right [] e h k inside is = absurd (omega arith)
+  handlers_right (x ∷ handlers) e h zero inside is =
+      let parts = append_nothing (fault_list number x.start (handler_defect m procedure x)) (handler_faults m number procedure handlers) e in
+      let same : x ≡ h = is in
+      ap (handler_defect m procedure) (sym same) ∙ no_defect number x.start (handler_defect m procedure x) parts.0
+  handlers_right (x ∷ handlers) e h (suc k) inside is =
+      let parts = append_nothing (fault_list number x.start (handler_defect m procedure x)) (handler_faults m number procedure handlers) e in
+      handlers_right handlers parts.1 h k (omega arith) is
+
+procedures_right : (m : ModuleContents) (number : ℕ) (procedures : List ProcedureContents) → procedure_faults m number procedures ≡ [] → (k : ℕ) (p : ProcedureContents) → slice_get procedures k ≡ Some p → (instruction_faults m (number + k) p 0 p.code ≡ []) × (handler_faults m (number + k) p p.handlers ≡ [])
+procedures_right m number [] e k p is = absurd (let no : None ≡ Some p = is in cc)
+procedures_right m number (x ∷ procedures) e zero p is =
+    let parts = append_nothing (instruction_faults m number x 0 x.code ++ handler_faults m number x x.handlers) (procedure_faults m (number + 1) procedures) e in
+    let own = append_nothing (instruction_faults m number x 0 x.code) (handler_faults m number x x.handlers) parts.0 in
+    let same : x ≡ p = cc in
+    let at : number ≡ number + 0 = omega arith in
+    subst (λ (n : ℕ). (instruction_faults m n p 0 p.code ≡ []) × (handler_faults m n p p.handlers ≡ [])) at
+    (subst (λ (q : ProcedureContents). (instruction_faults m number q 0 q.code ≡ []) × (handler_faults m number q q.handlers ≡ [])) same own)
+procedures_right m number (x ∷ procedures) e (suc k) p is =
+    let parts = append_nothing (instruction_faults m number x 0 x.code ++ handler_faults m number x x.handlers) (procedure_faults m (number + 1) procedures) e in
+    let there = procedures_right m (number + 1) procedures parts.1 k p is in
+    let at : number + 1 + k ≡ number + suc k = omega arith in
+    subst (λ (n : ℕ). (instruction_faults m n p 0 p.code ≡ []) × (handler_faults m n p p.handlers ≡ [])) at there
+
+-- an instruction that is found is one of the code
+later : (x : Instruction) (code : List Instruction) (at : ℕ) (i : Instruction) → (instruction_at code (at - width_of x) ≡ Some i → (k : ℕ) × (slice_get code k ≡ Some i)) → (first before : Bool) → (if first then Some x else if before then None else instruction_at code (at - width_of x)) ≡ Some i → (k : ℕ) × (slice_get (x ∷ code) k ≡ Some i)
+later x code at i more true before e = (0, e)
+later x code at i more false true e = absurd (let no : None ≡ Some i = e in cc)
+later x code at i more false false e = let h = more e in (suc h.0, h.1)
+
+index_of : (code : List Instruction) (at : ℕ) (i : Instruction) → instruction_at code at ≡ Some i → (k : ℕ) × (slice_get code k ≡ Some i)
+index_of [] at i e = absurd (let no : None ≡ Some i = e in cc)
+index_of (x ∷ code) at i e = later x code at i (λ h. index_of code (at - width_of x) i h) (at == 0) (nat_lt at (width_of x)) e
+
+-- a procedure whose instructions and handlers have no defect by themselves
+pub record IsRight (m : ModuleContents) (p : ProcedureContents) : Type 0 where
+  pub instructions : (at : ℕ) (i : Instruction) → instruction_at p.code at ≡ Some i → instruction_defect m p i ≡ None
+  pub handlers : (h : Handler) → Contains p.handlers h → handler_defect m p h ≡ None
+
+pub all_right : (m : ModuleContents) → fixed_faults m ≡ [] → (k : ℕ) (p : ProcedureContents) → slice_get m.procedures k ≡ Some p → IsRight m p
+all_right m e k p is =
+    let none = procedures_right m 0 m.procedures e k p is in
+    record {
+      instructions = λ at i there. let h = index_of p.code at i there in instructions_right m (0 + k) p 0 p.code none.0 h.0 i h.1;
+      handlers = λ h there. handlers_right m (0 + k) p p.handlers none.1 h there.0 there.1 there.2;
+    }
+
+-- ---- so control goes to instructions or to the end
+
+started : (o : Option Instruction) → is_some o ≡ true → (i : Instruction) × (o ≡ Some i)
+started None e = absurd (let no : false ≡ true = e in cc)
+started (Some i) e = (i, refl)
+
+pub right_of_unless : (b : Bool) (wrong : Defect) → unless b wrong ≡ None → b ≡ true
+right_of_unless true wrong e = refl
+right_of_unless false wrong e = absurd (let no : Some wrong ≡ None = e in cc)
+
+jump_right : (m : ModuleContents) (p : ProcedureContents) (i : Instruction) (to : ℕ) → instruction_defect m p i ≡ None → target_of i ≡ Some to → is_start p to ≡ true
+jump_right m p (Jump target) to e is = let same : target ≡ to = cc in ap (is_start p) (sym same) ∙ right_of_unless (is_start p target) defect.Jump e
+jump_right m p (JumpIfFalse target) to e is = let same : target ≡ to = cc in ap (is_start p) (sym same) ∙ right_of_unless (is_start p target) defect.Jump e
+jump_right m p _ to e is = absurd (let no : None ≡ Some to = is in cc)
+
+pub handler_parts : (m : ModuleContents) (p : ProcedureContents) (h : Handler) → handler_defect m p h ≡ None → has_right_offsets p h ≡ true
+handler_parts m p h e = split (has_right_offsets p h) refl e
+  where
+    split : (b : Bool) → has_right_offsets p h ≡ b → (if b then unless (nat_lt h.exception (program_of m).exceptions) defect.SlotOrIndex else Some defect.Jump) ≡ None → has_right_offsets p h ≡ true
+    split true is e = is
+    split false is e = absurd (let no : Some defect.Jump ≡ None = e in cc)
+
+first_place : (p : ProcedureContents) (code : List Instruction) → p.code ≡ code → IsPlace p 0
+first_place p [] e = inl (sym (ap code_length e))
+first_place p (i ∷ code) e = inr (i, ap (λ (c : List Instruction). instruction_at c 0) e)
+
+pub placed : (m : ModuleContents) (p : ProcedureContents) → IsRight m p → IsPlaced p
+placed m p right = record {
+  next = λ at i there. next_place p.code at i there;
+  jumps = λ at i to there is. inr (started (instruction_at p.code to) (jump_right m p i to (right.instructions at i there) is));
+  caught = λ h there.
+      let parts = and_parts (is_start p h.start) _ (handler_parts m p h (right.handlers h there)) in
+      inr (started (instruction_at p.code h.target) (and_parts (is_start p h.target) (is_end p h.end && nat_lt h.start h.end) parts.1).0);
+  first = first_place p p.code refl;
+}
+
+-- ---- the loop over procedures, step by step
+
+pub drop_none : {A : Type 0} (xs : List A) (k : ℕ) → length xs ≤ k → drop k xs ≡ []
+drop_none [] zero h = refl
+drop_none [] (suc k) h = refl
+drop_none (x ∷ xs) zero h = absurd (omega arith)
+drop_none (x ∷ xs) (suc k) h = drop_none xs k (omega arith)
+
+pub get_at : {A : Type 0} (xs : List A) (k : ℕ) (d : A) → k < length xs → slice_get xs k ≡ Some (get_or xs k d)
+get_at [] k d h = absurd (omega arith)
+get_at (x ∷ xs) zero d h = refl
+get_at (x ∷ xs) (suc k) d h = get_at xs k d (omega arith)
+
+module _ (m q : ModuleContents) (number index : ℕ) (procedures : List ProcedureContents) (item body : ProcedureContents) (same_module : q ≡ m) (same_procedure : body ≡ item) (is : item ≡ get_or procedures index item) (inside : index < length procedures) (o : Option Fault) (found : o ≡ slice_get (own_faults q number body) 0) where
+  own_are : o ≡ slice_get (own_faults m number (get_or procedures index item)) 0
+  own_are =
+      found ∙ ap (λ x. slice_get (own_faults x number body) 0) same_module
+      ∙ ap (λ x. slice_get (own_faults m number x) 0) (same_procedure ∙ is)
+
+  pub procedure_some : (fault : Fault) → o ≡ Some fault → slice_get (procedure_faults m number (drop index procedures)) 0 ≡ Some fault
+  procedure_some fault e = first_procedure m number procedures index item fault inside (sym own_are ∙ e)
+
+  pub procedure_none : o ≡ None → slice_get (procedure_faults m number (drop index procedures)) 0 ≡ slice_get (procedure_faults m (number + 1) (drop (index + 1) procedures)) 0
+  procedure_none e = procedures_on m number procedures index item inside (sym own_are ∙ e)

@@ -1,0 +1,450 @@
+-- Control goes from a place to another one.
+use Rattle.std.proofs.Common.{replicate, ◌≡◌, ◌≢◌, ◌⊎◌, inl, inr, ℕ, suc, zero, ◌+◌, ◌-◌, ◌<◌, ◌≤◌, ◌==◌, Bool, true, false, if◌then◌else◌, List, [], ◌∷◌, ◌++◌, length, get_or, set, take, slice_get, Option, Some, None, refl, sym, ap, ◌∙◌, subst, arith, length-append}
+use Rattle.std.specs.List.{Contains}
+use Rattle.std.proofs.lemmas.Bool.Decides.{nat_tests}
+use Rattle.std.proofs.lemmas.List.{length-replicate, take_more, get_or-set_same, get_or-set_other, get_or_append_left}
+use Rattle.std.proofs.lemmas.List.Elements.{Contains-append_left, Contains-push, Contains-push_cases}
+use Rattle.std.proofs.Math.ListN.{length-set}
+use Rattle.bytecode.specs.Contents.{ProcedureContents, ModuleContents}
+use Rattle.bytecode.specs.Code.{width_of, code_length, instruction_at}
+use Rattle.bytecode.specs.declared.value.Kind.{Kind}
+use Rattle.bytecode.specs.declared.declaration.Handler.{Handler}
+use Rattle.bytecode.specs.declared.instruction.Instruction.{Instruction}
+use Rattle.verifier.specs.declared.fault.Defect.{Defect}
+use Rattle.verifier.specs.Flow.{Edge, next, jumps, caught, Flow, starts, nowhere, grows, misses, meets, falls, IsFlowDefect, FlowsWell, changed, between, effect, all_popped, pushed, exchanged, signature, is_own, and_then, Leaves, Misses, goes_on, target_of}
+use Rattle.verifier.specs.Operands.{list_of, IsLonger}
+use Rattle.verifier.specs.Places.{IsPlace, IsPlaced}
+use Rattle.verifier.specs.Search.{row, table, IsKept, IsGoing, IsAtEdge, Flowed, Steps, IsApplied, HasEffect, HasInstruction, IsFirst, left, unset}
+use Rattle.verifier.specs.declared.fault.Defect.TheVariants.{OperandKind, OperandDepth, FallsOffEnd}
+use Rattle.verifier.specs.declared.search.Search.{Search}
+use Rattle.verifier.proofs.Offsets.{start_inside}
+use Rattle.verifier.proofs.Laws.{IsDone, no_fault, changed_at}
+
+fun_ext : {f g : ℕ → Option (List Kind)} → ((x : ℕ) → f x ≡ g x) → f ≡ g
+fun_ext h = λ i x. h x i
+
+eq_of : (a b : ℕ) → a == b ≡ true → a ≡ b
+eq_of a b e = grind (arith, nat_tests)
+
+number_cases : (a b : ℕ) → (a ≡ b) ⊎ (a ≢ b)
+number_cases zero zero = inl refl
+number_cases zero (suc b) = inr (λ e. omega arith)
+number_cases (suc a) zero = inr (λ e. omega arith)
+number_cases (suc a) (suc b) = elim (number_cases a b) [ inl e ↦ inl (ap suc e) | inr ne ↦ inr (λ e. ne (omega arith)) ]
+
+past_end : {A : Type 0} (xs : List A) (k : ℕ) (d : A) → length xs ≤ k → get_or xs k d ≡ d
+past_end [] k d h = refl
+past_end (x ∷ xs) zero d h = absurd (omega arith)
+past_end (x ∷ xs) (suc k) d h = past_end xs k d (omega arith)
+
+unset_set : (shapes : List (Option ℕ)) (k list : ℕ) → k < length shapes → get_or shapes k None ≡ None → unset (set shapes k (Some list)) + 1 ≡ unset shapes
+unset_set [] k list h e = absurd (omega arith)
+unset_set (None ∷ shapes) zero list h e = omega arith
+unset_set (Some other ∷ shapes) zero list h e = absurd (let f : Some other ≡ None = e in cc)
+unset_set (None ∷ shapes) (suc k) list h e = let i : unset (set shapes k (Some list)) + 1 ≡ unset shapes = unset_set shapes k list (omega arith) e in omega arith
+unset_set (Some other ∷ shapes) (suc k) list h e = unset_set shapes k list (omega arith) e
+
+-- nothing is at the end
+pub none_at_end : (m : ModuleContents) (p : ProcedureContents) (s : Search) (busy : List ℕ) → IsGoing m p s busy → table s (code_length p.code) ≡ None
+none_at_end m p s busy g = ap (row s.operands) (past_end s.shapes.items (code_length p.code) None (omega (arith, g.sized)))
+
+-- an edge to the end is a fault
+pub falls_at : (m : ModuleContents) (p : ProcedureContents) (s : Search) (busy : List ℕ) (at to : ℕ) (after : List Kind) → IsGoing m p s busy → IsAtEdge m p s at to after → to ≡ code_length p.code → IsFlowDefect m p to FallsOffEnd
+falls_at m p s busy at to after g e is =
+    subst (λ t. IsFlowDefect m p t FallsOffEnd) (sym is)
+    (falls (changed (table s) (code_length p.code) (Some after)) after (grows (table s) at e.kinds (code_length p.code) after g.flow e.has (subst (λ t. Edge m p at e.kinds t after) is e.edge) (none_at_end m p s busy g)) (changed_at (table s) (code_length p.code) after))
+
+-- an edge that brings another list is a fault
+pub meets_at : (m : ModuleContents) (p : ProcedureContents) (s : Search) (busy : List ℕ) (at to : ℕ) (after others : List Kind) (defect : Defect) → IsGoing m p s busy → IsAtEdge m p s at to after → to ≢ code_length p.code → table s to ≡ Some others → after ≢ others → defect ≡ between after others → IsFlowDefect m p to defect
+meets_at m p s busy at to after others defect g e inside there ne is =
+    subst (IsFlowDefect m p to) (sym is) (meets (table s) at e.kinds to after others g.flow e.has e.edge inside there ne)
+
+-- the search with one more list
+module _ (m : ModuleContents) (p : ProcedureContents) (s new : Search) (at to list : ℕ) (g : IsGoing m p s (at ∷ [])) (e : IsAtEdge m p s at to (list_of s.operands list)) (number : list < length s.operands) (is_place : IsPlace p to) (inside : to < length s.shapes.items) (unset_there : get_or s.shapes.items to None ≡ None) (lists : new.operands ≡ s.operands) (shapes : new.shapes.items ≡ set s.shapes.items to (Some list)) (work : new.work.items ≡ s.work.items ++ to ∷ []) where
+  at_to : get_or new.shapes.items to None ≡ Some list
+  at_to = ap (λ l. get_or l to None) shapes ∙ get_or-set_same s.shapes.items to (Some list) None inside
+
+  at_other : (place : ℕ) → place ≢ to → get_or new.shapes.items place None ≡ get_or s.shapes.items place None
+  at_other place ne = ap (λ l. get_or l place None) shapes ∙ get_or-set_other s.shapes.items to place (Some list) None ne
+
+  arrives : table new to ≡ Some (list_of s.operands list)
+  arrives = ap (row new.operands) at_to ∙ ap (λ l. Some (list_of l list)) lists
+
+  others : (place : ℕ) → place ≢ to → table new place ≡ table s place
+  others place ne = ap (row new.operands) (at_other place ne) ∙ ap (λ l. row l (get_or s.shapes.items place None)) lists
+
+  is_changed : (place : ℕ) → table new place ≡ changed (table s) to (Some (list_of s.operands list)) place
+  is_changed place =
+      elim (number_cases place to) [
+        | inl same ↦ ap (table new) same ∙ arrives ∙ sym (changed_at (table s) to (list_of s.operands list)) ∙ ap (changed (table s) to (Some (list_of s.operands list))) (sym same)
+        | inr ne ↦ others place ne ∙ not_at place ne
+      ]
+    where
+      not_at : (place : ℕ) → place ≢ to → table s place ≡ changed (table s) to (Some (list_of s.operands list)) place
+      not_at place ne = split (place == to) refl
+        where
+          split : (b : Bool) → place == to ≡ b → table s place ≡ (if b then Some (list_of s.operands list) else table s place)
+          split true t = absurd (ne (eq_of place to t))
+          split false f = refl
+
+  was_none : table s to ≡ None
+  was_none = ap (row s.operands) unset_there
+
+  keeps : (place : ℕ) (kinds : List Kind) → table s place ≡ Some kinds → table new place ≡ Some kinds
+  keeps place kinds h =
+      elim (number_cases place to) [
+        | inl same ↦ absurd (let f : None ≡ Some kinds = sym was_none ∙ ap (table s) (sym same) ∙ h in cc)
+        | inr ne ↦ others place ne ∙ h
+      ]
+
+  kept : (place : ℕ) (kinds : List Kind) → IsKept m p s place kinds → IsKept m p new place kinds
+  kept place kinds k = record {
+    instruction = k.instruction;
+    there = k.there;
+    after = k.after;
+    finds = k.finds;
+    next = λ h. keeps (place + width_of k.instruction) k.after (k.next h);
+    jumps = λ t h. keeps t k.after (k.jumps t h);
+    caught = λ h c l m. keeps h.target [] (k.caught h c l m);
+  }
+
+  begins_at : IsPlace p to → (i : Instruction) × (instruction_at p.code to ≡ Some i)
+  begins_at place = elim place [ inl e ↦ absurd (omega (arith, e, g.sized)) | inr h ↦ h ]
+
+  pub flowed : Flowed m p s new at to list
+  flowed = record {
+    going = record {
+      root = subst IsFirst (sym lists) g.root;
+      sized = ap length shapes ∙ length-set s.shapes.items to (Some list) ∙ g.sized;
+      numbers = λ place n h. elim (number_cases place to) [
+        | inl same ↦ let f : Some list ≡ Some n = sym at_to ∙ ap (λ k. get_or new.shapes.items k None) (sym same) ∙ h in let n_is : list ≡ n = cc in omega (arith, ap length lists)
+        | inr ne ↦ omega (arith, ap length lists, g.numbers place n (sym (at_other place ne) ∙ h))
+      ];
+      begins = λ place kinds h. elim (number_cases place to) [
+        | inl same ↦ subst (λ q. (i : Instruction) × (instruction_at p.code q ≡ Some i)) (sym same) (begins_at is_place)
+        | inr ne ↦ g.begins place kinds (sym (others place ne) ∙ h)
+      ];
+      first = keeps 0 [] g.first;
+      flow = subst (Flow m p) (sym (fun_ext is_changed)) (grows (table s) at e.kinds to (list_of s.operands list) g.flow e.has e.edge was_none);
+      pending = λ place kinds h. elim (number_cases place to) [
+        | inl same ↦ inl (subst (λ w. Contains w place) (sym work) (subst (Contains (s.work.items ++ to ∷ [])) (sym same) (Contains-push s.work.items to)))
+        | inr ne ↦ elim (g.pending place kinds (sym (others place ne) ∙ h)) [
+          | inl w ↦ inl (subst (λ l. Contains l place) (sym work) (Contains-append_left s.work.items (to ∷ []) place w))
+          | inr b ↦ elim b [ inl busy ↦ inr (inl busy) | inr k ↦ inr (inr (kept place kinds k)) ]
+        ]
+      ];
+      waits = λ place w. elim (Contains-push_cases s.work.items to place (subst (λ l. Contains l place) work w)) [
+        | inl old ↦ let h = g.waits place old in (h.0, keeps place h.0 h.1)
+        | inr same ↦ (list_of s.operands list, ap (table new) (sym same) ∙ arrives)
+      ];
+    };
+    keeps = keeps;
+    arrives = arrives;
+    same = lists;
+    left = omega (arith, ap unset shapes, unset_set s.shapes.items to list inside unset_there, ap length work, length-append s.work.items (to ∷ []));
+  }
+
+-- the list was there
+pub flowed_there : (m : ModuleContents) (p : ProcedureContents) (s new : Search) (at to list other : ℕ) → IsGoing m p s (at ∷ []) → get_or s.shapes.items to None ≡ Some other → list_of s.operands list ≡ list_of s.operands other → new ≡ s → Flowed m p s new at to list
+flowed_there m p s new at to list other g there same is =
+    subst (λ n. Flowed m p s n at to list) (sym is) (record {
+      going = g;
+      keeps = λ place kinds h. h;
+      arrives = ap (row s.operands) there ∙ ap Some (sym same);
+      same = refl;
+      left = omega arith;
+    })
+
+-- a place that control may go to, and that is not the end, has an index
+pub place_inside : (m : ModuleContents) (p : ProcedureContents) (s : Search) (busy : List ℕ) (to : ℕ) → IsGoing m p s busy → IsPlace p to → to ≢ length s.shapes.items → to < length s.shapes.items
+place_inside m p s busy to g place ne =
+    elim place [
+      | inl e ↦ absurd (ne (e ∙ sym g.sized))
+      | inr i ↦ omega (arith, g.sized, start_inside p.code to i.0 i.1)
+    ]
+
+-- ---- the end of the search
+
+-- with nothing to look at, the table is done
+pub going_done : (m : ModuleContents) (p : ProcedureContents) (s : Search) → IsGoing m p s [] → s.work.items ≡ [] → IsDone m p (table s)
+going_done m p s g empty = record {
+  first = g.first;
+  finds = λ at kinds i wrong h is e. let k = every at kinds h in
+      absurd (let f : Some k.instruction ≡ Some i = sym k.there ∙ is in let same : k.instruction ≡ i = cc in let t : Leaves k.after ≡ Misses wrong = sym k.finds ∙ ap (λ j. effect m p j kinds) same ∙ e in cc);
+  keeps = λ at kinds to after h edge. along at kinds (every at kinds h) to after edge;
+  none_at_end = none_at_end m p s [] g;
+}
+  where
+    every : (at : ℕ) (kinds : List Kind) → table s at ≡ Some kinds → IsKept m p s at kinds
+    every at kinds h =
+        elim (g.pending at kinds h) [
+          | inl w ↦ absurd (nothing at (subst (λ l. Contains l at) empty w))
+          | inr b ↦ elim b [ inl busy ↦ absurd (nothing at busy) | inr k ↦ k ]
+        ]
+      where
+        nothing : (at : ℕ) → Contains [] at → ⊥
+        nothing at c = omega (arith, c.1)
+
+    along : (at : ℕ) (kinds : List Kind) → IsKept m p s at kinds → (to : ℕ) (after : List Kind) → Edge m p at kinds to after → table s to ≡ Some after
+    along at kinds k _ _ (next i to after is e goes to_is) =
+        let f : Some k.instruction ≡ Some i = sym k.there ∙ is in let same : k.instruction ≡ i = cc in
+        let t : Leaves k.after ≡ Leaves after = sym k.finds ∙ ap (λ j. effect m p j kinds) same ∙ e in let after_is : k.after ≡ after = cc in
+        ap (table s) (to_is ∙ ap (λ j. at + width_of j) (sym same)) ∙ k.next (ap goes_on same ∙ goes) ∙ ap Some after_is
+    along at kinds k _ _ (jumps i to after is e jumps_to) =
+        let f : Some k.instruction ≡ Some i = sym k.there ∙ is in let same : k.instruction ≡ i = cc in
+        let t : Leaves k.after ≡ Leaves after = sym k.finds ∙ ap (λ j. effect m p j kinds) same ∙ e in let after_is : k.after ≡ after = cc in
+        k.jumps to (ap target_of same ∙ jumps_to) ∙ ap Some after_is
+    along at kinds k _ _ (caught i h is c l m) = k.caught h c l m
+
+pub search_done : (m : ModuleContents) (p : ProcedureContents) (s : Search) → IsGoing m p s [] → s.work.items ≡ [] → FlowsWell m p
+search_done m p s g empty = no_fault m p (table s) (going_done m p s g empty)
+
+-- ---- a place is looked at
+
+-- what was looked at is kept
+pub looked_at : (m : ModuleContents) (p : ProcedureContents) (s : Search) (at : ℕ) → IsGoing m p s (at ∷ []) → ((kinds : List Kind) → table s at ≡ Some kinds → IsKept m p s at kinds) → IsGoing m p s []
+looked_at m p s at g kept = record {
+  root = g.root;
+  sized = g.sized;
+  numbers = g.numbers;
+  begins = g.begins;
+  first = g.first;
+  flow = g.flow;
+  pending = λ place kinds h. elim (g.pending place kinds h) [
+    | inl w ↦ inl w
+    | inr b ↦ elim b [ inl busy ↦ inr (inr (here place kinds h (one at place busy))) | inr k ↦ inr (inr k) ]
+  ];
+  waits = g.waits;
+}
+  where
+    one : (at place : ℕ) → Contains (at ∷ []) place → at ≡ place
+    one at place c = single c.0 c.1 c.2
+      where
+        single : (k : ℕ) → k < 1 → get_or (at ∷ []) k place ≡ place → at ≡ place
+        single zero h e = e
+        single (suc k) h e = absurd (omega arith)
+
+    here : (place : ℕ) (kinds : List Kind) → table s place ≡ Some kinds → at ≡ place → IsKept m p s place kinds
+    here place kinds h e = subst (λ a. IsKept m p s a kinds) e (kept kinds (ap (table s) e ∙ h))
+
+-- ---- more lists
+
+longer_row : (lists more : List (List Kind)) (o : Option ℕ) → ((n : ℕ) → o ≡ Some n → n < length lists) → IsLonger lists more → row more o ≡ row lists o
+longer_row lists more None h l = refl
+longer_row lists more (Some n) h l = ap Some (ap (λ ls. get_or ls n []) l.1 ∙ get_or_append_left lists l.0 [] n (h n refl))
+
+module _ (m : ModuleContents) (p : ProcedureContents) (s new : Search) (busy : List ℕ) (g : IsGoing m p s busy) (longer : IsLonger s.operands new.operands) (shapes : new.shapes ≡ s.shapes) (work : new.work ≡ s.work) where
+  pub same_table : (place : ℕ) → table new place ≡ table s place
+  same_table place = ap (λ v. row new.operands (get_or v.items place None)) shapes ∙ longer_row s.operands new.operands (get_or s.shapes.items place None) (g.numbers place) longer
+
+  pub going_longer : IsGoing m p new busy
+  going_longer = record {
+    root = (omega (arith, g.root.0, ap length longer.1, length-append s.operands longer.0), ap (λ ls. get_or ls 0 []) longer.1 ∙ get_or_append_left s.operands longer.0 [] 0 g.root.0 ∙ g.root.1);
+    sized = ap (λ v. length v.items) shapes ∙ g.sized;
+    numbers = λ place n h. let k = g.numbers place n (ap (λ v. get_or v.items place None) (sym shapes) ∙ h) in omega (arith, k, ap length longer.1, length-append s.operands longer.0);
+    begins = λ place kinds h. g.begins place kinds (sym (same_table place) ∙ h);
+    first = same_table 0 ∙ g.first;
+    flow = subst (Flow m p) (sym (fun_ext same_table)) g.flow;
+    pending = λ place kinds h. elim (g.pending place kinds (sym (same_table place) ∙ h)) [
+      | inl w ↦ inl (subst (λ v. Contains v.items place) (sym work) w)
+      | inr b ↦ elim b [ inl busy ↦ inr (inl busy) | inr k ↦ inr (inr (kept place kinds k)) ]
+    ];
+    waits = λ place w. let h = g.waits place (subst (λ v. Contains v.items place) work w) in (h.0, same_table place ∙ h.1);
+  }
+    where
+      kept : (place : ℕ) (kinds : List Kind) → IsKept m p s place kinds → IsKept m p new place kinds
+      kept place kinds k = record {
+        instruction = k.instruction;
+        there = k.there;
+        after = k.after;
+        finds = k.finds;
+        next = λ h. same_table (place + width_of k.instruction) ∙ k.next h;
+        jumps = λ t h. same_table t ∙ k.jumps t h;
+        caught = λ h c l m. same_table h.target ∙ k.caught h c l m;
+      }
+
+  pub same_left : left new ≡ left s
+  same_left = ap (λ v. unset v.items + length new.work.items) shapes ∙ ap (λ v. unset s.shapes.items + length v.items) work
+
+-- ---- steps from a place
+
+pub steps_of : (m : ModuleContents) (p : ProcedureContents) (old new : Search) (at to list : ℕ) → Flowed m p old new at to list → Steps m p old new at
+steps_of m p old new at to list f = record { going = f.going; keeps = f.keeps; same = f.same; left = f.left }
+
+pub steps_none : (m : ModuleContents) (p : ProcedureContents) (s : Search) (at : ℕ) → IsGoing m p s (at ∷ []) → Steps m p s s at
+steps_none m p s at g = record { going = g; keeps = λ place kinds h. h; same = refl; left = omega arith }
+
+pub edge_next : (m : ModuleContents) (p : ProcedureContents) (s : Search) (at to : ℕ) (i : Instruction) (after : List Kind) → HasEffect m p s at i after → goes_on i ≡ true → to ≡ at + width_of i → IsAtEdge m p s at to after
+edge_next m p s at to i after h goes is = record { kinds = h.kinds; has = h.has; edge = next i to after h.there h.effect goes is }
+
+pub edge_jump : (m : ModuleContents) (p : ProcedureContents) (s : Search) (at to : ℕ) (i : Instruction) (after : List Kind) → HasEffect m p s at i after → target_of i ≡ Some to → IsAtEdge m p s at to after
+edge_jump m p s at to i after h is = record { kinds = h.kinds; has = h.has; edge = jumps i to after h.there h.effect is }
+
+pub edge_caught : (m : ModuleContents) (p : ProcedureContents) (s : Search) (at : ℕ) (kinds : List Kind) (i : Instruction) (h : Handler) → table s at ≡ Some kinds → instruction_at p.code at ≡ Some i → Contains p.handlers h → h.start ≤ at → at < h.end → IsAtEdge m p s at h.target []
+edge_caught m p s at kinds i h has is inside low high = record { kinds = kinds; has = has; edge = caught i h is inside low high }
+
+-- what an instruction of this procedure makes of kinds
+effect_own : (m : ModuleContents) (p : ProcedureContents) (i : Instruction) (kinds : List Kind) → is_own p i ≡ true → effect m p i kinds ≡ exchanged (signature m p i) kinds
+effect_own m p i kinds own = ap (λ (b : Bool). if b then exchanged (signature m p i) kinds else Misses OperandKind) own
+
+pub misses_at : (m : ModuleContents) (p : ProcedureContents) (s : Search) (busy : List ℕ) (at : ℕ) (kinds : List Kind) (i : Instruction) (wrong : Defect) → IsGoing m p s busy → table s at ≡ Some kinds → instruction_at p.code at ≡ Some i → is_own p i ≡ true → all_popped (signature m p i).pops kinds ≡ Misses wrong → IsFlowDefect m p at wrong
+misses_at m p s busy at kinds i wrong g has is own e =
+    misses (table s) at kinds i wrong g.flow has is (effect_own m p i kinds own ∙ ap (λ o. and_then o (λ rest. Leaves (pushed (signature m p i).pushes rest))) e)
+
+pub misses_own : (m : ModuleContents) (p : ProcedureContents) (s : Search) (busy : List ℕ) (at : ℕ) (kinds : List Kind) (i : Instruction) → IsGoing m p s busy → table s at ≡ Some kinds → instruction_at p.code at ≡ Some i → is_own p i ≡ false → IsFlowDefect m p at OperandKind
+misses_own m p s busy at kinds i g has is own =
+    misses (table s) at kinds i OperandKind g.flow has is (ap (λ (b : Bool). if b then exchanged (signature m p i) kinds else Misses OperandKind) own)
+
+-- the list that an instruction leaves, where the lists grew
+pub applied : (m : ModuleContents) (p : ProcedureContents) (s new : Search) (at : ℕ) → IsGoing m p s (at ∷ []) → IsLonger s.operands new.operands → length new.operands ≤ length s.operands + 1 → new.shapes ≡ s.shapes → new.work ≡ s.work → IsApplied m p s new at
+applied m p s new at g longer few shapes work = record {
+  going = going_longer m p s new (at ∷ []) g longer shapes work;
+  keeps = λ place kinds h. same_table m p s new (at ∷ []) g longer shapes work place ∙ h;
+  few = few;
+  left = omega (arith, same_left m p s new (at ∷ []) g longer shapes work);
+}
+
+pub has_effect : (m : ModuleContents) (p : ProcedureContents) (s new : Search) (at : ℕ) (kinds rest after : List Kind) (i : Instruction) → IsApplied m p s new at → table s at ≡ Some kinds → instruction_at p.code at ≡ Some i → is_own p i ≡ true → all_popped (signature m p i).pops kinds ≡ Leaves rest → pushed (signature m p i).pushes rest ≡ after → HasEffect m p new at i after
+has_effect m p s new at kinds rest after i a has is own e is_after = record {
+  there = is;
+  kinds = kinds;
+  has = a.keeps at kinds has;
+  effect = effect_own m p i kinds own ∙ ap (λ o. and_then o (λ rest. Leaves (pushed (signature m p i).pushes rest))) e ∙ ap Leaves is_after;
+}
+
+-- a place from which each edge was followed is kept
+pub all_followed : (m : ModuleContents) (p : ProcedureContents) (s one two three four : Search) (at : ℕ) (i : Instruction) (after : List Kind) → HasEffect m p one at i after → (goes_on i ≡ true → table two (at + width_of i) ≡ Some after) → ((to : ℕ) → target_of i ≡ Some to → table three to ≡ Some after) → ((h : Handler) → Contains p.handlers h → h.start ≤ at → at < h.end → table four h.target ≡ Some []) → Steps m p one two at → Steps m p two three at → Steps m p three four at → IsGoing m p four []
+all_followed m p s one two three four at i after e a b c f g h =
+    looked_at m p four at h.going (λ kinds has.
+    let here : table four at ≡ Some e.kinds = h.keeps at e.kinds (g.keeps at e.kinds (f.keeps at e.kinds e.has)) in
+    let some : Some e.kinds ≡ Some kinds = sym here ∙ has in
+    let same : e.kinds ≡ kinds = cc in
+    record {
+      instruction = i;
+      there = e.there;
+      after = after;
+      finds = ap (effect m p i) (sym same) ∙ e.effect;
+      next = λ goes. h.keeps (at + width_of i) after (g.keeps (at + width_of i) after (a goes));
+      jumps = λ to is. h.keeps to after (b to is);
+      caught = c;
+    })
+
+pub steps_more : (m : ModuleContents) (p : ProcedureContents) (old between new : Search) (at to list : ℕ) → Steps m p old between at → Flowed m p between new at to list → Steps m p old new at
+steps_more m p old between new at to list f h = record {
+  going = h.going;
+  keeps = λ place kinds e. h.keeps place kinds (f.keeps place kinds e);
+  same = h.same ∙ f.same;
+  left = omega (arith, f.left, h.left);
+}
+
+-- the handlers up to the next one
+pub caught_more : (s new : Search) (at : ℕ) (handlers : List Handler) (k : ℕ) (d : Handler) → k < length handlers → ((place : ℕ) (kinds : List Kind) → table s place ≡ Some kinds → table new place ≡ Some kinds) → ((h : Handler) → Contains (take k handlers) h → h.start ≤ at → at < h.end → table s h.target ≡ Some []) → ((get_or handlers k d).start ≤ at → at < (get_or handlers k d).end → table new (get_or handlers k d).target ≡ Some []) → (h : Handler) → Contains (take (k + 1) handlers) h → h.start ≤ at → at < h.end → table new h.target ≡ Some []
+caught_more s new at handlers k d l keeps before here h c a b =
+    elim (Contains-push_cases (take k handlers) (get_or handlers k d) h (subst (λ hs. Contains hs h) (take_more handlers k d l) c)) [
+      | inl old ↦ keeps h.target [] (before h old a b)
+      | inr same ↦ subst (λ (x : Handler). table new x.target ≡ Some []) same (here (subst (λ (x : Handler). x.start ≤ at) (sym same) a) (subst (λ (x : Handler). at < x.end) (sym same) b))
+    ]
+
+pub whole_front : {A : Type 0} (xs : List A) (n : ℕ) → length xs ≤ n → take n xs ≡ xs
+whole_front [] zero h = refl
+whole_front [] (suc n) h = refl
+whole_front (x ∷ xs) zero h = absurd (omega arith)
+whole_front (x ∷ xs) (suc n) h = ap (λ ys. x ∷ ys) (whole_front xs n (omega arith))
+
+no_items : {A : Type 0} (xs : List A) → length xs ≡ 0 → xs ≡ []
+no_items [] e = refl
+no_items (x ∷ xs) e = absurd (omega arith)
+
+pub run_done : (m : ModuleContents) (p : ProcedureContents) (s : Search) → IsGoing m p s [] → length s.work.items ≡ 0 → FlowsWell m p
+run_done m p s g e = search_done m p s g (no_items s.work.items e)
+
+-- a place is taken from those that wait
+module _ (m : ModuleContents) (p : ProcedureContents) (s new : Search) (at : ℕ) (g : IsGoing m p s []) (operands : new.operands ≡ s.operands) (shapes : new.shapes ≡ s.shapes) (work : s.work.items ≡ new.work.items ++ at ∷ []) where
+  taken_table : (place : ℕ) → table new place ≡ table s place
+  taken_table place = ap (λ v. row new.operands (get_or v.items place None)) shapes ∙ ap (λ ls. row ls (get_or s.shapes.items place None)) operands
+
+  taken_kept : (place : ℕ) (kinds : List Kind) → IsKept m p s place kinds → IsKept m p new place kinds
+  taken_kept place kinds k = record {
+    instruction = k.instruction;
+    there = k.there;
+    after = k.after;
+    finds = k.finds;
+    next = λ h. taken_table (place + width_of k.instruction) ∙ k.next h;
+    jumps = λ t h. taken_table t ∙ k.jumps t h;
+    caught = λ h c l m. taken_table h.target ∙ k.caught h c l m;
+  }
+
+  pub taken : IsGoing m p new (at ∷ [])
+  taken = record {
+    root = subst IsFirst (sym operands) g.root;
+    sized = ap (λ v. length v.items) shapes ∙ g.sized;
+    numbers = λ place n h. let k = g.numbers place n (ap (λ v. get_or v.items place None) (sym shapes) ∙ h) in omega (arith, k, ap length operands);
+    begins = λ place kinds h. g.begins place kinds (sym (taken_table place) ∙ h);
+    first = taken_table 0 ∙ g.first;
+    flow = subst (Flow m p) (sym (fun_ext taken_table)) g.flow;
+    pending = λ place kinds h. elim (g.pending place kinds (sym (taken_table place) ∙ h)) [
+      | inl w ↦ elim (Contains-push_cases new.work.items at place (subst (λ l. Contains l place) work w)) [
+        | inl rest ↦ inl rest
+        | inr same ↦ inr (inl (subst (Contains (at ∷ [])) same (Contains-push [] at)))
+      ]
+      | inr b ↦ elim b [ inl busy ↦ absurd (omega (arith, busy.1)) | inr k ↦ inr (inr (taken_kept place kinds k)) ]
+    ];
+    waits = λ place w. let h = g.waits place (subst (λ l. Contains l place) (sym work) (Contains-append_left new.work.items (at ∷ []) place w)) in (h.0, taken_table place ∙ h.1);
+  }
+
+  pub taken_left : left new + 1 ≡ left s
+  taken_left = omega (arith, ap (λ v. unset v.items) shapes, ap length work, length-append new.work.items (at ∷ []))
+
+  pub taken_instruction : HasInstruction p new at
+  taken_instruction =
+      let h = g.waits at (subst (λ l. Contains l at) (sym work) (Contains-push new.work.items at)) in
+      let i = g.begins at h.0 h.1 in
+      record { instruction = i.0; there = i.1; kinds = h.0; has = taken_table at ∙ h.1 }
+
+-- ---- the start
+
+all_none : (n k : ℕ) → ◌≡◌ {A = Option ℕ} (get_or (replicate n None) k None) None
+all_none zero k = refl
+all_none (suc n) zero = refl
+all_none (suc n) (suc k) = all_none n k
+
+not_zero : (k : ℕ) → suc k == 0 ≡ false
+not_zero k = grind (arith, nat_tests)
+
+all_unset : (n : ℕ) → unset (replicate n None) ≡ n
+all_unset zero = refl
+all_unset (suc n) = ap suc (all_unset n)
+
+pub empty_falls : (m : ModuleContents) (p : ProcedureContents) → code_length p.code ≡ 0 → IsFlowDefect m p 0 FallsOffEnd
+empty_falls m p e = subst (λ t. IsFlowDefect m p t FallsOffEnd) e (falls (changed nowhere 0 (Some [])) [] starts (subst (λ t. changed nowhere 0 (Some []) t ≡ Some []) (sym e) (changed_at nowhere 0 [])))
+
+module _ (m : ModuleContents) (p : ProcedureContents) (s : Search) (n : ℕ) (size : code_length p.code ≡ suc n) (placed : IsPlaced p) (operands : s.operands ≡ [] ∷ []) (shapes : s.shapes.items ≡ set (replicate (suc n) None) 0 (Some 0)) (work : s.work.items ≡ 0 ∷ []) where
+  start_table : (place : ℕ) → table s place ≡ row ([] ∷ []) (get_or (Some 0 ∷ replicate n None) place None)
+  start_table place = ap (λ v. row s.operands (get_or v place None)) shapes ∙ ap (λ ls. row ls (get_or (Some 0 ∷ replicate n None) place None)) operands
+
+  other_none : (place : ℕ) → row ([] ∷ []) (get_or (Some 0 ∷ replicate n None) place None) ≡ changed nowhere 0 (Some []) place
+  other_none zero = refl
+  other_none (suc k) = ap (row ([] ∷ [])) (all_none n k) ∙ ap (λ (b : Bool). if b then Some [] else None) (sym (not_zero k))
+
+  only_first : (place : ℕ) (kinds : List Kind) → table s place ≡ Some kinds → place ≡ 0
+  only_first zero kinds h = refl
+  only_first (suc k) kinds h = absurd (let f : None ≡ Some kinds = sym (start_table (suc k) ∙ ap (row ([] ∷ [])) (all_none n k)) ∙ h in cc)
+
+  pub start_left : left s ≡ suc n
+  start_left = omega (arith, ap unset shapes, ap length work, all_unset n)
+
+  pub started : IsGoing m p s []
+  started = record {
+    root = (omega (arith, ap length operands), ap (λ ls. list_of ls 0) operands);
+    sized = ap length shapes ∙ (ap suc (length-replicate n None)) ∙ sym size;
+    numbers = λ place list h. numbers place list h;
+    begins = λ place kinds h. subst (λ q. (i : Instruction) × (instruction_at p.code q ≡ Some i)) (sym (only_first place kinds h)) (elim placed.first [ inl e ↦ absurd (omega (arith, e, size)) | inr i ↦ i ]);
+    first = start_table 0;
+    flow = subst (Flow m p) (sym (fun_ext (λ place. start_table place ∙ other_none place))) starts;
+    pending = λ place kinds h. inl (subst (λ l. Contains l place) (sym work) (subst (Contains (0 ∷ [])) (sym (only_first place kinds h)) (Contains-push [] 0)));
+    waits = λ place w. elim (Contains-push_cases [] 0 place (subst (λ l. Contains l place) work w)) [ inl none ↦ absurd (omega (arith, none.1)) | inr same ↦ ([], ap (table s) (sym same) ∙ start_table 0) ];
+  }
+    where
+      numbers : (place list : ℕ) → get_or s.shapes.items place None ≡ Some list → list < length s.operands
+      numbers zero list h = let f : Some 0 ≡ Some list = sym (ap (λ v. get_or v 0 None) shapes) ∙ h in let g : 0 ≡ list = cc in omega (arith, ap length operands)
+      numbers (suc k) list h = absurd (let f : None ≡ Some list = sym (ap (λ v. get_or v (suc k) None) shapes ∙ all_none n k) ∙ h in cc)

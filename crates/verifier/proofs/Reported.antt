@@ -1,0 +1,83 @@
+-- What the verifier reports.
+use Rattle.std.proofs.Common.{◌≡◌, ◌⊎◌, inl, inr, ℕ, zero, suc, ◌+◌, ◌<◌, ◌≤◌, List, [], ◌∷◌, length, get_or, slice_get, Option, Some, None, refl, sym, ap, ◌∙◌, subst, arith}
+use Rattle.bytecode.specs.Contents.{ProcedureContents, ModuleContents}
+use Rattle.verifier.specs.Faults.{HasNoFault, IsReported, IsReportedAfter, IsFlowFault, IsRefusal}
+use Rattle.verifier.specs.Fixed.{fixed_faults}
+use Rattle.verifier.specs.Flow.{FlowsWell, IsFlowDefect}
+use Rattle.verifier.specs.Search.{IsStop, stop_fault}
+use Rattle.verifier.specs.declared.search.Stop.{Stop}
+use Rattle.verifier.specs.declared.search.Stop.TheVariants as stop
+use Rattle.verifier.specs.declared.fault.Defect.{Defect}
+use Rattle.verifier.specs.declared.fault.Fault.{Fault}
+use Rattle.verifier.specs.Places.{IsPlaced}
+use Rattle.verifier.specs.Verified.{IsVerified}
+use Rattle.verifier.proofs.Bounds.{IsBounded}
+use Rattle.verifier.proofs.NeverStuck.{never_stuck}
+use Rattle.verifier.proofs.FixedFaults.{nothing_first, get_at, placed, all_right}
+
+-- a fault that may be reported is there
+pub excluded : (m : ModuleContents) (fault : Fault) → IsReported m fault → HasNoFault m → ⊥
+excluded m fault reported free = free.flow fault (subst (λ (faults : List Fault). IsReportedAfter m faults fault) free.fixed reported)
+
+-- the first fixed fault may be reported, and one of the flow where there is no fixed one
+pub reported_first : (m : ModuleContents) (fault : Fault) → Some fault ≡ slice_get (fixed_faults m) 0 → IsReported m fault
+reported_first m fault e = split (fixed_faults m) e
+  where
+    split : (faults : List Fault) → Some fault ≡ slice_get faults 0 → IsReportedAfter m faults fault
+    split [] e = absurd (let no : Some fault ≡ None = e in cc)
+    split (x ∷ faults) e = cc
+
+pub none_fixed : (m : ModuleContents) → None ≡ slice_get (fixed_faults m) 0 → fixed_faults m ≡ []
+none_fixed m e = nothing_first (fixed_faults m) (sym e)
+
+pub reported_stop : (m : ModuleContents) (k number : ℕ) (p : ProcedureContents) (stop : Stop) → fixed_faults m ≡ [] → slice_get m.procedures k ≡ Some p → number ≡ k → IsStop m p stop → IsRefusal m (stop_fault number stop)
+reported_stop m k number p stop.NoMemory none there is e = tt
+reported_stop m k number p (stop.Wrong offset defect) none there is e =
+    subst (λ (faults : List Fault). IsReportedAfter m faults (record { defect = defect; procedure = number; offset = offset })) (sym none)
+    (record { procedure = p; there = ap (slice_get m.procedures) is ∙ there; defect = e })
+
+-- each procedure flows well
+pub all_flow : (m : ModuleContents) → fixed_faults m ≡ [] → ((k : ℕ) (p : ProcedureContents) → k < length m.procedures → slice_get m.procedures k ≡ Some p → FlowsWell m p) → HasNoFault m
+all_flow m none flow = record {
+  fixed = none;
+  flow = λ fault there. flow fault.procedure there.procedure (inside m.procedures fault.procedure there.procedure there.there) there.there fault.offset fault.defect there.defect;
+}
+  where
+    inside : (all : List ProcedureContents) (k : ℕ) (p : ProcedureContents) → slice_get all k ≡ Some p → k < length all
+    inside [] k p e = absurd (let no : None ≡ Some p = e in cc)
+    inside (x ∷ all) zero p e = omega arith
+    inside (x ∷ all) (suc k) p e = omega (arith, inside all k p e)
+
+-- ---- the loop over procedures
+
+last_cases : (k n : ℕ) → k < n + 1 → (k < n) ⊎ (k ≡ n)
+last_cases zero zero h = inr refl
+last_cases zero (suc n) h = inl (omega arith)
+last_cases (suc k) zero h = absurd (omega arith)
+last_cases (suc k) (suc n) h = elim (last_cases k n (omega arith)) [ inl l ↦ inl (omega arith) | inr e ↦ inr (ap suc e) ]
+
+pub item_at : (m : ModuleContents) (procedures : List ProcedureContents) → procedures ≡ m.procedures → (index : ℕ) (item : ProcedureContents) → item ≡ get_or procedures index item → index < length procedures → slice_get m.procedures index ≡ Some item
+item_at m procedures are index item is inside = ap (λ all. slice_get all index) (sym are) ∙ get_at procedures index item inside ∙ ap Some (sym is)
+
+pub is_verified : (m : ModuleContents) → IsBounded m → HasNoFault m → IsVerified m
+is_verified m bounds free = record { no_fault = free; never_stuck = never_stuck m bounds free }
+
+module _ (m : ModuleContents) (none : fixed_faults m ≡ []) (procedures : List ProcedureContents) (are : procedures ≡ m.procedures) (index : ℕ) (item body : ProcedureContents) (is : item ≡ get_or procedures index item) (same : body ≡ item) (inside : index < length procedures) where
+  pub item_there : slice_get m.procedures index ≡ Some body
+  item_there = ap (λ all. slice_get all index) (sym are) ∙ get_at procedures index item inside ∙ ap Some (sym is ∙ sym same)
+
+  pub item_placed : IsPlaced body
+  item_placed = placed m body (all_right m none index body item_there)
+
+  pub item_reported : (q : ModuleContents) (number : ℕ) (stop : Stop) → q ≡ m → number ≡ index → IsStop q body stop → IsRefusal m (stop_fault number stop)
+  item_reported q number stop same_module number_is e = reported_stop m index number body stop none item_there number_is (subst (λ (x : ModuleContents). IsStop x body stop) same_module e)
+
+  pub flow_more : (q : ModuleContents) → q ≡ m → FlowsWell q body → ((k : ℕ) (p : ProcedureContents) → k < index → slice_get procedures k ≡ Some p → FlowsWell m p) → (k : ℕ) (p : ProcedureContents) → k < index + 1 → slice_get procedures k ≡ Some p → FlowsWell m p
+  flow_more q same_module flow before k p below there =
+      elim (last_cases k index below) [
+        | inl less ↦ before k p less there
+        | inr last ↦
+            let found : Some body ≡ Some p = sym item_there ∙ ap (λ all. slice_get all index) (sym are) ∙ ap (slice_get procedures) (sym last) ∙ there in
+            let body_is : body ≡ p = cc in
+            subst (λ (x : ProcedureContents). FlowsWell m x) body_is (subst (λ (x : ModuleContents). FlowsWell x body) same_module flow)
+      ]

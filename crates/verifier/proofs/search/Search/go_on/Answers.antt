@@ -1,0 +1,16 @@
+use Rattle.std.proofs.Common.{rules, ◌≡◌, ◌+◌, ap, sym, subst, arith, ℕ, ◌∙◌}
+use Rattle.verifier.specs.Places.{IsPlace}
+use Rattle.verifier.proofs.Offsets.{ends_inside}
+use Rattle.verifier.proofs.Reaching.{edge_next}
+use Rattle.verifier.proofs.search.Search.go_on.Goals as goal
+
+pub overflow_add-at : goal.overflow_add-at
+overflow_add-at c = omega (arith, ends_inside c.args.body.now.procedure.now.code c.args.at c.args.instruction c.requires.effect.there, c.requires.short, c.width.ensures)
+
+pub reach-requires-clause-place : goal.reach-requires-clause-place
+reach-requires-clause-place c =
+    subst (λ (w : ℕ). IsPlace c.args.body.now.procedure.now (c.args.at + w)) (sym c.width.ensures) (c.requires.placed.next c.args.at c.args.instruction c.requires.effect.there)
+
+pub reach-requires-clause-edge : goal.reach-requires-clause-edge
+reach-requires-clause-edge c =
+    edge_next c.args.body.now.program.now c.args.body.now.procedure.now c.args.self.now c.args.at _ c.args.instruction _ c.requires.effect (sym c.goes_on.ensures ∙ c.if-goes_on.true) (ap (λ w. c.args.at + w) c.width.ensures)

@@ -1,0 +1,38 @@
+use Rattle.std.proofs.Common.{◌≡◌, ◌+◌, ◌<◌, ℕ, Some, slice_get, length, arith, ap, sym, subst, ◌∙◌, List}
+use Rattle.bytecode.specs.Contents.{ProcedureContents}
+use Rattle.verifier.specs.Faults.{IsRefusal}
+use Rattle.verifier.proofs.Reported.{item_at, item_placed, item_reported, flow_more, all_flow, is_verified}
+use Rattle.verifier.proofs.Bounds.{bounded}
+use Rattle.verifier.proofs.verified.look_for_flow_faults.Goals as goal
+
+pub find_defect-requires-clause-placed : goal.find_defect-requires-clause-placed
+find_defect-requires-clause-placed c =
+    item_placed c.args.program.now c.requires c.procedures-procedures.result.now c.procedures-procedures.ensures.procedures c.loop-procedure.procedure-index c.procedure-item.result c.in-Ok.body.procedure.now c.procedure-item.is c.in-Ok.ensures.procedure c.loop-procedure-test.true
+
+pub returns-in-Err-clause-err : goal.returns-in-Err-clause-err
+returns-in-Err-clause-err c =
+    subst (IsRefusal c.args.program.now) (sym c.fault_at.ensures)
+    (item_reported c.args.program.now c.requires c.procedures-procedures.result.now c.procedures-procedures.ensures.procedures c.loop-procedure.procedure-index c.procedure-item.result c.in-Ok.body.procedure.now c.procedure-item.is c.in-Ok.ensures.procedure c.loop-procedure-test.true
+    c.in-Ok.body.program.now c.loop-procedure.number c.in-Err.stop c.in-Ok.ensures.program c.loop-procedure.invariant.number_is c.in-Err.ensures.err)
+
+pub loop-procedure-preserved : goal.loop-procedure-preserved
+loop-procedure-preserved c = record {
+  number_is = omega (arith, c.loop-procedure.invariant.number_is);
+  flow =
+      flow_more c.args.program.now c.requires c.procedures-procedures.result.now c.procedures-procedures.ensures.procedures c.loop-procedure.procedure-index c.procedure-item.result c.in-Ok.body.procedure.now c.procedure-item.is c.in-Ok.ensures.procedure c.loop-procedure-test.true
+      c.in-Ok.body.program.now c.in-Ok.ensures.program c.in_default-find_defect.ensures.ok c.loop-procedure.invariant.flow;
+}
+
+pub new-requires : goal.new-requires
+new-requires c =
+    (bounded c.args.program.now c.procedures-procedures.ensures.spelled).short c.loop-procedure.procedure-index c.procedure-item.result
+    (item_at c.args.program.now c.procedures-procedures.result.now c.procedures-procedures.ensures.procedures c.loop-procedure.procedure-index c.procedure-item.result c.procedure-item.is c.loop-procedure-test.true)
+
+pub overflow_add-number : goal.overflow_add-number
+overflow_add-number c = omega (arith, c.loop-procedure.invariant.number_is, c.loop-procedure-test.true, ap length c.procedures-procedures.ensures.procedures, (bounded c.args.program.now c.procedures-procedures.ensures.spelled).few)
+
+pub returns-clause-ok : goal.returns-clause-ok
+returns-clause-ok c =
+    let bounds = bounded c.args.program.now c.procedures-procedures.ensures.spelled in
+    is_verified c.args.program.now bounds (all_flow c.args.program.now c.requires (λ k p below there.
+    c.loop-procedure.invariant.flow k p (omega (arith, below, c.loop-procedure-test.false, ap length c.procedures-procedures.ensures.procedures)) (ap (λ (all : List ProcedureContents). slice_get all k) c.procedures-procedures.ensures.procedures ∙ there)))

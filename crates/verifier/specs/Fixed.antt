@@ -1,0 +1,122 @@
+-- The faults that an instruction or a handler of a module has by itself, in the order in which the first is reported.
+-- Source: our own; the rules are those of a bytecode verifier, as that of the Java virtual machine.
+use Rattle.std.specs.Prelude.{◌≡◌, ℕ, ◌+◌, ◌==◌, nat_lt, Bool, true, false, ◌&&◌, ◌||◌, if◌then◌else◌, List, [], ◌∷◌, ◌++◌, slice_get, Option, Some, None, is_some}
+use Rattle.bytecode.specs.Contents.{ProcedureContents, ModuleContents}
+use Rattle.bytecode.specs.Code.{width_of, code_length, instruction_at}
+use Rattle.bytecode.specs.Machine.{program_of}
+use Rattle.bytecode.specs.declared.instruction.Instruction.{Instruction}
+use Rattle.bytecode.specs.declared.instruction.Instruction.TheVariants.{Push, PushBoolean, Pop, Load, Store, LoadGlobal, StoreGlobal, LoadElement, StoreElement, LoadGlobalElement, StoreGlobalElement, Clear, Compute, Negate, Not, Compare, SameBoolean, OtherBoolean, Jump, JumpIfFalse, Call, Return, ReturnValue, Receive, Send, Throw}
+use Rattle.bytecode.specs.declared.declaration.Slot.{Slot}
+use Rattle.bytecode.specs.declared.declaration.Slot.TheVariants as slot
+use Rattle.bytecode.specs.declared.declaration.Handler.{Handler}
+use Rattle.bytecode.specs.declared.declaration.Direction.{Direction}
+use Rattle.bytecode.specs.declared.declaration.Direction.TheVariants.{Input, Output}
+use Rattle.verifier.specs.declared.fault.Defect.{Defect}
+use Rattle.verifier.specs.declared.fault.Defect.TheVariants as defect
+use Rattle.verifier.specs.declared.fault.Fault.{Fault}
+
+-- whether an instruction's first byte stands at an offset
+abbrev pub is_start : ProcedureContents → ℕ → Bool
+is_start procedure offset = is_some (instruction_at procedure.code offset)
+
+-- whether a slot or a global is there and a scalar, or an array
+abbrev pub is_scalar : Option Slot → Bool
+is_scalar None = false
+is_scalar (Some (slot.Scalar kind)) = true
+is_scalar (Some (slot.Array kind count)) = false
+
+abbrev pub is_array : Option Slot → Bool
+is_array None = false
+is_array (Some (slot.Scalar kind)) = false
+is_array (Some (slot.Array kind count)) = true
+
+-- whether a channel is there and an input, or an output
+abbrev pub is_input : Option Direction → Bool
+is_input None = false
+is_input (Some Input) = true
+is_input (Some Output) = false
+
+abbrev pub is_output : Option Direction → Bool
+is_output None = false
+is_output (Some Input) = false
+is_output (Some Output) = true
+
+abbrev pub unless : Bool → Defect → Option Defect
+unless right wrong = if right then None else Some wrong
+
+-- what is wrong with an instruction by itself: a target that is no instruction's first byte, or a slot, global, array,
+-- procedure, channel or exception that is not there or of another sort
+abbrev pub instruction_defect : ModuleContents → ProcedureContents → Instruction → Option Defect
+instruction_defect m procedure (Load k) = unless (is_scalar (slice_get procedure.slots k)) defect.SlotOrIndex
+instruction_defect m procedure (Store k) = unless (is_scalar (slice_get procedure.slots k)) defect.SlotOrIndex
+instruction_defect m procedure (LoadGlobal k) = unless (is_scalar (slice_get (program_of m).globals k)) defect.SlotOrIndex
+instruction_defect m procedure (StoreGlobal k) = unless (is_scalar (slice_get (program_of m).globals k)) defect.SlotOrIndex
+instruction_defect m procedure (LoadElement k) = unless (is_array (slice_get procedure.slots k)) defect.SlotOrIndex
+instruction_defect m procedure (StoreElement k) = unless (is_array (slice_get procedure.slots k)) defect.SlotOrIndex
+instruction_defect m procedure (LoadGlobalElement k) = unless (is_array (slice_get (program_of m).globals k)) defect.SlotOrIndex
+instruction_defect m procedure (StoreGlobalElement k) = unless (is_array (slice_get (program_of m).globals k)) defect.SlotOrIndex
+instruction_defect m procedure (Clear k) = unless (is_array (slice_get procedure.slots k)) defect.SlotOrIndex
+instruction_defect m procedure (Jump target) = unless (is_start procedure target) defect.Jump
+instruction_defect m procedure (JumpIfFalse target) = unless (is_start procedure target) defect.Jump
+instruction_defect m procedure (Call callee) = unless (is_some (slice_get m.procedures callee)) defect.SlotOrIndex
+instruction_defect m procedure (Receive channel) = unless (is_input (slice_get (program_of m).directions channel)) defect.SlotOrIndex
+instruction_defect m procedure (Send channel) = unless (is_output (slice_get (program_of m).directions channel)) defect.SlotOrIndex
+instruction_defect m procedure (Throw exception) = unless (nat_lt exception (program_of m).exceptions) defect.SlotOrIndex
+instruction_defect m procedure (Push n) = None
+instruction_defect m procedure (PushBoolean b) = None
+instruction_defect m procedure Pop = None
+instruction_defect m procedure (Compute operator) = None
+instruction_defect m procedure Negate = None
+instruction_defect m procedure Not = None
+instruction_defect m procedure (Compare comparison) = None
+instruction_defect m procedure SameBoolean = None
+instruction_defect m procedure OtherBoolean = None
+instruction_defect m procedure Return = None
+instruction_defect m procedure ReturnValue = None
+
+-- whether a range may end at an offset: at an instruction's first byte or at the end of the code
+abbrev pub is_end : ProcedureContents → ℕ → Bool
+is_end procedure offset = is_start procedure offset || offset == code_length procedure.code
+
+-- whether the offsets of a handler are right: its start and target are instructions' first bytes, its end is one or the code's
+-- length, and the start stands before the end
+abbrev pub has_right_offsets : ProcedureContents → Handler → Bool
+has_right_offsets procedure handler =
+    is_start procedure handler.start && (is_start procedure handler.target
+    && (is_end procedure handler.end && nat_lt handler.start handler.end))
+
+-- what is wrong with a handler
+abbrev pub handler_defect : ModuleContents → ProcedureContents → Handler → Option Defect
+handler_defect m procedure handler =
+    if has_right_offsets procedure handler
+    then unless (nat_lt handler.exception (program_of m).exceptions) defect.SlotOrIndex
+    else Some defect.Jump
+
+-- the fault of a procedure at an offset, if there is one
+abbrev pub fault_list : ℕ → ℕ → Option Defect → List Fault
+fault_list number offset None = []
+fault_list number offset (Some wrong) = record { defect = wrong; procedure = number; offset = offset } ∷ []
+
+-- the faults of instructions that stand from an offset on
+abbrev pub instruction_faults : ModuleContents → ℕ → ProcedureContents → ℕ → List Instruction → List Fault
+instruction_faults m number procedure offset [] = []
+instruction_faults m number procedure offset (instruction ∷ code) =
+    fault_list number offset (instruction_defect m procedure instruction)
+    ++ instruction_faults m number procedure (offset + width_of instruction) code
+
+-- the faults of handlers, each at its start
+abbrev pub handler_faults : ModuleContents → ℕ → ProcedureContents → List Handler → List Fault
+handler_faults m number procedure [] = []
+handler_faults m number procedure (handler ∷ handlers) =
+    fault_list number handler.start (handler_defect m procedure handler) ++ handler_faults m number procedure handlers
+
+-- the fixed faults of procedures that are numbered from a number on
+abbrev pub procedure_faults : ModuleContents → ℕ → List ProcedureContents → List Fault
+procedure_faults m number [] = []
+procedure_faults m number (procedure ∷ procedures) =
+    instruction_faults m number procedure 0 procedure.code ++ handler_faults m number procedure procedure.handlers
+    ++ procedure_faults m (number + 1) procedures
+
+-- the fixed faults of a module: procedures in order, instructions by offset, then handlers in order
+abbrev pub fixed_faults : ModuleContents → List Fault
+fixed_faults m = procedure_faults m 0 m.procedures

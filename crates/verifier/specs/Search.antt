@@ -1,0 +1,134 @@
+-- What the search for a fault of the flow keeps.
+-- Source: our own; a work list over the offsets that control reaches.
+use Rattle.std.specs.Prelude.{◌≡◌, ℕ, zero, suc, ◌+◌, ◌-◌, ◌≤◌, ◌<◌, ◌^◌, Bool, true, false, List, [], ◌∷◌, ◌++◌, length, replicate, slice_get, slice_index_or, Option, Some, None, ◌⊎◌}
+use Rattle.std.specs.List.{Contains}
+use Rattle.bytecode.specs.Contents.{ProcedureContents, ModuleContents}
+use Rattle.bytecode.specs.Code.{width_of, code_length, instruction_at}
+use Rattle.bytecode.specs.declared.instruction.Instruction.{Instruction}
+use Rattle.bytecode.specs.declared.value.Kind.{Kind}
+use Rattle.bytecode.specs.declared.declaration.Handler.{Handler}
+use Rattle.verifier.specs.Flow.{Edge, Flow, Leaves, effect, goes_on, target_of, IsFlowDefect}
+use Rattle.verifier.specs.Operands.{list_of}
+use Rattle.verifier.specs.declared.fault.VerifyFault.{VerifyFault}
+use Rattle.verifier.specs.declared.fault.VerifyFault.TheVariants as verify
+use Rattle.verifier.specs.declared.search.Search.{Search}
+use Rattle.verifier.specs.declared.search.Stop.{Stop}
+use Rattle.verifier.specs.declared.search.Stop.TheVariants.{NoMemory, Wrong}
+use Rattle.verifier.specs.declared.body.Body.{Body}
+
+-- ---- where instructions stand
+
+-- for each byte of code the number of the instruction whose first byte it is, where instructions are numbered from a number on
+abbrev pub marks_from : ℕ → List Instruction → List (Option ℕ)
+marks_from index [] = []
+marks_from index (instruction ∷ code) =
+    (Some index ∷ replicate (width_of instruction - 1) None) ++ marks_from (suc index) code
+
+-- the instruction of a number, if there is one
+abbrev pub numbered : List Instruction → Option ℕ → Option Instruction
+numbered code None = None
+numbered code (Some index) = slice_get code index
+
+-- a procedure that the search may look at: its marks are those of its code, which has less than 4 GiB
+pub record IsBody (b : Body) : Type 0 where
+  pub marks : b.marks.items ≡ marks_from 0 b.procedure.now.code
+  pub short : code_length b.procedure.now.code < 2 ^ 32
+
+-- ---- the table that was found so far
+
+abbrev pub row : List (List Kind) → Option ℕ → Option (List Kind)
+row lists None = None
+row lists (Some list) = Some (list_of lists list)
+
+abbrev pub table : Search → ℕ → Option (List Kind)
+table s place = row s.operands (slice_index_or s.shapes.items place None)
+
+-- a place whose instruction finds its operands, and from which each edge was followed
+pub record IsKept (m : ModuleContents) (p : ProcedureContents) (s : Search) (at : ℕ) (kinds : List Kind) : Type 0 where
+  pub instruction : Instruction
+  pub there : instruction_at p.code at ≡ Some instruction
+  pub after : List Kind
+  pub finds : effect m p instruction kinds ≡ Leaves after
+  pub next : goes_on instruction ≡ true → table s (at + width_of instruction) ≡ Some after
+  pub jumps : (to : ℕ) → target_of instruction ≡ Some to → table s to ≡ Some after
+  pub caught : (h : Handler) → Contains p.handlers h → h.start ≤ at → at < h.end → table s h.target ≡ Some []
+
+-- how many places have no list
+abbrev pub unset : List (Option ℕ) → ℕ
+unset [] = 0
+unset (None ∷ shapes) = suc (unset shapes)
+unset (Some list ∷ shapes) = unset shapes
+
+-- how many places may still be looked at: each without a list, and each that waits
+abbrev pub left : Search → ℕ
+left s = unset s.shapes.items + length s.work.items
+
+-- the list 0 is there and empty
+abbrev pub IsFirst : List (List Kind) → Type 0
+IsFirst lists = (0 < length lists) × (list_of lists 0 ≡ [])
+
+-- a search at work: its table is one of the flow, and each place that has a list waits, is being looked at, or is kept
+pub record IsGoing (m : ModuleContents) (p : ProcedureContents) (s : Search) (busy : List ℕ) : Type 0 where
+  pub root : IsFirst s.operands
+  pub sized : length s.shapes.items ≡ code_length p.code
+  pub numbers : (place list : ℕ) → slice_index_or s.shapes.items place None ≡ Some list → list < length s.operands
+  pub begins : (place : ℕ) (kinds : List Kind) → table s place ≡ Some kinds → (i : Instruction) × (instruction_at p.code place ≡ Some i)
+  pub first : table s 0 ≡ Some []
+  pub flow : Flow m p (table s)
+  pub pending : (at : ℕ) (kinds : List Kind) → table s at ≡ Some kinds → Contains s.work.items at ⊎ (Contains busy at ⊎ IsKept m p s at kinds)
+  pub waits : (at : ℕ) → Contains s.work.items at → (kinds : List Kind) × (table s at ≡ Some kinds)
+
+-- ---- steps
+
+-- an edge from a place that has a list
+pub record IsAtEdge (m : ModuleContents) (p : ProcedureContents) (s : Search) (at to : ℕ) (after : List Kind) : Type 0 where
+  pub kinds : List Kind
+  pub has : table s at ≡ Some kinds
+  pub edge : Edge m p at kinds to after
+
+-- control went to a place with a list
+pub record Flowed (m : ModuleContents) (p : ProcedureContents) (old new : Search) (at to list : ℕ) : Type 0 where
+  pub going : IsGoing m p new (at ∷ [])
+  pub keeps : (place : ℕ) (kinds : List Kind) → table old place ≡ Some kinds → table new place ≡ Some kinds
+  pub arrives : table new to ≡ Some (list_of old.operands list)
+  pub same : new.operands ≡ old.operands
+  pub left : left new ≤ left old
+
+-- control went on from a place: lists were kept, and none was made
+pub record Steps (m : ModuleContents) (p : ProcedureContents) (old new : Search) (at : ℕ) : Type 0 where
+  pub going : IsGoing m p new (at ∷ [])
+  pub keeps : (place : ℕ) (kinds : List Kind) → table old place ≡ Some kinds → table new place ≡ Some kinds
+  pub same : new.operands ≡ old.operands
+  pub left : left new ≤ left old
+
+-- an instruction changed the list of its place
+pub record IsApplied (m : ModuleContents) (p : ProcedureContents) (old new : Search) (at : ℕ) : Type 0 where
+  pub going : IsGoing m p new (at ∷ [])
+  pub keeps : (place : ℕ) (kinds : List Kind) → table old place ≡ Some kinds → table new place ≡ Some kinds
+  pub few : length new.operands ≤ length old.operands + 1
+  pub left : left new ≤ left old
+
+-- a place whose instruction leaves a list
+pub record HasEffect (m : ModuleContents) (p : ProcedureContents) (s : Search) (at : ℕ) (i : Instruction) (after : List Kind) : Type 0 where
+  pub there : instruction_at p.code at ≡ Some i
+  pub kinds : List Kind
+  pub has : table s at ≡ Some kinds
+  pub effect : effect m p i kinds ≡ Leaves after
+
+-- a place that has a list and an instruction
+pub record HasInstruction (p : ProcedureContents) (s : Search) (at : ℕ) : Type 0 where
+  pub instruction : Instruction
+  pub there : instruction_at p.code at ≡ Some instruction
+  pub kinds : List Kind
+  pub has : table s at ≡ Some kinds
+
+-- why a search stopped
+abbrev pub IsStop : ModuleContents → ProcedureContents → Stop → Type 0
+IsStop m p NoMemory = Unit {0}
+IsStop m p (Wrong offset defect) = IsFlowDefect m p offset defect
+
+-- what is reported where the search of a procedure stopped
+abbrev pub stop_fault : ℕ → Stop → VerifyFault
+stop_fault number NoMemory = verify.NoMemory
+stop_fault number (Wrong offset defect) =
+    verify.Wrong (record { defect = defect; procedure = number; offset = offset })

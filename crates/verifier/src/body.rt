@@ -1,0 +1,94 @@
+//! A procedure as the search for faults looks at it.
+
+ghost use Rattle.bytecode.specs.Code.{code_length, instruction_at};
+ghost use Rattle.std.specs.Prelude.{IfOk, slice_get, slice_index_or, ◌<◌, ◌^◌, ◌≡◌};
+ghost use Rattle.verifier.specs.Search.{IsBody, marks_from};
+
+use bytecode::{Instruction, Module, Procedure};
+use std::alloc::{AllocError, Global};
+
+/// A procedure of a module, and for each byte of its code the number of the instruction that begins there.
+#[derive(Drop)]
+pub(crate) struct Body<'a> {
+    pub program: &'a Module,
+    pub procedure: &'a Procedure,
+    pub marks: Vec<Option<u32>>,
+}
+
+impl<'a> Body<'a> {
+    /// A procedure whose code has less than 4 GiB.
+    pub(crate) fn new(
+        alloc: Global,
+        program: &'a Module,
+        procedure: &'a Procedure,
+    ) -> Result<Body<'a>, AllocError>
+        requires { code_length procedure.now.code < 2 ^ 32 }
+        ensures body { IfOk result (λ body. IsBody body) }
+        ensures program { IfOk result (λ body. body.program.now ≡ program.now) }
+        ensures procedure { IfOk result (λ body. body.procedure.now ≡ procedure.now) }
+    {
+        let marks = marks(alloc, procedure.code())?;
+        Ok(Body {
+            program,
+            procedure,
+            marks,
+        })
+    }
+
+    /// The instruction whose first byte stands at an offset, if there is one.
+    pub(crate) fn at(&self, offset: u32) -> Option<Instruction>
+        requires { IsBody self.now }
+        ensures { result ≡ instruction_at self.now.procedure.now.code offset }
+    {
+        match mark_at(&self.marks, offset) {
+            Some(index) => instruction_in(self.procedure.code(), index),
+            None => None,
+        }
+    }
+}
+
+fn mark_at(marks: &[Option<u32>], offset: u32) -> Option<u32>
+    ensures { result ≡ slice_index_or marks.now offset None }
+{
+    match marks.get(offset as usize) {
+        Some(mark) => *mark,
+        None => None,
+    }
+}
+
+fn instruction_in(code: &[Instruction], index: u32) -> Option<Instruction>
+    ensures { result ≡ slice_get code.now index }
+{
+    match code.get(index as usize) {
+        Some(instruction) => Some(*instruction),
+        None => None,
+    }
+}
+
+// How many bytes code has.
+fn length(code: &[Instruction]) -> usize
+    requires { code_length code.now < 2 ^ 32 }
+    ensures { result ≡ code_length code.now }
+{
+    let mut length = 0;
+    for instruction in code {
+        length += instruction.width();
+    }
+    length
+}
+
+// For each byte of code the number of the instruction that begins there.
+fn marks(alloc: Global, code: &[Instruction]) -> Result<Vec<Option<u32>>, AllocError>
+    requires { code_length code.now < 2 ^ 32 }
+    ensures { IfOk result (λ marks. marks.items ≡ marks_from 0 code.now) }
+{
+    let mut marks = vec![in alloc; None; length(code)]?;
+    let mut offset = 0;
+    let mut index = 0;
+    for instruction in code {
+        marks[offset] = Some(index);
+        offset += instruction.width();
+        index += 1;
+    }
+    Ok(marks)
+}

@@ -1,0 +1,18 @@
+//! Laws: what it means that a module has a fault, or none.
+
+ghost use Rattle.bytecode.specs.Contents.{ModuleContents};
+ghost use Rattle.bytecode.specs.Form.{Fits};
+ghost use Rattle.bytecode.specs.Format.{module_file};
+ghost use Rattle.verifier.specs.Faults.{HasNoFault, IsReported};
+ghost use Rattle.verifier.specs.Safety.{IsNeverStuck};
+ghost use Rattle.verifier.specs.declared.fault.Fault.{Fault};
+
+/// No run of a module without a fault is ever stuck, whatever the world gives.
+pub fn faultless_modules_are_never_stuck()
+    ensures { (m : ModuleContents) → Fits module_file m → HasNoFault m → IsNeverStuck m }
+{}
+
+/// A module of which a fault may be reported is not without faults.
+pub fn reported_faults_are_there()
+    ensures { (m : ModuleContents) (fault : Fault) → IsReported m fault → HasNoFault m → ⊥ }
+{}

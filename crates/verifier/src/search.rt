@@ -1,0 +1,261 @@
+//! The search for a fault of the flow of operands: from the start along each edge, one list of kinds for each offset.
+
+ghost use Rattle.bytecode.specs.Code.{code_length, instruction_at, width_of};
+ghost use Rattle.bytecode.specs.Contents.{ModuleContents, ProcedureContents};
+ghost use Rattle.bytecode.specs.declared.declaration.Handler.{Handler};
+ghost use Rattle.std.specs.List.{Contains};
+ghost use Rattle.std.specs.Prelude.{Some, true, ℕ, [], ◌≡◌, ◌+◌, ◌<◌, ◌≤◌, ◌^◌, ◌∷◌, IfErr, IfOk, OnOk, length};
+ghost use Rattle.verifier.specs.Flow as flow;
+ghost use Rattle.verifier.specs.Flow.{FlowsWell};
+ghost use Rattle.verifier.specs.Operands.{list_of};
+ghost use Rattle.verifier.specs.Places.{IsPlace, IsPlaced};
+ghost use Rattle.verifier.specs.Search.{Flowed, HasEffect, HasInstruction, IsApplied, IsAtEdge, IsBody, IsGoing, IsStop, Steps, left, table};
+
+use crate::body::Body;
+use crate::effects::{goes_on, is_own, pops, pushes, target_of};
+use crate::fault::Defect;
+use crate::operands::Operands;
+use bytecode::Instruction;
+use std::alloc::{AllocError, Global};
+
+/// Why a search stopped: a growth of memory was refused, or there is a defect at an offset.
+#[derive(Clone, Copy, Debug, PartialEq, Eq)]
+pub(crate) enum Stop {
+    NoMemory,
+    Wrong(u32, Defect),
+}
+
+impl From<AllocError> for Stop {
+    fn from(_error: AllocError) -> Stop {
+        Stop::NoMemory
+    }
+}
+
+/// The lists of the offsets that control reaches, and the offsets that are still to be looked at.
+#[derive(Drop)]
+pub(crate) struct Search {
+    operands: Operands,
+    // The number of the list of each offset that has one.
+    shapes: Vec<Option<u32>>,
+    work: Vec<u32>,
+}
+
+impl Search {
+    // Control goes from an offset to another one with a list.
+    fn reach(&mut self, body: &Body, at: u32, place: u32, list: u32) -> Result<(), Stop>
+        requires going { IsGoing body.now.program.now body.now.procedure.now self.old (at ∷ []) }
+        requires edge { IsAtEdge body.now.program.now body.now.procedure.now self.old at place (list_of self.old.operands list) }
+        requires list { list < length self.old.operands }
+        requires place { IsPlace body.now.procedure.now place }
+        ensures ok { OnOk result (Flowed body.now.program.now body.now.procedure.now self.old self.new at place list) }
+        ensures err { IfErr result (λ stop. IsStop body.now.program.now body.now.procedure.now stop) }
+    {
+        if place as usize == self.shapes.len() {
+            return Err(Stop::Wrong(place, Defect::FallsOffEnd));
+        }
+        match self.shapes[place as usize] {
+            None => {
+                if self.work.push(place).is_err() {
+                    return Err(Stop::NoMemory);
+                }
+                self.shapes[place as usize] = Some(list);
+                Ok(())
+            }
+            Some(other) => match self.operands.meet(list, other) {
+                Ok(()) => Ok(()),
+                Err(defect) => Err(Stop::Wrong(place, defect)),
+            },
+        }
+    }
+
+    // The list that an instruction at an offset leaves.
+    fn apply(
+        &mut self,
+        body: &Body,
+        at: u32,
+        instruction: Instruction,
+        list: u32,
+    ) -> Result<u32, Stop>
+        requires going { IsGoing body.now.program.now body.now.procedure.now self.old (at ∷ []) }
+        requires shape { table self.old at ≡ Some (list_of self.old.operands list) }
+        requires list { list < length self.old.operands }
+        requires instruction { instruction_at body.now.procedure.now.code at ≡ Some instruction }
+        requires room { length self.old.operands < 2 ^ 32 }
+        ensures ok { OnOk result (IsApplied body.now.program.now body.now.procedure.now self.old self.new at) }
+        ensures there { IfOk result (λ r. r < length self.new.operands) }
+        ensures effect { IfOk result (λ r. HasEffect body.now.program.now body.now.procedure.now self.new at instruction (list_of self.new.operands r)) }
+        ensures err { IfErr result (λ stop. IsStop body.now.program.now body.now.procedure.now stop) }
+    {
+        if is_own(body.procedure, instruction) {
+            match pops(&self.operands, body, instruction, list) {
+                Err(defect) => Err(Stop::Wrong(at, defect)),
+                Ok(rest) => match pushes(body, instruction) {
+                    None => Ok(rest),
+                    Some(kind) => match self.operands.push(rest, kind) {
+                        Ok(above) => Ok(above),
+                        Err(_) => Err(Stop::NoMemory),
+                    },
+                },
+            }
+        } else {
+            Err(Stop::Wrong(at, Defect::OperandKind))
+        }
+    }
+
+    // Control goes on to the next instruction, where it may.
+    fn go_on(
+        &mut self,
+        body: &Body,
+        at: u32,
+        instruction: Instruction,
+        list: u32,
+    ) -> Result<(), Stop>
+        requires going { IsGoing body.now.program.now body.now.procedure.now self.old (at ∷ []) }
+        requires effect { HasEffect body.now.program.now body.now.procedure.now self.old at instruction (list_of self.old.operands list) }
+        requires list { list < length self.old.operands }
+        requires placed { IsPlaced body.now.procedure.now }
+        requires short { code_length body.now.procedure.now.code < 2 ^ 32 }
+        ensures ok { OnOk result (Steps body.now.program.now body.now.procedure.now self.old self.new at) }
+        ensures there { OnOk result (flow.goes_on instruction ≡ true → table self.new (at + width_of instruction) ≡ Some (list_of self.old.operands list)) }
+        ensures err { IfErr result (λ stop. IsStop body.now.program.now body.now.procedure.now stop) }
+    {
+        if goes_on(instruction) {
+            self.reach(body, at, at + instruction.width() as u32, list)
+        } else {
+            Ok(())
+        }
+    }
+
+    // Control jumps, where it may.
+    fn jump(
+        &mut self,
+        body: &Body,
+        at: u32,
+        instruction: Instruction,
+        list: u32,
+    ) -> Result<(), Stop>
+        requires going { IsGoing body.now.program.now body.now.procedure.now self.old (at ∷ []) }
+        requires effect { HasEffect body.now.program.now body.now.procedure.now self.old at instruction (list_of self.old.operands list) }
+        requires list { list < length self.old.operands }
+        requires placed { IsPlaced body.now.procedure.now }
+        ensures ok { OnOk result (Steps body.now.program.now body.now.procedure.now self.old self.new at) }
+        ensures there { OnOk result ((to : ℕ) → flow.target_of instruction ≡ Some to → table self.new to ≡ Some (list_of self.old.operands list)) }
+        ensures err { IfErr result (λ stop. IsStop body.now.program.now body.now.procedure.now stop) }
+    {
+        match target_of(instruction) {
+            Some(to) => self.reach(body, at, to, list),
+            None => Ok(()),
+        }
+    }
+
+    // Control goes to each handler whose range holds the offset.
+    fn raise(&mut self, body: &Body, at: u32) -> Result<(), Stop>
+        requires going { IsGoing body.now.program.now body.now.procedure.now self.old (at ∷ []) }
+        requires there { HasInstruction body.now.procedure.now self.old at }
+        requires placed { IsPlaced body.now.procedure.now }
+        ensures ok { OnOk result (Steps body.now.program.now body.now.procedure.now self.old self.new at) }
+        ensures there { OnOk result ((h : Handler) → Contains body.now.procedure.now.handlers h → h.start ≤ at → at < h.end → table self.new h.target ≡ Some []) }
+        ensures err { IfErr result (λ stop. IsStop body.now.program.now body.now.procedure.now stop) }
+    {
+        let handlers = body.procedure.handlers();
+        for handler in handlers {
+            if handler.start <= at && at < handler.end {
+                self.reach(body, at, handler.target, 0)?;
+            }
+        }
+        Ok(())
+    }
+
+    // Looks at an offset: control goes on from it in every way.
+    fn visit(
+        &mut self,
+        body: &Body,
+        at: u32,
+        instruction: Instruction,
+        list: u32,
+    ) -> Result<(), Stop>
+        requires going { IsGoing body.now.program.now body.now.procedure.now self.old (at ∷ []) }
+        requires shape { table self.old at ≡ Some (list_of self.old.operands list) }
+        requires list { list < length self.old.operands }
+        requires instruction { instruction_at body.now.procedure.now.code at ≡ Some instruction }
+        requires placed { IsPlaced body.now.procedure.now }
+        requires room { length self.old.operands < 2 ^ 32 }
+        requires short { code_length body.now.procedure.now.code < 2 ^ 32 }
+        ensures ok { OnOk result (IsGoing body.now.program.now body.now.procedure.now self.new []) }
+        ensures left { OnOk result (left self.new ≤ left self.old) }
+        ensures few { OnOk result (length self.new.operands ≤ length self.old.operands + 1) }
+        ensures err { IfErr result (λ stop. IsStop body.now.program.now body.now.procedure.now stop) }
+    {
+        let after = self.apply(body, at, instruction, list)?;
+        self.go_on(body, at, instruction, after)?;
+        self.jump(body, at, instruction, after)?;
+        self.raise(body, at)?;
+        Ok(())
+    }
+
+    // Looks at an offset that has a list.
+    fn look(&mut self, body: &Body, at: u32) -> Result<(), Stop>
+        requires going { IsGoing body.now.program.now body.now.procedure.now self.old (at ∷ []) }
+        requires there { HasInstruction body.now.procedure.now self.old at }
+        requires placed { IsPlaced body.now.procedure.now }
+        requires body { IsBody body.now }
+        requires room { length self.old.operands < 2 ^ 32 }
+        ensures ok { OnOk result (IsGoing body.now.program.now body.now.procedure.now self.new []) }
+        ensures left { OnOk result (left self.new ≤ left self.old) }
+        ensures few { OnOk result (length self.new.operands ≤ length self.old.operands + 1) }
+        ensures err { IfErr result (λ stop. IsStop body.now.program.now body.now.procedure.now stop) }
+    {
+        let Some(list) = self.shapes[at as usize] else {
+            unreachable!()
+        };
+        let Some(instruction) = body.at(at) else {
+            unreachable!()
+        };
+        self.visit(body, at, instruction, list)
+    }
+
+    // Looks at each offset that waits, until none does.
+    fn run(&mut self, body: &Body) -> Result<(), Stop>
+        requires going { IsGoing body.now.program.now body.now.procedure.now self.old [] }
+        requires placed { IsPlaced body.now.procedure.now }
+        requires body { IsBody body.now }
+        requires room { length self.old.operands + left self.old ≤ 2 ^ 32 }
+        ensures ok { OnOk result (FlowsWell body.now.program.now body.now.procedure.now) }
+        ensures err { IfErr result (λ stop. IsStop body.now.program.now body.now.procedure.now stop) }
+    {
+        while let Some(at) = self.work.pop() {
+            self.look(body, at)?;
+        }
+        Ok(())
+    }
+}
+
+/// Looks for a fault of the flow of a procedure whose targets are right.
+pub(crate) fn find_defect(alloc: Global, body: &Body) -> Result<(), Stop>
+    requires placed { IsPlaced body.now.procedure.now }
+    requires body { IsBody body.now }
+    ensures ok { OnOk result (FlowsWell body.now.program.now body.now.procedure.now) }
+    ensures err { IfErr result (λ stop. IsStop body.now.program.now body.now.procedure.now stop) }
+{
+    let size = body.marks.len();
+    if size == 0 {
+        return Err(Stop::Wrong(0, Defect::FallsOffEnd));
+    }
+    let Ok(operands) = Operands::new(alloc) else {
+        return Err(Stop::NoMemory);
+    };
+    let Ok(mut shapes) = vec![in alloc; None; size] else {
+        return Err(Stop::NoMemory);
+    };
+    shapes[0] = Some(0);
+    let mut work = Vec::new(alloc);
+    let Ok(()) = work.push(0) else {
+        return Err(Stop::NoMemory);
+    };
+    let mut search = Search {
+        operands,
+        shapes,
+        work,
+    };
+    search.run(body)
+}
