@@ -62,9 +62,9 @@ again Text coherent x rest fits =
 again (Nothing a) coherent x rest fits = ap (λ b. Ok (b, rest)) (sym fits)
 again (Marked {A} refusal n form) coherent x rest fits =
     let left = spelled form x ++ rest in
-    let whole = (to_be_bytes w32 n ++ spelled form x) ++ rest in
-    let number : number_at whole ≡ Ok (n, left) = ap number_at (append_assoc (to_be_bytes w32 n) (spelled form x) rest) ∙ number_again n left coherent.0 in
-    let fault : Read A = Err (stop_at refusal whole) in
+    let complete = (to_be_bytes w32 n ++ spelled form x) ++ rest in
+    let number : number_at complete ≡ Ok (n, left) = ap number_at (append_assoc (to_be_bytes w32 n) (spelled form x) rest) ∙ number_again n left coherent.0 in
+    let fault : Read A = Err (stop_at refusal complete) in
     ap (λ (r : Read ℕ). r >>= λ found. cond (eqb found.0 n) (read form found.1) fault) number
     ∙ ap (λ (b : Bool). cond b (read form left) fault) (eq-eqb n n refl)
     ∙ again form coherent.1 x rest fits
@@ -81,10 +81,10 @@ again (Then {A} {B} first second) coherent x rest fits =
     ∙ ap (λ (r : Read B). r >>= λ b. Ok ((x.0, b.0), b.1)) (again (second x.0) (coherent.1 x.0) x.1 rest fits.1)
 again (Counted {A} test one) coherent x rest fits =
     let elements = spelled_each (λ seen y. spelled (one seen) y) [] x in
-    let whole = (to_be_bytes w32 (length x) ++ elements) ++ rest in
-    let number : number_at whole ≡ Ok (length x, elements ++ rest) = ap number_at (append_assoc (to_be_bytes w32 (length x)) elements rest) ∙ number_again (length x) (elements ++ rest) fits.0 in
+    let complete = (to_be_bytes w32 (length x) ++ elements) ++ rest in
+    let number : number_at complete ≡ Ok (length x, elements ++ rest) = ap number_at (append_assoc (to_be_bytes w32 (length x)) elements rest) ∙ number_again (length x) (elements ++ rest) fits.0 in
     let each = λ (count : ℕ) (left : List ℕ). each_at (λ seen after. read (one seen) after) count [] left in
-    let fault : Read (List A) = Err (stop_at BadValue whole) in
+    let fault : Read (List A) = Err (stop_at BadValue complete) in
     ap (λ (r : Read ℕ). r >>= λ count. cond (test count.0) (each count.0 count.1) fault) number
     ∙ ap (λ (b : Bool). cond b (each (length x) (elements ++ rest)) fault) fits.1
     ∙ each_again one (λ before. again (one before) (coherent before)) [] x rest fits.2
@@ -93,6 +93,6 @@ again (Code {A} coding) coherent x rest fits =
     ap (λ (w : List ℕ). read (Code coding) w) (append_assoc (to_be_bytes w32 (length bytes)) bytes rest)
     ∙ ap (λ (r : Read ℕ). r >>= λ size. code_at coding size.0 size.0 [] size.1) (number_again (length bytes) (bytes ++ rest) fits.0)
     ∙ code_again coding (length bytes) [] x rest fits.1 (omega arith)
-again (Named {A} {B} make parts form) coherent x rest fits =
-    ap (λ (r : Read A). r >>= λ found. Ok (make found.0, found.1)) (again form coherent.0 (parts x) rest fits.0)
+again (Named {A} {B} make fields form) coherent x rest fits =
+    ap (λ (r : Read A). r >>= λ found. Ok (make found.0, found.1)) (again form coherent.0 (fields x) rest fits.0)
     ∙ ap (λ (y : B). Ok (y, rest)) fits.1

@@ -19,8 +19,8 @@ all_taken form coherent bytes x fits e =
     let t = taken form coherent bytes s.0.0 s.0.1 fits s.1 in
     let ended : s.0.1 ≡ [] = nil_from_length s.0.1 (eqb-true _ _ p.0) in
     let same : s.0.0 ≡ x = same_value s.0.0 x p.1 in
-    let parts : bytes ≡ spelled form s.0.0 = t.parts ∙ ap (λ (rest : List ℕ). spelled form s.0.0 ++ rest) ended ∙ append-nil (spelled form s.0.0) in
-    (rw (← same) t.fits, rw (← same) parts)
+    let joined : bytes ≡ spelled form s.0.0 = t.joined ∙ ap (λ (rest : List ℕ). spelled form s.0.0 ++ rest) ended ∙ append-nil (spelled form s.0.0) in
+    (rw (← same) t.fits, rw (← same) joined)
 
 pub all_again : {A : Type 0} (form : Form A) → Coherent form → (bytes : List ℕ) (x : A) → Spells form x bytes → read_all form bytes ≡ Ok x
 all_again {A} form coherent bytes x h =

@@ -1,4 +1,4 @@
--- What a format owes for its two laws: parts are what a value was made of, and an instruction that was read has the opcode and
+-- What the two laws need of a format: fields are what a value was made of, and an instruction that was read has the opcode and
 -- the operand that it was read from.
 use Rattle.std.proofs.Common.{◌≡◌, ℕ, ◌^◌, ◌<◌, List, length, Some}
 use Rattle.bytecode.specs.Form.{Coding, Form, Byte, Number, Text, Nothing, Marked, Checked, Then, Counted, Code, Named, Fits}
@@ -18,4 +18,4 @@ Coherent (Checked refusal test form) = Coherent form
 Coherent (Then {A} first second) = Coherent first × ((a : A) → Coherent (second a))
 Coherent (Counted {A} test one) = (before : List A) → Coherent (one before)
 Coherent (Code coding) = IsLawful coding
-Coherent (Named {A} make parts form) = Coherent form × ((a : A) → Fits form a → parts (make a) ≡ a)
+Coherent (Named {A} make fields form) = Coherent form × ((a : A) → Fits form a → fields (make a) ≡ a)

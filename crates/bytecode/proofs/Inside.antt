@@ -84,7 +84,7 @@ inside (Counted test one) bytes =
     (λ count le. tested (length bytes) (test count.0) (each_at (λ before rest. read (one before) rest) count.0 [] count.1) (stop_at BadValue bytes)
     (fewer (length count.1) (length bytes) (each_at (λ before rest. read (one before) rest) count.0 [] count.1) le (each_inside (λ before rest. read (one before) rest) (λ before rest. inside (one before) rest) count.0 [] count.1)) (omega arith))
 inside (Code coding) bytes = next_at (length bytes) (number_at bytes) (λ size. code_at coding size.0 size.0 [] size.1) (number_inside bytes) (λ size. code_inside coding size.0 size.0 [] size.1)
-inside (Named make parts form) bytes = bound (length bytes) (read form bytes) (λ found. Ok (make found.0, found.1)) (inside form bytes) (λ found le. le)
+inside (Named make fields form) bytes = bound (length bytes) (read form bytes) (λ found. Ok (make found.0, found.1)) (inside form bytes) (λ found le. le)
 
 abbrev answer : {A : Type 0} → Bool → A → Stop → Result A Stop
 answer b x other = cond b (Ok x) (Err other)

@@ -106,7 +106,7 @@ one_channel count taken before rest = read (channel_after count taken before) re
 
 abbrev channel_named : Form (List ℕ) → ℕ → Form ChannelContents
 channel_named form count =
-    Named (λ parts. record { direction = parts.0; name = parts.1.0; label = parts.1.1 })
+    Named (λ fields. record { direction = fields.0; name = fields.1.0; label = fields.1.1 })
     (λ channel. (channel.direction, (channel.name, channel.label)))
     (Then direction (λ _. Then form (λ _. label count)))
 

@@ -49,7 +49,7 @@ same_value x y e = cc
 -- ---- bytes and numbers that were read
 
 pub record Took (bytes text rest : List ℕ) : Type 0 where
-  pub parts : bytes ≡ text ++ rest
+  pub joined : bytes ≡ text ++ rest
   pub after : IsBytes rest
 
 pub bytes_taken_at : (n : ℕ) (bytes text rest : List ℕ) → IsBytes bytes → bytes_at n bytes ≡ Ok (text, rest) → Took bytes text rest × (length text ≡ n) × IsBytes text
@@ -59,7 +59,7 @@ bytes_taken_at n bytes text rest fits e =
     let both = same_value (take n bytes, drop n bytes) (text, rest) s.1 in
     let text-is : take n bytes ≡ text = ap (λ (p : List ℕ × List ℕ). p.0) both in
     let rest-is : drop n bytes ≡ rest = ap (λ (p : List ℕ × List ℕ). p.1) both in
-    (record { parts = rw (← text-is, ← rest-is) (sym (take-append-drop n bytes)); after = rw (← rest-is) (bytes_dropped n bytes fits) }, rw (← text-is) (omega (arith, length-take n bytes)), rw (← text-is) (bytes_taken n bytes fits))
+    (record { joined = rw (← text-is, ← rest-is) (sym (take-append-drop n bytes)); after = rw (← rest-is) (bytes_dropped n bytes fits) }, rw (← text-is) (omega (arith, length-take n bytes)), rw (← text-is) (bytes_taken n bytes fits))
 
 pub number_taken_at : (bytes : List ℕ) (n : ℕ) (rest : List ℕ) → IsBytes bytes → number_at bytes ≡ Ok (n, rest) → Took bytes (to_be_bytes w32 n) rest × (n < 2 ^ 32)
 number_taken_at bytes n rest fits e =
@@ -72,7 +72,7 @@ number_taken_at bytes n rest fits e =
     let four : length (take 4 bytes) ≡ 4 = omega (arith, length-take 4 bytes) in
     let text : to_be_bytes w32 n ≡ take 4 bytes = be_bytes_4 (take 4 bytes) n four front.below (sym n-is) in
     let small : from_be_bytes w32 (take 4 bytes) < 2 ^ 32 = omega (arith, front.below 0, front.below 1, front.below 2, front.below 3) in
-    (record { parts = sym (take-append-drop 4 bytes) ∙ ap (λ (t : List ℕ). t ++ drop 4 bytes) (sym text) ∙ ap (λ (t : List ℕ). to_be_bytes w32 n ++ t) rest-is; after = rw (← rest-is) (bytes_dropped 4 bytes fits) }, rw (← n-is) small)
+    (record { joined = sym (take-append-drop 4 bytes) ∙ ap (λ (t : List ℕ). t ++ drop 4 bytes) (sym text) ∙ ap (λ (t : List ℕ). to_be_bytes w32 n ++ t) rest-is; after = rw (← rest-is) (bytes_dropped 4 bytes fits) }, rw (← n-is) small)
 
 -- ---- bytes and numbers that are read again
 

@@ -10,7 +10,7 @@ use Rattle.bytecode.specs.declared.declaration.Global.{Global}
 use Rattle.bytecode.specs.declared.declaration.Handler.{Handler}
 use Rattle.bytecode.specs.declared.declaration.Direction.{Direction}
 
--- a channel: which way numbers go on it, its name as bytes, and the label of what it carries
+-- a channel: its direction, its name as bytes, and the label of what it carries
 pub record ChannelContents : Type 0 where
   pub direction : Direction
   pub name : List ℕ

@@ -54,7 +54,7 @@ is_above_last cmp (Some last) x = is_less (cmp last x)
 abbrev pub is_above : {A : Type 0} → (A → A → Ordering) → List A → A → Bool
 is_above cmp before x = is_above_last cmp (slice_get before (length before - 1)) x
 
--- a text is one whole name, and neither taken nor one of those before it
+-- a text is a name, and neither taken nor one of those before it
 abbrev pub is_among : List (List ℕ) → List ℕ → Bool
 is_among names name = list_any (λ other. bytes_eq other name) names
 

@@ -1,4 +1,4 @@
--- Isolation of modules and of bytes: what a principal can tell of the inputs that it may not read from what it sees of the outputs.
+-- Isolation of modules and of bytes: what a principal can learn of the inputs that it may not read from what it sees of the outputs.
 -- Source: our own, for runs that may be stopped anywhere; noninterference after Volpano, Smith and Irvine 1996.
 use Rattle.std.specs.Prelude.{◌≡◌, ℕ, ◌⊎◌, List, [], slice_get, Option, Some, None, IsTrue, ℤ}
 use Rattle.labels.specs.Label.{Label, may_read}

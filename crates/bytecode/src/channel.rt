@@ -35,7 +35,7 @@ impl Channel {
         }
     }
 
-    /// Which way numbers go on the channel.
+    /// Whether numbers are received from the channel or sent on it.
     pub fn direction(&self) -> Direction
         ensures { result ≡ self.now.direction }
     {

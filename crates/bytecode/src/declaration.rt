@@ -26,7 +26,7 @@ pub struct Handler {
     pub target: u32,
 }
 
-/// Which way numbers go on a channel.
+/// Whether numbers are received from a channel or sent on it.
 #[derive(Clone, Copy, Debug, PartialEq, Eq)]
 pub enum Direction {
     Input,

@@ -30,9 +30,23 @@ impl Model for Module {
 
     ghost Value = { ModuleContents };
 
-    ghost view = { λ m. record { hierarchy = m.hierarchy; exceptions = map (λ name. string_bytes name) m.exceptions.items; channels = m.channels.items; globals = m.globals.items; procedures = m.procedures.items; main = m.main } };
+    ghost view = { λ m. record {
+      hierarchy = m.hierarchy;
+      exceptions = map (λ name. string_bytes name) m.exceptions.items;
+      channels = m.channels.items;
+      globals = m.globals.items;
+      procedures = m.procedures.items;
+      main = m.main;
+    } };
 
-    ghost invariant = { λ m. Fits module_file (record { hierarchy = m.hierarchy; exceptions = map (λ name. string_bytes name) m.exceptions.items; channels = m.channels.items; globals = m.globals.items; procedures = m.procedures.items; main = m.main }) };
+    ghost invariant = { λ m. Fits module_file (record {
+      hierarchy = m.hierarchy;
+      exceptions = map (λ name. string_bytes name) m.exceptions.items;
+      channels = m.channels.items;
+      globals = m.globals.items;
+      procedures = m.procedures.items;
+      main = m.main;
+    }) };
 }
 
 impl Module {
@@ -48,8 +62,22 @@ impl Module {
         procedures: Vec<Procedure>,
         main: u32,
     ) -> Module
-        requires { Fits module_file (record { hierarchy = hierarchy; exceptions = map (λ name. string_bytes name) exceptions.items; channels = channels.items; globals = globals.items; procedures = procedures.items; main = main }) }
-        ensures { result ≡ record { hierarchy = hierarchy; exceptions = map (λ name. string_bytes name) exceptions.items; channels = channels.items; globals = globals.items; procedures = procedures.items; main = main } }
+        requires { Fits module_file (record {
+          hierarchy = hierarchy;
+          exceptions = map (λ name. string_bytes name) exceptions.items;
+          channels = channels.items;
+          globals = globals.items;
+          procedures = procedures.items;
+          main = main;
+        }) }
+        ensures { result ≡ record {
+          hierarchy = hierarchy;
+          exceptions = map (λ name. string_bytes name) exceptions.items;
+          channels = channels.items;
+          globals = globals.items;
+          procedures = procedures.items;
+          main = main;
+        } }
     {
         Module {
             hierarchy,

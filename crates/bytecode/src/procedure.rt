@@ -21,7 +21,13 @@ impl Model for Procedure {
 
     ghost Value = { ProcedureContents };
 
-    ghost view = { λ p. record { returned = p.returned; parameters = p.parameters; slots = p.slots.items; code = p.code.items; handlers = p.handlers.items } };
+    ghost view = { λ p. record {
+      returned = p.returned;
+      parameters = p.parameters;
+      slots = p.slots.items;
+      code = p.code.items;
+      handlers = p.handlers.items;
+    } };
 }
 
 impl Procedure {
@@ -34,7 +40,13 @@ impl Procedure {
         code: Vec<Instruction>,
         handlers: Vec<Handler>,
     ) -> Procedure
-        ensures { result ≡ record { returned = returned; parameters = parameters; slots = slots.items; code = code.items; handlers = handlers.items } }
+        ensures { result ≡ record {
+          returned = returned;
+          parameters = parameters;
+          slots = slots.items;
+          code = code.items;
+          handlers = handlers.items;
+        } }
     {
         Procedure {
             returned,

@@ -27,7 +27,7 @@ use Rattle.checker.specs.declared.refusal.EndDefect.TheVariants as ends
 use Rattle.bytecode.specs.Contents.{ModuleContents}
 use Rattle.bytecode.specs.Decoded.{refusal_of as stop_of}
 use Rattle.bytecode.proofs.Both.{module_again}
-use Rattle.bytecode.specs.Form.{Spells, Fits}
+use Rattle.bytecode.specs.Form.{Spells}
 use Rattle.bytecode.specs.Format.{module_file}
 use Rattle.lowering.specs.Interface.{SameInterface}
 use Rattle.lowering.specs.Kept.{MeaningKept}
@@ -37,7 +37,6 @@ use Rattle.lowering.proofs.Characters.{channel_names-utf8}
 use Rattle.lowering.proofs.Faultless.{module_verified}
 use Rattle.lowering.proofs.Isolating.{isolated-module}
 use Rattle.lowering.proofs.Naming.{has_names, principals_short}
-use Rattle.lowering.proofs.Spelled.{Fits-module}
 use Rattle.principals.specs.declared.fault.HierFault.{HierFault}
 use Rattle.principals.specs.declared.fault.HierFault.TheVariants as hier
 use Rattle.compiler.specs.declared.fault.Cause.{Cause}

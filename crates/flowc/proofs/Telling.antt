@@ -6,7 +6,7 @@ use Rattle.std.proofs.lemmas.Result.{err_from_is_err_and}
 use Rattle.principals.specs.ActsFor.{PrincipalHierarchy}
 use Rattle.std.specs.Result.{IsErrAnd}
 use Rattle.bytecode.specs.Contents.{ModuleContents}
-use Rattle.bytecode.specs.Decoded.{Tells, first_refusal}
+use Rattle.bytecode.specs.Decoded.{Reports, first_refusal}
 use Rattle.bytecode.specs.Form.{Spells}
 use Rattle.bytecode.specs.Format.{module_file}
 use Rattle.bytecode.specs.declared.fault.FormatFault.{FormatFault}
@@ -79,9 +79,9 @@ observer_told outcome m h code_path text_path code text observer failed trouble 
 
 -- the first refusal of bytes
 pub first_refused : (path code line : List ℕ) (fault : FormatFault) (refusal : Refusal) (offset : ℕ) → fault ≡ format.Refused refusal offset
-    → Tells fault (first_refusal code) → line ≡ refusal_line path refusal offset → IsModuleLine path code line
+    → Reports fault (first_refusal code) → line ≡ refusal_line path refusal offset → IsModuleLine path code line
 first_refused path code line fault refusal offset is tells says =
-    refused refusal offset (subst (λ (f : FormatFault). Tells f (first_refusal code)) is tells) says
+    refused refusal offset (subst (λ (f : FormatFault). Reports f (first_refusal code)) is tells) says
 
 -- a fault of the code of the module that bytes spell
 pub faulty_code : (path code line : List ℕ) (m : ModuleContents) (answer : VerifyFault) (fault : Fault) → answer ≡ Wrong fault

@@ -1,7 +1,8 @@
 //! Modules that are read and written again, and what they lend.
 
 use bytecode::{
-    Arithmetic, Direction, Instruction, Kind, Module, Procedure, Slot, decode, encode, laws,
+    Arithmetic, Cell, Comparison, Direction, Global, Handler, Instruction, Kind, Module, Procedure,
+    Slot, decode, encode, laws,
 };
 use std::test::Fail;
 
@@ -23,17 +24,30 @@ const THREE: [u8; 160] = [
     1, 35, 0, 0, 0, 0, 0, 0, 0, 0,
 ];
 
+// An exception `Oops`, an input `q`, an output `p`, globals int -7, boolean true, int[3] and boolean[2], and three procedures:
+// `main` with a boolean and an int[2] and one handler, one of an int that returns an int, and one that returns a boolean.
+const MANY: [u8; 192] = [
+    70, 76, 79, 66, 0, 0, 0, 1, 0, 0, 0, 0, 0, 0, 0, 0, 0, 0, 0, 1, 0, 0, 0, 4, 79, 111, 112, 115,
+    0, 0, 0, 2, 0, 0, 0, 0, 1, 113, 0, 0, 0, 0, 1, 0, 0, 0, 1, 112, 0, 0, 0, 0, 0, 0, 0, 4, 0, 0,
+    0, 0, 0, 255, 255, 255, 249, 1, 0, 0, 0, 0, 0, 0, 0, 1, 0, 0, 0, 0, 3, 1, 0, 0, 0, 2, 0, 0, 0,
+    3, 0, 0, 0, 0, 0, 0, 0, 0, 2, 1, 0, 0, 0, 0, 0, 0, 0, 0, 2, 0, 0, 0, 8, 2, 1, 5, 0, 0, 0, 0,
+    35, 0, 0, 0, 1, 0, 0, 0, 0, 0, 0, 0, 2, 0, 0, 0, 3, 0, 0, 0, 7, 1, 0, 0, 0, 1, 0, 0, 0, 1, 0,
+    0, 0, 0, 0, 0, 0, 0, 7, 4, 0, 0, 0, 0, 21, 36, 0, 0, 0, 0, 2, 0, 0, 0, 0, 0, 0, 0, 0, 0, 0, 0,
+    3, 2, 0, 36, 0, 0, 0, 0, 0, 0, 0, 0,
+];
+
 #[test]
 fn the_laws_are_called(_rt: HostRuntime) {
     laws::one_spelling();
     laws::no_spelling_begins_another();
     laws::spellings_are_not_refused();
     laws::refusals_stand_inside();
+    laws::instructions_are_spelled();
 }
 
 #[test]
 fn writes_what_it_read(rt: HostRuntime) -> Result<(), Fail> {
-    for bytes in [SENDS.as_slice(), THREE.as_slice()] {
+    for bytes in [SENDS.as_slice(), THREE.as_slice(), MANY.as_slice()] {
         let module = decode(rt.alloc(), bytes)?;
         let written = encode(rt.alloc(), &module)?;
         assert!(rt; written.as_slice() == bytes);
@@ -122,4 +136,59 @@ fn lends_names_and_labels(rt: HostRuntime) -> Result<(), Fail> {
     assert_eq!(rt; first.readers(), [1, 2].as_slice());
     assert_eq!(rt; second.owner(), 1);
     Ok(())
+}
+
+#[test]
+fn lends_globals_and_handlers(rt: HostRuntime) -> Result<(), Fail> {
+    let module = decode(rt.alloc(), &MANY)?;
+    assert_eq!(rt; counts_of(&module), [1, 4, 2, 3, 0]);
+    let globals = [
+        Global::Int(-7),
+        Global::Boolean(true),
+        Global::Array(Kind::Int, 3),
+        Global::Array(Kind::Boolean, 2),
+    ];
+    assert!(rt; module.globals() == globals.as_slice());
+    let [main, first, second] = module.procedures() else {
+        return Err("three procedures".into());
+    };
+    let slots = [Slot::Scalar(Kind::Boolean), Slot::Array(Kind::Int, 2)];
+    let handler = Handler {
+        start: 0,
+        end: 2,
+        exception: 3,
+        target: 7,
+    };
+    assert!(rt; main.slots() == slots.as_slice() && main.handlers() == [handler].as_slice());
+    assert!(rt; first.parameters() == 1 && first.returned() == Some(Kind::Int));
+    assert!(rt; second.parameters() == 0 && second.returned() == Some(Kind::Boolean));
+    Ok(())
+}
+
+#[test]
+fn prints_names_and_operands(rt: HostRuntime) -> Result<(), Fail> {
+    let printed = [
+        (Instruction::Push(-7), "PUSH -7"),
+        (Instruction::PushBoolean(true), "PUSHB true"),
+        (Instruction::PushBoolean(false), "PUSHB false"),
+        (Instruction::LoadGlobal(4294967295), "GLOAD 4294967295"),
+        (Instruction::StoreElement(0), "ASTORE 0"),
+        (Instruction::Compute(Arithmetic::Remainder), "REM"),
+        (Instruction::Compare(Comparison::AtMost), "LE"),
+        (Instruction::OtherBoolean, "BNE"),
+        (Instruction::JumpIfFalse(10), "JFALSE 10"),
+        (Instruction::ReturnValue, "RETV"),
+        (Instruction::Throw(3), "THROW 3"),
+    ];
+    for (instruction, text) in printed {
+        let shown = format!(in rt.alloc(); "{instruction}")?;
+        assert!(rt; shown.as_str() == text);
+    }
+    Ok(())
+}
+
+#[test]
+fn values_have_kinds(rt: HostRuntime) {
+    assert!(rt; Kind::Int.zero() == Cell::Int(0) && Kind::Boolean.zero() == Cell::Bool(false));
+    assert!(rt; Cell::Int(5).kind() == Kind::Int && Cell::Bool(true).kind() == Kind::Boolean);
 }
