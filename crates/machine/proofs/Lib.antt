@@ -14,3 +14,4 @@ pub mod Declared
 pub mod Told
 pub mod First
 pub mod Clearing
+pub mod Stepping
