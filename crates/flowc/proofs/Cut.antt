@@ -1,9 +1,7 @@
 -- What a run has shown where a stream failed or memory ran out.
 use Rattle.std.proofs.Common.{◌≡◌, ℕ, ◌≤◌, List, ap, ◌∙◌, subst, inr, Option, Result, Ok, Err, OnErr}
 use Rattle.std.specs.Str.{IsUtf8}
-use Rattle.std.specs.Prelude.{IsTrue}
 use Rattle.std.specs.Io.KnownBytes.{Appends}
-use Rattle.machine.specs.StraightLine.{is_straight_line}
 use Rattle.labels.specs.declared.sent.Pair.{Pair}
 use Rattle.labels.proofs.Begins.{Begins-itself}
 use Rattle.principals.specs.ActsFor.{PrincipalHierarchy}
@@ -29,13 +27,12 @@ appended_all old new text program = (text, Begins-itself text, program)
 -- what can be run
 pub can_run : (code text : List ℕ) (name : Option (List ℕ)) (m : ModuleContents) (principal : Option ℕ) (h : PrincipalHierarchy)
     → Spells module_file m code → HasNoFault m → IsUtf8 text → IsWorldText (input_names m) (lines_of text)
-    → IsTrue (is_straight_line m) → IsObserver h name principal → h ≡ m.hierarchy → CanRun code text name m principal
-can_run code text name m principal h spelled faultless encoded right covered observed is = record {
+    → IsObserver h name principal → h ≡ m.hierarchy → CanRun code text name m principal
+can_run code text name m principal h spelled faultless encoded right observed is = record {
   spelled = spelled;
   faultless = faultless;
   encoded = encoded;
   right = right;
-  covered = covered;
   observed = subst (λ (people : PrincipalHierarchy). IsObserver people name principal) is observed;
 }
 

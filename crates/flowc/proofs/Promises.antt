@@ -1,5 +1,5 @@
 -- What compiled bytes promise, from what is known of compiling, of hosts and of the program.
-use Rattle.std.proofs.Common.{◌≡◌, ℕ, ◌+◌, ◌-◌, ◌≤◌, List, [], ◌∷◌, Option, Some, None, true, refl, sym, ap, ◌∙◌, subst, arith, ⊎_elim, inl, inr}
+use Rattle.std.proofs.Common.{◌≡◌, ℕ, ◌+◌, ◌-◌, ◌≤◌, List, [], ◌∷◌, Option, Some, None, refl, sym, ap, ◌∙◌, subst, arith, ⊎_elim, inl, inr}
 use Rattle.std.specs.Str.{IsUtf8}
 use Rattle.std.proofs.lemmas.Bool.{cases_lt}
 use Rattle.std.specs.String.{string_bytes}
@@ -25,7 +25,6 @@ use Rattle.lowering.proofs.Readers.{seen-module}
 use Rattle.lowering.proofs.Sent.{exec-keeps}
 use Rattle.machine.proofs.Told.{exec_more}
 use Rattle.machine.specs.Run.{HasEnded}
-use Rattle.machine.specs.StraightLine.{is_straight_line}
 use Rattle.machine.specs.declared.status.Status.{Status}
 use Rattle.verifier.specs.Faults.{HasNoFault}
 use Rattle.host.specs.Laws as sessions
@@ -38,7 +37,7 @@ use Rattle.flowc.specs.Stdout.{CanRun, numbers_in, text_shown}
 use Rattle.flowc.specs.Task.{reported_status}
 use Rattle.flowc.specs.Messages.{IsModuleLine, IsObserverLine, IsRefusedLine, IsWorldLine, reported_line}
 use Rattle.flowc.specs.Messages.IsModuleLine.{faulty, refused}
-use Rattle.flowc.specs.Messages.IsRefusedLine.{of_module, of_observer, of_stage, of_world}
+use Rattle.flowc.specs.Messages.IsRefusedLine.{of_module, of_observer, of_world}
 use Rattle.flowc.specs.Messages.IsWorldLine.{no_text, wrong}
 use Rattle.flowc.specs.View.{IsObserver, view_text}
 use Rattle.flowc.proofs.Sessions.{opened_for}
@@ -267,10 +266,6 @@ module _ (one : (m n : ModuleContents) (bytes : List ℕ) → Spells module_file
         right_module code_path code line m can.spelled can.faultless wrong_module
     right_run code_path text_path code text name line m principal can (of_world other spelled faultless wrong_world) =
         right_world text_path text line m other (one m other code can.spelled spelled) can.encoded can.right wrong_world
-    right_run code_path text_path code text name line m principal can (of_stage other spelled faultless outside says) =
-        let here : is_straight_line m ≡ true = can.covered in
-        let same = ap is_straight_line (one m other code can.spelled spelled) in
-        absurd (cc)
     right_run code_path text_path code text name line m principal can (of_observer other spelled faultless encoded right unknown) =
         right_observer name line m other principal (one m other code can.spelled spelled) can.observed unknown
 

@@ -51,10 +51,6 @@ world_line path line defect = at_one path line (saying (world_number defect) (wo
 abbrev pub cause_line : (path : List ℕ) → Cause → Place → List ℕ
 cause_line path cause at = at_two path at.line at.column (saying (cause_number cause) (cause_words cause))
 
--- a module that is no straight-line code, which is all that runs so far
-abbrev pub stage_line : (path : List ℕ) → List ℕ
-stage_line path = at_one path 0 (saying 199 (codes "not in this stage"))
-
 -- no principal of a module has the name of an observer
 abbrev pub observer_line : (name : List ℕ) → List ℕ
 observer_line name = name ++ saying 153 (codes "unknown principal")

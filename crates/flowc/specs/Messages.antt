@@ -23,7 +23,6 @@ use Rattle.compiler.specs.declared.fault.Fault.TheVariants.{Refused}
 use Rattle.compiler.specs.declared.fault.Text.{Text}
 use Rattle.compiler.specs.declared.fault.Text.TheVariants.{Hierarchy, Source}
 use Rattle.machine.specs.Run.{IsTold}
-use Rattle.machine.specs.StraightLine.{is_straight_line}
 use Rattle.machine.specs.declared.status.Status.{Status}
 use Rattle.verifier.specs.Faults as faults
 use Rattle.verifier.specs.Faults.{HasNoFault}
@@ -31,7 +30,7 @@ use Rattle.verifier.specs.declared.fault.Fault.{Fault}
 use Rattle.command_line.specs.declared.request.Task.{Task}
 use Rattle.command_line.specs.declared.request.Task.TheVariants.{Check, Build, Run}
 use Rattle.flowc.specs.Compiled.{bytes_at}
-use Rattle.flowc.specs.Lines.{cannot_write, cause_line, encoding_line, end_line, fault_line, no_memory, observer_line, refusal_line, stage_line, world_line}
+use Rattle.flowc.specs.Lines.{cannot_write, cause_line, encoding_line, end_line, fault_line, no_memory, observer_line, refusal_line, world_line}
 use Rattle.flowc.specs.Stdout.{CanRun, numbers_in}
 use Rattle.flowc.specs.Task.{reported_status}
 
@@ -71,13 +70,11 @@ pub record IsObserverLine (hierarchy : PrincipalHierarchy) (observer : Option (L
   pub unknown : (principal : ℕ) → ¬ HasName hierarchy principal name
   pub says : line ≡ observer_line name
 
--- the line says why nothing can be run: the module is wrong; or it is right, and the world is wrong for it, or it is no module that
--- runs so far; or all is right,
+-- the line says why nothing can be run: the module is wrong; or it is right, and the world is wrong for it; or both are right,
 -- and the observer is none of its principals
 pub data IsRefusedLine (code_path text_path code text : List ℕ) (observer : Option (List ℕ)) (line : List ℕ) : Type 0 where
   of_module : IsModuleLine code_path code line → IsRefusedLine code_path text_path code text observer line
   of_world : (program : ModuleContents) → Spells module_file program code → HasNoFault program → IsWorldLine program text_path text line → IsRefusedLine code_path text_path code text observer line
-  of_stage : (program : ModuleContents) → Spells module_file program code → HasNoFault program → is_straight_line program ≡ false → line ≡ stage_line code_path → IsRefusedLine code_path text_path code text observer line
   of_observer : (program : ModuleContents) → Spells module_file program code → HasNoFault program → IsUtf8 text → IsWorldText (input_names program) (lines_of text) → IsObserverLine program.hierarchy observer line → IsRefusedLine code_path text_path code text observer line
 
 -- ---- other lines

@@ -1,6 +1,6 @@
 -- What a task shows on standard output, and with which status it ends.
 -- Source: our own.
-use Rattle.std.specs.Prelude.{◌≡◌, ◌≤◌, ◌⊎◌, ℕ, ℤ, List, Option, option_map, codes, IsTrue, IsUtf8}
+use Rattle.std.specs.Prelude.{◌≡◌, ◌≤◌, ◌⊎◌, ℕ, ℤ, List, Option, option_map, codes, IsUtf8}
 use Rattle.std.specs.Io.KnownBytes.{Appends}
 use Rattle.std.specs.String.{string_bytes}
 use Rattle.std.specs.declared.alloc.Global.{Global}
@@ -15,7 +15,6 @@ use Rattle.channels.specs.World.{input_names, numbers_of_channel}
 use Rattle.channels.specs.WorldText.{IsWorldText, lines_of, world_of}
 use Rattle.verifier.specs.Faults.{HasNoFault}
 use Rattle.machine.specs.Run.{IsTold}
-use Rattle.machine.specs.StraightLine.{is_straight_line}
 use Rattle.machine.specs.declared.status.Status.{Status}
 use Rattle.command_line.specs.declared.request.Task.{Task}
 use Rattle.command_line.specs.declared.request.Task.TheVariants.{Check, Build, Run}
@@ -31,14 +30,12 @@ numbers_in program text = numbers_of_channel program (world_of (input_names prog
 abbrev pub text_shown : ModuleContents → (world : List ℕ) → (principal : Option ℕ) → (taken : ℕ) → List ℕ
 text_shown program world principal taken = view_text program (shown program principal (sent_after program (numbers_in program world) taken))
 
--- what can be run for an observer: the bytes of a module without a fault, a world for it, and one of its principals; so far the
--- module has to be straight-line code
+-- what can be run for an observer: the bytes of a module without a fault, a world for it, and one of its principals
 pub record CanRun (code text : List ℕ) (observer : Option (List ℕ)) (program : ModuleContents) (principal : Option ℕ) : Type 0 where
   pub spelled : Spells module_file program code
   pub faultless : HasNoFault program
   pub encoded : IsUtf8 text
   pub right : IsWorldText (input_names program) (lines_of text)
-  pub covered : IsTrue (is_straight_line program)
   pub observed : IsObserver program.hierarchy observer principal
 
 -- nothing can be run

@@ -67,14 +67,6 @@ pub fn cause_line(alloc: Global, path: &str, cause: Cause, at: Place) -> Result<
     format!(in alloc; "{path}:{line}:{column}: {number} {cause}\n")
 }
 
-/// The line that says that a module is no straight-line code, which is all that runs so far.
-pub fn stage_line(alloc: Global, path: &str) -> Result<String, AllocError>
-    ensures { IfOk result (λ line. string_bytes line ≡ lines.stage_line path.now) }
-{
-    let (offset, number) = (0u32, 199u32);
-    format!(in alloc; "{path}:{offset}: {number} not in this stage\n")
-}
-
 /// The line that says that no principal of a module has the name of an observer.
 pub fn observer_line(alloc: Global, name: &str) -> Result<String, AllocError>
     ensures { IfOk result (λ line. string_bytes line ≡ lines.observer_line name.now) }

@@ -14,14 +14,11 @@ ghost use Rattle.flowc.specs.Messages.{IsEndLine, IsModuleLine, IsObserverLine, 
 ghost use Rattle.flowc.specs.View.{IsObserver};
 ghost use Rattle.flowc.specs.declared.fault.PerformFault.TheVariants.{NoMemory};
 ghost use Rattle.machine.specs.Run.{machine_of};
-ghost use Rattle.machine.specs.StraightLine.{is_straight_line};
-ghost use Rattle.std.specs.Prelude.{◌≡◌, IfErr, IfOk, IsTrue, IsUtf8, List, ℕ, OnErr, OnOk, Option, false, option_map};
+ghost use Rattle.std.specs.Prelude.{◌≡◌, IfErr, IfOk, IsUtf8, List, ℕ, OnErr, OnOk, Option, false, option_map};
 ghost use Rattle.std.specs.String.{string_bytes};
 ghost use Rattle.verifier.specs.Faults.{HasNoFault};
 
-use crate::messages::{
-    encoding_line, fault_line, observer_line, refusal_line, stage_line, world_line,
-};
+use crate::messages::{encoding_line, fault_line, observer_line, refusal_line, world_line};
 use crate::fault::PerformFault;
 use crate::view::show;
 use bytecode::{FormatFault, Module, decode};
@@ -75,10 +72,9 @@ fn start(alloc: Global, code: File<'_>, world: File<'_>) -> Result<Machine, Perf
     ensures only { IfOk result (λ machine. (program : ModuleContents) → Spells module_file program code.entry.bytes.now → machine.program ≡ program) }
     ensures faultless { IfOk result (λ machine. HasNoFault machine.program) }
     ensures encoded { OnOk result (IsUtf8 world.entry.bytes.now) }
-    ensures refused { IfErr result (λ fault. status_of_fault fault ≡ 1 → (program : ModuleContents) → Spells module_file program code.entry.bytes.now → HasNoFault program → IsUtf8 world.entry.bytes.now → IsTrue (is_straight_line program) → ¬ IsWorldText (input_names program) (lines_of world.entry.bytes.now)) }
+    ensures refused { IfErr result (λ fault. status_of_fault fault ≡ 1 → (program : ModuleContents) → Spells module_file program code.entry.bytes.now → HasNoFault program → IsUtf8 world.entry.bytes.now → ¬ IsWorldText (input_names program) (lines_of world.entry.bytes.now)) }
     ensures message { IfErr result (IsPerformFault (λ line. (observer : Option (List ℕ)) → IsRefusedLine code.entry.path.now world.entry.path.now code.entry.bytes.now world.entry.bytes.now observer line) false) }
     ensures right { IfOk result (λ machine. IsWorldText (input_names machine.program) (lines_of world.entry.bytes.now)) }
-    ensures covered { IfOk result (λ machine. IsTrue (is_straight_line machine.program)) }
     ensures first { IfOk result (λ machine. machine_of machine ≡ Running (first_state machine.program (numbers_in machine.program world.entry.bytes.now))) }
 {
     let verified = read_module(alloc, code)?;
@@ -90,7 +86,6 @@ fn start(alloc: Global, code: File<'_>, world: File<'_>) -> Result<Machine, Perf
             let line = world_line(alloc, world.path, 1, WorldDefect::UnknownChannel)?;
             Err(PerformFault::Refused(line))
         }
-        Err(NewFault::NotInStage) => Err(PerformFault::Refused(stage_line(alloc, code.path)?)),
     }
 }
 

@@ -14,7 +14,7 @@ use Rattle.machine.specs.Run.{machine_of}
 use Rattle.host.specs.Meaning.{SessionContents, HostContents, IsOpen, IsNotOpen, session_of, with_machine, without, HasRoom, CannotOpen, OpenRefused, first_machine, with_opened}
 use Rattle.host.specs.Next.{next_of}
 use Rattle.host.specs.declared.fault.HostFault.{HostFault}
-use Rattle.host.specs.declared.fault.HostFault.TheVariants.{NoMemory, Full, UnknownId, UnknownPrincipal, UnknownChannel, NotInStage, Bytes, Code}
+use Rattle.host.specs.declared.fault.HostFault.TheVariants.{NoMemory, Full, UnknownId, UnknownPrincipal, UnknownChannel, Bytes, Code}
 use Rattle.host.specs.Values.{KeptSession, KeptHost, contents_of, host_of}
 
 abbrev has_id : ℕ → KeptSession → Bool
@@ -144,7 +144,6 @@ pub refused_with_room : (limit : ℕ) (host : HostContents) (bytes : List ℕ) (
 refused_with_room limit host bytes world (Bytes refusal offset) room cannot = (room, cannot)
 refused_with_room limit host bytes world (Code fault) room cannot = (room, cannot)
 refused_with_room limit host bytes world UnknownChannel room cannot = (room, cannot)
-refused_with_room limit host bytes world NotInStage room cannot = (room, cannot)
 refused_with_room limit host bytes world NoMemory room cannot = (room, cannot)
 refused_with_room limit host bytes world Full room cannot = absurd cannot
 refused_with_room limit host bytes world UnknownId room cannot = absurd cannot

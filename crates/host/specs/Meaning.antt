@@ -1,7 +1,7 @@
 -- The meaning of a host: how it may answer each event and what it then is. A relation, since memory may be refused, and since
 -- of several faults of one module any may be reported that the verifier may report.
 -- Source: our own.
-use Rattle.std.specs.Prelude.{◌≡◌, ◌≢◌, ℕ, ◌+◌, ◌<◌, ◌≤◌, ◌^◌, ◌==◌, not, false, if◌then◌else◌, List, [], ◌∷◌, length, filter, Option, Some, None}
+use Rattle.std.specs.Prelude.{◌≡◌, ◌≢◌, ℕ, ◌+◌, ◌<◌, ◌≤◌, ◌^◌, ◌==◌, not, if◌then◌else◌, List, [], ◌∷◌, length, filter, Option, Some, None}
 use Rattle.labels.specs.declared.sent.Pair.{Pair}
 use Rattle.bytecode.specs.Contents.{ModuleContents}
 use Rattle.bytecode.specs.Decoded.{first_refusal}
@@ -10,13 +10,12 @@ use Rattle.bytecode.specs.Format.{module_file}
 use Rattle.bytecode.specs.Machine.{Machine, after_steps, exec, program_of, sent_of}
 use Rattle.channels.specs.World.{InputNumbers, input_names, numbers_of_channel}
 use Rattle.machine.specs.Run.{IsTold, WasRunning, names_of}
-use Rattle.machine.specs.StraightLine.{is_straight_line}
 use Rattle.machine.specs.declared.status.Status.{Status}
 use Rattle.verifier.specs.Faults as faults
 use Rattle.verifier.specs.Faults.{HasNoFault}
 use Rattle.bytecode.specs.Isolated.{seen_of}
 use Rattle.host.specs.declared.fault.HostFault.{HostFault}
-use Rattle.host.specs.declared.fault.HostFault.TheVariants.{NoMemory, Full, UnknownId, UnknownPrincipal, UnknownChannel, NotInStage, Bytes, Code}
+use Rattle.host.specs.declared.fault.HostFault.TheVariants.{NoMemory, Full, UnknownId, UnknownPrincipal, UnknownChannel, Bytes, Code}
 
 -- ---- hosts
 
@@ -96,14 +95,12 @@ with_opened host m world = record {
 }
 
 -- why bytes are not opened on a world where there is room. The first of these in this order that applies is reported, or out of
--- memory: a refusal of the bytes, a fault of the code, a world for other inputs, a module that is not run so far
+-- memory: a refusal of the bytes, a fault of the code, a world for other inputs
 abbrev pub CannotOpen : List ℕ → List InputNumbers → HostFault → Type 0
 CannotOpen bytes world (Bytes refusal offset) = first_refusal bytes ≡ Some (refusal, offset)
 CannotOpen bytes world (Code fault) = (m : ModuleContents) × Spells module_file m bytes × faults.IsReported m fault
 CannotOpen bytes world UnknownChannel =
     (m : ModuleContents) × Spells module_file m bytes × HasNoFault m × (names_of world ≢ input_names m)
-CannotOpen bytes world NotInStage =
-    (m : ModuleContents) × CanOpen bytes world m × (is_straight_line m ≡ false)
 CannotOpen bytes world NoMemory = Unit {0}
 CannotOpen bytes world Full = ⊥
 CannotOpen bytes world UnknownId = ⊥
@@ -138,7 +135,6 @@ ViewRefused host id p UnknownPrincipal = (session : SessionContents) × IsOpen h
 ViewRefused host id p NoMemory = (session : SessionContents) × IsOpen host id session × IsPrincipal session p
 ViewRefused host id p Full = ⊥
 ViewRefused host id p UnknownChannel = ⊥
-ViewRefused host id p NotInStage = ⊥
 ViewRefused host id p (Bytes refusal offset) = ⊥
 ViewRefused host id p (Code fault) = ⊥
 

@@ -4,7 +4,7 @@ use Rattle.std.specs.Prelude.{ℕ, List, Option, Some, None, codes}
 use Rattle.bytecode.specs.Faults.{refusal_number, refusal_words}
 use Rattle.verifier.specs.Words.{defect_number, defect_words}
 use Rattle.host.specs.declared.fault.HostFault.{HostFault}
-use Rattle.host.specs.declared.fault.HostFault.TheVariants.{NoMemory, Full, UnknownId, UnknownPrincipal, UnknownChannel, NotInStage, Bytes, Code}
+use Rattle.host.specs.declared.fault.HostFault.TheVariants.{NoMemory, Full, UnknownId, UnknownPrincipal, UnknownChannel, Bytes, Code}
 
 -- out of memory has no number
 abbrev pub fault_number : HostFault → Option ℕ
@@ -13,7 +13,6 @@ fault_number Full = Some 901
 fault_number UnknownId = Some 902
 fault_number UnknownPrincipal = Some 153
 fault_number UnknownChannel = Some 852
-fault_number NotInStage = Some 199
 fault_number (Bytes refusal offset) = Some (refusal_number refusal)
 fault_number (Code fault) = Some (defect_number fault.defect)
 
@@ -23,6 +22,5 @@ fault_words Full = codes "full"
 fault_words UnknownId = codes "unknown id"
 fault_words UnknownPrincipal = codes "unknown principal"
 fault_words UnknownChannel = codes "unknown channel"
-fault_words NotInStage = codes "not in this stage"
 fault_words (Bytes refusal offset) = refusal_words refusal
 fault_words (Code fault) = defect_words fault.defect

@@ -19,8 +19,6 @@ pub enum HostFault {
     UnknownPrincipal,
     /// 852: the names of the world's inputs are not those of the module's inputs, in order.
     UnknownChannel,
-    /// 199: the module is no straight-line code, which is all that runs so far.
-    NotInStage,
     /// 801 to 806: the bytes spell no module. The first refusal, and its offset in the bytes.
     Bytes(Refusal, usize),
     /// 811 to 815: the module has this fault in its code.
@@ -38,7 +36,6 @@ impl HostFault {
             HostFault::UnknownId => Some(902),
             HostFault::UnknownPrincipal => Some(153),
             HostFault::UnknownChannel => Some(852),
-            HostFault::NotInStage => Some(199),
             HostFault::Bytes(refusal, _) => Some(refusal.number()),
             HostFault::Code(fault) => Some(fault.defect.number()),
         }
@@ -54,7 +51,6 @@ impl HostFault {
             HostFault::UnknownId => "unknown id",
             HostFault::UnknownPrincipal => "unknown principal",
             HostFault::UnknownChannel => "unknown channel",
-            HostFault::NotInStage => "not in this stage",
             HostFault::Bytes(refusal, _) => refusal.words(),
             HostFault::Code(fault) => fault.defect.words(),
         }

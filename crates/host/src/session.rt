@@ -86,7 +86,6 @@ pub fn first_run(alloc: Global, bytes: &[u8], world: World) -> Result<Machine, H
         Ok(run) => Ok(run),
         Err(NewFault::NoMemory) => Err(HostFault::NoMemory),
         Err(NewFault::UnknownChannel) => Err(HostFault::UnknownChannel),
-        Err(NewFault::NotInStage) => Err(HostFault::NotInStage),
     }
 }
 

@@ -1,7 +1,17 @@
-mod OneProcedure
 pub mod Lists
-pub mod Rows
-pub mod Steps
-pub mod Lift
+pub mod Cuts
+pub mod OnSlab
+pub mod Indexes
+pub mod Operands
+pub mod Raising
+pub mod Going
+pub mod Storing
+pub mod OfGlobals
+pub mod Stores
+pub mod Calling
+pub mod Numbers
+pub mod Declared
 pub mod Told
 pub mod First
+pub mod Clearing
+pub mod Stepping

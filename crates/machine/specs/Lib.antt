@@ -1,4 +1,8 @@
-pub mod Parts
+pub mod Slab
+pub mod Frames
+pub mod Globals
+pub mod Index
+pub mod Inputs
+pub mod Live
 pub mod Run
-pub mod Standing
-pub mod StraightLine
+pub mod Steps

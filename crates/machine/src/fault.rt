@@ -9,7 +9,4 @@ pub enum NewFault {
     /// 852: the names of the world's inputs are not those of the module's inputs, in order.
     #[error("unknown channel")]
     UnknownChannel,
-    /// 199: the module is no straight-line code, which is all that a machine runs so far.
-    #[error("not in this stage")]
-    NotInStage,
 }

@@ -1,5 +1,5 @@
-ghost use Rattle.machine.specs.Parts.{first_number};
-ghost use Rattle.std.specs.Prelude.{◌≡◌, drop};
+ghost use Rattle.machine.specs.Inputs.{first_number};
+ghost use Rattle.std.specs.Prelude.{◌<◌, ◌≡◌, [], drop, length, slice_index_or, slice_set};
 
 use std::marker::Model;
 
@@ -40,5 +40,45 @@ impl Input {
         ensures { self.new ≡ drop 1 self.old }
     {
         let _ = self.numbers.pop();
+    }
+}
+
+/// What is left of the numbers of all channels.
+#[derive(Debug, Drop)]
+pub struct Inputs {
+    inputs: Vec<Input>,
+}
+
+impl Model for Inputs {
+    ghost use Rattle.std.specs.Prelude.{List, ℤ};
+
+    ghost Value = { List (List ℤ) };
+
+    ghost view = { λ inputs. inputs.inputs.items };
+}
+
+impl Inputs {
+    /// The inputs in the order of their channels.
+    pub fn of(inputs: Vec<Input>) -> Inputs
+        ensures { result ≡ inputs.items }
+    {
+        Inputs { inputs }
+    }
+
+    /// The next number of a channel, which is not taken yet.
+    pub fn next(&self, channel: u32) -> Option<i32>
+        requires { channel < length self.now }
+        ensures { result ≡ first_number (slice_index_or self.now channel []) }
+    {
+        self.inputs[channel as usize].next()
+    }
+
+    /// Takes the next number of a channel off.
+    pub fn advance(&mut self, channel: u32)
+        requires { channel < length self.old }
+        ensures { self.new ≡ slice_set self.old channel (drop 1 (slice_index_or self.old channel [])) }
+    {
+        let input = &mut self.inputs[channel as usize];
+        input.advance();
     }
 }

@@ -1,12 +1,16 @@
 //! The machine: runs of verified modules, step by step.
 #![tactic(auto)]
 
+mod arithmetic;
 pub mod fault;
+mod frames;
+mod globals;
+mod index;
 mod input;
-mod parts;
+mod live;
 pub mod run;
+mod shape;
 pub mod status;
-mod straight;
 
 pub use fault::NewFault;
 pub use run::Machine;

@@ -14,10 +14,10 @@ use Rattle.verifier.specs.Fixed.{instruction_defect, instruction_faults, handler
 use Rattle.bytecode.specs.declared.instruction.Instruction.TheVariants.{Jump, JumpIfFalse}
 use Rattle.bytecode.specs.Machine.{program_of}
 use Rattle.verifier.specs.Flow.{target_of}
-use Rattle.verifier.specs.Places.{IsPlace, IsPlaced}
+use Rattle.verifier.specs.Boundaries.{IsBoundary, KeepsBoundaries}
 use Rattle.verifier.specs.declared.fault.Defect.{Defect}
 use Rattle.verifier.specs.declared.fault.Defect.TheVariants as defect
-use Rattle.verifier.proofs.Offsets.{next_place}
+use Rattle.verifier.proofs.Offsets.{next_boundary}
 use Rattle.verifier.specs.declared.fault.Fault.{Fault}
 
 module _ (m : ModuleContents) (number : ℕ) (procedure : ProcedureContents) where
@@ -92,35 +92,35 @@ module _ (m : ModuleContents) (number : ℕ) (procedure : ProcedureContents) whe
   instructions_right : (offset : ℕ) (code : List Instruction) → instruction_faults m number procedure offset code ≡ [] → (k : ℕ) (i : Instruction) → slice_get code k ≡ Some i → instruction_defect m procedure i ≡ None
   instructions_right offset [] e k i is = absurd (let no : None ≡ Some i = is in cc)
   instructions_right offset (x ∷ code) e zero i is =
-      let parts = append_nothing (fault_list number offset (instruction_defect m procedure x)) (instruction_faults m number procedure (offset + width_of x) code) e in
+      let both = append_nothing (fault_list number offset (instruction_defect m procedure x)) (instruction_faults m number procedure (offset + width_of x) code) e in
       let same : x ≡ i = cc in
-      ap (instruction_defect m procedure) (sym same) ∙ no_defect number offset (instruction_defect m procedure x) parts.0
+      ap (instruction_defect m procedure) (sym same) ∙ no_defect number offset (instruction_defect m procedure x) both.0
   instructions_right offset (x ∷ code) e (suc k) i is =
-      let parts = append_nothing (fault_list number offset (instruction_defect m procedure x)) (instruction_faults m number procedure (offset + width_of x) code) e in
-      instructions_right (offset + width_of x) code parts.1 k i is
+      let both = append_nothing (fault_list number offset (instruction_defect m procedure x)) (instruction_faults m number procedure (offset + width_of x) code) e in
+      instructions_right (offset + width_of x) code both.1 k i is
 
   handlers_right : (handlers : List Handler) → handler_faults m number procedure handlers ≡ [] → (h : Handler) (k : ℕ) → k < length handlers → get_or handlers k h ≡ h → handler_defect m procedure h ≡ None
   handlers_right [] e h k inside is = absurd (omega arith)
   handlers_right (x ∷ handlers) e h zero inside is =
-      let parts = append_nothing (fault_list number x.start (handler_defect m procedure x)) (handler_faults m number procedure handlers) e in
+      let both = append_nothing (fault_list number x.start (handler_defect m procedure x)) (handler_faults m number procedure handlers) e in
       let same : x ≡ h = is in
-      ap (handler_defect m procedure) (sym same) ∙ no_defect number x.start (handler_defect m procedure x) parts.0
+      ap (handler_defect m procedure) (sym same) ∙ no_defect number x.start (handler_defect m procedure x) both.0
   handlers_right (x ∷ handlers) e h (suc k) inside is =
-      let parts = append_nothing (fault_list number x.start (handler_defect m procedure x)) (handler_faults m number procedure handlers) e in
-      handlers_right handlers parts.1 h k (omega arith) is
+      let both = append_nothing (fault_list number x.start (handler_defect m procedure x)) (handler_faults m number procedure handlers) e in
+      handlers_right handlers both.1 h k (omega arith) is
 
 procedures_right : (m : ModuleContents) (number : ℕ) (procedures : List ProcedureContents) → procedure_faults m number procedures ≡ [] → (k : ℕ) (p : ProcedureContents) → slice_get procedures k ≡ Some p → (instruction_faults m (number + k) p 0 p.code ≡ []) × (handler_faults m (number + k) p p.handlers ≡ [])
 procedures_right m number [] e k p is = absurd (let no : None ≡ Some p = is in cc)
 procedures_right m number (x ∷ procedures) e zero p is =
-    let parts = append_nothing (instruction_faults m number x 0 x.code ++ handler_faults m number x x.handlers) (procedure_faults m (number + 1) procedures) e in
-    let own = append_nothing (instruction_faults m number x 0 x.code) (handler_faults m number x x.handlers) parts.0 in
+    let both = append_nothing (instruction_faults m number x 0 x.code ++ handler_faults m number x x.handlers) (procedure_faults m (number + 1) procedures) e in
+    let own = append_nothing (instruction_faults m number x 0 x.code) (handler_faults m number x x.handlers) both.0 in
     let same : x ≡ p = cc in
     let at : number ≡ number + 0 = omega arith in
     subst (λ (n : ℕ). (instruction_faults m n p 0 p.code ≡ []) × (handler_faults m n p p.handlers ≡ [])) at
     (subst (λ (q : ProcedureContents). (instruction_faults m number q 0 q.code ≡ []) × (handler_faults m number q q.handlers ≡ [])) same own)
 procedures_right m number (x ∷ procedures) e (suc k) p is =
-    let parts = append_nothing (instruction_faults m number x 0 x.code ++ handler_faults m number x x.handlers) (procedure_faults m (number + 1) procedures) e in
-    let there = procedures_right m (number + 1) procedures parts.1 k p is in
+    let both = append_nothing (instruction_faults m number x 0 x.code ++ handler_faults m number x x.handlers) (procedure_faults m (number + 1) procedures) e in
+    let there = procedures_right m (number + 1) procedures both.1 k p is in
     let at : number + 1 + k ≡ number + suc k = omega arith in
     subst (λ (n : ℕ). (instruction_faults m n p 0 p.code ≡ []) × (handler_faults m n p p.handlers ≡ [])) at there
 
@@ -169,18 +169,18 @@ handler_parts m p h e = split (has_right_offsets p h) refl e
     split true is e = is
     split false is e = absurd (let no : Some defect.Jump ≡ None = e in cc)
 
-first_place : (p : ProcedureContents) (code : List Instruction) → p.code ≡ code → IsPlace p 0
-first_place p [] e = inl (sym (ap code_length e))
-first_place p (i ∷ code) e = inr (i, ap (λ (c : List Instruction). instruction_at c 0) e)
+first_boundary : (p : ProcedureContents) (code : List Instruction) → p.code ≡ code → IsBoundary p 0
+first_boundary p [] e = inl (sym (ap code_length e))
+first_boundary p (i ∷ code) e = inr (i, ap (λ (c : List Instruction). instruction_at c 0) e)
 
-pub placed : (m : ModuleContents) (p : ProcedureContents) → IsRight m p → IsPlaced p
-placed m p right = record {
-  next = λ at i there. next_place p.code at i there;
+pub boundaries : (m : ModuleContents) (p : ProcedureContents) → IsRight m p → KeepsBoundaries p
+boundaries m p right = record {
+  next = λ at i there. next_boundary p.code at i there;
   jumps = λ at i to there is. inr (started (instruction_at p.code to) (jump_right m p i to (right.instructions at i there) is));
   caught = λ h there.
-      let parts = and_parts (is_start p h.start) _ (handler_parts m p h (right.handlers h there)) in
-      inr (started (instruction_at p.code h.target) (and_parts (is_start p h.target) (is_end p h.end && nat_lt h.start h.end) parts.1).0);
-  first = first_place p p.code refl;
+      let both = and_parts (is_start p h.start) _ (handler_parts m p h (right.handlers h there)) in
+      inr (started (instruction_at p.code h.target) (and_parts (is_start p h.target) (is_end p h.end && nat_lt h.start h.end) both.1).0);
+  first = first_boundary p p.code refl;
 }
 
 -- ---- the loop over procedures, step by step

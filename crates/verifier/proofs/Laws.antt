@@ -49,9 +49,9 @@ flow_within m p done _ d (grows table from before to after f has edge none) at k
     ]
 
 pub no_fault : (m : ModuleContents) (p : ProcedureContents) (done : ℕ → Option (List Kind)) → IsDone m p done → FlowsWell m p
-no_fault m p done d place defect fault = none place defect fault
+no_fault m p done d offset defect fault = none offset defect fault
   where
-    none : (place : ℕ) (defect : Defect) → IsFlowDefect m p place defect → ⊥
+    none : (offset : ℕ) (defect : Defect) → IsFlowDefect m p offset defect → ⊥
     none _ _ (misses table at kinds i wrong f has is e) = d.finds at kinds i wrong (flow_within m p done table d f at kinds has) is e
     none _ _ (meets table at kinds to after others f has edge inside there ne) =
         let a = flow_within m p done table d f at kinds has in

@@ -3,8 +3,8 @@ pub mod Bounds
 pub mod Calls
 pub mod FixedFaults
 pub mod Holds
+pub mod Indices
 pub mod Laws
-pub mod Marks
 pub mod NeverStuck
 pub mod Offsets
 pub mod Reaching

@@ -19,11 +19,11 @@ use Rattle.verifier.specs.Faults.{HasNoFault}
 use Rattle.verifier.specs.Fixed.{instruction_defect, is_scalar, is_array, is_input, is_output}
 use Rattle.verifier.specs.Flow.{Edge, next, jumps, caught, Flow, starts, grows, nowhere, Effect, Leaves, Misses, and_then, all_popped, effect, slot_kind, kind_in, global_kind}
 use Rattle.verifier.specs.Safety.{HasRow, IsNeverStuck}
-use Rattle.verifier.specs.Places.{IsPlace, IsPlaced}
+use Rattle.verifier.specs.Boundaries.{IsBoundary, KeepsBoundaries}
 use Rattle.verifier.specs.declared.fault.Defect.TheVariants.{SlotOrIndex}
 use Rattle.verifier.proofs.Bounds.{IsBounded}
 use Rattle.verifier.proofs.Calls.{get_header, calls_good, returns_good, gives_back_good}
-use Rattle.verifier.proofs.FixedFaults.{IsRight, all_right, placed, right_of_unless}
+use Rattle.verifier.proofs.FixedFaults.{IsRight, all_right, boundaries, right_of_unless}
 use Rattle.verifier.proofs.Holds.{AllOf, Holds, holds_changed, holds_empty, holds_globals}
 use Rattle.verifier.proofs.Laws.{IsInFlow, start_in_flow, changed_cases, flow_finds, flow_stays}
 use Rattle.verifier.proofs.Rows.{loads_good, stores_good, loads_element_good, stores_element_good, clears_good, computes_good, compares_good, matches_good, drops_good, negates_good, inverts_good, branches_good, sends_good, receives_good}
@@ -135,21 +135,21 @@ act_good m free p s (Throw exception) after st d e =
 
 -- ---- where control goes
 
-edge_placed : (m : ModuleContents) (p : ProcedureContents) → IsPlaced p → (at : ℕ) (kinds : List Kind) (to : ℕ) (after : List Kind) → Edge m p at kinds to after → IsPlace p to
-edge_placed m p placed at kinds _ _ (next i to after is e goes to_is) = subst (IsPlace p) (sym to_is) (placed.next at i is)
-edge_placed m p placed at kinds _ _ (jumps i to after is e target) = placed.jumps at i to is target
-edge_placed m p placed at kinds _ _ (caught i h is there low high) = placed.caught h there
+edge_boundary : (m : ModuleContents) (p : ProcedureContents) → KeepsBoundaries p → (at : ℕ) (kinds : List Kind) (to : ℕ) (after : List Kind) → Edge m p at kinds to after → IsBoundary p to
+edge_boundary m p boundaries at kinds _ _ (next i to after is e goes to_is) = subst (IsBoundary p) (sym to_is) (boundaries.next at i is)
+edge_boundary m p boundaries at kinds _ _ (jumps i to after is e target) = boundaries.jumps at i to is target
+edge_boundary m p boundaries at kinds _ _ (caught i h is there low high) = boundaries.caught h there
 
-flow_placed : (m : ModuleContents) (p : ProcedureContents) → IsPlaced p → (table : ℕ → Option (List Kind)) → Flow m p table → (at : ℕ) (kinds : List Kind) → table at ≡ Some kinds → IsPlace p at
-flow_placed m p placed _ starts at kinds e =
+flow_boundary : (m : ModuleContents) (p : ProcedureContents) → KeepsBoundaries p → (table : ℕ → Option (List Kind)) → Flow m p table → (at : ℕ) (kinds : List Kind) → table at ≡ Some kinds → IsBoundary p at
+flow_boundary m p boundaries _ starts at kinds e =
     elim (changed_cases nowhere 0 [] at kinds e) [
-      | inl h ↦ subst (IsPlace p) (sym h.0) placed.first
+      | inl h ↦ subst (IsBoundary p) (sym h.0) boundaries.first
       | inr h ↦ absurd (let no : ◌≡◌ {A = Option (List Kind)} None (Some kinds) = h in cc)
     ]
-flow_placed m p placed _ (grows table from before to after f has edge none) at kinds e =
+flow_boundary m p boundaries _ (grows table from before to after f has edge none) at kinds e =
     elim (changed_cases table to after at kinds e) [
-      | inl h ↦ subst (IsPlace p) (sym h.0) (edge_placed m p placed from before to after edge)
-      | inr h ↦ flow_placed m p placed table f at kinds h
+      | inl h ↦ subst (IsBoundary p) (sym h.0) (edge_boundary m p boundaries from before to after edge)
+      | inr h ↦ flow_boundary m p boundaries table f at kinds h
     ]
 
 -- ---- steps
@@ -169,9 +169,9 @@ module _ (m : ModuleContents) (free : HasNoFault m) where
   state_good s g =
       let p = g.procedure in
       let at = s.frame.position in
-      let place = flow_placed m p (placed m p (all_right m free.fixed s.frame.procedure p g.there)) g.flow.table g.flow.flow at (map kind_of s.frame.operands) g.flow.has in
+      let boundary = flow_boundary m p (boundaries m p (all_right m free.fixed s.frame.procedure p g.there)) g.flow.table g.flow.flow at (map kind_of s.frame.operands) g.flow.has in
       let fetched : instruction_at (code_of (slice_get m.procedures s.frame.procedure)) at ≡ instruction_at p.code at = ap (λ o. instruction_at (code_of o) at) g.there in
-      elim place [
+      elim boundary [
         | inl ends ↦ absurd (flow_stays m p (flows m free s.frame.procedure p g.there) (map kind_of s.frame.operands) (subst (λ (n : ℕ). IsInFlow m p n (map kind_of s.frame.operands)) ends g.flow))
         | inr found ↦ subst (λ o. Good m (acts (program_of m) s o)) (sym (fetched ∙ found.1)) (instruction_good s g found.0 found.1)
       ]

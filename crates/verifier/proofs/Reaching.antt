@@ -1,4 +1,4 @@
--- Control goes from a place to another one.
+-- Control goes from a offset to another one.
 use Rattle.std.proofs.Common.{replicate, ◌≡◌, ◌≢◌, ◌⊎◌, inl, inr, ℕ, suc, zero, ◌+◌, ◌-◌, ◌<◌, ◌≤◌, ◌==◌, Bool, true, false, if◌then◌else◌, List, [], ◌∷◌, ◌++◌, length, get_or, set, take, slice_get, Option, Some, None, refl, sym, ap, ◌∙◌, subst, arith, length-append}
 use Rattle.std.specs.List.{Contains}
 use Rattle.std.proofs.lemmas.Bool.Decides.{nat_tests}
@@ -13,7 +13,7 @@ use Rattle.bytecode.specs.declared.instruction.Instruction.{Instruction}
 use Rattle.verifier.specs.declared.fault.Defect.{Defect}
 use Rattle.verifier.specs.Flow.{Edge, next, jumps, caught, Flow, starts, nowhere, grows, misses, meets, falls, IsFlowDefect, FlowsWell, changed, between, effect, all_popped, pushed, exchanged, signature, is_own, and_then, Leaves, Misses, goes_on, target_of}
 use Rattle.verifier.specs.Operands.{list_of, IsLonger}
-use Rattle.verifier.specs.Places.{IsPlace, IsPlaced}
+use Rattle.verifier.specs.Boundaries.{IsBoundary, KeepsBoundaries}
 use Rattle.verifier.specs.Search.{row, table, IsKept, IsGoing, IsAtEdge, Flowed, Steps, IsApplied, HasEffect, HasInstruction, IsFirst, left, unset}
 use Rattle.verifier.specs.declared.fault.Defect.TheVariants.{OperandKind, OperandDepth, FallsOffEnd}
 use Rattle.verifier.specs.declared.search.Search.{Search}
@@ -60,81 +60,81 @@ meets_at m p s busy at to after others defect g e inside there ne is =
     subst (IsFlowDefect m p to) (sym is) (meets (table s) at e.kinds to after others g.flow e.has e.edge inside there ne)
 
 -- the search with one more list
-module _ (m : ModuleContents) (p : ProcedureContents) (s new : Search) (at to list : ℕ) (g : IsGoing m p s (at ∷ [])) (e : IsAtEdge m p s at to (list_of s.operands list)) (number : list < length s.operands) (is_place : IsPlace p to) (inside : to < length s.shapes.items) (unset_there : get_or s.shapes.items to None ≡ None) (lists : new.operands ≡ s.operands) (shapes : new.shapes.items ≡ set s.shapes.items to (Some list)) (work : new.work.items ≡ s.work.items ++ to ∷ []) where
+module _ (m : ModuleContents) (p : ProcedureContents) (s new : Search) (at to list : ℕ) (g : IsGoing m p s (at ∷ [])) (e : IsAtEdge m p s at to (list_of s.operands list)) (number : list < length s.operands) (is_boundary : IsBoundary p to) (inside : to < length s.shapes.items) (unset_there : get_or s.shapes.items to None ≡ None) (lists : new.operands ≡ s.operands) (shapes : new.shapes.items ≡ set s.shapes.items to (Some list)) (work : new.work.items ≡ s.work.items ++ to ∷ []) where
   at_to : get_or new.shapes.items to None ≡ Some list
   at_to = ap (λ l. get_or l to None) shapes ∙ get_or-set_same s.shapes.items to (Some list) None inside
 
-  at_other : (place : ℕ) → place ≢ to → get_or new.shapes.items place None ≡ get_or s.shapes.items place None
-  at_other place ne = ap (λ l. get_or l place None) shapes ∙ get_or-set_other s.shapes.items to place (Some list) None ne
+  at_other : (offset : ℕ) → offset ≢ to → get_or new.shapes.items offset None ≡ get_or s.shapes.items offset None
+  at_other offset ne = ap (λ l. get_or l offset None) shapes ∙ get_or-set_other s.shapes.items to offset (Some list) None ne
 
   arrives : table new to ≡ Some (list_of s.operands list)
   arrives = ap (row new.operands) at_to ∙ ap (λ l. Some (list_of l list)) lists
 
-  others : (place : ℕ) → place ≢ to → table new place ≡ table s place
-  others place ne = ap (row new.operands) (at_other place ne) ∙ ap (λ l. row l (get_or s.shapes.items place None)) lists
+  others : (offset : ℕ) → offset ≢ to → table new offset ≡ table s offset
+  others offset ne = ap (row new.operands) (at_other offset ne) ∙ ap (λ l. row l (get_or s.shapes.items offset None)) lists
 
-  is_changed : (place : ℕ) → table new place ≡ changed (table s) to (Some (list_of s.operands list)) place
-  is_changed place =
-      elim (number_cases place to) [
+  is_changed : (offset : ℕ) → table new offset ≡ changed (table s) to (Some (list_of s.operands list)) offset
+  is_changed offset =
+      elim (number_cases offset to) [
         | inl same ↦ ap (table new) same ∙ arrives ∙ sym (changed_at (table s) to (list_of s.operands list)) ∙ ap (changed (table s) to (Some (list_of s.operands list))) (sym same)
-        | inr ne ↦ others place ne ∙ not_at place ne
+        | inr ne ↦ others offset ne ∙ not_at offset ne
       ]
     where
-      not_at : (place : ℕ) → place ≢ to → table s place ≡ changed (table s) to (Some (list_of s.operands list)) place
-      not_at place ne = split (place == to) refl
+      not_at : (offset : ℕ) → offset ≢ to → table s offset ≡ changed (table s) to (Some (list_of s.operands list)) offset
+      not_at offset ne = split (offset == to) refl
         where
-          split : (b : Bool) → place == to ≡ b → table s place ≡ (if b then Some (list_of s.operands list) else table s place)
-          split true t = absurd (ne (eq_of place to t))
+          split : (b : Bool) → offset == to ≡ b → table s offset ≡ (if b then Some (list_of s.operands list) else table s offset)
+          split true t = absurd (ne (eq_of offset to t))
           split false f = refl
 
   was_none : table s to ≡ None
   was_none = ap (row s.operands) unset_there
 
-  keeps : (place : ℕ) (kinds : List Kind) → table s place ≡ Some kinds → table new place ≡ Some kinds
-  keeps place kinds h =
-      elim (number_cases place to) [
+  keeps : (offset : ℕ) (kinds : List Kind) → table s offset ≡ Some kinds → table new offset ≡ Some kinds
+  keeps offset kinds h =
+      elim (number_cases offset to) [
         | inl same ↦ absurd (let f : None ≡ Some kinds = sym was_none ∙ ap (table s) (sym same) ∙ h in cc)
-        | inr ne ↦ others place ne ∙ h
+        | inr ne ↦ others offset ne ∙ h
       ]
 
-  kept : (place : ℕ) (kinds : List Kind) → IsKept m p s place kinds → IsKept m p new place kinds
-  kept place kinds k = record {
+  kept : (offset : ℕ) (kinds : List Kind) → IsKept m p s offset kinds → IsKept m p new offset kinds
+  kept offset kinds k = record {
     instruction = k.instruction;
     there = k.there;
     after = k.after;
     finds = k.finds;
-    next = λ h. keeps (place + width_of k.instruction) k.after (k.next h);
+    next = λ h. keeps (offset + width_of k.instruction) k.after (k.next h);
     jumps = λ t h. keeps t k.after (k.jumps t h);
     caught = λ h c l m. keeps h.target [] (k.caught h c l m);
   }
 
-  begins_at : IsPlace p to → (i : Instruction) × (instruction_at p.code to ≡ Some i)
-  begins_at place = elim place [ inl e ↦ absurd (omega (arith, e, g.sized)) | inr h ↦ h ]
+  begins_at : IsBoundary p to → (i : Instruction) × (instruction_at p.code to ≡ Some i)
+  begins_at offset = elim offset [ inl e ↦ absurd (omega (arith, e, g.sized)) | inr h ↦ h ]
 
   pub flowed : Flowed m p s new at to list
   flowed = record {
     going = record {
       root = subst IsFirst (sym lists) g.root;
       sized = ap length shapes ∙ length-set s.shapes.items to (Some list) ∙ g.sized;
-      numbers = λ place n h. elim (number_cases place to) [
+      numbers = λ offset n h. elim (number_cases offset to) [
         | inl same ↦ let f : Some list ≡ Some n = sym at_to ∙ ap (λ k. get_or new.shapes.items k None) (sym same) ∙ h in let n_is : list ≡ n = cc in omega (arith, ap length lists)
-        | inr ne ↦ omega (arith, ap length lists, g.numbers place n (sym (at_other place ne) ∙ h))
+        | inr ne ↦ omega (arith, ap length lists, g.numbers offset n (sym (at_other offset ne) ∙ h))
       ];
-      begins = λ place kinds h. elim (number_cases place to) [
-        | inl same ↦ subst (λ q. (i : Instruction) × (instruction_at p.code q ≡ Some i)) (sym same) (begins_at is_place)
-        | inr ne ↦ g.begins place kinds (sym (others place ne) ∙ h)
+      begins = λ offset kinds h. elim (number_cases offset to) [
+        | inl same ↦ subst (λ q. (i : Instruction) × (instruction_at p.code q ≡ Some i)) (sym same) (begins_at is_boundary)
+        | inr ne ↦ g.begins offset kinds (sym (others offset ne) ∙ h)
       ];
       first = keeps 0 [] g.first;
       flow = subst (Flow m p) (sym (fun_ext is_changed)) (grows (table s) at e.kinds to (list_of s.operands list) g.flow e.has e.edge was_none);
-      pending = λ place kinds h. elim (number_cases place to) [
-        | inl same ↦ inl (subst (λ w. Contains w place) (sym work) (subst (Contains (s.work.items ++ to ∷ [])) (sym same) (Contains-push s.work.items to)))
-        | inr ne ↦ elim (g.pending place kinds (sym (others place ne) ∙ h)) [
-          | inl w ↦ inl (subst (λ l. Contains l place) (sym work) (Contains-append_left s.work.items (to ∷ []) place w))
-          | inr b ↦ elim b [ inl busy ↦ inr (inl busy) | inr k ↦ inr (inr (kept place kinds k)) ]
+      pending = λ offset kinds h. elim (number_cases offset to) [
+        | inl same ↦ inl (subst (λ w. Contains w offset) (sym work) (subst (Contains (s.work.items ++ to ∷ [])) (sym same) (Contains-push s.work.items to)))
+        | inr ne ↦ elim (g.pending offset kinds (sym (others offset ne) ∙ h)) [
+          | inl w ↦ inl (subst (λ l. Contains l offset) (sym work) (Contains-append_left s.work.items (to ∷ []) offset w))
+          | inr b ↦ elim b [ inl busy ↦ inr (inl busy) | inr k ↦ inr (inr (kept offset kinds k)) ]
         ]
       ];
-      waits = λ place w. elim (Contains-push_cases s.work.items to place (subst (λ l. Contains l place) work w)) [
-        | inl old ↦ let h = g.waits place old in (h.0, keeps place h.0 h.1)
+      waits = λ offset w. elim (Contains-push_cases s.work.items to offset (subst (λ l. Contains l offset) work w)) [
+        | inl old ↦ let h = g.waits offset old in (h.0, keeps offset h.0 h.1)
         | inr same ↦ (list_of s.operands list, ap (table new) (sym same) ∙ arrives)
       ];
     };
@@ -149,16 +149,16 @@ pub flowed_there : (m : ModuleContents) (p : ProcedureContents) (s new : Search)
 flowed_there m p s new at to list other g there same is =
     subst (λ n. Flowed m p s n at to list) (sym is) (record {
       going = g;
-      keeps = λ place kinds h. h;
+      keeps = λ offset kinds h. h;
       arrives = ap (row s.operands) there ∙ ap Some (sym same);
       same = refl;
       left = omega arith;
     })
 
--- a place that control may go to, and that is not the end, has an index
-pub place_inside : (m : ModuleContents) (p : ProcedureContents) (s : Search) (busy : List ℕ) (to : ℕ) → IsGoing m p s busy → IsPlace p to → to ≢ length s.shapes.items → to < length s.shapes.items
-place_inside m p s busy to g place ne =
-    elim place [
+-- a offset that control may go to, and that is not the end, has an index
+pub boundary_inside : (m : ModuleContents) (p : ProcedureContents) (s : Search) (busy : List ℕ) (to : ℕ) → IsGoing m p s busy → IsBoundary p to → to ≢ length s.shapes.items → to < length s.shapes.items
+boundary_inside m p s busy to g offset ne =
+    elim offset [
       | inl e ↦ absurd (ne (e ∙ sym g.sized))
       | inr i ↦ omega (arith, g.sized, start_inside p.code to i.0 i.1)
     ]
@@ -199,7 +199,7 @@ going_done m p s g empty = record {
 pub search_done : (m : ModuleContents) (p : ProcedureContents) (s : Search) → IsGoing m p s [] → s.work.items ≡ [] → FlowsWell m p
 search_done m p s g empty = no_fault m p (table s) (going_done m p s g empty)
 
--- ---- a place is looked at
+-- ---- a offset is looked at
 
 -- what was looked at is kept
 pub looked_at : (m : ModuleContents) (p : ProcedureContents) (s : Search) (at : ℕ) → IsGoing m p s (at ∷ []) → ((kinds : List Kind) → table s at ≡ Some kinds → IsKept m p s at kinds) → IsGoing m p s []
@@ -210,22 +210,22 @@ looked_at m p s at g kept = record {
   begins = g.begins;
   first = g.first;
   flow = g.flow;
-  pending = λ place kinds h. elim (g.pending place kinds h) [
+  pending = λ offset kinds h. elim (g.pending offset kinds h) [
     | inl w ↦ inl w
-    | inr b ↦ elim b [ inl busy ↦ inr (inr (here place kinds h (one at place busy))) | inr k ↦ inr (inr k) ]
+    | inr b ↦ elim b [ inl busy ↦ inr (inr (here offset kinds h (one at offset busy))) | inr k ↦ inr (inr k) ]
   ];
   waits = g.waits;
 }
   where
-    one : (at place : ℕ) → Contains (at ∷ []) place → at ≡ place
-    one at place c = single c.0 c.1 c.2
+    one : (at offset : ℕ) → Contains (at ∷ []) offset → at ≡ offset
+    one at offset c = single c.0 c.1 c.2
       where
-        single : (k : ℕ) → k < 1 → get_or (at ∷ []) k place ≡ place → at ≡ place
+        single : (k : ℕ) → k < 1 → get_or (at ∷ []) k offset ≡ offset → at ≡ offset
         single zero h e = e
         single (suc k) h e = absurd (omega arith)
 
-    here : (place : ℕ) (kinds : List Kind) → table s place ≡ Some kinds → at ≡ place → IsKept m p s place kinds
-    here place kinds h e = subst (λ a. IsKept m p s a kinds) e (kept kinds (ap (table s) e ∙ h))
+    here : (offset : ℕ) (kinds : List Kind) → table s offset ≡ Some kinds → at ≡ offset → IsKept m p s offset kinds
+    here offset kinds h e = subst (λ a. IsKept m p s a kinds) e (kept kinds (ap (table s) e ∙ h))
 
 -- ---- more lists
 
@@ -234,31 +234,31 @@ longer_row lists more None h l = refl
 longer_row lists more (Some n) h l = ap Some (ap (λ ls. get_or ls n []) l.1 ∙ get_or_append_left lists l.0 [] n (h n refl))
 
 module _ (m : ModuleContents) (p : ProcedureContents) (s new : Search) (busy : List ℕ) (g : IsGoing m p s busy) (longer : IsLonger s.operands new.operands) (shapes : new.shapes ≡ s.shapes) (work : new.work ≡ s.work) where
-  pub same_table : (place : ℕ) → table new place ≡ table s place
-  same_table place = ap (λ v. row new.operands (get_or v.items place None)) shapes ∙ longer_row s.operands new.operands (get_or s.shapes.items place None) (g.numbers place) longer
+  pub same_table : (offset : ℕ) → table new offset ≡ table s offset
+  same_table offset = ap (λ v. row new.operands (get_or v.items offset None)) shapes ∙ longer_row s.operands new.operands (get_or s.shapes.items offset None) (g.numbers offset) longer
 
   pub going_longer : IsGoing m p new busy
   going_longer = record {
     root = (omega (arith, g.root.0, ap length longer.1, length-append s.operands longer.0), ap (λ ls. get_or ls 0 []) longer.1 ∙ get_or_append_left s.operands longer.0 [] 0 g.root.0 ∙ g.root.1);
     sized = ap (λ v. length v.items) shapes ∙ g.sized;
-    numbers = λ place n h. let k = g.numbers place n (ap (λ v. get_or v.items place None) (sym shapes) ∙ h) in omega (arith, k, ap length longer.1, length-append s.operands longer.0);
-    begins = λ place kinds h. g.begins place kinds (sym (same_table place) ∙ h);
+    numbers = λ offset n h. let k = g.numbers offset n (ap (λ v. get_or v.items offset None) (sym shapes) ∙ h) in omega (arith, k, ap length longer.1, length-append s.operands longer.0);
+    begins = λ offset kinds h. g.begins offset kinds (sym (same_table offset) ∙ h);
     first = same_table 0 ∙ g.first;
     flow = subst (Flow m p) (sym (fun_ext same_table)) g.flow;
-    pending = λ place kinds h. elim (g.pending place kinds (sym (same_table place) ∙ h)) [
-      | inl w ↦ inl (subst (λ v. Contains v.items place) (sym work) w)
-      | inr b ↦ elim b [ inl busy ↦ inr (inl busy) | inr k ↦ inr (inr (kept place kinds k)) ]
+    pending = λ offset kinds h. elim (g.pending offset kinds (sym (same_table offset) ∙ h)) [
+      | inl w ↦ inl (subst (λ v. Contains v.items offset) (sym work) w)
+      | inr b ↦ elim b [ inl busy ↦ inr (inl busy) | inr k ↦ inr (inr (kept offset kinds k)) ]
     ];
-    waits = λ place w. let h = g.waits place (subst (λ v. Contains v.items place) work w) in (h.0, same_table place ∙ h.1);
+    waits = λ offset w. let h = g.waits offset (subst (λ v. Contains v.items offset) work w) in (h.0, same_table offset ∙ h.1);
   }
     where
-      kept : (place : ℕ) (kinds : List Kind) → IsKept m p s place kinds → IsKept m p new place kinds
-      kept place kinds k = record {
+      kept : (offset : ℕ) (kinds : List Kind) → IsKept m p s offset kinds → IsKept m p new offset kinds
+      kept offset kinds k = record {
         instruction = k.instruction;
         there = k.there;
         after = k.after;
         finds = k.finds;
-        next = λ h. same_table (place + width_of k.instruction) ∙ k.next h;
+        next = λ h. same_table (offset + width_of k.instruction) ∙ k.next h;
         jumps = λ t h. same_table t ∙ k.jumps t h;
         caught = λ h c l m. same_table h.target ∙ k.caught h c l m;
       }
@@ -266,13 +266,13 @@ module _ (m : ModuleContents) (p : ProcedureContents) (s new : Search) (busy : L
   pub same_left : left new ≡ left s
   same_left = ap (λ v. unset v.items + length new.work.items) shapes ∙ ap (λ v. unset s.shapes.items + length v.items) work
 
--- ---- steps from a place
+-- ---- steps from a offset
 
 pub steps_of : (m : ModuleContents) (p : ProcedureContents) (old new : Search) (at to list : ℕ) → Flowed m p old new at to list → Steps m p old new at
 steps_of m p old new at to list f = record { going = f.going; keeps = f.keeps; same = f.same; left = f.left }
 
 pub steps_none : (m : ModuleContents) (p : ProcedureContents) (s : Search) (at : ℕ) → IsGoing m p s (at ∷ []) → Steps m p s s at
-steps_none m p s at g = record { going = g; keeps = λ place kinds h. h; same = refl; left = omega arith }
+steps_none m p s at g = record { going = g; keeps = λ offset kinds h. h; same = refl; left = omega arith }
 
 pub edge_next : (m : ModuleContents) (p : ProcedureContents) (s : Search) (at to : ℕ) (i : Instruction) (after : List Kind) → HasEffect m p s at i after → goes_on i ≡ true → to ≡ at + width_of i → IsAtEdge m p s at to after
 edge_next m p s at to i after h goes is = record { kinds = h.kinds; has = h.has; edge = next i to after h.there h.effect goes is }
@@ -299,7 +299,7 @@ misses_own m p s busy at kinds i g has is own =
 pub applied : (m : ModuleContents) (p : ProcedureContents) (s new : Search) (at : ℕ) → IsGoing m p s (at ∷ []) → IsLonger s.operands new.operands → length new.operands ≤ length s.operands + 1 → new.shapes ≡ s.shapes → new.work ≡ s.work → IsApplied m p s new at
 applied m p s new at g longer few shapes work = record {
   going = going_longer m p s new (at ∷ []) g longer shapes work;
-  keeps = λ place kinds h. same_table m p s new (at ∷ []) g longer shapes work place ∙ h;
+  keeps = λ offset kinds h. same_table m p s new (at ∷ []) g longer shapes work offset ∙ h;
   few = few;
   left = omega (arith, same_left m p s new (at ∷ []) g longer shapes work);
 }
@@ -312,7 +312,7 @@ has_effect m p s new at kinds rest after i a has is own e is_after = record {
   effect = effect_own m p i kinds own ∙ ap (λ o. and_then o (λ rest. Leaves (pushed (signature m p i).pushes rest))) e ∙ ap Leaves is_after;
 }
 
--- a place from which each edge was followed is kept
+-- a offset from which each edge was followed is kept
 pub all_followed : (m : ModuleContents) (p : ProcedureContents) (s one two three four : Search) (at : ℕ) (i : Instruction) (after : List Kind) → HasEffect m p one at i after → (goes_on i ≡ true → table two (at + width_of i) ≡ Some after) → ((to : ℕ) → target_of i ≡ Some to → table three to ≡ Some after) → ((h : Handler) → Contains p.handlers h → h.start ≤ at → at < h.end → table four h.target ≡ Some []) → Steps m p one two at → Steps m p two three at → Steps m p three four at → IsGoing m p four []
 all_followed m p s one two three four at i after e a b c f g h =
     looked_at m p four at h.going (λ kinds has.
@@ -332,24 +332,24 @@ all_followed m p s one two three four at i after e a b c f g h =
 pub steps_more : (m : ModuleContents) (p : ProcedureContents) (old between new : Search) (at to list : ℕ) → Steps m p old between at → Flowed m p between new at to list → Steps m p old new at
 steps_more m p old between new at to list f h = record {
   going = h.going;
-  keeps = λ place kinds e. h.keeps place kinds (f.keeps place kinds e);
+  keeps = λ offset kinds e. h.keeps offset kinds (f.keeps offset kinds e);
   same = h.same ∙ f.same;
   left = omega (arith, f.left, h.left);
 }
 
 -- the handlers up to the next one
-pub caught_more : (s new : Search) (at : ℕ) (handlers : List Handler) (k : ℕ) (d : Handler) → k < length handlers → ((place : ℕ) (kinds : List Kind) → table s place ≡ Some kinds → table new place ≡ Some kinds) → ((h : Handler) → Contains (take k handlers) h → h.start ≤ at → at < h.end → table s h.target ≡ Some []) → ((get_or handlers k d).start ≤ at → at < (get_or handlers k d).end → table new (get_or handlers k d).target ≡ Some []) → (h : Handler) → Contains (take (k + 1) handlers) h → h.start ≤ at → at < h.end → table new h.target ≡ Some []
+pub caught_more : (s new : Search) (at : ℕ) (handlers : List Handler) (k : ℕ) (d : Handler) → k < length handlers → ((offset : ℕ) (kinds : List Kind) → table s offset ≡ Some kinds → table new offset ≡ Some kinds) → ((h : Handler) → Contains (take k handlers) h → h.start ≤ at → at < h.end → table s h.target ≡ Some []) → ((get_or handlers k d).start ≤ at → at < (get_or handlers k d).end → table new (get_or handlers k d).target ≡ Some []) → (h : Handler) → Contains (take (k + 1) handlers) h → h.start ≤ at → at < h.end → table new h.target ≡ Some []
 caught_more s new at handlers k d l keeps before here h c a b =
     elim (Contains-push_cases (take k handlers) (get_or handlers k d) h (subst (λ hs. Contains hs h) (take_more handlers k d l) c)) [
       | inl old ↦ keeps h.target [] (before h old a b)
       | inr same ↦ subst (λ (x : Handler). table new x.target ≡ Some []) same (here (subst (λ (x : Handler). x.start ≤ at) (sym same) a) (subst (λ (x : Handler). at < x.end) (sym same) b))
     ]
 
-pub whole_front : {A : Type 0} (xs : List A) (n : ℕ) → length xs ≤ n → take n xs ≡ xs
-whole_front [] zero h = refl
-whole_front [] (suc n) h = refl
-whole_front (x ∷ xs) zero h = absurd (omega arith)
-whole_front (x ∷ xs) (suc n) h = ap (λ ys. x ∷ ys) (whole_front xs n (omega arith))
+pub take_all : {A : Type 0} (xs : List A) (n : ℕ) → length xs ≤ n → take n xs ≡ xs
+take_all [] zero h = refl
+take_all [] (suc n) h = refl
+take_all (x ∷ xs) zero h = absurd (omega arith)
+take_all (x ∷ xs) (suc n) h = ap (λ ys. x ∷ ys) (take_all xs n (omega arith))
 
 no_items : {A : Type 0} (xs : List A) → length xs ≡ 0 → xs ≡ []
 no_items [] e = refl
@@ -358,18 +358,18 @@ no_items (x ∷ xs) e = absurd (omega arith)
 pub run_done : (m : ModuleContents) (p : ProcedureContents) (s : Search) → IsGoing m p s [] → length s.work.items ≡ 0 → FlowsWell m p
 run_done m p s g e = search_done m p s g (no_items s.work.items e)
 
--- a place is taken from those that wait
+-- a offset is taken from those that wait
 module _ (m : ModuleContents) (p : ProcedureContents) (s new : Search) (at : ℕ) (g : IsGoing m p s []) (operands : new.operands ≡ s.operands) (shapes : new.shapes ≡ s.shapes) (work : s.work.items ≡ new.work.items ++ at ∷ []) where
-  taken_table : (place : ℕ) → table new place ≡ table s place
-  taken_table place = ap (λ v. row new.operands (get_or v.items place None)) shapes ∙ ap (λ ls. row ls (get_or s.shapes.items place None)) operands
+  taken_table : (offset : ℕ) → table new offset ≡ table s offset
+  taken_table offset = ap (λ v. row new.operands (get_or v.items offset None)) shapes ∙ ap (λ ls. row ls (get_or s.shapes.items offset None)) operands
 
-  taken_kept : (place : ℕ) (kinds : List Kind) → IsKept m p s place kinds → IsKept m p new place kinds
-  taken_kept place kinds k = record {
+  taken_kept : (offset : ℕ) (kinds : List Kind) → IsKept m p s offset kinds → IsKept m p new offset kinds
+  taken_kept offset kinds k = record {
     instruction = k.instruction;
     there = k.there;
     after = k.after;
     finds = k.finds;
-    next = λ h. taken_table (place + width_of k.instruction) ∙ k.next h;
+    next = λ h. taken_table (offset + width_of k.instruction) ∙ k.next h;
     jumps = λ t h. taken_table t ∙ k.jumps t h;
     caught = λ h c l m. taken_table h.target ∙ k.caught h c l m;
   }
@@ -378,18 +378,18 @@ module _ (m : ModuleContents) (p : ProcedureContents) (s new : Search) (at : ℕ
   taken = record {
     root = subst IsFirst (sym operands) g.root;
     sized = ap (λ v. length v.items) shapes ∙ g.sized;
-    numbers = λ place n h. let k = g.numbers place n (ap (λ v. get_or v.items place None) (sym shapes) ∙ h) in omega (arith, k, ap length operands);
-    begins = λ place kinds h. g.begins place kinds (sym (taken_table place) ∙ h);
+    numbers = λ offset n h. let k = g.numbers offset n (ap (λ v. get_or v.items offset None) (sym shapes) ∙ h) in omega (arith, k, ap length operands);
+    begins = λ offset kinds h. g.begins offset kinds (sym (taken_table offset) ∙ h);
     first = taken_table 0 ∙ g.first;
     flow = subst (Flow m p) (sym (fun_ext taken_table)) g.flow;
-    pending = λ place kinds h. elim (g.pending place kinds (sym (taken_table place) ∙ h)) [
-      | inl w ↦ elim (Contains-push_cases new.work.items at place (subst (λ l. Contains l place) work w)) [
+    pending = λ offset kinds h. elim (g.pending offset kinds (sym (taken_table offset) ∙ h)) [
+      | inl w ↦ elim (Contains-push_cases new.work.items at offset (subst (λ l. Contains l offset) work w)) [
         | inl rest ↦ inl rest
         | inr same ↦ inr (inl (subst (Contains (at ∷ [])) same (Contains-push [] at)))
       ]
-      | inr b ↦ elim b [ inl busy ↦ absurd (omega (arith, busy.1)) | inr k ↦ inr (inr (taken_kept place kinds k)) ]
+      | inr b ↦ elim b [ inl busy ↦ absurd (omega (arith, busy.1)) | inr k ↦ inr (inr (taken_kept offset kinds k)) ]
     ];
-    waits = λ place w. let h = g.waits place (subst (λ l. Contains l place) (sym work) (Contains-append_left new.work.items (at ∷ []) place w)) in (h.0, taken_table place ∙ h.1);
+    waits = λ offset w. let h = g.waits offset (subst (λ l. Contains l offset) (sym work) (Contains-append_left new.work.items (at ∷ []) offset w)) in (h.0, taken_table offset ∙ h.1);
   }
 
   pub taken_left : left new + 1 ≡ left s
@@ -418,15 +418,15 @@ all_unset (suc n) = ap suc (all_unset n)
 pub empty_falls : (m : ModuleContents) (p : ProcedureContents) → code_length p.code ≡ 0 → IsFlowDefect m p 0 FallsOffEnd
 empty_falls m p e = subst (λ t. IsFlowDefect m p t FallsOffEnd) e (falls (changed nowhere 0 (Some [])) [] starts (subst (λ t. changed nowhere 0 (Some []) t ≡ Some []) (sym e) (changed_at nowhere 0 [])))
 
-module _ (m : ModuleContents) (p : ProcedureContents) (s : Search) (n : ℕ) (size : code_length p.code ≡ suc n) (placed : IsPlaced p) (operands : s.operands ≡ [] ∷ []) (shapes : s.shapes.items ≡ set (replicate (suc n) None) 0 (Some 0)) (work : s.work.items ≡ 0 ∷ []) where
-  start_table : (place : ℕ) → table s place ≡ row ([] ∷ []) (get_or (Some 0 ∷ replicate n None) place None)
-  start_table place = ap (λ v. row s.operands (get_or v place None)) shapes ∙ ap (λ ls. row ls (get_or (Some 0 ∷ replicate n None) place None)) operands
+module _ (m : ModuleContents) (p : ProcedureContents) (s : Search) (n : ℕ) (size : code_length p.code ≡ suc n) (boundaries : KeepsBoundaries p) (operands : s.operands ≡ [] ∷ []) (shapes : s.shapes.items ≡ set (replicate (suc n) None) 0 (Some 0)) (work : s.work.items ≡ 0 ∷ []) where
+  start_table : (offset : ℕ) → table s offset ≡ row ([] ∷ []) (get_or (Some 0 ∷ replicate n None) offset None)
+  start_table offset = ap (λ v. row s.operands (get_or v offset None)) shapes ∙ ap (λ ls. row ls (get_or (Some 0 ∷ replicate n None) offset None)) operands
 
-  other_none : (place : ℕ) → row ([] ∷ []) (get_or (Some 0 ∷ replicate n None) place None) ≡ changed nowhere 0 (Some []) place
+  other_none : (offset : ℕ) → row ([] ∷ []) (get_or (Some 0 ∷ replicate n None) offset None) ≡ changed nowhere 0 (Some []) offset
   other_none zero = refl
   other_none (suc k) = ap (row ([] ∷ [])) (all_none n k) ∙ ap (λ (b : Bool). if b then Some [] else None) (sym (not_zero k))
 
-  only_first : (place : ℕ) (kinds : List Kind) → table s place ≡ Some kinds → place ≡ 0
+  only_first : (offset : ℕ) (kinds : List Kind) → table s offset ≡ Some kinds → offset ≡ 0
   only_first zero kinds h = refl
   only_first (suc k) kinds h = absurd (let f : None ≡ Some kinds = sym (start_table (suc k) ∙ ap (row ([] ∷ [])) (all_none n k)) ∙ h in cc)
 
@@ -437,14 +437,14 @@ module _ (m : ModuleContents) (p : ProcedureContents) (s : Search) (n : ℕ) (si
   started = record {
     root = (omega (arith, ap length operands), ap (λ ls. list_of ls 0) operands);
     sized = ap length shapes ∙ (ap suc (length-replicate n None)) ∙ sym size;
-    numbers = λ place list h. numbers place list h;
-    begins = λ place kinds h. subst (λ q. (i : Instruction) × (instruction_at p.code q ≡ Some i)) (sym (only_first place kinds h)) (elim placed.first [ inl e ↦ absurd (omega (arith, e, size)) | inr i ↦ i ]);
+    numbers = λ offset list h. numbers offset list h;
+    begins = λ offset kinds h. subst (λ q. (i : Instruction) × (instruction_at p.code q ≡ Some i)) (sym (only_first offset kinds h)) (elim boundaries.first [ inl e ↦ absurd (omega (arith, e, size)) | inr i ↦ i ]);
     first = start_table 0;
-    flow = subst (Flow m p) (sym (fun_ext (λ place. start_table place ∙ other_none place))) starts;
-    pending = λ place kinds h. inl (subst (λ l. Contains l place) (sym work) (subst (Contains (0 ∷ [])) (sym (only_first place kinds h)) (Contains-push [] 0)));
-    waits = λ place w. elim (Contains-push_cases [] 0 place (subst (λ l. Contains l place) work w)) [ inl none ↦ absurd (omega (arith, none.1)) | inr same ↦ ([], ap (table s) (sym same) ∙ start_table 0) ];
+    flow = subst (Flow m p) (sym (fun_ext (λ offset. start_table offset ∙ other_none offset))) starts;
+    pending = λ offset kinds h. inl (subst (λ l. Contains l offset) (sym work) (subst (Contains (0 ∷ [])) (sym (only_first offset kinds h)) (Contains-push [] 0)));
+    waits = λ offset w. elim (Contains-push_cases [] 0 offset (subst (λ l. Contains l offset) work w)) [ inl none ↦ absurd (omega (arith, none.1)) | inr same ↦ ([], ap (table s) (sym same) ∙ start_table 0) ];
   }
     where
-      numbers : (place list : ℕ) → get_or s.shapes.items place None ≡ Some list → list < length s.operands
+      numbers : (offset list : ℕ) → get_or s.shapes.items offset None ≡ Some list → list < length s.operands
       numbers zero list h = let f : Some 0 ≡ Some list = sym (ap (λ v. get_or v 0 None) shapes) ∙ h in let g : 0 ≡ list = cc in omega (arith, ap length operands)
       numbers (suc k) list h = absurd (let f : None ≡ Some list = sym (ap (λ v. get_or v (suc k) None) shapes ∙ all_none n k) ∙ h in cc)

@@ -9,11 +9,11 @@ use Rattle.verifier.specs.declared.search.Stop.{Stop}
 use Rattle.verifier.specs.declared.search.Stop.TheVariants as stop
 use Rattle.verifier.specs.declared.fault.Defect.{Defect}
 use Rattle.verifier.specs.declared.fault.Fault.{Fault}
-use Rattle.verifier.specs.Places.{IsPlaced}
+use Rattle.verifier.specs.Boundaries.{KeepsBoundaries}
 use Rattle.verifier.specs.Verified.{IsVerified}
 use Rattle.verifier.proofs.Bounds.{IsBounded}
 use Rattle.verifier.proofs.NeverStuck.{never_stuck}
-use Rattle.verifier.proofs.FixedFaults.{nothing_first, get_at, placed, all_right}
+use Rattle.verifier.proofs.FixedFaults.{nothing_first, get_at, boundaries, all_right}
 
 -- a fault that may be reported is there
 pub excluded : (m : ModuleContents) (fault : Fault) → IsReported m fault → HasNoFault m → ⊥
@@ -66,8 +66,8 @@ module _ (m : ModuleContents) (none : fixed_faults m ≡ []) (procedures : List 
   pub item_there : slice_get m.procedures index ≡ Some body
   item_there = ap (λ all. slice_get all index) (sym are) ∙ get_at procedures index item inside ∙ ap Some (sym is ∙ sym same)
 
-  pub item_placed : IsPlaced body
-  item_placed = placed m body (all_right m none index body item_there)
+  pub item_boundaries : KeepsBoundaries body
+  item_boundaries = boundaries m body (all_right m none index body item_there)
 
   pub item_reported : (q : ModuleContents) (number : ℕ) (stop : Stop) → q ≡ m → number ≡ index → IsStop q body stop → IsRefusal m (stop_fault number stop)
   item_reported q number stop same_module number_is e = reported_stop m index number body stop none item_there number_is (subst (λ (x : ModuleContents). IsStop x body stop) same_module e)

@@ -22,11 +22,11 @@ old lists n k h = get_or_append_left lists (n ∷ []) [] k h
 new : (lists : List (List Kind)) (n : List Kind) → list_of (lists ++ n ∷ []) (length lists) ≡ n
 new lists n = get_or-append_seam lists n [] []
 
-place_cases : (k n : ℕ) → k < n + 1 → (k < n) ⊎ (k ≡ n)
-place_cases zero zero h = inr refl
-place_cases zero (suc n) h = inl (omega arith)
-place_cases (suc k) zero h = absurd (omega arith)
-place_cases (suc k) (suc n) h = elim (place_cases k n (omega arith)) [ inl l ↦ inl (omega arith) | inr e ↦ inr (ap suc e) ]
+last_cases : (k n : ℕ) → k < n + 1 → (k < n) ⊎ (k ≡ n)
+last_cases zero zero h = inr refl
+last_cases zero (suc n) h = inl (omega arith)
+last_cases (suc k) zero h = absurd (omega arith)
+last_cases (suc k) (suc n) h = elim (last_cases k n (omega arith)) [ inl l ↦ inl (omega arith) | inr e ↦ inr (ap suc e) ]
 
 number_cases : (a b : ℕ) → (a ≡ b) ⊎ (a ≢ b)
 number_cases zero zero = inl refl
@@ -42,7 +42,7 @@ module _ (lists : List (List Kind)) (kind : Kind) (below : ℕ) (there : below <
   -- no list has the new one as its tail
   not_on_new : ((r : ℕ) (q : Kind) (tail : List Kind) → r < length lists → list_of lists r ≡ q ∷ tail → (b : ℕ) × (b < length lists) × (list_of lists b ≡ tail)) → (q : Kind) (r : ℕ) → r < length lists + 1 → list_of (lists ++ (kind ∷ list_of lists below) ∷ []) r ≢ q ∷ (kind ∷ list_of lists below)
   not_on_new tails q r h e =
-      elim (place_cases r (length lists) h) [
+      elim (last_cases r (length lists) h) [
         | inl l ↦ let t = tails r q (kind ∷ list_of lists below) l (sym (old lists (kind ∷ list_of lists below) r l) ∙ e) in fresh t.0 t.1 t.2
         | inr same ↦
             let f : kind ∷ list_of lists below ≡ q ∷ (kind ∷ list_of lists below) = sym (new lists (kind ∷ list_of lists below)) ∙ ap (list_of (lists ++ (kind ∷ list_of lists below) ∷ [])) (sym same) ∙ e in
@@ -75,12 +75,12 @@ module _ (lists : List (List Kind)) (kind : Kind) (below : ℕ) (there : below <
   pub above_other : (q : Kind) (above : List (Option ℕ)) → kind ≢ q → HasTails lists → HasAbove q lists above → HasAbove q (lists ++ (kind ∷ list_of lists below) ∷ []) (above ++ None ∷ [])
   above_other q above ne tails h = record {
     long = omega (arith, length-append lists ((kind ∷ list_of lists below) ∷ []), length-append above (None ∷ []), h.long);
-    some = λ k r l e. elim (place_cases k (length lists) (omega (arith, l, longer_one lists (kind ∷ list_of lists below)))) [
+    some = λ k r l e. elim (last_cases k (length lists) (omega (arith, l, longer_one lists (kind ∷ list_of lists below)))) [
       | inl lk ↦ some_old q above h k r lk e
       | inr ek ↦ some_none q above h k r ek e
     ];
-    none = λ k l e r m same. elim (place_cases k (length lists) (omega (arith, l, longer_one lists (kind ∷ list_of lists below)))) [
-      | inl lk ↦ elim (place_cases r (length lists) (omega (arith, m, longer_one lists (kind ∷ list_of lists below)))) [
+    none = λ k l e r m same. elim (last_cases k (length lists) (omega (arith, l, longer_one lists (kind ∷ list_of lists below)))) [
+      | inl lk ↦ elim (last_cases r (length lists) (omega (arith, m, longer_one lists (kind ∷ list_of lists below)))) [
         | inl lr ↦ none_old q above h k r lk lr e same
         | inr er ↦ ne (let f : kind ∷ list_of lists below ≡ q ∷ list_of (lists ++ (kind ∷ list_of lists below) ∷ []) k = is_new r er ∙ same in cc)
       ]
@@ -100,7 +100,7 @@ module _ (lists : List (List Kind)) (kind : Kind) (below : ℕ) (there : below <
           )
       | inr nk ↦
           let f : get_or (above ++ None ∷ []) k None ≡ Some r = sym (get_or-set_other (above ++ None ∷ []) below k (Some (length lists)) None nk) ∙ e in
-          elim (place_cases k (length lists) (omega (arith, l, longer_one lists (kind ∷ list_of lists below)))) [
+          elim (last_cases k (length lists) (omega (arith, l, longer_one lists (kind ∷ list_of lists below)))) [
             | inl lk ↦ some_old kind above h k r lk f
             | inr e2 ↦ some_none kind above h k r e2 f
           ]
@@ -109,8 +109,8 @@ module _ (lists : List (List Kind)) (kind : Kind) (below : ℕ) (there : below <
       | inl ek ↦ absurd (let f : Some (length lists) ≡ None = sym (at_below above h k ek) ∙ e in cc)
       | inr nk ↦
           let f : get_or (above ++ None ∷ []) k None ≡ None = sym (get_or-set_other (above ++ None ∷ []) below k (Some (length lists)) None nk) ∙ e in
-          elim (place_cases k (length lists) (omega (arith, l, longer_one lists (kind ∷ list_of lists below)))) [
-            | inl lk ↦ elim (place_cases r (length lists) (omega (arith, m, longer_one lists (kind ∷ list_of lists below)))) [
+          elim (last_cases k (length lists) (omega (arith, l, longer_one lists (kind ∷ list_of lists below)))) [
+            | inl lk ↦ elim (last_cases r (length lists) (omega (arith, m, longer_one lists (kind ∷ list_of lists below)))) [
               | inl lr ↦ none_old kind above h k r lk lr f same
               | inr er ↦
                   let g : kind ∷ list_of lists below ≡ kind ∷ list_of lists k = is_new r er ∙ same ∙ ap (λ t. kind ∷ t) (old lists (kind ∷ list_of lists below) k lk) in
@@ -123,12 +123,12 @@ module _ (lists : List (List Kind)) (kind : Kind) (below : ℕ) (there : below <
 
   pub distinct_more : ((a b : ℕ) → a < length lists → b < length lists → list_of lists a ≡ list_of lists b → a ≡ b) → (a b : ℕ) → a < length lists + 1 → b < length lists + 1 → list_of (lists ++ (kind ∷ list_of lists below) ∷ []) a ≡ list_of (lists ++ (kind ∷ list_of lists below) ∷ []) b → a ≡ b
   distinct_more distinct a b ha hb e =
-      elim (place_cases a (length lists) ha) [
-        | inl la ↦ elim (place_cases b (length lists) hb) [
+      elim (last_cases a (length lists) ha) [
+        | inl la ↦ elim (last_cases b (length lists) hb) [
           | inl lb ↦ distinct a b la lb (sym (old lists (kind ∷ list_of lists below) a la) ∙ e ∙ old lists (kind ∷ list_of lists below) b lb)
           | inr eb ↦ absurd (fresh a la (sym (old lists (kind ∷ list_of lists below) a la) ∙ e ∙ ap (list_of (lists ++ (kind ∷ list_of lists below) ∷ [])) eb ∙ new lists (kind ∷ list_of lists below)))
         ]
-        | inr ea ↦ elim (place_cases b (length lists) hb) [
+        | inr ea ↦ elim (last_cases b (length lists) hb) [
           | inl lb ↦ absurd (fresh b lb (sym (old lists (kind ∷ list_of lists below) b lb) ∙ sym e ∙ ap (list_of (lists ++ (kind ∷ list_of lists below) ∷ [])) ea ∙ new lists (kind ∷ list_of lists below)))
           | inr eb ↦ ea ∙ sym eb
         ]
@@ -147,7 +147,7 @@ tails_of lists links ints booleans s (suc r) q tail l e =
 -- the same links with one more
 pub link_more : (lists : List (List Kind)) (links : List Link) (n : List Kind) (link : Link) → length lists ≡ length links + 1 → ((k : ℕ) (d : Link) → k < length links → IsLink lists (k + 1) (get_or links k d)) → link.below < length lists → n ≡ link.kind ∷ list_of lists link.below → link.depth ≡ length n → link.depth ≤ length lists → (k : ℕ) (d : Link) → k < length links + 1 → IsLink (lists ++ n ∷ []) (k + 1) (get_or (links ++ link ∷ []) k d)
 link_more lists links n link long h below list depth few k d l =
-    elim (place_cases k (length links) l) [
+    elim (last_cases k (length links) l) [
       | inl lk ↦
           let old_link = h k d lk in
           subst (IsLink (lists ++ n ∷ []) (k + 1)) (sym (get_or_append_left links (link ∷ []) d k lk)) (record {
@@ -180,7 +180,7 @@ module _ (first : List (List Kind)) (links more_links : List Link) (ints more_in
       let link : Link = record { kind = kind; below = below; depth = depth } in
       let number_is : length (spelled first links) ≡ number + 1 = omega (arith, s.long) in
       let lists_are : spelled first links ++ n ∷ [] ≡ spelled first more_links = sym (ap (spelled first) el ∙ spelled_push first links link) in
-      let whole : IsShared (spelled first links ++ n ∷ []) (links ++ link ∷ []) (set (ints ++ None ∷ []) below (Some (length (spelled first links)))) (booleans ++ None ∷ []) = record {
+      let shared : IsShared (spelled first links ++ n ∷ []) (links ++ link ∷ []) (set (ints ++ None ∷ []) below (Some (length (spelled first links)))) (booleans ++ None ∷ []) = record {
         root = old (spelled first links) n 0 (omega arith) ∙ s.root;
         long = omega (arith, longer_one (spelled first links) n, length-append links (link ∷ []), s.long);
         link = λ k d l. link_more (spelled first links) links n link s.long s.link there refl (deep ∙ (omega arith)) (omega arith) k d (omega (arith, l, length-append links (link ∷ [])));
@@ -192,7 +192,7 @@ module _ (first : List (List Kind)) (links more_links : List Link) (ints more_in
       (subst (λ l. IsShared (spelled first more_links) (links ++ link ∷ []) (set l below (Some (number + 1))) more_booleans) (sym ei)
       (subst (λ l. IsShared (spelled first more_links) (links ++ link ∷ []) (set (ints ++ None ∷ []) below (Some (number + 1))) l) (sym eb)
       (subst (λ l. IsShared l (links ++ link ∷ []) (set (ints ++ None ∷ []) below (Some (number + 1))) (booleans ++ None ∷ [])) lists_are
-      (subst (λ l. IsShared (spelled first links ++ n ∷ []) (links ++ link ∷ []) (set (ints ++ None ∷ []) below (Some l)) (booleans ++ None ∷ [])) number_is whole))))
+      (subst (λ l. IsShared (spelled first links ++ n ∷ []) (links ++ link ∷ []) (set (ints ++ None ∷ []) below (Some l)) (booleans ++ None ∷ [])) number_is shared))))
 
   pub shared_boolean : IsShared (spelled first links) links ints booleans → (kind : Kind) → kind ≡ Boolean → below < length (spelled first links) → ((k : ℕ) → k < length (spelled first links) → list_of (spelled first links) k ≢ kind ∷ list_of (spelled first links) below) → depth ≡ length (list_of (spelled first links) below) + 1 → depth ≤ below + 1 → number ≡ length links → more_links ≡ links ++ record { kind = kind; below = below; depth = depth } ∷ [] → more_ints ≡ ints ++ None ∷ [] → more_booleans ≡ booleans ++ None ∷ [] → IsShared (spelled first more_links) more_links more_ints (set more_booleans below (Some (number + 1)))
   shared_boolean s kind is there fresh deep few count el ei eb =
@@ -200,7 +200,7 @@ module _ (first : List (List Kind)) (links more_links : List Link) (ints more_in
       let link : Link = record { kind = kind; below = below; depth = depth } in
       let number_is : length (spelled first links) ≡ number + 1 = omega (arith, s.long) in
       let lists_are : spelled first links ++ n ∷ [] ≡ spelled first more_links = sym (ap (spelled first) el ∙ spelled_push first links link) in
-      let whole : IsShared (spelled first links ++ n ∷ []) (links ++ link ∷ []) (ints ++ None ∷ []) (set (booleans ++ None ∷ []) below (Some (length (spelled first links)))) = record {
+      let shared : IsShared (spelled first links ++ n ∷ []) (links ++ link ∷ []) (ints ++ None ∷ []) (set (booleans ++ None ∷ []) below (Some (length (spelled first links)))) = record {
         root = old (spelled first links) n 0 (omega arith) ∙ s.root;
         long = omega (arith, longer_one (spelled first links) n, length-append links (link ∷ []), s.long);
         link = λ k d l. link_more (spelled first links) links n link s.long s.link there refl (deep ∙ (omega arith)) (omega arith) k d (omega (arith, l, length-append links (link ∷ [])));
@@ -212,7 +212,7 @@ module _ (first : List (List Kind)) (links more_links : List Link) (ints more_in
       (subst (λ l. IsShared (spelled first more_links) (links ++ link ∷ []) l (set more_booleans below (Some (number + 1)))) (sym ei)
       (subst (λ l. IsShared (spelled first more_links) (links ++ link ∷ []) (ints ++ None ∷ []) (set l below (Some (number + 1)))) (sym eb)
       (subst (λ l. IsShared l (links ++ link ∷ []) (ints ++ None ∷ []) (set (booleans ++ None ∷ []) below (Some (number + 1)))) lists_are
-      (subst (λ l. IsShared (spelled first links ++ n ∷ []) (links ++ link ∷ []) (ints ++ None ∷ []) (set (booleans ++ None ∷ []) below (Some l))) number_is whole))))
+      (subst (λ l. IsShared (spelled first links ++ n ∷ []) (links ++ link ∷ []) (ints ++ None ∷ []) (set (booleans ++ None ∷ []) below (Some l))) number_is shared))))
 
 -- the lists after a push
 pub pushed : (first lists : List (List Kind)) (links more_links : List Link) (kind : Kind) (below depth number : ℕ) → spelled first links ≡ lists → length lists ≡ length links + 1 → number ≡ length links → more_links ≡ links ++ record { kind = kind; below = below; depth = depth } ∷ [] → (spelled first more_links ≡ lists ++ (kind ∷ list_of lists below) ∷ []) × (length (spelled first more_links) ≡ length lists + 1) × (list_of (spelled first more_links) (number + 1) ≡ kind ∷ list_of lists below)

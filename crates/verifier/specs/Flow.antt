@@ -220,7 +220,7 @@ pub data Flow (m : ModuleContents) (procedure : ProcedureContents) : (ℕ → Op
   starts : Flow m procedure (changed nowhere 0 (Some []))
   grows : (table : ℕ → Option (List Kind)) (at : ℕ) (kinds : List Kind) (to : ℕ) (after : List Kind) → Flow m procedure table → table at ≡ Some kinds → Edge m procedure at kinds to after → table to ≡ None → Flow m procedure (changed table to (Some after))
 
--- the defect of two ways that meet with different lists
+-- the defect of two paths that meet with different lists
 abbrev pub between : List Kind → List Kind → Defect
 between kinds others = if length kinds == length others then OperandKind else OperandDepth
 

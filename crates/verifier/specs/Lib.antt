@@ -1,8 +1,8 @@
+pub mod Boundaries
 pub mod Faults
 pub mod Fixed
 pub mod Flow
 pub mod Operands
-pub mod Places
 pub mod Safety
 pub mod Search
 pub mod Verified

@@ -19,19 +19,19 @@ use Rattle.verifier.specs.declared.body.Body.{Body}
 -- ---- where instructions stand
 
 -- for each byte of code the number of the instruction whose first byte it is, where instructions are numbered from a number on
-abbrev pub marks_from : ℕ → List Instruction → List (Option ℕ)
-marks_from index [] = []
-marks_from index (instruction ∷ code) =
-    (Some index ∷ replicate (width_of instruction - 1) None) ++ marks_from (suc index) code
+abbrev pub indices_from : ℕ → List Instruction → List (Option ℕ)
+indices_from index [] = []
+indices_from index (instruction ∷ code) =
+    (Some index ∷ replicate (width_of instruction - 1) None) ++ indices_from (suc index) code
 
 -- the instruction of a number, if there is one
 abbrev pub numbered : List Instruction → Option ℕ → Option Instruction
 numbered code None = None
 numbered code (Some index) = slice_get code index
 
--- a procedure that the search may look at: its marks are those of its code, which has less than 4 GiB
+-- a procedure that the search may look at: its indices are those of its code, which has less than 4 GiB
 pub record IsBody (b : Body) : Type 0 where
-  pub marks : b.marks.items ≡ marks_from 0 b.procedure.now.code
+  pub indices : b.indices.items ≡ indices_from 0 b.procedure.now.code
   pub short : code_length b.procedure.now.code < 2 ^ 32
 
 -- ---- the table that was found so far
@@ -41,9 +41,9 @@ row lists None = None
 row lists (Some list) = Some (list_of lists list)
 
 abbrev pub table : Search → ℕ → Option (List Kind)
-table s place = row s.operands (slice_index_or s.shapes.items place None)
+table s offset = row s.operands (slice_index_or s.shapes.items offset None)
 
--- a place whose instruction finds its operands, and from which each edge was followed
+-- a offset whose instruction finds its operands, and from which each edge was followed
 pub record IsKept (m : ModuleContents) (p : ProcedureContents) (s : Search) (at : ℕ) (kinds : List Kind) : Type 0 where
   pub instruction : Instruction
   pub there : instruction_at p.code at ≡ Some instruction
@@ -53,13 +53,13 @@ pub record IsKept (m : ModuleContents) (p : ProcedureContents) (s : Search) (at 
   pub jumps : (to : ℕ) → target_of instruction ≡ Some to → table s to ≡ Some after
   pub caught : (h : Handler) → Contains p.handlers h → h.start ≤ at → at < h.end → table s h.target ≡ Some []
 
--- how many places have no list
+-- how many offsets have no list
 abbrev pub unset : List (Option ℕ) → ℕ
 unset [] = 0
 unset (None ∷ shapes) = suc (unset shapes)
 unset (Some list ∷ shapes) = unset shapes
 
--- how many places may still be looked at: each without a list, and each that waits
+-- how many offsets may still be looked at: each without a list, and each that waits
 abbrev pub left : Search → ℕ
 left s = unset s.shapes.items + length s.work.items
 
@@ -67,12 +67,12 @@ left s = unset s.shapes.items + length s.work.items
 abbrev pub IsFirst : List (List Kind) → Type 0
 IsFirst lists = (0 < length lists) × (list_of lists 0 ≡ [])
 
--- a search at work: its table is one of the flow, and each place that has a list waits, is being looked at, or is kept
+-- a search at work: its table is one of the flow, and each offset that has a list waits, is being looked at, or is kept
 pub record IsGoing (m : ModuleContents) (p : ProcedureContents) (s : Search) (busy : List ℕ) : Type 0 where
   pub root : IsFirst s.operands
   pub sized : length s.shapes.items ≡ code_length p.code
-  pub numbers : (place list : ℕ) → slice_index_or s.shapes.items place None ≡ Some list → list < length s.operands
-  pub begins : (place : ℕ) (kinds : List Kind) → table s place ≡ Some kinds → (i : Instruction) × (instruction_at p.code place ≡ Some i)
+  pub numbers : (offset list : ℕ) → slice_index_or s.shapes.items offset None ≡ Some list → list < length s.operands
+  pub begins : (offset : ℕ) (kinds : List Kind) → table s offset ≡ Some kinds → (i : Instruction) × (instruction_at p.code offset ≡ Some i)
   pub first : table s 0 ≡ Some []
   pub flow : Flow m p (table s)
   pub pending : (at : ℕ) (kinds : List Kind) → table s at ≡ Some kinds → Contains s.work.items at ⊎ (Contains busy at ⊎ IsKept m p s at kinds)
@@ -80,42 +80,42 @@ pub record IsGoing (m : ModuleContents) (p : ProcedureContents) (s : Search) (bu
 
 -- ---- steps
 
--- an edge from a place that has a list
+-- an edge from a offset that has a list
 pub record IsAtEdge (m : ModuleContents) (p : ProcedureContents) (s : Search) (at to : ℕ) (after : List Kind) : Type 0 where
   pub kinds : List Kind
   pub has : table s at ≡ Some kinds
   pub edge : Edge m p at kinds to after
 
--- control went to a place with a list
+-- control went to a offset with a list
 pub record Flowed (m : ModuleContents) (p : ProcedureContents) (old new : Search) (at to list : ℕ) : Type 0 where
   pub going : IsGoing m p new (at ∷ [])
-  pub keeps : (place : ℕ) (kinds : List Kind) → table old place ≡ Some kinds → table new place ≡ Some kinds
+  pub keeps : (offset : ℕ) (kinds : List Kind) → table old offset ≡ Some kinds → table new offset ≡ Some kinds
   pub arrives : table new to ≡ Some (list_of old.operands list)
   pub same : new.operands ≡ old.operands
   pub left : left new ≤ left old
 
--- control went on from a place: lists were kept, and none was made
+-- control went on from a offset: lists were kept, and none was made
 pub record Steps (m : ModuleContents) (p : ProcedureContents) (old new : Search) (at : ℕ) : Type 0 where
   pub going : IsGoing m p new (at ∷ [])
-  pub keeps : (place : ℕ) (kinds : List Kind) → table old place ≡ Some kinds → table new place ≡ Some kinds
+  pub keeps : (offset : ℕ) (kinds : List Kind) → table old offset ≡ Some kinds → table new offset ≡ Some kinds
   pub same : new.operands ≡ old.operands
   pub left : left new ≤ left old
 
--- an instruction changed the list of its place
+-- an instruction changed the list of its offset
 pub record IsApplied (m : ModuleContents) (p : ProcedureContents) (old new : Search) (at : ℕ) : Type 0 where
   pub going : IsGoing m p new (at ∷ [])
-  pub keeps : (place : ℕ) (kinds : List Kind) → table old place ≡ Some kinds → table new place ≡ Some kinds
+  pub keeps : (offset : ℕ) (kinds : List Kind) → table old offset ≡ Some kinds → table new offset ≡ Some kinds
   pub few : length new.operands ≤ length old.operands + 1
   pub left : left new ≤ left old
 
--- a place whose instruction leaves a list
+-- a offset whose instruction leaves a list
 pub record HasEffect (m : ModuleContents) (p : ProcedureContents) (s : Search) (at : ℕ) (i : Instruction) (after : List Kind) : Type 0 where
   pub there : instruction_at p.code at ≡ Some i
   pub kinds : List Kind
   pub has : table s at ≡ Some kinds
   pub effect : effect m p i kinds ≡ Leaves after
 
--- a place that has a list and an instruction
+-- a offset that has a list and an instruction
 pub record HasInstruction (p : ProcedureContents) (s : Search) (at : ℕ) : Type 0 where
   pub instruction : Instruction
   pub there : instruction_at p.code at ≡ Some instruction

@@ -2,7 +2,7 @@
 
 ghost use Rattle.bytecode.specs.Code.{code_length, instruction_at};
 ghost use Rattle.std.specs.Prelude.{IfOk, slice_get, slice_index_or, ◌<◌, ◌^◌, ◌≡◌};
-ghost use Rattle.verifier.specs.Search.{IsBody, marks_from};
+ghost use Rattle.verifier.specs.Search.{IsBody, indices_from};
 
 use bytecode::{Instruction, Module, Procedure};
 use std::alloc::{AllocError, Global};
@@ -12,7 +12,7 @@ use std::alloc::{AllocError, Global};
 pub(crate) struct Body<'a> {
     pub program: &'a Module,
     pub procedure: &'a Procedure,
-    pub marks: Vec<Option<u32>>,
+    pub indices: Vec<Option<u32>>,
 }
 
 impl<'a> Body<'a> {
@@ -27,11 +27,11 @@ impl<'a> Body<'a> {
         ensures program { IfOk result (λ body. body.program.now ≡ program.now) }
         ensures procedure { IfOk result (λ body. body.procedure.now ≡ procedure.now) }
     {
-        let marks = marks(alloc, procedure.code())?;
+        let indices = indices(alloc, procedure.code())?;
         Ok(Body {
             program,
             procedure,
-            marks,
+            indices,
         })
     }
 
@@ -40,18 +40,18 @@ impl<'a> Body<'a> {
         requires { IsBody self.now }
         ensures { result ≡ instruction_at self.now.procedure.now.code offset }
     {
-        match mark_at(&self.marks, offset) {
+        match index_at(&self.indices, offset) {
             Some(index) => instruction_in(self.procedure.code(), index),
             None => None,
         }
     }
 }
 
-fn mark_at(marks: &[Option<u32>], offset: u32) -> Option<u32>
-    ensures { result ≡ slice_index_or marks.now offset None }
+fn index_at(indices: &[Option<u32>], offset: u32) -> Option<u32>
+    ensures { result ≡ slice_index_or indices.now offset None }
 {
-    match marks.get(offset as usize) {
-        Some(mark) => *mark,
+    match indices.get(offset as usize) {
+        Some(index) => *index,
         None => None,
     }
 }
@@ -78,17 +78,17 @@ fn length(code: &[Instruction]) -> usize
 }
 
 // For each byte of code the number of the instruction that begins there.
-fn marks(alloc: Global, code: &[Instruction]) -> Result<Vec<Option<u32>>, AllocError>
+fn indices(alloc: Global, code: &[Instruction]) -> Result<Vec<Option<u32>>, AllocError>
     requires { code_length code.now < 2 ^ 32 }
-    ensures { IfOk result (λ marks. marks.items ≡ marks_from 0 code.now) }
+    ensures { IfOk result (λ indices. indices.items ≡ indices_from 0 code.now) }
 {
-    let mut marks = vec![in alloc; None; length(code)]?;
+    let mut indices = vec![in alloc; None; length(code)]?;
     let mut offset = 0;
     let mut index = 0;
     for instruction in code {
-        marks[offset] = Some(index);
+        indices[offset] = Some(index);
         offset += instruction.width();
         index += 1;
     }
-    Ok(marks)
+    Ok(indices)
 }

@@ -6,11 +6,11 @@ use thiserror::Error;
 /// What is wrong in a module's code.
 #[derive(Clone, Copy, Debug, PartialEq, Eq)]
 pub enum Defect {
-    /// 811: a target that is no instruction, or a handler with wrong places.
+    /// 811: a target that is no instruction, or a handler with wrong offsets.
     Jump,
     /// 812: an operand of the wrong kind.
     OperandKind,
-    /// 813: too few operands, or two ways that meet with different numbers of them.
+    /// 813: too few operands, or two paths that meet with different numbers of them.
     OperandDepth,
     /// 814: a slot, global, array, procedure, channel or exception that is not there or of another sort.
     SlotOrIndex,
@@ -19,7 +19,7 @@ pub enum Defect {
 }
 
 impl Defect {
-    /// The number that faults are told by, 811 to 815.
+    /// The number that a fault is reported by, 811 to 815.
     pub fn number(self) -> u32
         ensures { result ≡ defect_number self }
     {
@@ -32,7 +32,7 @@ impl Defect {
         }
     }
 
-    /// The words that faults are told by.
+    /// The words that a fault is reported by.
     pub fn words(self) -> &'static str
         ensures { result.now ≡ defect_words self }
     {
@@ -57,7 +57,7 @@ pub struct Fault {
 /// A module was not verified.
 #[derive(Clone, Copy, Debug, PartialEq, Eq, Error)]
 pub enum VerifyFault {
-    /// A growth of memory was refused.
+    /// Out of memory.
     #[error("no memory")]
     NoMemory,
     /// The module has this fault.

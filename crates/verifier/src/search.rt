@@ -8,7 +8,7 @@ ghost use Rattle.std.specs.Prelude.{Some, true, ℕ, [], ◌≡◌, ◌+◌, ◌
 ghost use Rattle.verifier.specs.Flow as flow;
 ghost use Rattle.verifier.specs.Flow.{FlowsWell};
 ghost use Rattle.verifier.specs.Operands.{list_of};
-ghost use Rattle.verifier.specs.Places.{IsPlace, IsPlaced};
+ghost use Rattle.verifier.specs.Boundaries.{IsBoundary, KeepsBoundaries};
 ghost use Rattle.verifier.specs.Search.{Flowed, HasEffect, HasInstruction, IsApplied, IsAtEdge, IsBody, IsGoing, IsStop, Steps, left, table};
 
 use crate::body::Body;
@@ -42,28 +42,28 @@ pub(crate) struct Search {
 
 impl Search {
     // Control goes from an offset to another one with a list.
-    fn reach(&mut self, body: &Body, at: u32, place: u32, list: u32) -> Result<(), Stop>
+    fn reach(&mut self, body: &Body, at: u32, to: u32, list: u32) -> Result<(), Stop>
         requires going { IsGoing body.now.program.now body.now.procedure.now self.old (at ∷ []) }
-        requires edge { IsAtEdge body.now.program.now body.now.procedure.now self.old at place (list_of self.old.operands list) }
+        requires edge { IsAtEdge body.now.program.now body.now.procedure.now self.old at to (list_of self.old.operands list) }
         requires list { list < length self.old.operands }
-        requires place { IsPlace body.now.procedure.now place }
-        ensures ok { OnOk result (Flowed body.now.program.now body.now.procedure.now self.old self.new at place list) }
+        requires boundary { IsBoundary body.now.procedure.now to }
+        ensures ok { OnOk result (Flowed body.now.program.now body.now.procedure.now self.old self.new at to list) }
         ensures err { IfErr result (λ stop. IsStop body.now.program.now body.now.procedure.now stop) }
     {
-        if place as usize == self.shapes.len() {
-            return Err(Stop::Wrong(place, Defect::FallsOffEnd));
+        if to as usize == self.shapes.len() {
+            return Err(Stop::Wrong(to, Defect::FallsOffEnd));
         }
-        match self.shapes[place as usize] {
+        match self.shapes[to as usize] {
             None => {
-                if self.work.push(place).is_err() {
+                if self.work.push(to).is_err() {
                     return Err(Stop::NoMemory);
                 }
-                self.shapes[place as usize] = Some(list);
+                self.shapes[to as usize] = Some(list);
                 Ok(())
             }
             Some(other) => match self.operands.meet(list, other) {
                 Ok(()) => Ok(()),
-                Err(defect) => Err(Stop::Wrong(place, defect)),
+                Err(defect) => Err(Stop::Wrong(to, defect)),
             },
         }
     }
@@ -113,7 +113,7 @@ impl Search {
         requires going { IsGoing body.now.program.now body.now.procedure.now self.old (at ∷ []) }
         requires effect { HasEffect body.now.program.now body.now.procedure.now self.old at instruction (list_of self.old.operands list) }
         requires list { list < length self.old.operands }
-        requires placed { IsPlaced body.now.procedure.now }
+        requires boundaries { KeepsBoundaries body.now.procedure.now }
         requires short { code_length body.now.procedure.now.code < 2 ^ 32 }
         ensures ok { OnOk result (Steps body.now.program.now body.now.procedure.now self.old self.new at) }
         ensures there { OnOk result (flow.goes_on instruction ≡ true → table self.new (at + width_of instruction) ≡ Some (list_of self.old.operands list)) }
@@ -137,7 +137,7 @@ impl Search {
         requires going { IsGoing body.now.program.now body.now.procedure.now self.old (at ∷ []) }
         requires effect { HasEffect body.now.program.now body.now.procedure.now self.old at instruction (list_of self.old.operands list) }
         requires list { list < length self.old.operands }
-        requires placed { IsPlaced body.now.procedure.now }
+        requires boundaries { KeepsBoundaries body.now.procedure.now }
         ensures ok { OnOk result (Steps body.now.program.now body.now.procedure.now self.old self.new at) }
         ensures there { OnOk result ((to : ℕ) → flow.target_of instruction ≡ Some to → table self.new to ≡ Some (list_of self.old.operands list)) }
         ensures err { IfErr result (λ stop. IsStop body.now.program.now body.now.procedure.now stop) }
@@ -152,7 +152,7 @@ impl Search {
     fn raise(&mut self, body: &Body, at: u32) -> Result<(), Stop>
         requires going { IsGoing body.now.program.now body.now.procedure.now self.old (at ∷ []) }
         requires there { HasInstruction body.now.procedure.now self.old at }
-        requires placed { IsPlaced body.now.procedure.now }
+        requires boundaries { KeepsBoundaries body.now.procedure.now }
         ensures ok { OnOk result (Steps body.now.program.now body.now.procedure.now self.old self.new at) }
         ensures there { OnOk result ((h : Handler) → Contains body.now.procedure.now.handlers h → h.start ≤ at → at < h.end → table self.new h.target ≡ Some []) }
         ensures err { IfErr result (λ stop. IsStop body.now.program.now body.now.procedure.now stop) }
@@ -166,7 +166,7 @@ impl Search {
         Ok(())
     }
 
-    // Looks at an offset: control goes on from it in every way.
+    // Looks at an offset: control goes on from it along each edge.
     fn visit(
         &mut self,
         body: &Body,
@@ -178,7 +178,7 @@ impl Search {
         requires shape { table self.old at ≡ Some (list_of self.old.operands list) }
         requires list { list < length self.old.operands }
         requires instruction { instruction_at body.now.procedure.now.code at ≡ Some instruction }
-        requires placed { IsPlaced body.now.procedure.now }
+        requires boundaries { KeepsBoundaries body.now.procedure.now }
         requires room { length self.old.operands < 2 ^ 32 }
         requires short { code_length body.now.procedure.now.code < 2 ^ 32 }
         ensures ok { OnOk result (IsGoing body.now.program.now body.now.procedure.now self.new []) }
@@ -197,7 +197,7 @@ impl Search {
     fn look(&mut self, body: &Body, at: u32) -> Result<(), Stop>
         requires going { IsGoing body.now.program.now body.now.procedure.now self.old (at ∷ []) }
         requires there { HasInstruction body.now.procedure.now self.old at }
-        requires placed { IsPlaced body.now.procedure.now }
+        requires boundaries { KeepsBoundaries body.now.procedure.now }
         requires body { IsBody body.now }
         requires room { length self.old.operands < 2 ^ 32 }
         ensures ok { OnOk result (IsGoing body.now.program.now body.now.procedure.now self.new []) }
@@ -217,7 +217,7 @@ impl Search {
     // Looks at each offset that waits, until none does.
     fn run(&mut self, body: &Body) -> Result<(), Stop>
         requires going { IsGoing body.now.program.now body.now.procedure.now self.old [] }
-        requires placed { IsPlaced body.now.procedure.now }
+        requires boundaries { KeepsBoundaries body.now.procedure.now }
         requires body { IsBody body.now }
         requires room { length self.old.operands + left self.old ≤ 2 ^ 32 }
         ensures ok { OnOk result (FlowsWell body.now.program.now body.now.procedure.now) }
@@ -232,12 +232,12 @@ impl Search {
 
 /// Looks for a fault of the flow of a procedure whose targets are right.
 pub(crate) fn find_defect(alloc: Global, body: &Body) -> Result<(), Stop>
-    requires placed { IsPlaced body.now.procedure.now }
+    requires boundaries { KeepsBoundaries body.now.procedure.now }
     requires body { IsBody body.now }
     ensures ok { OnOk result (FlowsWell body.now.program.now body.now.procedure.now) }
     ensures err { IfErr result (λ stop. IsStop body.now.program.now body.now.procedure.now stop) }
 {
-    let size = body.marks.len();
+    let size = body.indices.len();
     if size == 0 {
         return Err(Stop::Wrong(0, Defect::FallsOffEnd));
     }

@@ -45,8 +45,8 @@ impl Verified {
 /// Verifies a module.
 ///
 /// A module is refused where its code has a fault, and the fault that is reported is there: the first one
-/// that an instruction or a handler has by itself, or else one of the flow of operands. The work and the
-/// memory grow with the size of the module.
+/// that an instruction or a handler has by itself, or else one of the flow of operands.
+/// Memory grows with the size of the module.
 pub fn verify(alloc: Global, program: Module) -> Result<Verified, VerifyFault>
     ensures value { IfOk result (λ verified. verified ≡ program) }
     ensures safe { OnOk result (IsNeverStuck program) }

@@ -7,7 +7,7 @@ use Rattle.flowc.proofs.running.run.Goals as goal
 pub returns-in_err-show-clause-some : goal.returns-in_err-show-clause-some
 returns-in_err-show-clause-some g c =
     let m = c.in_ok-machine.machine.program in
-    let can = can_run _ _ _ m c.in_ok-principal.principal c.hierarchy.result.now c.in_ok-machine.ensures.spelled c.in_ok-machine.ensures.faultless c.in_ok-machine.ensures.encoded c.in_ok-machine.ensures.right c.in_ok-machine.ensures.covered c.in_ok-principal.ensures.found
+    let can = can_run _ _ _ m c.in_ok-principal.principal c.hierarchy.result.now c.in_ok-machine.ensures.spelled c.in_ok-machine.ensures.faultless c.in_ok-machine.ensures.encoded c.in_ok-machine.ensures.right c.in_ok-principal.ensures.found
     (c.hierarchy.ensures.hierarchy ∙ ap (λ (w : ModuleContents). w.hierarchy) c.module.ensures) in
     on_err _ _ (cut_off _ _ _ c.args.steps _ _ m c.module-program.result.now c.in_ok-principal.principal c.run-status.result.0 c.sent.result.now _ _ can c.run-status.ensures.within
     (c.module-program.ensures ∙ c.run-status.ensures.kept) c.in_ok-machine.ensures.first c.run-status.ensures.after c.sent.ensures c.in_err-show.ensures.prefix)
@@ -15,7 +15,7 @@ returns-in_err-show-clause-some g c =
 pub returns-clause-some : goal.returns-clause-some
 returns-clause-some g c =
     let m = c.in_ok-machine.machine.program in
-    let can = can_run _ _ _ m c.in_ok-principal.principal c.hierarchy.result.now c.in_ok-machine.ensures.spelled c.in_ok-machine.ensures.faultless c.in_ok-machine.ensures.encoded c.in_ok-machine.ensures.right c.in_ok-machine.ensures.covered c.in_ok-principal.ensures.found
+    let can = can_run _ _ _ m c.in_ok-principal.principal c.hierarchy.result.now c.in_ok-machine.ensures.spelled c.in_ok-machine.ensures.faultless c.in_ok-machine.ensures.encoded c.in_ok-machine.ensures.right c.in_ok-principal.ensures.found
     (c.hierarchy.ensures.hierarchy ∙ ap (λ (w : ModuleContents). w.hierarchy) c.module.ensures) in
     on_err c.report_end.result _ (cut_off _ _ _ c.args.steps _ _ m c.module-program.result.now c.in_ok-principal.principal c.run-status.result.0 c.sent.result.now _ _ can c.run-status.ensures.within
     (c.module-program.ensures ∙ c.run-status.ensures.kept) c.in_ok-machine.ensures.first c.run-status.ensures.after c.sent.ensures (appended_all _ _ _ c.in_ok-show.ensures.view))

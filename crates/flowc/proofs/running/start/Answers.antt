@@ -2,12 +2,11 @@ use Rattle.std.proofs.Common.{Err, ap}
 use Rattle.channels.specs.WorldText.{lines_of}
 use Rattle.flowc.proofs.Refusals.{named_world}
 use Rattle.flowc.proofs.Telling.{module_message, world_message}
-use Rattle.flowc.specs.Messages.IsRefusedLine.{of_stage}
 use Rattle.flowc.proofs.running.start.Goals as goal
 
 pub returns-in_ok-line-in-Err-UnknownChannel-clause-refused :
     goal.returns-in_ok-line-in-Err-UnknownChannel-clause-refused
-returns-in_ok-line-in-Err-UnknownChannel-clause-refused c = λ one program spelled none encoded covered right.
+returns-in_ok-line-in-Err-UnknownChannel-clause-refused c = λ one program spelled none encoded right.
     let named = named_world c.in_ok-verified.verified c.module.result.now c.in_ok-numbers.numbers (lines_of c.args.world.bytes.now) c.module.ensures.value c.in_ok-numbers.ensures.world in
     c.in-Err-UnknownChannel.ensures.unknown.0 (ap (λ fault. Err fault) c.in-Err-UnknownChannel.field-0-is) named
 
@@ -25,10 +24,3 @@ returns-in_err-numbers-clause-message c =
     world_message c.from_residual-in_err-numbers.result c.in_ok-verified.verified c.module.result.now _ _ _ _ _
     c.in_ok-verified.ensures.spelled c.in_ok-verified.ensures.faultless c.module.ensures.value
     c.from_residual-in_err-numbers.ensures.1 c.in_err-numbers.ensures.message
-
-pub returns-in_ok-stage_line-in-Err-NotInStage-clause-message :
-    goal.returns-in_ok-stage_line-in-Err-NotInStage-clause-message
-returns-in_ok-stage_line-in-Err-NotInStage-clause-message c = λ observer.
-    of_stage c.in_ok-verified.verified c.in_ok-verified.ensures.spelled c.in_ok-verified.ensures.faultless
-    (c.in-Err-NotInStage.ensures.outside (ap (λ fault. Err fault) c.in-Err-NotInStage.field-0-is))
-    c.in_ok-stage_line-in-Err-NotInStage.ensures

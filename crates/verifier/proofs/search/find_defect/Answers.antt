@@ -1,6 +1,6 @@
 use Rattle.std.proofs.Common.{rules, ◌≡◌, ℕ, suc, ◌+◌, ◌-◌, ◌∷◌, [], length, set, replicate, Option, Some, None, arith, refl, sym, ap, ◌∙◌}
 use Rattle.bytecode.specs.Code.{code_length}
-use Rattle.verifier.proofs.Marks.{length-marks}
+use Rattle.verifier.proofs.Indices.{length-indices}
 use Rattle.verifier.proofs.Reaching.{empty_falls, started, start_left}
 use Rattle.std.specs.Vec.{with_item}
 use Rattle.verifier.specs.Search.{left}
@@ -8,22 +8,22 @@ use Rattle.verifier.specs.declared.search.Search.{Search}
 use Rattle.verifier.proofs.search.find_defect.Goals as goal
 
 pub returns-then-size-eq0-clause-err : goal.returns-then-size-eq0-clause-err
-returns-then-size-eq0-clause-err c = empty_falls c.args.body.now.program.now c.args.body.now.procedure.now (omega (arith, c.args.body.now.marks.ok.0, ap length c.requires.body.marks, length-marks 0 c.args.body.now.procedure.now.code))
+returns-then-size-eq0-clause-err c = empty_falls c.args.body.now.program.now c.args.body.now.procedure.now (omega (arith, c.args.body.now.indices.ok.0, ap length c.requires.body.indices, length-indices 0 c.args.body.now.procedure.now.code))
 
 pub run-requires-clause-going : goal.run-requires-clause-going
 run-requires-clause-going c =
     let n : c.len-size.result ≡ suc (c.len-size.result - 1) = omega arith in
-    let size : code_length c.args.body.now.procedure.now.code ≡ suc (c.len-size.result - 1) = omega (arith, c.args.body.now.marks.ok.0, ap length c.requires.body.marks, length-marks 0 c.args.body.now.procedure.now.code) in
+    let size : code_length c.args.body.now.procedure.now.code ≡ suc (c.len-size.result - 1) = omega (arith, c.args.body.now.indices.ok.0, ap length c.requires.body.indices, length-indices 0 c.args.body.now.procedure.now.code) in
     let items : c.in-Ok-vec.shapes.items ≡ replicate c.len-size.result None = search rules in
     let work : c.push.new.self.items ≡ 0 ∷ [] = search rules in
-    started c.args.body.now.program.now c.args.body.now.procedure.now _ (c.len-size.result - 1) size c.requires.placed c.in-Ok.ensures (ap (λ l. set l 0 (Some 0)) (items ∙ ap (λ k. replicate k None) n)) work
+    started c.args.body.now.program.now c.args.body.now.procedure.now _ (c.len-size.result - 1) size c.requires.boundaries c.in-Ok.ensures (ap (λ l. set l 0 (Some 0)) (items ∙ ap (λ k. replicate k None) n)) work
 
 pub run-requires-clause-room : goal.run-requires-clause-room
 run-requires-clause-room c =
     let n : c.len-size.result ≡ suc (c.len-size.result - 1) = omega arith in
-    let size : code_length c.args.body.now.procedure.now.code ≡ suc (c.len-size.result - 1) = omega (arith, c.args.body.now.marks.ok.0, ap length c.requires.body.marks, length-marks 0 c.args.body.now.procedure.now.code) in
+    let size : code_length c.args.body.now.procedure.now.code ≡ suc (c.len-size.result - 1) = omega (arith, c.args.body.now.indices.ok.0, ap length c.requires.body.indices, length-indices 0 c.args.body.now.procedure.now.code) in
     let items : c.in-Ok-vec.shapes.items ≡ replicate c.len-size.result None = search rules in
     let work : c.push.new.self.items ≡ 0 ∷ [] = search rules in
     let s : Search = record { operands = c.in-Ok.operands; shapes = with_item c.in-Ok-vec.shapes 0 (Some 0); work = c.push.new.self } in
-    let l : left s ≡ suc (c.len-size.result - 1) = start_left c.args.body.now.program.now c.args.body.now.procedure.now s (c.len-size.result - 1) size c.requires.placed c.in-Ok.ensures (ap (λ l. set l 0 (Some 0)) (items ∙ ap (λ k. replicate k None) n)) work in
+    let l : left s ≡ suc (c.len-size.result - 1) = start_left c.args.body.now.program.now c.args.body.now.procedure.now s (c.len-size.result - 1) size c.requires.boundaries c.in-Ok.ensures (ap (λ l. set l 0 (Some 0)) (items ∙ ap (λ k. replicate k None) n)) work in
     omega (arith, l, ap length c.in-Ok.ensures)

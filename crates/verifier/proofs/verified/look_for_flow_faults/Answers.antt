@@ -1,13 +1,13 @@
 use Rattle.std.proofs.Common.{◌≡◌, ◌+◌, ◌<◌, ℕ, Some, slice_get, length, arith, ap, sym, subst, ◌∙◌, List}
 use Rattle.bytecode.specs.Contents.{ProcedureContents}
 use Rattle.verifier.specs.Faults.{IsRefusal}
-use Rattle.verifier.proofs.Reported.{item_at, item_placed, item_reported, flow_more, all_flow, is_verified}
+use Rattle.verifier.proofs.Reported.{item_at, item_boundaries, item_reported, flow_more, all_flow, is_verified}
 use Rattle.verifier.proofs.Bounds.{bounded}
 use Rattle.verifier.proofs.verified.look_for_flow_faults.Goals as goal
 
-pub find_defect-requires-clause-placed : goal.find_defect-requires-clause-placed
-find_defect-requires-clause-placed c =
-    item_placed c.args.program.now c.requires c.procedures-procedures.result.now c.procedures-procedures.ensures.procedures c.loop-procedure.procedure-index c.procedure-item.result c.in-Ok.body.procedure.now c.procedure-item.is c.in-Ok.ensures.procedure c.loop-procedure-test.true
+pub find_defect-requires-clause-boundaries : goal.find_defect-requires-clause-boundaries
+find_defect-requires-clause-boundaries c =
+    item_boundaries c.args.program.now c.requires c.procedures-procedures.result.now c.procedures-procedures.ensures.procedures c.loop-procedure.procedure-index c.procedure-item.result c.in-Ok.body.procedure.now c.procedure-item.is c.in-Ok.ensures.procedure c.loop-procedure-test.true
 
 pub returns-in-Err-clause-err : goal.returns-in-Err-clause-err
 returns-in-Err-clause-err c =

@@ -1,6 +1,6 @@
 use Rattle.std.proofs.Common.{sym, ◌∙◌, ap, slice_get, length, ◌-◌, List, ℤ}
 use Rattle.machine.proofs.Lists.{first-reverse}
-use Rattle.machine.specs.Parts.{first_number}
+use Rattle.machine.specs.Inputs.{first_number}
 use Rattle.machine.proofs.input.Input.next.Goals as goal
 
 pub returns : goal.returns

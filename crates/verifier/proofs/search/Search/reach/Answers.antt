@@ -1,41 +1,41 @@
 use Rattle.std.proofs.Common.{rules, ◌≡◌, ◌≢◌, ◌+◌, ◌<◌, ◌≤◌, ℕ, ◌∷◌, [], length, get_or, List, Option, Some, None, arith, refl, sym, ap, subst, ◌∙◌}
-use Rattle.verifier.specs.Places.{IsPlace}
+use Rattle.verifier.specs.Boundaries.{IsBoundary}
 use Rattle.verifier.specs.Operands.{list_of}
 use Rattle.verifier.specs.Search.{row}
 use Rattle.verifier.proofs.Shared.{any_default}
-use Rattle.verifier.proofs.Reaching.{falls_at, meets_at, flowed, flowed_there, place_inside}
+use Rattle.verifier.proofs.Reaching.{falls_at, meets_at, flowed, flowed_there, boundary_inside}
 use Rattle.verifier.proofs.search.Search.reach.Goals as goal
 
-pub returns-then-place-len-clause-err : goal.returns-then-place-len-clause-err
-returns-then-place-len-clause-err c =
-    falls_at c.args.body.now.program.now c.args.body.now.procedure.now c.args.self.now (c.args.at ∷ []) c.args.at c.args.place _ c.requires.going c.requires.edge (omega (arith, c.if-place-len.true, c.len.ensures, c.args.self.now.shapes.ok.0, c.requires.going.sized))
+pub returns-then-to-len-clause-err : goal.returns-then-to-len-clause-err
+returns-then-to-len-clause-err c =
+    falls_at c.args.body.now.program.now c.args.body.now.procedure.now c.args.self.now (c.args.at ∷ []) c.args.at c.args.to _ c.requires.going c.requires.edge (omega (arith, c.if-to-len.true, c.len.ensures, c.args.self.now.shapes.ok.0, c.requires.going.sized))
 
 pub index-requires : goal.index-requires
 index-requires c =
-    let l = place_inside c.args.body.now.program.now c.args.body.now.procedure.now c.args.self.now (c.args.at ∷ []) c.args.place c.requires.going c.requires.place (λ e. c.if-place-len.false (omega (arith, e, c.len.ensures, c.args.self.now.shapes.ok.0))) in omega (arith, c.args.self.now.shapes.ok.0)
+    let l = boundary_inside c.args.body.now.program.now c.args.body.now.procedure.now c.args.self.now (c.args.at ∷ []) c.args.to c.requires.going c.requires.boundary (λ e. c.if-to-len.false (omega (arith, e, c.len.ensures, c.args.self.now.shapes.ok.0))) in omega (arith, c.args.self.now.shapes.ok.0)
 
 pub index_mut-requires : goal.index_mut-requires
 index_mut-requires c =
-    let l = place_inside c.args.body.now.program.now c.args.body.now.procedure.now c.args.self.now (c.args.at ∷ []) c.args.place c.requires.going c.requires.place (λ e. c.if-place-len.false (omega (arith, e, c.len.ensures, c.args.self.now.shapes.ok.0))) in omega (arith, c.args.self.now.shapes.ok.0)
+    let l = boundary_inside c.args.body.now.program.now c.args.body.now.procedure.now c.args.self.now (c.args.at ∷ []) c.args.to c.requires.going c.requires.boundary (λ e. c.if-to-len.false (omega (arith, e, c.len.ensures, c.args.self.now.shapes.ok.0))) in omega (arith, c.args.self.now.shapes.ok.0)
 
 pub meet-requires-clause-other : goal.meet-requires-clause-other
 meet-requires-clause-other c =
-    let l = place_inside c.args.body.now.program.now c.args.body.now.procedure.now c.args.self.now (c.args.at ∷ []) c.args.place c.requires.going c.requires.place (λ e. c.if-place-len.false (omega (arith, e, c.len.ensures, c.args.self.now.shapes.ok.0))) in
-    c.requires.going.numbers c.args.place c.in-Some.other (any_default c.args.self.now.shapes.items c.args.place None c.index.result.now l ∙ sym c.index.ensures ∙ c.in-Some.is)
+    let l = boundary_inside c.args.body.now.program.now c.args.body.now.procedure.now c.args.self.now (c.args.at ∷ []) c.args.to c.requires.going c.requires.boundary (λ e. c.if-to-len.false (omega (arith, e, c.len.ensures, c.args.self.now.shapes.ok.0))) in
+    c.requires.going.numbers c.args.to c.in-Some.other (any_default c.args.self.now.shapes.items c.args.to None c.index.result.now l ∙ sym c.index.ensures ∙ c.in-Some.is)
 
 pub returns-else-is_err-clause-ok : goal.returns-else-is_err-clause-ok
 returns-else-is_err-clause-ok c =
-    let l = place_inside c.args.body.now.program.now c.args.body.now.procedure.now c.args.self.now (c.args.at ∷ []) c.args.place c.requires.going c.requires.place (λ e. c.if-place-len.false (omega (arith, e, c.len.ensures, c.args.self.now.shapes.ok.0))) in
-    let none : get_or c.args.self.now.shapes.items c.args.place None ≡ None = any_default c.args.self.now.shapes.items c.args.place None c.index.result.now l ∙ sym c.index.ensures ∙ c.in-None.is in
-    flowed c.args.body.now.program.now c.args.body.now.procedure.now c.args.self.now _ c.args.at c.args.place c.args.list c.requires.going c.requires.edge c.requires.list c.requires.place l none refl refl (search rules)
+    let l = boundary_inside c.args.body.now.program.now c.args.body.now.procedure.now c.args.self.now (c.args.at ∷ []) c.args.to c.requires.going c.requires.boundary (λ e. c.if-to-len.false (omega (arith, e, c.len.ensures, c.args.self.now.shapes.ok.0))) in
+    let none : get_or c.args.self.now.shapes.items c.args.to None ≡ None = any_default c.args.self.now.shapes.items c.args.to None c.index.result.now l ∙ sym c.index.ensures ∙ c.in-None.is in
+    flowed c.args.body.now.program.now c.args.body.now.procedure.now c.args.self.now _ c.args.at c.args.to c.args.list c.requires.going c.requires.edge c.requires.list c.requires.boundary l none refl refl (search rules)
 
 pub returns-in-Ok-clause-ok : goal.returns-in-Ok-clause-ok
 returns-in-Ok-clause-ok c =
-    let l = place_inside c.args.body.now.program.now c.args.body.now.procedure.now c.args.self.now (c.args.at ∷ []) c.args.place c.requires.going c.requires.place (λ e. c.if-place-len.false (omega (arith, e, c.len.ensures, c.args.self.now.shapes.ok.0))) in
-    flowed_there c.args.body.now.program.now c.args.body.now.procedure.now c.args.self.now _ c.args.at c.args.place c.args.list c.in-Some.other c.requires.going (any_default c.args.self.now.shapes.items c.args.place None c.index.result.now l ∙ sym c.index.ensures ∙ c.in-Some.is) c.in-Ok.ensures.ok refl
+    let l = boundary_inside c.args.body.now.program.now c.args.body.now.procedure.now c.args.self.now (c.args.at ∷ []) c.args.to c.requires.going c.requires.boundary (λ e. c.if-to-len.false (omega (arith, e, c.len.ensures, c.args.self.now.shapes.ok.0))) in
+    flowed_there c.args.body.now.program.now c.args.body.now.procedure.now c.args.self.now _ c.args.at c.args.to c.args.list c.in-Some.other c.requires.going (any_default c.args.self.now.shapes.items c.args.to None c.index.result.now l ∙ sym c.index.ensures ∙ c.in-Some.is) c.in-Ok.ensures.ok refl
 
 pub returns-in-Err-clause-err : goal.returns-in-Err-clause-err
 returns-in-Err-clause-err c =
-    let l = place_inside c.args.body.now.program.now c.args.body.now.procedure.now c.args.self.now (c.args.at ∷ []) c.args.place c.requires.going c.requires.place (λ e. c.if-place-len.false (omega (arith, e, c.len.ensures, c.args.self.now.shapes.ok.0))) in
-    let there : get_or c.args.self.now.shapes.items c.args.place None ≡ Some c.in-Some.other = any_default c.args.self.now.shapes.items c.args.place None c.index.result.now l ∙ sym c.index.ensures ∙ c.in-Some.is in
-    meets_at c.args.body.now.program.now c.args.body.now.procedure.now c.args.self.now (c.args.at ∷ []) c.args.at c.args.place _ (list_of c.args.self.now.operands c.in-Some.other) c.in-Err.defect c.requires.going c.requires.edge (λ e. c.if-place-len.false (omega (arith, e, c.requires.going.sized, c.len.ensures, c.args.self.now.shapes.ok.0))) (ap (λ o. row c.args.self.now.operands o) there) c.in-Err.ensures.differ c.in-Err.ensures.err
+    let l = boundary_inside c.args.body.now.program.now c.args.body.now.procedure.now c.args.self.now (c.args.at ∷ []) c.args.to c.requires.going c.requires.boundary (λ e. c.if-to-len.false (omega (arith, e, c.len.ensures, c.args.self.now.shapes.ok.0))) in
+    let there : get_or c.args.self.now.shapes.items c.args.to None ≡ Some c.in-Some.other = any_default c.args.self.now.shapes.items c.args.to None c.index.result.now l ∙ sym c.index.ensures ∙ c.in-Some.is in
+    meets_at c.args.body.now.program.now c.args.body.now.procedure.now c.args.self.now (c.args.at ∷ []) c.args.at c.args.to _ (list_of c.args.self.now.operands c.in-Some.other) c.in-Err.defect c.requires.going c.requires.edge (λ e. c.if-to-len.false (omega (arith, e, c.requires.going.sized, c.len.ensures, c.args.self.now.shapes.ok.0))) (ap (λ o. row c.args.self.now.operands o) there) c.in-Err.ensures.differ c.in-Err.ensures.err
