@@ -9,7 +9,7 @@ use Rattle.bytecode.specs.Contents.{ProcedureContents, ModuleContents}
 use Rattle.bytecode.specs.declared.instruction.Instruction.{Instruction}
 use Rattle.bytecode.specs.declared.value.Kind.{Kind}
 use Rattle.verifier.specs.Flow.{Edge, next, jumps, caught, Effect, Leaves, Misses, effect, goes_on, target_of, FlowsWell}
-use Rattle.verifier.proofs.Tables.{no_fault}
+use Rattle.verifier.proofs.Laws.{no_fault}
 use Rattle.verifier.proofs.Offsets.{width_of-pos}
 
 module _ (m : ModuleContents) (p : ProcedureContents) where
