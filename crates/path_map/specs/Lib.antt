@@ -1,3 +1,5 @@
 pub mod Exits
 pub mod Paths
 pub mod FirstFault
+pub mod Joins
+pub mod Sets

@@ -7,12 +7,8 @@ use Rattle.resolved.specs.Tree.{Statement, Assign, Clear, Store, Receive, Send, 
 use Rattle.resolved.specs.Program.{Program, ProcedureEntry}
 use Rattle.resolved.specs.Ends.{statement_ends, block_ends}
 
--- of a statement and what is in it, of the blocks in a statement, of a block and what is in it, of the statements of a block, and
--- of the bodies of handlers
+-- of the blocks in a statement, of the statements of a block, and of the bodies of handlers, each with what is in it
 abbrev mutual
-  pub statement_paths : Program → Statement → List (List Exit)
-  statement_paths program statement = statement_ends program statement ∷ inner_paths program statement
-
   pub inner_paths : Program → Statement → List (List Exit)
   inner_paths program (Assign at x e) = []
   inner_paths program (Clear at slot) = []
@@ -20,23 +16,31 @@ abbrev mutual
   inner_paths program (Receive at channel target) = []
   inner_paths program (Send at channel e) = []
   inner_paths program (Call at procedure arguments target) = []
-  inner_paths program (If at e yes_block no_block) = block_paths program yes_block ++ block_paths program no_block
-  inner_paths program (While at loop e body) = block_paths program body
+  inner_paths program (If at e yes_block no_block) =
+      (block_ends program yes_block ∷ rest_paths program yes_block) ++ (block_ends program no_block ∷ rest_paths program no_block)
+  inner_paths program (While at loop e body) = block_ends program body ∷ rest_paths program body
   inner_paths program (Leave at exit) = []
   inner_paths program (ReturnWith at value) = []
-  inner_paths program (Try at block handlers) = block_paths program block ++ handlers_paths program handlers
-  inner_paths program (Nested at block) = block_paths program block
-
-  pub block_paths : Program → Block → List (List Exit)
-  block_paths program block = block_ends program block ∷ rest_paths program block
+  inner_paths program (Try at block handlers) =
+      (block_ends program block ∷ rest_paths program block) ++ handlers_paths program handlers
+  inner_paths program (Nested at block) = block_ends program block ∷ rest_paths program block
 
   pub rest_paths : Program → Block → List (List Exit)
   rest_paths program Empty = []
-  rest_paths program (Then statement rest) = statement_paths program statement ++ rest_paths program rest
+  rest_paths program (Then statement rest) =
+      (statement_ends program statement ∷ inner_paths program statement) ++ rest_paths program rest
 
   pub handlers_paths : Program → Handlers → List (List Exit)
   handlers_paths program NoMore = []
-  handlers_paths program (Catch at handled body rest) = block_paths program body ++ handlers_paths program rest
+  handlers_paths program (Catch at handled body rest) =
+      (block_ends program body ∷ rest_paths program body) ++ handlers_paths program rest
+
+-- of a statement and what is in it, and of a block and what is in it
+abbrev pub statement_paths : Program → Statement → List (List Exit)
+statement_paths program statement = statement_ends program statement ∷ inner_paths program statement
+
+abbrev pub block_paths : Program → Block → List (List Exit)
+block_paths program block = block_ends program block ∷ rest_paths program block
 
 -- of the bodies of all procedures
 abbrev pub program_paths : Program → List (List Exit)

@@ -1,9 +1,10 @@
 //! What a path map keeps of the possible ends of a statement or block.
 ghost use Rattle.path_map.specs.Exits.{exits_of, single_end};
+ghost use Rattle.path_map.specs.Joins.{after, join, join_raised, of_loop, only_raised};
 ghost use Rattle.resolved.specs.Ends.{one_end};
 ghost use Rattle.resolved.specs.Labelled.{as_one_end};
 ghost use Rattle.resolved.specs.declared.statement.Exit.{Exit};
-ghost use Rattle.std.specs.Prelude.{List, map, ◌≡◌};
+ghost use Rattle.std.specs.Prelude.{List, map, true, ◌≡◌};
 
 use resolved::statement::Exit;
 
@@ -26,7 +27,83 @@ pub struct Exits {
     pub raised: Raised,
 }
 
+impl Raised {
+    // What is kept of the exceptions of two lists.
+    pub(crate) fn join(self, other: Raised) -> Raised
+        ensures { result ≡ join_raised self other }
+    {
+        match (self, other) {
+            (Raised::Nothing, _) => other,
+            (_, Raised::Nothing) => self,
+            (Raised::One(exception), Raised::One(again)) if exception == again => self,
+            _ => Raised::Several,
+        }
+    }
+}
+
 impl Exits {
+    // What is kept of these exceptions as ends.
+    pub(crate) fn raising(raised: Raised) -> Exits
+        ensures { result ≡ only_raised raised }
+    {
+        Exits {
+            normal: false,
+            returns: false,
+            breaks: false,
+            continues: false,
+            raised,
+        }
+    }
+
+    // What is kept of a normal end and these exceptions.
+    pub(crate) fn going_on(raised: Raised) -> Exits
+        ensures { result ≡ record (only_raised raised) { normal = true } }
+    {
+        Exits {
+            normal: true,
+            ..Exits::raising(raised)
+        }
+    }
+
+    // What is kept of the ends of two lists.
+    pub(crate) fn join(self, other: Exits) -> Exits
+        ensures { result ≡ join self other }
+    {
+        Exits {
+            normal: self.normal || other.normal,
+            returns: self.returns || other.returns,
+            breaks: self.breaks || other.breaks,
+            continues: self.continues || other.continues,
+            raised: self.raised.join(other.raised),
+        }
+    }
+
+    // What is kept of the ends of a statement and of what follows it.
+    pub(crate) fn then(self, rest: Exits) -> Exits
+        ensures { result ≡ after self rest }
+    {
+        if !self.normal {
+            return self;
+        }
+        let leaving = Exits {
+            normal: false,
+            ..self
+        };
+        leaving.join(rest)
+    }
+
+    // What is kept of the ends of a loop with this body, but for its condition.
+    pub(crate) fn of_loop(self) -> Exits
+        ensures { result ≡ of_loop self }
+    {
+        Exits {
+            normal: true,
+            breaks: false,
+            continues: false,
+            ..self
+        }
+    }
+
     /// The possible end, where there is one only.
     pub fn single(self) -> Option<Exit>
         ensures { (ends : List Exit) → self ≡ exits_of ends → result ≡ single_end ends }

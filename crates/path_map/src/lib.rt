@@ -4,6 +4,8 @@
 pub mod exits;
 pub mod fault;
 pub mod map;
+mod raises;
+mod set;
 
 pub use exits::{Exits, Raised};
 pub use fault::{EndDefect, EndRefusal, EndsFault};

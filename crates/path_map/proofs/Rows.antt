@@ -1,0 +1,2 @@
+-- Rows of bits: one bit set, one cleared, two rows put together.
+use Rattle.std.proofs.Common.{◌≡◌}
