@@ -106,8 +106,8 @@ throws-thrown [] e = refl
 throws-thrown (x ∷ es) e = ap (λ b. (e == x) || b) (throws-thrown es e)
 
 none-thrown : (exit : Exit) → ((e : ℕ) → same_exit exit (Throw e) ≡ false) → (es : List ℕ) → has_end (thrown_ends es) exit ≡ false
-none-thrown exit no [] = refl
-none-thrown exit no (e ∷ es) = rw (no e) (none-thrown exit no es)
+none-thrown exit differs [] = refl
+none-thrown exit differs (e ∷ es) = rw (differs e) (none-thrown exit differs es)
 
 pub exits-thrown : (es : List ℕ) → exits_of (thrown_ends es) ≡ only_raised (raised_by es)
 exits-thrown es =
@@ -137,14 +137,13 @@ all-same x (y ∷ xs) each =
 
 same-all : (x : ℕ) (xs : List ℕ) → list_all (λ other. x == other) xs ≡ true → (other : ℕ) → is_one_of xs other ≡ true → other ≡ x
 same-all x [] all other there = absurd (let no : false ≡ true = there in cc)
-same-all x (y ∷ xs) all other there = go (other == y) refl
+same-all x (y ∷ xs) all other there =
+    let parts = and_parts (x == y) (list_all (λ z. x == z) xs) all in
+    go parts.0 (other == y) refl (λ more. same-all x xs parts.1 other more)
   where
-    parts : ((x == y) ≡ true) × (list_all (λ z. x == z) xs ≡ true)
-    parts = and_parts (x == y) (list_all (λ z. x == z) xs) all
-
-    go : (same : Bool) → (other == y) ≡ same → other ≡ x
-    go true e = eqb-true other y e ∙ sym (eqb-true x y parts.0)
-    go false e = same-all x xs parts.1 other (rw e at there)
+    go : (x == y) ≡ true → (same : Bool) → (other == y) ≡ same → (is_one_of xs other ≡ true → other ≡ x) → other ≡ x
+    go first true e more = eqb-true other y e ∙ sym (eqb-true x y first)
+    go first false e more = more (rw e at there)
 
 pub kept-is : (xs : List ℕ) (set : ℕ → Bool) → ((e : ℕ) → is_one_of xs e ≡ set e) → (raised : Raised) → IsKeptOf set raised → raised ≡ raised_by xs
 kept-is [] set same Nothing kept = refl

@@ -3,3 +3,4 @@ pub mod Paths
 pub mod FirstFault
 pub mod Joins
 pub mod Sets
+pub mod Walks

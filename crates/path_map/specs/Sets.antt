@@ -1,6 +1,6 @@
 -- Sets of exceptions as rows of bits, 64 in a word, and what is kept of such a set.
 -- Source: our own.
-use Rattle.std.specs.Prelude.{◌≡◌, ◌≢◌, ℕ, ◌/◌, ◌%◌, List, Bool, true, false, ◌==◌, ◌||◌, slice_index}
+use Rattle.std.specs.Prelude.{◌≡◌, ◌≢◌, ℕ, ◌/◌, ◌%◌, List, Bool, true, false, ◌==◌, ◌&&◌, ◌||◌, slice_index}
 use Rattle.std.specs.List.{list_any}
 use Rattle.std.specs.Int.{bit_at}
 use Rattle.resolved.specs.declared.statement.Exit.{Exit}
@@ -12,6 +12,10 @@ use Rattle.path_map.specs.declared.exits.Raised.TheVariants.{Nothing, One, Sever
 -- whether an exception is in a row
 abbrev pub row_has : List ℕ → ℕ → Bool
 row_has words exception = bit_at (slice_index words (exception / 64)) (exception % 64) == 1
+
+-- whether an exception is in one word of a row
+abbrev pub word_has : (word index : ℕ) → ℕ → Bool
+word_has word index exception = (exception / 64 == index) && (bit_at word (exception % 64) == 1)
 
 -- whether an exception is among these
 abbrev pub is_one_of : List ℕ → ℕ → Bool

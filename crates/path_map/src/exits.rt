@@ -65,6 +65,23 @@ impl Exits {
         }
     }
 
+    // What is kept of a return and these exceptions.
+    pub(crate) fn returning(raised: Raised) -> Exits
+        ensures { result ≡ record (only_raised raised) { returns = true } }
+    {
+        Exits {
+            returns: true,
+            ..Exits::raising(raised)
+        }
+    }
+
+    // What is kept of the same ends with these exceptions in place of theirs.
+    pub(crate) fn with(self, raised: Raised) -> Exits
+        ensures { result ≡ record self { raised = raised } }
+    {
+        Exits { raised, ..self }
+    }
+
     // What is kept of the ends of two lists.
     pub(crate) fn join(self, other: Exits) -> Exits
         ensures { result ≡ join self other }

@@ -6,6 +6,7 @@ pub mod fault;
 pub mod map;
 mod raises;
 mod set;
+mod walk;
 
 pub use exits::{Exits, Raised};
 pub use fault::{EndDefect, EndRefusal, EndsFault};

@@ -4,6 +4,7 @@ ghost use Rattle.path_map.specs.Joins.{raised_list};
 ghost use Rattle.path_map.specs.Sets.{IsSum, is_one_of};
 ghost use Rattle.resolved.specs.Ends.{divisor_can_raise, index_can_raise, is_division, raises, raises_all};
 ghost use Rattle.resolved.specs.TreeOf.{expression_of};
+ghost use Rattle.resolved.specs.Value.{in_range, is_zero, literal_number};
 ghost use Rattle.std.specs.Prelude.{IfOk, OnOk, map, ℕ, ◌||◌, ◌≡◌};
 
 use crate::exits::Raised;
@@ -13,6 +14,8 @@ use std::alloc::AllocError;
 
 const ARITH: u32 = 0;
 const BOUNDS: u32 = 1;
+// The greatest number; literals above it mean negative numbers.
+const MAX_NUMBER: u32 = 2_147_483_647;
 
 // Whether an expression, or one of several, can raise `Arith` and `Bounds`. It can raise no other exception.
 #[derive(Clone, Copy, Debug, PartialEq, Eq)]
@@ -94,9 +97,16 @@ pub(crate) fn index_can_raise(index: &Expression, length: u32) -> bool
     ensures { result ≡ index_can_raise (expression_of index.now) length }
 {
     match index {
-        Expression::Integer(literal) => *literal > 2_147_483_647 || *literal >= length,
+        Expression::Integer(literal) => !is_in_range(*literal, length),
         _ => true,
     }
+}
+
+// Whether a literal is an index of an array of this length.
+fn is_in_range(literal: u32, length: u32) -> bool
+    ensures { result ≡ in_range (literal_number literal) length }
+{
+    literal <= MAX_NUMBER && literal < length
 }
 
 // Whether a divisor may be 0.
@@ -104,13 +114,20 @@ fn divisor_can_raise(divisor: &Expression) -> bool
     ensures { result ≡ divisor_can_raise (expression_of divisor.now) }
 {
     match divisor {
-        Expression::Integer(literal) => *literal == 0,
+        Expression::Integer(literal) => is_zero(*literal),
         Expression::Unary(Prefix::Negate, operand) => match &**operand {
-            Expression::Integer(literal) => *literal == 0,
+            Expression::Integer(literal) => is_zero(*literal),
             _ => true,
         },
         _ => true,
     }
+}
+
+// Whether a literal is 0.
+fn is_zero(literal: u32) -> bool
+    ensures { result ≡ is_zero (literal_number literal) }
+{
+    literal == 0
 }
 
 fn is_division(operator: Operator) -> bool

@@ -1,14 +1,11 @@
 //! Sets of exceptions.
-ghost use Rattle.path_map.specs.Sets.{IsKeptOf, IsSum, row_has};
+ghost use Rattle.path_map.specs.Sets.{IsKeptOf, IsSum, row_has, word_has};
 ghost use Rattle.std.specs.Prelude.{OnOk, false, length, not, ℕ, ◌&&◌, ◌<◌, ◌==◌, ◌≡◌, ◌≤◌};
 
 use crate::exits::Raised;
 use std::alloc::{AllocError, Global};
 
-// The words of the greatest row.
-const MAX_WORDS: usize = 67_108_864;
-
-// A set of exceptions, as a row of bits that ends no later than it must.
+// A set of exceptions, as a row of bits that is as long as its greatest exception has asked for.
 #[derive(Drop)]
 pub(crate) struct ExceptionSet {
     words: Vec<u64>,
@@ -78,14 +75,24 @@ impl ExceptionSet {
     {
         let mut kept = Raised::Nothing;
         for (i, word) in self.words.iter().enumerate() {
-            if *word != 0 {
-                let lowest = word.trailing_zeros();
-                if *word & !(1 << lowest) != 0 || kept != Raised::Nothing {
-                    return Raised::Several;
-                }
-                kept = Raised::One(i as u32 * 64 + lowest);
-            }
+            kept = kept.join(kept_of_word(*word, i));
         }
         kept
     }
+}
+
+// What is kept of the exceptions of one word of a row.
+fn kept_of_word(word: u64, index: usize) -> Raised
+    requires { index < 67108864 }
+    ensures { IsKeptOf (word_has word index) result }
+{
+    if word == 0 {
+        return Raised::Nothing;
+    }
+    let lowest = word.trailing_zeros();
+    let others = word & !(1 << lowest);
+    if others != 0 {
+        return Raised::Several;
+    }
+    Raised::One(index as u32 * 64 + lowest)
 }
