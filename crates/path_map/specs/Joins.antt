@@ -1,8 +1,10 @@
 -- How what is kept of ends is put together.
 -- Source: our own.
-use Rattle.std.specs.Prelude.{ℕ, List, [], ◌∷◌, ◌++◌, Bool, true, false, ◌==◌, ◌||◌, if◌then◌else◌}
+use Rattle.std.specs.Prelude.{ℕ, List, [], ◌∷◌, ◌++◌, Bool, true, false, ◌==◌, ◌||◌, if◌then◌else◌, Option, Some, None}
 use Rattle.resolved.specs.declared.statement.Exit.{Exit}
 use Rattle.resolved.specs.declared.statement.Exit.TheVariants.{Normal, Return, Break, Continue, Throw}
+use Rattle.resolved.specs.Tree.{Expression}
+use Rattle.resolved.specs.Ends.{raises}
 use Rattle.path_map.specs.declared.exits.Raised.{Raised}
 use Rattle.path_map.specs.declared.exits.Raised.TheVariants.{Nothing, One, Several}
 use Rattle.path_map.specs.declared.exits.Exits.{Exits}
@@ -37,6 +39,10 @@ only_raised raised = record { normal = false; returns = false; breaks = false; c
 abbrev pub of_loop : Exits → Exits
 of_loop body = record body { normal = true; breaks = false; continues = false }
 
--- the exceptions that an expression can raise
+-- the exceptions of an expression that can raise `Arith` or not, and `Bounds` or not; and those of one that may be there
 abbrev pub raised_list : (arith bounds : Bool) → List ℕ
 raised_list arith bounds = (if arith then 0 ∷ [] else []) ++ (if bounds then 1 ∷ [] else [])
+
+abbrev pub raises_some : Option Expression → List ℕ
+raises_some None = []
+raises_some (Some e) = raises e

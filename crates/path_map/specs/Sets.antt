@@ -40,6 +40,17 @@ IsKeptOf set Nothing = (exception : ℕ) → set exception ≡ false
 IsKeptOf set (One exception) = HasOnly set exception
 IsKeptOf set Several = HasTwo set
 
+-- an exception of a set that is not declared
+pub record HasUndeclared (set : ℕ → Bool) (declared : List ℕ) : Type 0 where
+  pub exception : ℕ
+  pub has : set exception ≡ true
+  pub none : is_one_of declared exception ≡ false
+
+-- whether all exceptions of a set are declared
+abbrev pub AreDeclared : (ℕ → Bool) → (declared : List ℕ) → Bool → Type 0
+AreDeclared set declared true = (exception : ℕ) → set exception ≡ true → is_one_of declared exception ≡ true
+AreDeclared set declared false = HasUndeclared set declared
+
 -- a row to which those of a set were added
 pub record IsSum (old : List ℕ) (added : ℕ → Bool) (new : List ℕ) : Type 0 where
   pub has : (exception : ℕ) → row_has new exception ≡ (row_has old exception || added exception)

@@ -1,14 +1,20 @@
 //! The path map of a program.
 ghost use Rattle.path_map.specs.Exits.{exits_of};
 ghost use Rattle.path_map.specs.FirstFault.{IsFirst};
-ghost use Rattle.path_map.specs.Paths.{program_paths};
+ghost use Rattle.path_map.specs.Paths.{block_paths, program_paths};
+ghost use Rattle.path_map.specs.Sets.{AreDeclared, row_has};
 ghost use Rattle.resolved.specs.CoreOf.{program_of};
-ghost use Rattle.resolved.specs.EndFaults.{end_faults};
-ghost use Rattle.std.specs.Prelude.{IfErr, IfOk, OnOk, [], map, ◌≡◌};
+ghost use Rattle.resolved.specs.EndFaults.{end_faults, procedure_faults};
+ghost use Rattle.resolved.specs.Ends.{declared_by};
+ghost use Rattle.resolved.specs.ProgramOf.{procedure_entry, thrown_entry};
+ghost use Rattle.std.specs.Prelude.{IfErr, IfOk, OnOk, [], map, ◌++◌, ◌≡◌};
 
-use crate::exits::Exits;
-use crate::fault::EndsFault;
+use crate::exits::{Exits, Raised};
+use crate::fault::{EndDefect, EndsFault};
+use crate::set::ExceptionSet;
+use crate::walk::{Walk, refused, walk_block};
 use resolved::program::Core;
+use resolved::tables::{Procedure, Thrown};
 use std::alloc::Global;
 
 /// The possible ends of each statement and block of a program. A block comes before its statements, and a statement before the
@@ -27,7 +33,43 @@ pub fn ends(alloc: Global, core: &Core) -> Result<PathMap, EndsFault>
     ensures accepted { OnOk result (end_faults (program_of core.now) ≡ []) }
     ensures first_fault { IfErr result (IsFirst (end_faults (program_of core.now))) }
 {
-    let _core = core;
-    let _alloc = alloc;
-    Err(EndsFault::NoMemory)
+    let walk = Walk { alloc, core };
+    let mut entries = Vec::new(alloc);
+    for procedure in &core.procedures {
+        walk_procedure(&walk, procedure, &mut entries)?;
+    }
+    Ok(PathMap { entries })
+}
+
+// Finds the ends of a procedure's body and of what is in it.
+fn walk_procedure(
+    walk: &Walk,
+    procedure: &Procedure,
+    entries: &mut Vec<Exits>,
+) -> Result<(), EndsFault>
+    ensures found { OnOk result (entries.new.items
+        ≡ entries.old.items ++ map exits_of (block_paths (program_of walk.now.core.now) (procedure_entry procedure.now).body)) }
+    ensures accepted { OnOk result (procedure_faults (program_of walk.now.core.now) (procedure_entry procedure.now) ≡ []) }
+    ensures first_fault { IfErr result (IsFirst (procedure_faults (program_of walk.now.core.now) (procedure_entry procedure.now))) }
+{
+    let mut raised = ExceptionSet::new(walk.alloc);
+    let exits = walk_block(walk, false, &procedure.body, entries, &mut raised)?;
+    if procedure.result.is_some() && exits.normal {
+        return Err(refused(EndDefect::NoValueReturned, procedure.at));
+    }
+    let declared = are_declared(&procedure.throws, &mut raised);
+    if exits.breaks || exits.continues || !declared {
+        return Err(refused(EndDefect::Undeclared, procedure.at));
+    }
+    Ok(())
+}
+
+// Whether all exceptions of a set are declared. Those that are, are taken out.
+fn are_declared(throws: &[Thrown], set: &mut ExceptionSet) -> bool
+    ensures { AreDeclared (row_has set.old.words.items) (declared_by (map thrown_entry throws.now)) result }
+{
+    for thrown in throws {
+        let _there = set.remove(thrown.exception);
+    }
+    set.kept() == Raised::Nothing
 }

@@ -1,9 +1,9 @@
 //! The exceptions that expressions can raise.
 ghost use Rattle.path_map.specs.Exits.{raised_by};
-ghost use Rattle.path_map.specs.Joins.{raised_list};
+ghost use Rattle.path_map.specs.Joins.{raised_list, raises_some};
 ghost use Rattle.path_map.specs.Sets.{IsSum, is_one_of};
 ghost use Rattle.resolved.specs.Ends.{divisor_can_raise, index_can_raise, is_division, raises, raises_all};
-ghost use Rattle.resolved.specs.TreeOf.{expression_of};
+ghost use Rattle.resolved.specs.TreeOf.{expression_of, some_expression_of};
 ghost use Rattle.resolved.specs.Value.{in_range, is_zero, literal_number};
 ghost use Rattle.std.specs.Prelude.{IfOk, OnOk, map, ℕ, ◌||◌, ◌≡◌};
 
@@ -78,6 +78,16 @@ pub(crate) fn raises_of(expression: &Expression) -> Raises
             })
         }
         Expression::Short(_, left, right) => raises_of(left).or(raises_of(right)),
+    }
+}
+
+// What an expression can raise, if there is one.
+pub(crate) fn raises_of_some(expression: &Option<Expression>) -> Raises
+    ensures { (exception : ℕ) → is_one_of (raised_list result.arith result.bounds) exception ≡ is_one_of (raises_some (some_expression_of expression.now)) exception }
+{
+    match expression {
+        None => Raises::NONE,
+        Some(expression) => raises_of(expression),
     }
 }
 

@@ -10,10 +10,10 @@ ghost use Rattle.path_map.specs.declared.exits.Raised.TheVariants.{Nothing};
 ghost use Rattle.path_map.specs.declared.fault.EndsFault.TheVariants.{Refused};
 ghost use Rattle.resolved.specs.CoreOf.{program_of};
 ghost use Rattle.resolved.specs.EndFaults.{block_faults, handlers_faults, inner_faults, may_stand};
-ghost use Rattle.resolved.specs.Ends.{block_ends, declared_by, handlers_ends, statement_ends, thrown_ends};
+ghost use Rattle.resolved.specs.Ends.{block_ends, declared_by, handlers_ends, raises, statement_ends, thrown_ends};
 ghost use Rattle.resolved.specs.Program.{procedure_at};
 ghost use Rattle.resolved.specs.ProgramOf.{thrown_entry};
-ghost use Rattle.resolved.specs.TreeOf.{block_of, handlers_of, statement_of};
+ghost use Rattle.resolved.specs.TreeOf.{block_of, expression_of, handlers_of, statement_of};
 ghost use Rattle.resolved.specs.declared.statement.Exit.{Exit};
 ghost use Rattle.resolved.specs.declared.statement.Exit.TheVariants.{Normal, Return, Throw};
 ghost use Rattle.resolved.specs.Value.{end_exception};
@@ -21,8 +21,9 @@ ghost use Rattle.std.specs.Prelude.{IfErr, IfOk, List, OnOk, [], length, map, tr
 
 use crate::exits::{Exits, Raised};
 use crate::fault::{EndDefect, EndRefusal, EndsFault};
-use crate::raises::{Raises, index_can_raise, raises_of, raises_of_all};
+use crate::raises::{Raises, index_can_raise, raises_of, raises_of_all, raises_of_some};
 use crate::set::ExceptionSet;
+use resolved::expression::Expression;
 use resolved::program::Core;
 use resolved::statement::{Exit, Handler, Statement};
 use resolved::tables::Thrown;
@@ -137,19 +138,18 @@ fn walk_form(
             Ok(call(walk, *callee, raises_of_all(arguments), raised)?)
         }
         Statement::If(_, condition, yes_block, no_block) => {
-            let test = Exits::raising(raises_of(condition).add_to(raised)?);
+            let tested = test(condition, raised)?;
             let yes = walk_block(walk, in_loop, yes_block, entries, raised)?;
             let no = walk_block(walk, in_loop, no_block, entries, raised)?;
-            Ok(test.join(yes).join(no))
+            Ok(tested.join(yes).join(no))
         }
         Statement::While(_, _, condition, body) => {
-            let test = Exits::raising(raises_of(condition).add_to(raised)?);
+            let tested = test(condition, raised)?;
             let body = walk_block(walk, true, body, entries, raised)?;
-            Ok(test.join(body).of_loop())
+            Ok(tested.join(body).of_loop())
         }
         Statement::Leave(_, exit) => Ok(leave(*exit, raised)?),
-        Statement::Return(_, None) => Ok(give_back(Raises::NONE, raised)?),
-        Statement::Return(_, Some(value)) => Ok(give_back(raises_of(value), raised)?),
+        Statement::Return(_, value) => Ok(give_back(raises_of_some(value), raised)?),
         Statement::Try(_, block, handlers) => {
             let mut inner = ExceptionSet::new(walk.alloc);
             let tried = walk_block(walk, in_loop, block, entries, &mut inner)?;
@@ -214,6 +214,14 @@ fn give_back(found: Raises, raised: &mut ExceptionSet) -> Result<Exits, AllocErr
         (entries : List Exits) → IsFound (Return ∷ thrown_ends exceptions) [] entries entries raised.old.words.items raised.new.words.items exits) }
 {
     Ok(Exits::returning(found.add_to(raised)?))
+}
+
+// The ends of a condition, for a statement that goes on with its value.
+fn test(condition: &Expression, raised: &mut ExceptionSet) -> Result<Exits, AllocError>
+    ensures { IfOk result (λ exits. (entries : List Exits) →
+        IsFound (thrown_ends (raises (expression_of condition.now))) [] entries entries raised.old.words.items raised.new.words.items exits) }
+{
+    Ok(Exits::raising(raises_of(condition).add_to(raised)?))
 }
 
 // The ends of a receive.
