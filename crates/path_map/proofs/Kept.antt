@@ -158,7 +158,7 @@ kept-is [] set same (One e) kept = absurd (let no : false ≡ true = same e ∙ 
 kept-is (x ∷ xs) set same (One e) kept =
     let first : x ≡ e = kept.only x (sym (same x) ∙ rw (same-number x) refl) in
     let all : list_all (λ other. x == other) xs ≡ true =
-        all-same x xs (λ other there. kept.only other (sym (same other) ∙ rw there (or-true (other == x))) ∙ sym first) in
+    all-same x xs (λ other there. kept.only other (sym (same other) ∙ rw there (or-true (other == x))) ∙ sym first) in
     rw (all, first) refl
 kept-is [] set same Several kept = absurd (let no : false ≡ true = same kept.first ∙ kept.has_first in cc)
 kept-is (x ∷ xs) set same Several kept = go (list_all (λ other. x == other) xs) refl
@@ -225,17 +225,17 @@ join-assoc a b c =
     let y : List ℕ = list-of b in
     let z : List ℕ = list-of c in
     let left : raised_by ((x ++ y) ++ z) ≡ join_raised (join_raised a b) c =
-        raised-append (x ++ y) z
-        ∙ ap (λ r. join_raised r (raised_by z)) (raised-append x y)
-        ∙ ap (λ r. join_raised (join_raised r (raised_by y)) (raised_by z)) (raised-list-of a)
-        ∙ ap (λ r. join_raised (join_raised a r) (raised_by z)) (raised-list-of b)
-        ∙ ap (λ r. join_raised (join_raised a b) r) (raised-list-of c) in
+    raised-append (x ++ y) z
+    ∙ ap (λ r. join_raised r (raised_by z)) (raised-append x y)
+    ∙ ap (λ r. join_raised (join_raised r (raised_by y)) (raised_by z)) (raised-list-of a)
+    ∙ ap (λ r. join_raised (join_raised a r) (raised_by z)) (raised-list-of b)
+    ∙ ap (λ r. join_raised (join_raised a b) r) (raised-list-of c) in
     let right : raised_by (x ++ (y ++ z)) ≡ join_raised a (join_raised b c) =
-        raised-append x (y ++ z)
-        ∙ ap (λ r. join_raised (raised_by x) r) (raised-append y z)
-        ∙ ap (λ r. join_raised r (join_raised (raised_by y) (raised_by z))) (raised-list-of a)
-        ∙ ap (λ r. join_raised a (join_raised r (raised_by z))) (raised-list-of b)
-        ∙ ap (λ r. join_raised a (join_raised b r)) (raised-list-of c) in
+    raised-append x (y ++ z)
+    ∙ ap (λ r. join_raised (raised_by x) r) (raised-append y z)
+    ∙ ap (λ r. join_raised r (join_raised (raised_by y) (raised_by z))) (raised-list-of a)
+    ∙ ap (λ r. join_raised a (join_raised r (raised_by z))) (raised-list-of b)
+    ∙ ap (λ r. join_raised a (join_raised b r)) (raised-list-of c) in
     sym left ∙ (ap raised_by (append_assoc x y z) ∙ right)
 
 pub exits-assoc : (a b c : Exits) → join (join a b) c ≡ join a (join b c)

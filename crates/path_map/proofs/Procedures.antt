@@ -1,14 +1,21 @@
 -- The faults of a procedure, and the entries and faults of all of a program's.
-use Rattle.std.proofs.Common.{◌≡◌, refl, sym, ap, ◌∙◌, subst, ℕ, List, [], ◌∷◌, ◌++◌, Bool, true, false, not, ◌&&◌, ◌||◌, map, flat_map, append_assoc, append-nil}
+use Rattle.std.proofs.Common.{◌≡◌, refl, sym, ap, ◌∙◌, subst, ℕ, List, [], ◌∷◌, ◌++◌, Bool, true, false, not, ◌&&◌, ◌||◌, map, flat_map, append_assoc, append-nil, take, drop, get_or, length, ◌<◌, ◌≤◌, ◌+◌, suc}
 use Rattle.std.specs.Prelude.{◌==◌, if◌then◌else◌, is_some, Some, None, Option}
 use Rattle.std.specs.List.{list_all, list_any}
-use Rattle.std.proofs.lemmas.List.{map-append}
+use Rattle.std.proofs.lemmas.List.{map-append, take_more}
+use Rattle.std.proofs.Math.ListN.{drop_of_length-le}
+use Rattle.std.proofs.Math.Seq.{drop-cons}
+use Rattle.std.proofs.Math.Numerals.{add-one}
 use Rattle.std.proofs.lemmas.Bool.{eqb-true, and_parts}
 use Rattle.resolved.specs.declared.statement.Exit.{Exit}
 use Rattle.resolved.specs.declared.statement.Exit.TheVariants.{Normal, Return, Break, Continue, Throw}
+use Rattle.resolved.specs.declared.statement.Statement as S
+use Rattle.resolved.specs.TreeOf.{block_of}
 use Rattle.resolved.specs.declared.tables.ResultType.{ResultType}
-use Rattle.resolved.specs.Program.{Program, ProcedureEntry}
-use Rattle.resolved.specs.ProgramOf.{result_entry}
+use Rattle.resolved.specs.declared.tables.Thrown.{Thrown}
+use Rattle.resolved.specs.declared.tables.Procedure.{Procedure}
+use Rattle.resolved.specs.Program.{Program, ProcedureEntry, ThrownEntry}
+use Rattle.resolved.specs.ProgramOf.{result_entry, thrown_entry, procedure_entry}
 use Rattle.resolved.specs.Ends.{same_exit, has_end, thrown_ends, declared_by, block_ends}
 use Rattle.resolved.specs.EndFaults.{EndFault, NoValueReturned, Undeclared, fault_unless, may_end, block_faults, procedure_faults}
 use Rattle.path_map.specs.declared.exits.Exits.{Exits}
@@ -18,8 +25,9 @@ use Rattle.path_map.specs.declared.fault.EndsFault.TheVariants.{NoMemory, Refuse
 use Rattle.path_map.specs.FirstFault.{IsFirst}
 use Rattle.path_map.specs.Exits.{exits_of}
 use Rattle.path_map.specs.Paths.{block_paths}
-use Rattle.path_map.specs.Sets.{AreDeclared, HasUndeclared, is_one_of, throws}
-use Rattle.path_map.proofs.Kept.{same-number, or-true, throws-thrown}
+use Rattle.path_map.specs.Sets.{AreDeclared, HasUndeclared, is_one_of, row_has, throws}
+use Rattle.path_map.specs.Walks.{IsFound}
+use Rattle.path_map.proofs.Kept.{same-number, or-true, or-false, any-append, throws-thrown}
 use Rattle.path_map.proofs.Walking.{first-left, first-right, none-both}
 
 same-is : (x y : Exit) → same_exit x y ≡ true → x ≡ y
@@ -94,10 +102,10 @@ module _ (program : Program) (procedure : ProcedureEntry) where
       (first-left (block_faults program false true procedure.body)
       (fault_unless (not (is_some procedure.result && has_end (block_ends program procedure.body) Normal)) NoValueReturned procedure.at) fault first)
 
-  pub no-value-first : block_faults program false true procedure.body ≡ [] → is_some procedure.result ≡ true
-      → has_end (block_ends program procedure.body) Normal ≡ true
+  pub no-value-first : block_faults program false true procedure.body ≡ []
+      → (is_some procedure.result && has_end (block_ends program procedure.body) Normal) ≡ true
       → IsFirst (procedure_faults program procedure) (Refused (record { defect = defect.NoValueReturned; at = procedure.at }))
-  no-value-first clean result normal = rw (clean, result, normal) refl
+  no-value-first clean value = rw (clean, value) refl
 
   pub undeclared-first : block_faults program false true procedure.body ≡ []
       → (is_some procedure.result && has_end (block_ends program procedure.body) Normal) ≡ false
@@ -110,6 +118,39 @@ module _ (program : Program) (procedure : ProcedureEntry) where
       → list_all (may_end procedure) (block_ends program procedure.body) ≡ true
       → procedure_faults program procedure ≡ []
   no-faults clean value ends = rw (clean, value, ends) refl
+
+-- what a walk along a procedure's body has found of its ends
+pub record Ended (program : Program) (procedure : ProcedureEntry) (raised : List ℕ) (exits : Exits) : Type 0 where
+  pub kept : exits ≡ exits_of (block_ends program procedure.body)
+  pub same : (e : ℕ) → row_has raised e ≡ throws (block_ends program procedure.body) e
+  pub clean : block_faults program false true procedure.body ≡ []
+  pub value : (is_some procedure.result && has_end (block_ends program procedure.body) Normal) ≡ (is_some procedure.result && exits.normal)
+
+pub walked : (program : Program) (procedure : Procedure) (body : List S.Statement) (old new : List Exits) (none raised : List ℕ) (exits : Exits)
+    → body ≡ procedure.body.items → ((e : ℕ) → row_has none e ≡ false)
+    → IsFound (block_ends program (block_of body)) (block_paths program (block_of body)) old new none raised exits
+    → block_faults program false true (block_of body) ≡ []
+    → Ended program (procedure_entry procedure) raised exits
+walked program procedure body old new none raised exits lent empty found clean =
+    let kept : exits ≡ exits_of (block_ends program (block_of procedure.body.items)) =
+    found.kept ∙ ap (λ list. exits_of (block_ends program (block_of list))) lent in
+    record {
+      kept = kept;
+      same = λ e.
+          found.raised.has e ∙ ap (λ b. b || throws (block_ends program (block_of body)) e) (empty e)
+          ∙ ap (λ list. throws (block_ends program (block_of list)) e) lent;
+      clean = sym (ap (λ list. block_faults program false true (block_of list)) lent) ∙ clean;
+      value = ap (λ (x : Exits). is_some (result_entry procedure.result) && x.normal) (sym kept);
+    }
+
+pub all-may-end : (program : Program) (procedure : Procedure) (list : List Thrown) (raised : List ℕ) (exits : Exits) (declared : Bool)
+    → list ≡ procedure.throws.items → Ended program (procedure_entry procedure) raised exits
+    → AreDeclared (row_has raised) (declared_by (map thrown_entry list)) declared
+    → list_all (may_end (procedure_entry procedure)) (block_ends program (block_of procedure.body.items)) ≡ not (exits.breaks || (exits.continues || not declared))
+all-may-end program procedure list raised exits declared lent ended are =
+    may-all (procedure_entry procedure) (block_ends program (block_of procedure.body.items)) (row_has raised) declared ended.same
+    (subst (λ throws. AreDeclared (row_has raised) (declared_by (map thrown_entry throws)) declared) lent are)
+    ∙ ap (λ (x : Exits). not (x.breaks || (x.continues || not declared))) (sym ended.kept)
 
 -- along the procedures of a program
 pub record Beside (program : Program) (all tail : List ProcedureEntry) (now : List Exits) : Type 0 where
@@ -150,3 +191,29 @@ module _ (program : Program) (all : List ProcedureEntry) where
 
   pub beside-clean : (now : List Exits) → Beside program all [] now → flat_map (procedure_faults program) all ≡ []
   beside-clean now along = sym along.faults
+
+-- along declared exceptions
+pub not-more : (a b c : Bool) → ((a && not b) && not c) ≡ (a && not (b || c))
+not-more false b c = refl
+not-more true true c = refl
+not-more true false c = refl
+
+pub declared-more : (throws : List Thrown) (i : ℕ) (thrown : Thrown) → i < length throws → thrown ≡ get_or throws i thrown → (e : ℕ)
+    → is_one_of (declared_by (map thrown_entry (take (i + 1) throws))) e
+    ≡ (is_one_of (declared_by (map thrown_entry (take i throws))) e || (e == thrown.exception))
+declared-more throws i thrown inside is e =
+    ap (λ list. is_one_of (declared_by (map thrown_entry list)) e) (take_more throws i thrown inside ∙ ap (λ t. take i throws ++ t ∷ []) (sym is))
+    ∙ ap (λ list. is_one_of (declared_by list) e) (map-append thrown_entry (take i throws) (thrown ∷ []))
+    ∙ ap (λ list. is_one_of list e) (map-append (λ (entry : ThrownEntry). entry.exception) (map thrown_entry (take i throws)) (map thrown_entry (thrown ∷ [])))
+    ∙ any-append (λ other. e == other) (declared_by (map thrown_entry (take i throws))) (thrown.exception ∷ [])
+    ∙ ap (λ b. is_one_of (declared_by (map thrown_entry (take i throws))) e || b) (or-false (e == thrown.exception))
+
+-- along procedures
+pub next-procedure : (procedures : List Procedure) (i : ℕ) (procedure : Procedure) → i < length procedures → procedure ≡ get_or procedures i procedure
+    → map procedure_entry (drop i procedures) ≡ procedure_entry procedure ∷ map procedure_entry (drop (i + 1) procedures)
+next-procedure procedures i procedure inside is =
+    ap (map procedure_entry) (drop-cons procedures i procedure inside ∙ ap (λ p. p ∷ drop (suc i) procedures) (sym is))
+    ∙ ap (λ n. procedure_entry procedure ∷ map procedure_entry (drop n procedures)) (sym (add-one i))
+
+pub last-procedure : (procedures : List Procedure) (i : ℕ) → length procedures ≤ i → map procedure_entry (drop i procedures) ≡ []
+last-procedure procedures i past = ap (map procedure_entry) (drop_of_length-le procedures past)

@@ -52,16 +52,16 @@ module _ (words : List ℕ) (e word v : ℕ) (inside : e / 64 < length words) (w
       go true f true g =
           let same : other ≡ e = same-exception e other (eqb-true (other / 64) (e / 64) f) (eqb-true (other % 64) (e % 64) g) in
           let bit : bit_at v (other % 64) ≡ 1 =
-              ap (λ k. bit_at v k) (eqb-true (other % 64) (e % 64) g) ∙ ap (λ n. bit_at n (e % 64)) is
-              ∙ bit_at_set_same w64 word (e % 64) (omega arith) in
+          ap (λ k. bit_at v k) (eqb-true (other % 64) (e % 64) g) ∙ ap (λ n. bit_at n (e % 64)) is
+          ∙ bit_at_set_same w64 word (e % 64) (omega arith) in
           write-same words e other v inside (eqb-true (other / 64) (e / 64) f)
           ∙ ap (λ n. n == 1) bit
           ∙ sym (ap (λ b. row_has words other || b) (eq-eqb other e same) ∙ or-true (row_has words other))
       go true f false g =
           let differs : (other == e) ≡ false = ne_eqb other e (λ same. eqb-false (other % 64) (e % 64) g (ap (λ n. n % 64) same)) in
           let bit : bit_at v (other % 64) ≡ bit_at word (other % 64) =
-              ap (λ n. bit_at n (other % 64)) is
-              ∙ bit_at_set_other w64 word (e % 64) (omega arith) (other % 64) (eqb-false (other % 64) (e % 64) g) in
+          ap (λ n. bit_at n (other % 64)) is
+          ∙ bit_at_set_other w64 word (e % 64) (omega arith) (other % 64) (eqb-false (other % 64) (e % 64) g) in
           write-same words e other v inside (eqb-true (other / 64) (e / 64) f)
           ∙ ap (λ n. n == 1) (bit ∙ ap (λ n. bit_at n (other % 64)) was)
           ∙ sym (read-same words e other (eqb-true (other / 64) (e / 64) f))
@@ -90,16 +90,16 @@ module _ (words : List ℕ) (e word v : ℕ) (inside : e / 64 < length words) (w
       go true f true g =
           let same : other ≡ e = same-exception e other (eqb-true (other / 64) (e / 64) f) (eqb-true (other % 64) (e % 64) g) in
           let bit : bit_at v (other % 64) ≡ 0 =
-              ap (λ k. bit_at v k) (eqb-true (other % 64) (e % 64) g) ∙ ap (λ n. bit_at n (e % 64)) is
-              ∙ bit_at_clear_same w64 word (e % 64) (omega arith) in
+          ap (λ k. bit_at v k) (eqb-true (other % 64) (e % 64) g) ∙ ap (λ n. bit_at n (e % 64)) is
+          ∙ bit_at_clear_same w64 word (e % 64) (omega arith) in
           write-same words e other v inside (eqb-true (other / 64) (e / 64) f)
           ∙ ap (λ n. n == 1) bit
           ∙ (and_false (row_has words other) ∙ ap (λ b. row_has words other && not b) (sym (eq-eqb other e same)))
       go true f false g =
           let differs : (other == e) ≡ false = ne_eqb other e (λ same. eqb-false (other % 64) (e % 64) g (ap (λ n. n % 64) same)) in
           let bit : bit_at v (other % 64) ≡ bit_at word (other % 64) =
-              ap (λ n. bit_at n (other % 64)) is
-              ∙ bit_at_clear_other w64 word (e % 64) (omega arith) (other % 64) (omega arith) (eqb-false (other % 64) (e % 64) g) in
+          ap (λ n. bit_at n (other % 64)) is
+          ∙ bit_at_clear_other w64 word (e % 64) (omega arith) (other % 64) (omega arith) (eqb-false (other % 64) (e % 64) g) in
           write-same words e other v inside (eqb-true (other / 64) (e / 64) f)
           ∙ ap (λ n. n == 1) (bit ∙ ap (λ n. bit_at n (other % 64)) was)
           ∙ sym (read-same words e other (eqb-true (other / 64) (e / 64) f))
@@ -142,7 +142,7 @@ take-row words i e = go (nat_eq (e / 64) i) refl (ltb (e / 64) i) refl
     go true f q g =
         let here : e / 64 ≡ i = eqb-true (e / 64) i f in
         let before : row_has (take i words) e ≡ false =
-            past-row (take i words) e (omega (arith, length-take i words)) in
+        past-row (take i words) e (omega (arith, length-take i words)) in
         rw (before, f) (ap (λ word. bit_at word (e % 64) == 1)
         (get_or-take (i + 1) words (e / 64) 0 (omega arith) ∙ ap (λ n. get_or words n 0) here))
     go false f true g =
@@ -153,8 +153,11 @@ take-row words i e = go (nat_eq (e / 64) i) refl (ltb (e / 64) i) refl
     go false f false g =
         let above : i ≤ e / 64 = ltb-false (e / 64) i g in
         let differs : e / 64 ≢ i = eqb-false (e / 64) i f in
-        rw (past-row (take (i + 1) words) e (omega (arith, length-take (i + 1) words)),
-        past-row (take i words) e (omega (arith, length-take i words)), f) refl
+        rw (
+          past-row (take (i + 1) words) e (omega (arith, length-take (i + 1) words)),
+          past-row (take i words) e (omega (arith, length-take i words)),
+          f,
+        ) refl
 
 -- a word that was joined with another
 module _ (words : List ℕ) (i word v : ℕ) (inside : i < length words) (is : v ≡ bit_or (get_or words i 0) word) where
@@ -208,12 +211,12 @@ module _ (word index lowest others : ℕ) (fits : word < 2 ^ 64) (some : 0 < wor
         only = λ e there.
             let at = member-word word index e there in
             let bits : (e % 64 ≢ lowest) → ⊥ = λ differs.
-                let clear : bit_at (bit_and word (bit_not w64 (1 * 2 ^ lowest % 2 ^ 64))) (e % 64) ≡ bit_at word (e % 64) =
-                    bit_at_clear_other w64 word lowest within (e % 64) (omega arith) differs in
-                let zero : bit_at word (e % 64) ≡ 0 =
-                    sym clear ∙ (ap (λ n. bit_at n (e % 64)) (sym rest ∙ none) ∙ bit_at-zero (e % 64)) in
-                let one : bit_at word (e % 64) ≡ 1 = at.1 in
-                omega arith in
+            let clear : bit_at (bit_and word (bit_not w64 (1 * 2 ^ lowest % 2 ^ 64))) (e % 64) ≡ bit_at word (e % 64) =
+            bit_at_clear_other w64 word lowest within (e % 64) (omega arith) differs in
+            let zero : bit_at word (e % 64) ≡ 0 =
+            sym clear ∙ (ap (λ n. bit_at n (e % 64)) (sym rest ∙ none) ∙ bit_at-zero (e % 64)) in
+            let one : bit_at word (e % 64) ≡ 1 = at.1 in
+            omega arith in
             let index_is : e / 64 ≡ index = at.0 in
             elim (cases_eq (e % 64) lowest) [ inl same ↦ omega arith | inr differs ↦ absurd (bits differs) ];
       }
@@ -226,12 +229,12 @@ module _ (word index lowest others : ℕ) (fits : word < 2 ^ 64) (some : 0 < wor
       let other : ℕ = trailing_zeros w64 others in
       let other_within : other < 64 = h.0 in
       let cleared : bit_at others lowest ≡ 0 =
-          ap (λ n. bit_at n lowest) rest ∙ bit_at_clear_same w64 word lowest within in
+      ap (λ n. bit_at n lowest) rest ∙ bit_at_clear_same w64 word lowest within in
       let differs : other ≢ lowest = λ same.
-          let one : bit_at others lowest ≡ 1 = ap (λ k. bit_at others k) (sym same) ∙ h.1 in
-          omega arith in
+      let one : bit_at others lowest ≡ 1 = ap (λ k. bit_at others k) (sym same) ∙ h.1 in
+      omega arith in
       let kept : bit_at others other ≡ bit_at word other =
-          ap (λ n. bit_at n other) rest ∙ bit_at_clear_other w64 word lowest within other other_within differs in
+      ap (λ n. bit_at n other) rest ∙ bit_at_clear_other w64 word lowest within other other_within differs in
       record {
         first = index * 64 + lowest;
         second = index * 64 + other;

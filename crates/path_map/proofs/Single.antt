@@ -354,3 +354,29 @@ pub joined-is : (kept : Exits) (ends : List Exit) → kept ≡ exits_of ends
 joined-is kept ends is =
     ap (λ (x : Exits). record x { normal = x.normal || x.returns; returns = false }) is
     ∙ sym (rw (normal-joined ends, return-joined ends, break-joined ends, continue-joined ends, thrown-joined ends) refl)
+
+-- several ends have no single one
+pub more-normal : (r : Raised) → (r ≡ Nothing → ⊥) → None ≡ single_of true false false false r
+more-normal Nothing more = absurd (more refl)
+more-normal (One e) more = refl
+more-normal Several more = refl
+
+pub more-return : (r : Raised) → (r ≡ Nothing → ⊥) → None ≡ single_of false true false false r
+more-return Nothing more = absurd (more refl)
+more-return (One e) more = refl
+more-return Several more = refl
+
+pub more-break : (r : Raised) → (r ≡ Nothing → ⊥) → None ≡ single_of false false true false r
+more-break Nothing more = absurd (more refl)
+more-break (One e) more = refl
+more-break Several more = refl
+
+pub more-continue : (r : Raised) → (r ≡ Nothing → ⊥) → None ≡ single_of false false false true r
+more-continue Nothing more = absurd (more refl)
+more-continue (One e) more = refl
+more-continue Several more = refl
+
+pub more-throws : (r : Raised) → ((e : ℕ) → r ≡ One e → ⊥) → None ≡ single_of false false false false r
+more-throws Nothing more = refl
+more-throws (One e) more = absurd (more e refl)
+more-throws Several more = refl

@@ -106,7 +106,7 @@ module _ (b h : List Exit) (handlers : Handlers) (pb ph : List (List Exit)) (e0 
   try-found =
       let passing : List Exit = filter (passes handlers) b in
       let is : k ≡ raised_by (thrown_in passing) =
-          kept-is (thrown_in passing) (row_has i2) (λ e. throws-in passing e ∙ pass-throws e) k kept in
+      kept-is (thrown_in passing) (row_has i2) (λ e. throws-in passing e ∙ pass-throws e) k kept in
       record {
         kept =
             ap (λ (z : Exits). join (record z { raised = k }) y) tried.kept

@@ -7,7 +7,7 @@ ghost use Rattle.resolved.specs.CoreOf.{program_of};
 ghost use Rattle.resolved.specs.EndFaults.{end_faults, procedure_faults};
 ghost use Rattle.resolved.specs.Ends.{declared_by};
 ghost use Rattle.resolved.specs.ProgramOf.{procedure_entry, thrown_entry};
-ghost use Rattle.std.specs.Prelude.{IfErr, IfOk, OnOk, [], map, ◌++◌, ◌≡◌};
+ghost use Rattle.std.specs.Prelude.{IfErr, IfOk, OnOk, [], is_some, map, not, ◌&&◌, ◌++◌, ◌||◌, ◌≡◌};
 
 use crate::exits::{Exits, Raised};
 use crate::fault::{EndDefect, EndsFault};
@@ -54,14 +54,28 @@ fn walk_procedure(
 {
     let mut raised = ExceptionSet::new(walk.alloc);
     let exits = walk_block(walk, false, &procedure.body, entries, &mut raised)?;
-    if procedure.result.is_some() && exits.normal {
+    if lacks_value(procedure, exits) {
         return Err(refused(EndDefect::NoValueReturned, procedure.at));
     }
     let declared = are_declared(&procedure.throws, &mut raised);
-    if exits.breaks || exits.continues || !declared {
+    if lets_out(exits, declared) {
         return Err(refused(EndDefect::Undeclared, procedure.at));
     }
     Ok(())
+}
+
+// Whether a procedure has a value and its body, with these ends, can end without one.
+fn lacks_value(procedure: &Procedure, exits: Exits) -> bool
+    ensures { result ≡ (is_some (procedure_entry procedure.now).result && exits.normal) }
+{
+    procedure.result.is_some() && exits.normal
+}
+
+// Whether a body with these ends can end as no procedure may. Its exceptions are declared or not.
+fn lets_out(exits: Exits, declared: bool) -> bool
+    ensures { result ≡ (exits.breaks || (exits.continues || not declared)) }
+{
+    exits.breaks || exits.continues || !declared
 }
 
 // Whether all exceptions of a set are declared. Those that are, are taken out.

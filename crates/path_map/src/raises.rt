@@ -13,6 +13,7 @@ use resolved::expression::{Expression, Operator, Prefix};
 use std::alloc::AllocError;
 
 const ARITH: u32 = 0;
+
 const BOUNDS: u32 = 1;
 // The greatest number; literals above it mean negative numbers.
 const MAX_NUMBER: u32 = 2_147_483_647;

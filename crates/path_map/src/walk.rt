@@ -250,11 +250,7 @@ fn call(
 }
 
 // What is kept of the exceptions that a procedure declares, which are added to a set.
-fn add_declared(
-    walk: &Walk,
-    callee: u32,
-    set: &mut ExceptionSet,
-) -> Result<Raised, AllocError>
+fn add_declared(walk: &Walk, callee: u32, set: &mut ExceptionSet) -> Result<Raised, AllocError>
     ensures kept { IfOk result (λ kept. kept ≡ raised_by (declared_by (procedure_at (program_of walk.now.core.now) callee).throws)) }
     ensures added { OnOk result (IsSum set.old.words.items (is_one_of (declared_by (procedure_at (program_of walk.now.core.now) callee).throws)) set.new.words.items) }
 {

@@ -126,11 +126,11 @@ pub walk_form-returns-in_err-yes-in-If-clause-first_fault : goal.walk_form-retur
 walk_form-returns-in_err-yes-in-If-clause-first_fault t c =
     let program = program_of c.args.walk.now.core.now in
     let first : IsFirst (inner_faults program c.args.in_loop (statement_of c.args.statement.now)) c.in_err-yes-in-If.field-0.0 =
-        first-at program c.args.statement.now (T.If c.in-If.field-0 (expression_of c.in-If.condition) (block_of c.deref-in-If.result.now) (block_of c.in-If.no_block.items))
-        (tree-if c.args.statement.now c.in-If.field-0 c.in-If.condition c.in-If.yes_block c.in-If.no_block c.deref-in-If.result.now c.in-If.no_block.items c.in-If.is c.deref-in-If.ensures.value refl)
-        c.args.in_loop c.in_err-yes-in-If.field-0.0
-        (first-left (block_faults program c.args.in_loop true (block_of c.deref-in-If.result.now)) (block_faults program c.args.in_loop true (block_of c.in-If.no_block.items)) c.in_err-yes-in-If.field-0.0
-        c.in_err-yes-in-If.ensures.first_fault) in
+    first-at program c.args.statement.now (T.If c.in-If.field-0 (expression_of c.in-If.condition) (block_of c.deref-in-If.result.now) (block_of c.in-If.no_block.items))
+    (tree-if c.args.statement.now c.in-If.field-0 c.in-If.condition c.in-If.yes_block c.in-If.no_block c.deref-in-If.result.now c.in-If.no_block.items c.in-If.is c.deref-in-If.ensures.value refl)
+    c.args.in_loop c.in_err-yes-in-If.field-0.0
+    (first-left (block_faults program c.args.in_loop true (block_of c.deref-in-If.result.now)) (block_faults program c.args.in_loop true (block_of c.in-If.no_block.items)) c.in_err-yes-in-If.field-0.0
+    c.in_err-yes-in-If.ensures.first_fault) in
     search (rules, first)
 
 pub walk_form-returns-in_err-no-in-If-clause-first_fault : goal.walk_form-returns-in_err-no-in-If-clause-first_fault
@@ -139,11 +139,11 @@ walk_form-returns-in_err-no-in-If-clause-first_fault t c =
     let yes_block = block_of c.deref-in-If.result.now in
     let no_block = block_of c.deref-in-If-2.result.now in
     let first : IsFirst (inner_faults program c.args.in_loop (statement_of c.args.statement.now)) c.in_err-no-in-If.field-0.0 =
-        first-at program c.args.statement.now (T.If c.in-If.field-0 (expression_of c.in-If.condition) yes_block no_block)
-        (tree-if c.args.statement.now c.in-If.field-0 c.in-If.condition c.in-If.yes_block c.in-If.no_block c.deref-in-If.result.now c.deref-in-If-2.result.now c.in-If.is c.deref-in-If.ensures.value c.deref-in-If-2.ensures.value)
-        c.args.in_loop c.in_err-no-in-If.field-0.0
-        (first-right (block_faults program c.args.in_loop true yes_block) (block_faults program c.args.in_loop true no_block) c.in_err-no-in-If.field-0.0
-        c.in_ok-yes-in-If.ensures.accepted c.in_err-no-in-If.ensures.first_fault) in
+    first-at program c.args.statement.now (T.If c.in-If.field-0 (expression_of c.in-If.condition) yes_block no_block)
+    (tree-if c.args.statement.now c.in-If.field-0 c.in-If.condition c.in-If.yes_block c.in-If.no_block c.deref-in-If.result.now c.deref-in-If-2.result.now c.in-If.is c.deref-in-If.ensures.value c.deref-in-If-2.ensures.value)
+    c.args.in_loop c.in_err-no-in-If.field-0.0
+    (first-right (block_faults program c.args.in_loop true yes_block) (block_faults program c.args.in_loop true no_block) c.in_err-no-in-If.field-0.0
+    c.in_ok-yes-in-If.ensures.accepted c.in_err-no-in-If.ensures.first_fault) in
     search (rules, first)
 
 -- `while`
@@ -170,9 +170,9 @@ pub walk_form-returns-in_err-body-in-While-clause-first_fault : goal.walk_form-r
 walk_form-returns-in_err-body-in-While-clause-first_fault t c =
     let program = program_of c.args.walk.now.core.now in
     let first : IsFirst (inner_faults program c.args.in_loop (statement_of c.args.statement.now)) c.in_err-body-in-While.field-0.0 =
-        first-at program c.args.statement.now (T.While c.in-While.field-0 c.in-While.field-1 (expression_of c.in-While.condition) (block_of c.deref-in-While.result.now))
-        (tree-while c.args.statement.now c.in-While.field-0 c.in-While.field-1 c.in-While.condition c.in-While.body c.deref-in-While.result.now c.in-While.is c.deref-in-While.ensures.value)
-        c.args.in_loop c.in_err-body-in-While.field-0.0 c.in_err-body-in-While.ensures.first_fault in
+    first-at program c.args.statement.now (T.While c.in-While.field-0 c.in-While.field-1 (expression_of c.in-While.condition) (block_of c.deref-in-While.result.now))
+    (tree-while c.args.statement.now c.in-While.field-0 c.in-While.field-1 c.in-While.condition c.in-While.body c.deref-in-While.result.now c.in-While.is c.deref-in-While.ensures.value)
+    c.args.in_loop c.in_err-body-in-While.field-0.0 c.in_err-body-in-While.ensures.first_fault in
     search (rules, first)
 
 -- `try`
@@ -209,11 +209,11 @@ walk_form-returns-in_err-tried-in-Try-clause-first_fault t c =
     let block = block_of c.deref-in-Try.result.now in
     let handlers = handlers_of c.in-Try.handlers.items in
     let first : IsFirst (inner_faults program c.args.in_loop (statement_of c.args.statement.now)) c.in_err-tried-in-Try.field-0.0 =
-        first-at program c.args.statement.now (T.Try c.in-Try.field-0 block handlers)
-        (tree-try c.args.statement.now c.in-Try.field-0 c.in-Try.block c.in-Try.handlers c.deref-in-Try.result.now c.in-Try.handlers.items c.in-Try.is c.deref-in-Try.ensures.value refl)
-        c.args.in_loop c.in_err-tried-in-Try.field-0.0
-        (first-left (block_faults program c.args.in_loop true block) (handlers_faults program c.args.in_loop (block_ends program block) handlers) c.in_err-tried-in-Try.field-0.0
-        c.in_err-tried-in-Try.ensures.first_fault) in
+    first-at program c.args.statement.now (T.Try c.in-Try.field-0 block handlers)
+    (tree-try c.args.statement.now c.in-Try.field-0 c.in-Try.block c.in-Try.handlers c.deref-in-Try.result.now c.in-Try.handlers.items c.in-Try.is c.deref-in-Try.ensures.value refl)
+    c.args.in_loop c.in_err-tried-in-Try.field-0.0
+    (first-left (block_faults program c.args.in_loop true block) (handlers_faults program c.args.in_loop (block_ends program block) handlers) c.in_err-tried-in-Try.field-0.0
+    c.in_err-tried-in-Try.ensures.first_fault) in
     search (rules, first)
 
 pub walk_form-returns-in_err-handled-in-Try-clause-first_fault : goal.walk_form-returns-in_err-handled-in-Try-clause-first_fault
@@ -222,14 +222,14 @@ walk_form-returns-in_err-handled-in-Try-clause-first_fault t c =
     let block = block_of c.deref-in-Try.result.now in
     let handlers = handlers_of c.deref-in-Try-2.result.now in
     let first : IsFirst (inner_faults program c.args.in_loop (statement_of c.args.statement.now)) c.in_err-handled-in-Try.field-0.0 =
-        first-at program c.args.statement.now (T.Try c.in-Try.field-0 block handlers)
-        (tree-try c.args.statement.now c.in-Try.field-0 c.in-Try.block c.in-Try.handlers c.deref-in-Try.result.now c.deref-in-Try-2.result.now c.in-Try.is c.deref-in-Try.ensures.value c.deref-in-Try-2.ensures.value)
-        c.args.in_loop c.in_err-handled-in-Try.field-0.0
-        (first-right (block_faults program c.args.in_loop true block) (handlers_faults program c.args.in_loop (block_ends program block) handlers) c.in_err-handled-in-Try.field-0.0
-        c.in_ok-tried-in-Try.ensures.accepted
-        (c.in_err-handled-in-Try.ensures.first_fault (block_ends program block)
-        (tried-throws program c.in-Try.field-0 block handlers c.args.entries.now.items c.walk_block-in-Try.new.entries.items c.new-inner.result.words.items c.walk_block-in-Try.new.raised.words.items c.in_ok-tried-in-Try.tried
-        c.new-inner.ensures c.in_ok-tried-in-Try.ensures.found))) in
+    first-at program c.args.statement.now (T.Try c.in-Try.field-0 block handlers)
+    (tree-try c.args.statement.now c.in-Try.field-0 c.in-Try.block c.in-Try.handlers c.deref-in-Try.result.now c.deref-in-Try-2.result.now c.in-Try.is c.deref-in-Try.ensures.value c.deref-in-Try-2.ensures.value)
+    c.args.in_loop c.in_err-handled-in-Try.field-0.0
+    (first-right (block_faults program c.args.in_loop true block) (handlers_faults program c.args.in_loop (block_ends program block) handlers) c.in_err-handled-in-Try.field-0.0
+    c.in_ok-tried-in-Try.ensures.accepted
+    (c.in_err-handled-in-Try.ensures.first_fault (block_ends program block)
+    (tried-throws program c.in-Try.field-0 block handlers c.args.entries.now.items c.walk_block-in-Try.new.entries.items c.new-inner.result.words.items c.walk_block-in-Try.new.raised.words.items c.in_ok-tried-in-Try.tried
+    c.new-inner.ensures c.in_ok-tried-in-Try.ensures.found))) in
     search (rules, first)
 
 -- a block in braces
@@ -241,9 +241,9 @@ walk_form-returns-in-Nested-clause-found t c =
     (λ x. IsFound (block_ends program block) (block_paths program block) c.args.entries.now.items c.walk_block-in-Nested.new.entries.items c.args.raised.now.words.items c.walk_block-in-Nested.new.raised.words.items x)
     (λ x. IsFound (statement_ends program (statement_of c.args.statement.now)) (inner_paths program (statement_of c.args.statement.now)) c.args.entries.now.items c.walk_block-in-Nested.new.entries.items c.args.raised.now.words.items c.walk_block-in-Nested.new.raised.words.items x)
     (λ x found.
-        found-at program c.args.statement.now (T.Nested c.in-Nested.field-0 block)
-        (tree-nested c.args.statement.now c.in-Nested.field-0 c.in-Nested.block c.deref-in-Nested.result.now c.in-Nested.is c.deref-in-Nested.ensures.value)
-        c.args.entries.now.items c.walk_block-in-Nested.new.entries.items c.args.raised.now.words.items c.walk_block-in-Nested.new.raised.words.items x found)
+    found-at program c.args.statement.now (T.Nested c.in-Nested.field-0 block)
+    (tree-nested c.args.statement.now c.in-Nested.field-0 c.in-Nested.block c.deref-in-Nested.result.now c.in-Nested.is c.deref-in-Nested.ensures.value)
+    c.args.entries.now.items c.walk_block-in-Nested.new.entries.items c.args.raised.now.words.items c.walk_block-in-Nested.new.raised.words.items x found)
     c.walk_block-in-Nested.ensures.found
 
 pub walk_form-returns-in-Nested-clause-accepted : goal.walk_form-returns-in-Nested-clause-accepted
@@ -252,9 +252,9 @@ walk_form-returns-in-Nested-clause-accepted t c =
     let block = block_of c.deref-in-Nested.result.now in
     on_ok_weaker c.walk_block-in-Nested.result
     (λ (none : block_faults program c.args.in_loop true block ≡ []).
-        faults-at program c.args.statement.now (T.Nested c.in-Nested.field-0 block)
-        (tree-nested c.args.statement.now c.in-Nested.field-0 c.in-Nested.block c.deref-in-Nested.result.now c.in-Nested.is c.deref-in-Nested.ensures.value)
-        c.args.in_loop none)
+    faults-at program c.args.statement.now (T.Nested c.in-Nested.field-0 block)
+    (tree-nested c.args.statement.now c.in-Nested.field-0 c.in-Nested.block c.deref-in-Nested.result.now c.in-Nested.is c.deref-in-Nested.ensures.value)
+    c.args.in_loop none)
     c.walk_block-in-Nested.ensures.accepted
 
 pub walk_form-returns-in-Nested-clause-first_fault : goal.walk_form-returns-in-Nested-clause-first_fault
@@ -265,9 +265,9 @@ walk_form-returns-in-Nested-clause-first_fault t c =
     (λ fault. IsFirst (block_faults program c.args.in_loop true block) fault)
     (λ fault. IsFirst (inner_faults program c.args.in_loop (statement_of c.args.statement.now)) fault)
     (λ fault first.
-        first-at program c.args.statement.now (T.Nested c.in-Nested.field-0 block)
-        (tree-nested c.args.statement.now c.in-Nested.field-0 c.in-Nested.block c.deref-in-Nested.result.now c.in-Nested.is c.deref-in-Nested.ensures.value)
-        c.args.in_loop fault first)
+    first-at program c.args.statement.now (T.Nested c.in-Nested.field-0 block)
+    (tree-nested c.args.statement.now c.in-Nested.field-0 c.in-Nested.block c.deref-in-Nested.result.now c.in-Nested.is c.deref-in-Nested.ensures.value)
+    c.args.in_loop fault first)
     c.walk_block-in-Nested.ensures.first_fault
 
 -- along the statements of a block
@@ -278,8 +278,8 @@ walk_statements-returns-then-not-may_stand-clause-first_fault t c =
     let statement = statement_of c.statement-item.result in
     let tail = block_of (drop (c.loop-statement.statement-index + 1) c.args.block.now) in
     let along : Along program c.args.in_loop block (T.Then statement tail) c.args.entries.now.items c.loop-statement.entries.items c.args.raised.now.words.items c.loop-statement.raised.words.items c.loop-statement.exits =
-        subst (λ rest. Along program c.args.in_loop block rest c.args.entries.now.items c.loop-statement.entries.items c.args.raised.now.words.items c.loop-statement.raised.words.items c.loop-statement.exits)
-        (next-statement c.args.block.now c.loop-statement.statement-index c.statement-item.result c.loop-statement-test.true c.statement-item.is) c.loop-statement.invariant in
+    subst (λ rest. Along program c.args.in_loop block rest c.args.entries.now.items c.loop-statement.entries.items c.args.raised.now.words.items c.loop-statement.raised.words.items c.loop-statement.exits)
+    (next-statement c.args.block.now c.loop-statement.statement-index c.statement-item.result c.loop-statement-test.true c.statement-item.is) c.loop-statement.invariant in
     subst (λ fault. IsFirst (block_faults program c.args.in_loop true block) fault)
     (sym (c.refused.ensures ∙ ap (λ at. Refused (record { defect = defect.OutsideLoop; at = at })) c.at.ensures))
     (outside program c.args.in_loop block c.args.entries.now.items c.args.raised.now.words.items statement tail c.loop-statement.entries.items c.loop-statement.raised.words.items c.loop-statement.exits along
@@ -292,8 +292,8 @@ walk_statements-loop-statement-preserved t c =
     let statement = statement_of c.statement-item.result in
     let tail = block_of (drop (c.loop-statement.statement-index + 1) c.args.block.now) in
     let along : Along program c.args.in_loop block (T.Then statement tail) c.args.entries.now.items c.loop-statement.entries.items c.args.raised.now.words.items c.loop-statement.raised.words.items c.loop-statement.exits =
-        subst (λ rest. Along program c.args.in_loop block rest c.args.entries.now.items c.loop-statement.entries.items c.args.raised.now.words.items c.loop-statement.raised.words.items c.loop-statement.exits)
-        (next-statement c.args.block.now c.loop-statement.statement-index c.statement-item.result c.loop-statement-test.true c.statement-item.is) c.loop-statement.invariant in
+    subst (λ rest. Along program c.args.in_loop block rest c.args.entries.now.items c.loop-statement.entries.items c.args.raised.now.words.items c.loop-statement.raised.words.items c.loop-statement.exits)
+    (next-statement c.args.block.now c.loop-statement.statement-index c.statement-item.result c.loop-statement-test.true c.statement-item.is) c.loop-statement.invariant in
     subst (λ exits. Along program c.args.in_loop block tail c.args.entries.now.items c.walk_statement.new.entries.items c.args.raised.now.words.items c.walk_statement.new.raised.words.items exits)
     (sym c.then-exits.ensures)
     (along-step program c.args.in_loop block c.args.entries.now.items c.args.raised.now.words.items statement tail c.loop-statement.entries.items c.loop-statement.raised.words.items c.loop-statement.exits along
@@ -308,12 +308,12 @@ walk_handlers-returns-then-not-remove-clause-first_fault t c =
     let body = block_of handler.body.items in
     let tail = handlers_of (drop (c.loop-handler.handler-index + 1) c.args.handlers.now) in
     let along : Handling program c.args.in_loop handlers (T.Catch handler.at handler.exception body tail) c.args.entries.now.items c.loop-handler.entries.items c.args.raised.now.words.items c.loop-handler.raised.words.items c.args.inner.now.words.items c.loop-handler.inner.words.items c.loop-handler.exits =
-        subst (λ rest. Handling program c.args.in_loop handlers rest c.args.entries.now.items c.loop-handler.entries.items c.args.raised.now.words.items c.loop-handler.raised.words.items c.args.inner.now.words.items c.loop-handler.inner.words.items c.loop-handler.exits)
-        (next-handler c.args.handlers.now c.loop-handler.handler-index handler handler.body.items c.loop-handler-test.true c.handler-item.is refl) c.loop-handler.invariant in
+    subst (λ rest. Handling program c.args.in_loop handlers rest c.args.entries.now.items c.loop-handler.entries.items c.args.raised.now.words.items c.loop-handler.raised.words.items c.args.inner.now.words.items c.loop-handler.inner.words.items c.loop-handler.exits)
+    (next-handler c.args.handlers.now c.loop-handler.handler-index handler handler.body.items c.loop-handler-test.true c.handler-item.is refl) c.loop-handler.invariant in
     λ ends are.
-        subst (λ fault. IsFirst (handlers_faults program c.args.in_loop ends handlers) fault) (sym c.refused.ensures)
-        (never-raised program c.args.in_loop handlers c.args.entries.now.items c.args.raised.now.words.items c.args.inner.now.words.items handler.at handler.exception body tail c.loop-handler.entries.items c.loop-handler.raised.words.items c.loop-handler.inner.words.items c.remove.new.self.words.items c.loop-handler.exits along
-        c.remove.ensures.left (sym c.remove.ensures.there ∙ c.if-not-remove.true) ends are)
+    subst (λ fault. IsFirst (handlers_faults program c.args.in_loop ends handlers) fault) (sym c.refused.ensures)
+    (never-raised program c.args.in_loop handlers c.args.entries.now.items c.args.raised.now.words.items c.args.inner.now.words.items handler.at handler.exception body tail c.loop-handler.entries.items c.loop-handler.raised.words.items c.loop-handler.inner.words.items c.remove.new.self.words.items c.loop-handler.exits along
+    c.remove.ensures.left (sym c.remove.ensures.there ∙ c.if-not-remove.true) ends are)
 
 pub walk_handlers-returns-in_err-found-clause-first_fault : goal.walk_handlers-returns-in_err-found-clause-first_fault
 walk_handlers-returns-in_err-found-clause-first_fault t c =
@@ -323,11 +323,11 @@ walk_handlers-returns-in_err-found-clause-first_fault t c =
     let body = block_of c.deref.result.now in
     let tail = handlers_of (drop (c.loop-handler.handler-index + 1) c.args.handlers.now) in
     let along : Handling program c.args.in_loop handlers (T.Catch handler.at handler.exception body tail) c.args.entries.now.items c.loop-handler.entries.items c.args.raised.now.words.items c.loop-handler.raised.words.items c.args.inner.now.words.items c.loop-handler.inner.words.items c.loop-handler.exits =
-        subst (λ rest. Handling program c.args.in_loop handlers rest c.args.entries.now.items c.loop-handler.entries.items c.args.raised.now.words.items c.loop-handler.raised.words.items c.args.inner.now.words.items c.loop-handler.inner.words.items c.loop-handler.exits)
-        (next-handler c.args.handlers.now c.loop-handler.handler-index handler c.deref.result.now c.loop-handler-test.true c.handler-item.is c.deref.ensures.value) c.loop-handler.invariant in
+    subst (λ rest. Handling program c.args.in_loop handlers rest c.args.entries.now.items c.loop-handler.entries.items c.args.raised.now.words.items c.loop-handler.raised.words.items c.args.inner.now.words.items c.loop-handler.inner.words.items c.loop-handler.exits)
+    (next-handler c.args.handlers.now c.loop-handler.handler-index handler c.deref.result.now c.loop-handler-test.true c.handler-item.is c.deref.ensures.value) c.loop-handler.invariant in
     let first : (ends : List Exit) → AreThrown c.args.inner.now.words.items ends → IsFirst (handlers_faults program c.args.in_loop ends handlers) c.in_err-found.field-0.0 =
-        in-handler program c.args.in_loop handlers c.args.entries.now.items c.args.raised.now.words.items c.args.inner.now.words.items handler.at handler.exception body tail c.loop-handler.entries.items c.loop-handler.raised.words.items c.loop-handler.inner.words.items c.remove.new.self.words.items c.loop-handler.exits along
-        c.remove.ensures.left (sym c.remove.ensures.there ∙ c.if-not-remove.false) c.in_err-found.field-0.0 c.in_err-found.ensures.first_fault in
+    in-handler program c.args.in_loop handlers c.args.entries.now.items c.args.raised.now.words.items c.args.inner.now.words.items handler.at handler.exception body tail c.loop-handler.entries.items c.loop-handler.raised.words.items c.loop-handler.inner.words.items c.remove.new.self.words.items c.loop-handler.exits along
+    c.remove.ensures.left (sym c.remove.ensures.there ∙ c.if-not-remove.false) c.in_err-found.field-0.0 c.in_err-found.ensures.first_fault in
     search (rules, first)
 
 pub walk_handlers-loop-handler-preserved : goal.walk_handlers-loop-handler-preserved
@@ -338,8 +338,8 @@ walk_handlers-loop-handler-preserved t c =
     let body = block_of c.deref.result.now in
     let tail = handlers_of (drop (c.loop-handler.handler-index + 1) c.args.handlers.now) in
     let along : Handling program c.args.in_loop handlers (T.Catch handler.at handler.exception body tail) c.args.entries.now.items c.loop-handler.entries.items c.args.raised.now.words.items c.loop-handler.raised.words.items c.args.inner.now.words.items c.loop-handler.inner.words.items c.loop-handler.exits =
-        subst (λ rest. Handling program c.args.in_loop handlers rest c.args.entries.now.items c.loop-handler.entries.items c.args.raised.now.words.items c.loop-handler.raised.words.items c.args.inner.now.words.items c.loop-handler.inner.words.items c.loop-handler.exits)
-        (next-handler c.args.handlers.now c.loop-handler.handler-index handler c.deref.result.now c.loop-handler-test.true c.handler-item.is c.deref.ensures.value) c.loop-handler.invariant in
+    subst (λ rest. Handling program c.args.in_loop handlers rest c.args.entries.now.items c.loop-handler.entries.items c.args.raised.now.words.items c.loop-handler.raised.words.items c.args.inner.now.words.items c.loop-handler.inner.words.items c.loop-handler.exits)
+    (next-handler c.args.handlers.now c.loop-handler.handler-index handler c.deref.result.now c.loop-handler-test.true c.handler-item.is c.deref.ensures.value) c.loop-handler.invariant in
     subst (λ exits. Handling program c.args.in_loop handlers tail c.args.entries.now.items c.walk_block.new.entries.items c.args.raised.now.words.items c.walk_block.new.raised.words.items c.args.inner.now.words.items c.remove.new.self.words.items exits)
     (sym c.join-exits.ensures)
     (handling-step program c.args.in_loop handlers c.args.entries.now.items c.args.raised.now.words.items c.args.inner.now.words.items handler.at handler.exception body tail c.loop-handler.entries.items c.loop-handler.raised.words.items c.loop-handler.inner.words.items c.remove.new.self.words.items c.loop-handler.exits along

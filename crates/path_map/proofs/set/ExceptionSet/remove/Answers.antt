@@ -19,4 +19,4 @@ returns-clause-left c =
     let words = c.args.self.now.words.items in
     let inside : e / 64 < length words = omega arith in
     λ other.
-        remove-row words e c.index_mut.result.now _ inside (get_or_read words (e / 64) c.index_mut.result.now inside c.index_mut.ensures.value 0) refl other
+    remove-row words e c.index_mut.result.now _ inside (get_or_read words (e / 64) c.index_mut.result.now inside c.index_mut.ensures.value 0) refl other
