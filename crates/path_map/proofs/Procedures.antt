@@ -2,7 +2,7 @@
 use Rattle.std.proofs.Common.{◌≡◌, refl, sym, ap, ◌∙◌, subst, ℕ, List, [], ◌∷◌, ◌++◌, Bool, true, false, not, ◌&&◌, ◌||◌, map, flat_map, append_assoc, append-nil, take, drop, get_or, length, ◌<◌, ◌≤◌, ◌+◌, suc}
 use Rattle.std.specs.Prelude.{◌==◌, if◌then◌else◌, is_some, Some, None, Option}
 use Rattle.std.specs.List.{list_all, list_any}
-use Rattle.std.proofs.lemmas.List.{map-append, take_more}
+use Rattle.std.proofs.lemmas.List.{map-append, take_more, take-append-drop}
 use Rattle.std.proofs.Math.ListN.{drop_of_length-le}
 use Rattle.std.proofs.Math.Seq.{drop-cons}
 use Rattle.std.proofs.Math.Numerals.{add-one}
@@ -18,16 +18,19 @@ use Rattle.resolved.specs.Program.{Program, ProcedureEntry, ThrownEntry}
 use Rattle.resolved.specs.ProgramOf.{result_entry, thrown_entry, procedure_entry}
 use Rattle.resolved.specs.Ends.{same_exit, has_end, thrown_ends, declared_by, block_ends}
 use Rattle.resolved.specs.EndFaults.{EndFault, NoValueReturned, Undeclared, fault_unless, may_end, block_faults, procedure_faults}
+use Rattle.path_map.specs.declared.exits.Raised.{Raised}
+use Rattle.path_map.specs.declared.exits.Raised.TheVariants.{Several}
 use Rattle.path_map.specs.declared.exits.Exits.{Exits}
 use Rattle.path_map.specs.declared.fault.EndDefect.TheVariants as defect
 use Rattle.path_map.specs.declared.fault.EndsFault.{EndsFault}
 use Rattle.path_map.specs.declared.fault.EndsFault.TheVariants.{NoMemory, Refused}
 use Rattle.path_map.specs.FirstFault.{IsFirst}
-use Rattle.path_map.specs.Exits.{exits_of}
+use Rattle.path_map.specs.Exits.{exits_of, raised_by}
+use Rattle.path_map.specs.Joins.{join_raised}
 use Rattle.path_map.specs.Paths.{block_paths}
 use Rattle.path_map.specs.Sets.{AreDeclared, HasUndeclared, is_one_of, row_has, throws}
 use Rattle.path_map.specs.Walks.{IsFound}
-use Rattle.path_map.proofs.Kept.{same-number, or-true, or-false, any-append, throws-thrown}
+use Rattle.path_map.proofs.Kept.{same-number, or-true, or-false, any-append, raised-append, throws-thrown}
 use Rattle.path_map.proofs.Walking.{first-left, first-right, none-both}
 
 same-is : (x y : Exit) → same_exit x y ≡ true → x ≡ y
@@ -217,3 +220,16 @@ next-procedure procedures i procedure inside is =
 
 pub last-procedure : (procedures : List Procedure) (i : ℕ) → length procedures ≤ i → map procedure_entry (drop i procedures) ≡ []
 last-procedure procedures i past = ap (map procedure_entry) (drop_of_length-le procedures past)
+
+-- more than one exception stays more than one
+pub several-stays : (throws : List Thrown) (i : ℕ) → raised_by (declared_by (map thrown_entry (take i throws))) ≡ Several
+    → Several ≡ raised_by (declared_by (map thrown_entry throws))
+several-stays throws i some =
+    let first : List ℕ = declared_by (map thrown_entry (take i throws)) in
+    let rest : List ℕ = declared_by (map thrown_entry (drop i throws)) in
+    sym (ap (λ r. join_raised r (raised_by rest)) some)
+    ∙ sym (raised-append first rest)
+    ∙ ap raised_by (
+    sym (map-append (λ (entry : ThrownEntry). entry.exception) (map thrown_entry (take i throws)) (map thrown_entry (drop i throws)))
+    ∙ ap declared_by (sym (map-append thrown_entry (take i throws) (drop i throws)) ∙ ap (map thrown_entry) (take-append-drop i throws))
+    )

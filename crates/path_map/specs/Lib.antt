@@ -3,4 +3,5 @@ pub mod Paths
 pub mod FirstFault
 pub mod Joins
 pub mod Sets
+pub mod Rows
 pub mod Walks

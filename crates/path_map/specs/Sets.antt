@@ -7,6 +7,8 @@ use Rattle.resolved.specs.declared.statement.Exit.{Exit}
 use Rattle.resolved.specs.declared.statement.Exit.TheVariants.{Throw}
 use Rattle.resolved.specs.Ends.{has_end}
 use Rattle.path_map.specs.declared.exits.Raised.{Raised}
+use Rattle.path_map.specs.declared.raises.Raises.{Raises}
+use Rattle.path_map.specs.Joins.{raised_list}
 use Rattle.path_map.specs.declared.exits.Raised.TheVariants.{Nothing, One, Several}
 
 -- whether an exception is in a row
@@ -39,6 +41,11 @@ abbrev pub IsKeptOf : (ℕ → Bool) → Raised → Type 0
 IsKeptOf set Nothing = (exception : ℕ) → set exception ≡ false
 IsKeptOf set (One exception) = HasOnly set exception
 IsKeptOf set Several = HasTwo set
+
+-- an expression raises these: two sets that are the same
+abbrev pub AreRaised : Raises → List ℕ → Type 0
+AreRaised found exceptions = (exception : ℕ) →
+    is_one_of (raised_list found.arith found.bounds) exception ≡ is_one_of exceptions exception
 
 -- an exception of a set that is not declared
 pub record HasUndeclared (set : ℕ → Bool) (declared : List ℕ) : Type 0 where

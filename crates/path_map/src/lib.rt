@@ -1,6 +1,7 @@
 //! The path map of a program: what the possible ends of each statement and block are, or the first fault of the ends.
 #![tactic(auto)]
 
+mod calls;
 pub mod exits;
 pub mod fault;
 pub mod map;

@@ -9,10 +9,11 @@ ghost use Rattle.resolved.specs.Ends.{declared_by};
 ghost use Rattle.resolved.specs.ProgramOf.{procedure_entry, thrown_entry};
 ghost use Rattle.std.specs.Prelude.{IfErr, IfOk, OnOk, [], is_some, map, not, ◌&&◌, ◌++◌, ◌||◌, ◌≡◌};
 
+use crate::calls::Walk;
 use crate::exits::{Exits, Raised};
 use crate::fault::{EndDefect, EndsFault};
 use crate::set::ExceptionSet;
-use crate::walk::{Walk, refused, walk_block};
+use crate::walk::{refused, walk_block};
 use resolved::program::Core;
 use resolved::tables::{Procedure, Thrown};
 use std::alloc::Global;
@@ -29,11 +30,12 @@ pub struct PathMap {
 ///
 /// It takes time and memory in proportion to the program, and for each call and each `try` one step more for each 64 exceptions.
 pub fn ends(alloc: Global, core: &Core) -> Result<PathMap, EndsFault>
-    ensures exact { IfOk result (λ found. found.entries.items ≡ map exits_of (program_paths (program_of core.now))) }
+    ensures exact { IfOk result (λ found. found.entries.items
+        ≡ map exits_of (program_paths (program_of core.now))) }
     ensures accepted { OnOk result (end_faults (program_of core.now) ≡ []) }
     ensures first_fault { IfErr result (IsFirst (end_faults (program_of core.now))) }
 {
-    let walk = Walk { alloc, core };
+    let walk = Walk::along(alloc, core)?;
     let mut entries = Vec::new(alloc);
     for procedure in &core.procedures {
         walk_procedure(&walk, procedure, &mut entries)?;
@@ -47,10 +49,12 @@ fn walk_procedure(
     procedure: &Procedure,
     entries: &mut Vec<Exits>,
 ) -> Result<(), EndsFault>
-    ensures found { OnOk result (entries.new.items
-        ≡ entries.old.items ++ map exits_of (block_paths (program_of walk.now.core.now) (procedure_entry procedure.now).body)) }
-    ensures accepted { OnOk result (procedure_faults (program_of walk.now.core.now) (procedure_entry procedure.now) ≡ []) }
-    ensures first_fault { IfErr result (IsFirst (procedure_faults (program_of walk.now.core.now) (procedure_entry procedure.now))) }
+    ensures found { OnOk result (entries.new.items ≡ entries.old.items ++ map exits_of
+        (block_paths (program_of walk.now.core.now) (procedure_entry procedure.now).body)) }
+    ensures accepted { OnOk result (procedure_faults
+        (program_of walk.now.core.now) (procedure_entry procedure.now) ≡ []) }
+    ensures first_fault { IfErr result (IsFirst (procedure_faults
+        (program_of walk.now.core.now) (procedure_entry procedure.now))) }
 {
     let mut raised = ExceptionSet::new(walk.alloc);
     let exits = walk_block(walk, false, &procedure.body, entries, &mut raised)?;
@@ -80,7 +84,8 @@ fn lets_out(exits: Exits, declared: bool) -> bool
 
 // Whether all exceptions of a set are declared. Those that are, are taken out.
 fn are_declared(throws: &[Thrown], set: &mut ExceptionSet) -> bool
-    ensures { AreDeclared (row_has set.old.words.items) (declared_by (map thrown_entry throws.now)) result }
+    ensures { AreDeclared (row_has set.old.words.items)
+        (declared_by (map thrown_entry throws.now)) result }
 {
     for thrown in throws {
         let _there = set.remove(thrown.exception);

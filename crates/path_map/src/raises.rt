@@ -1,7 +1,7 @@
 //! The exceptions that expressions can raise.
 ghost use Rattle.path_map.specs.Exits.{raised_by};
 ghost use Rattle.path_map.specs.Joins.{raised_list, raises_some};
-ghost use Rattle.path_map.specs.Sets.{IsSum, is_one_of};
+ghost use Rattle.path_map.specs.Sets.{AreRaised, IsSum, is_one_of};
 ghost use Rattle.resolved.specs.Ends.{divisor_can_raise, index_can_raise, is_division, raises, raises_all};
 ghost use Rattle.resolved.specs.TreeOf.{expression_of, some_expression_of};
 ghost use Rattle.resolved.specs.Value.{in_range, is_zero, literal_number};
@@ -32,8 +32,10 @@ impl Raises {
     };
 
     pub(crate) fn or(self, other: Raises) -> Raises
-        ensures { (exception : ℕ) → is_one_of (raised_list result.arith result.bounds) exception
-            ≡ (is_one_of (raised_list self.arith self.bounds) exception || is_one_of (raised_list other.arith other.bounds) exception) }
+        ensures { (exception : ℕ) →
+            is_one_of (raised_list result.arith result.bounds) exception
+            ≡ (is_one_of (raised_list self.arith self.bounds) exception
+            || is_one_of (raised_list other.arith other.bounds) exception) }
     {
         Raises {
             arith: self.arith || other.arith,
@@ -43,8 +45,10 @@ impl Raises {
 
     // What is kept of these exceptions, which are added to a set.
     pub(crate) fn add_to(self, set: &mut ExceptionSet) -> Result<Raised, AllocError>
-        ensures kept { IfOk result (λ kept. kept ≡ raised_by (raised_list self.arith self.bounds)) }
-        ensures added { OnOk result (IsSum set.old.words.items (is_one_of (raised_list self.arith self.bounds)) set.new.words.items) }
+        ensures kept { IfOk result (λ kept. kept
+            ≡ raised_by (raised_list self.arith self.bounds)) }
+        ensures added { OnOk result (IsSum set.old.words.items
+            (is_one_of (raised_list self.arith self.bounds)) set.new.words.items) }
     {
         if self.arith {
             set.insert(ARITH)?;
@@ -63,7 +67,7 @@ impl Raises {
 
 // What an expression can raise.
 pub(crate) fn raises_of(expression: &Expression) -> Raises
-    ensures { (exception : ℕ) → is_one_of (raised_list result.arith result.bounds) exception ≡ is_one_of (raises (expression_of expression.now)) exception }
+    ensures { AreRaised result (raises (expression_of expression.now)) }
 {
     match expression {
         Expression::Integer(_) | Expression::Logical(_) | Expression::Read(_) => Raises::NONE,
@@ -84,7 +88,7 @@ pub(crate) fn raises_of(expression: &Expression) -> Raises
 
 // What an expression can raise, if there is one.
 pub(crate) fn raises_of_some(expression: &Option<Expression>) -> Raises
-    ensures { (exception : ℕ) → is_one_of (raised_list result.arith result.bounds) exception ≡ is_one_of (raises_some (some_expression_of expression.now)) exception }
+    ensures { AreRaised result (raises_some (some_expression_of expression.now)) }
 {
     match expression {
         None => Raises::NONE,
@@ -94,7 +98,7 @@ pub(crate) fn raises_of_some(expression: &Option<Expression>) -> Raises
 
 // What several expressions can raise.
 pub(crate) fn raises_of_all(expressions: &[Expression]) -> Raises
-    ensures { (exception : ℕ) → is_one_of (raised_list result.arith result.bounds) exception ≡ is_one_of (raises_all (map expression_of expressions.now)) exception }
+    ensures { AreRaised result (raises_all (map expression_of expressions.now)) }
 {
     let mut found = Raises::NONE;
     for expression in expressions {

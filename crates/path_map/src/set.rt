@@ -35,7 +35,8 @@ impl ExceptionSet {
     }
 
     pub(crate) fn insert(&mut self, exception: u32) -> Result<(), AllocError>
-        ensures { OnOk result (IsSum self.old.words.items (λ other. other == exception) self.new.words.items) }
+        ensures { OnOk result (IsSum self.old.words.items (λ other. other == exception)
+            self.new.words.items) }
     {
         let word = exception as usize / 64;
         self.grow(word + 1)?;
@@ -60,7 +61,8 @@ impl ExceptionSet {
     }
 
     pub(crate) fn unite(&mut self, other: &ExceptionSet) -> Result<(), AllocError>
-        ensures { OnOk result (IsSum self.old.words.items (row_has other.now.words.items) self.new.words.items) }
+        ensures { OnOk result (IsSum self.old.words.items (row_has other.now.words.items)
+            self.new.words.items) }
     {
         self.grow(other.words.len())?;
         for (i, word) in other.words.iter().enumerate() {

@@ -1,43 +1,31 @@
 //! The walk along a program that finds its ends.
-ghost use Rattle.path_map.specs.Exits.{raised_by};
 ghost use Rattle.path_map.specs.FirstFault.{IsFirst};
-ghost use Rattle.path_map.specs.Joins.{only_raised, raised_list};
-ghost use Rattle.path_map.specs.Paths.{block_paths, handlers_paths, inner_paths, rest_paths, statement_paths};
-ghost use Rattle.path_map.specs.Sets.{IsSum, is_one_of};
-ghost use Rattle.path_map.specs.Walks.{AreLeft, AreThrown, IsFound};
-ghost use Rattle.path_map.specs.declared.exits.Exits.{Exits};
+ghost use Rattle.path_map.specs.Joins.{only_raised};
+ghost use Rattle.path_map.specs.Sets.{AreRaised};
+ghost use Rattle.path_map.specs.Walks.{AreHandlersFound, AreLeft, AreStatementsFound, AreThrown, IsBlockFound, IsFormFound, IsFoundAlone, IsStatementFound, faults_of_block, faults_of_handlers, faults_within};
 ghost use Rattle.path_map.specs.declared.exits.Raised.TheVariants.{Nothing};
 ghost use Rattle.path_map.specs.declared.fault.EndsFault.TheVariants.{Refused};
 ghost use Rattle.resolved.specs.CoreOf.{program_of};
-ghost use Rattle.resolved.specs.EndFaults.{block_faults, handlers_faults, inner_faults, may_stand};
-ghost use Rattle.resolved.specs.Ends.{block_ends, declared_by, handlers_ends, raises, statement_ends, thrown_ends};
+ghost use Rattle.resolved.specs.EndFaults.{may_stand};
+ghost use Rattle.resolved.specs.Ends.{declared_by, raises, thrown_ends};
 ghost use Rattle.resolved.specs.Program.{procedure_at};
-ghost use Rattle.resolved.specs.ProgramOf.{thrown_entry};
-ghost use Rattle.resolved.specs.TreeOf.{block_of, expression_of, handlers_of, statement_of};
+ghost use Rattle.resolved.specs.TreeOf.{expression_of, handlers_of, statement_of};
+ghost use Rattle.resolved.specs.Value.{end_exception};
 ghost use Rattle.resolved.specs.declared.statement.Exit.{Exit};
 ghost use Rattle.resolved.specs.declared.statement.Exit.TheVariants.{Normal, Return, Throw};
-ghost use Rattle.resolved.specs.Value.{end_exception};
-ghost use Rattle.std.specs.Prelude.{IfErr, IfOk, List, OnOk, [], length, map, true, ℕ, ◌++◌, ◌∷◌, ◌≡◌};
+ghost use Rattle.std.specs.Prelude.{IfErr, IfOk, List, OnOk, [], length, ℕ, ◌++◌, ◌∷◌, ◌≡◌};
 
+use crate::calls::Walk;
 use crate::exits::{Exits, Raised};
 use crate::fault::{EndDefect, EndRefusal, EndsFault};
 use crate::raises::{Raises, index_can_raise, raises_of, raises_of_all, raises_of_some};
 use crate::set::ExceptionSet;
 use resolved::expression::Expression;
-use resolved::program::Core;
 use resolved::statement::{Exit, Handler, Statement};
-use resolved::tables::Thrown;
-use std::alloc::{AllocError, Global};
+use std::alloc::AllocError;
 
 // The exception that a receive may raise.
 const END: u32 = 2;
-
-// The program along which a walk goes.
-#[derive(Clone, Copy, Drop)]
-pub(crate) struct Walk<'a> {
-    pub(crate) alloc: Global,
-    pub(crate) core: &'a Core,
-}
 
 // Finds the ends of a block and of what is in it. The block's own entry is the first of the new ones. Its exceptions are added to
 // the set.
@@ -49,10 +37,11 @@ pub(crate) fn walk_block(
     entries: &mut Vec<Exits>,
     raised: &mut ExceptionSet,
 ) -> Result<Exits, EndsFault>
-    ensures found { IfOk result (IsFound (block_ends (program_of walk.now.core.now) (block_of block.now)) (block_paths (program_of walk.now.core.now) (block_of block.now))
+    ensures found { IfOk result (IsBlockFound walk.now.core.now block.now
         entries.old.items entries.new.items raised.old.words.items raised.new.words.items) }
-    ensures accepted { OnOk result (block_faults (program_of walk.now.core.now) in_loop true (block_of block.now) ≡ []) }
-    ensures first_fault { IfErr result (IsFirst (block_faults (program_of walk.now.core.now) in_loop true (block_of block.now))) }
+    ensures accepted { OnOk result (faults_of_block walk.now.core.now in_loop block.now ≡ []) }
+    ensures first_fault { IfErr result (IsFirst
+        (faults_of_block walk.now.core.now in_loop block.now)) }
 {
     let at = reserve(entries)?;
     let exits = walk_statements(walk, in_loop, block, entries, raised)?;
@@ -69,10 +58,11 @@ fn walk_statements(
     entries: &mut Vec<Exits>,
     raised: &mut ExceptionSet,
 ) -> Result<Exits, EndsFault>
-    ensures found { IfOk result (IsFound (block_ends (program_of walk.now.core.now) (block_of block.now)) (rest_paths (program_of walk.now.core.now) (block_of block.now))
+    ensures found { IfOk result (AreStatementsFound walk.now.core.now block.now
         entries.old.items entries.new.items raised.old.words.items raised.new.words.items) }
-    ensures accepted { OnOk result (block_faults (program_of walk.now.core.now) in_loop true (block_of block.now) ≡ []) }
-    ensures first_fault { IfErr result (IsFirst (block_faults (program_of walk.now.core.now) in_loop true (block_of block.now))) }
+    ensures accepted { OnOk result (faults_of_block walk.now.core.now in_loop block.now ≡ []) }
+    ensures first_fault { IfErr result (IsFirst
+        (faults_of_block walk.now.core.now in_loop block.now)) }
 {
     let mut exits = Exits::going_on(Raised::Nothing);
     for statement in block {
@@ -97,10 +87,11 @@ fn walk_statement(
     entries: &mut Vec<Exits>,
     raised: &mut ExceptionSet,
 ) -> Result<Exits, EndsFault>
-    ensures found { IfOk result (IsFound (statement_ends (program_of walk.now.core.now) (statement_of statement.now)) (statement_paths (program_of walk.now.core.now) (statement_of statement.now))
+    ensures found { IfOk result (IsStatementFound walk.now.core.now statement.now
         entries.old.items entries.new.items raised.old.words.items raised.new.words.items) }
-    ensures accepted { OnOk result (inner_faults (program_of walk.now.core.now) in_loop (statement_of statement.now) ≡ []) }
-    ensures first_fault { IfErr result (IsFirst (inner_faults (program_of walk.now.core.now) in_loop (statement_of statement.now))) }
+    ensures accepted { OnOk result (faults_within walk.now.core.now in_loop statement.now ≡ []) }
+    ensures first_fault { IfErr result (IsFirst
+        (faults_within walk.now.core.now in_loop statement.now)) }
 {
     let at = reserve(entries)?;
     let exits = walk_form(walk, in_loop, statement, entries, raised)?;
@@ -117,10 +108,11 @@ fn walk_form(
     entries: &mut Vec<Exits>,
     raised: &mut ExceptionSet,
 ) -> Result<Exits, EndsFault>
-    ensures found { IfOk result (IsFound (statement_ends (program_of walk.now.core.now) (statement_of statement.now)) (inner_paths (program_of walk.now.core.now) (statement_of statement.now))
+    ensures found { IfOk result (IsFormFound walk.now.core.now statement.now
         entries.old.items entries.new.items raised.old.words.items raised.new.words.items) }
-    ensures accepted { OnOk result (inner_faults (program_of walk.now.core.now) in_loop (statement_of statement.now) ≡ []) }
-    ensures first_fault { IfErr result (IsFirst (inner_faults (program_of walk.now.core.now) in_loop (statement_of statement.now))) }
+    ensures accepted { OnOk result (faults_within walk.now.core.now in_loop statement.now ≡ []) }
+    ensures first_fault { IfErr result (IsFirst
+        (faults_within walk.now.core.now in_loop statement.now)) }
 {
     match statement {
         Statement::Assign(_, _, value) => Ok(go_on(raises_of(value), raised)?),
@@ -171,13 +163,15 @@ fn walk_handlers(
     entries: &mut Vec<Exits>,
     raised: &mut ExceptionSet,
 ) -> Result<Exits, EndsFault>
-    ensures found { IfOk result (IsFound (handlers_ends (program_of walk.now.core.now) (handlers_of handlers.now)) (handlers_paths (program_of walk.now.core.now) (handlers_of handlers.now))
+    ensures found { IfOk result (AreHandlersFound walk.now.core.now handlers.now
         entries.old.items entries.new.items raised.old.words.items raised.new.words.items) }
-    ensures left { OnOk result (AreLeft inner.old.words.items inner.new.words.items (handlers_of handlers.now)) }
+    ensures left { OnOk result (AreLeft inner.old.words.items inner.new.words.items
+        (handlers_of handlers.now)) }
     ensures accepted { OnOk result ((ends : List Exit) → AreThrown inner.old.words.items ends →
-        handlers_faults (program_of walk.now.core.now) in_loop ends (handlers_of handlers.now) ≡ []) }
-    ensures first_fault { IfErr result (λ fault. (ends : List Exit) → AreThrown inner.old.words.items ends →
-        IsFirst (handlers_faults (program_of walk.now.core.now) in_loop ends (handlers_of handlers.now)) fault) }
+        faults_of_handlers walk.now.core.now in_loop ends handlers.now ≡ []) }
+    ensures first_fault { IfErr result (λ fault. (ends : List Exit)
+        → AreThrown inner.old.words.items ends →
+        IsFirst (faults_of_handlers walk.now.core.now in_loop ends handlers.now) fault) }
 {
     let mut exits = Exits::raising(Raised::Nothing);
     for handler in handlers {
@@ -202,32 +196,34 @@ fn reserve(entries: &mut Vec<Exits>) -> Result<usize, AllocError>
 
 // The ends of a statement that goes on or raises these exceptions.
 fn go_on(found: Raises, raised: &mut ExceptionSet) -> Result<Exits, AllocError>
-    ensures { IfOk result (λ exits. (exceptions : List ℕ) → ((exception : ℕ) → is_one_of (raised_list found.arith found.bounds) exception ≡ is_one_of exceptions exception) →
-        (entries : List Exits) → IsFound (Normal ∷ thrown_ends exceptions) [] entries entries raised.old.words.items raised.new.words.items exits) }
+    ensures { IfOk result (λ exits. (exceptions : List ℕ) → AreRaised found exceptions →
+        IsFoundAlone (Normal ∷ thrown_ends exceptions)
+        raised.old.words.items raised.new.words.items exits) }
 {
     Ok(Exits::going_on(found.add_to(raised)?))
 }
 
 // The ends of a statement that returns or raises these exceptions.
 fn give_back(found: Raises, raised: &mut ExceptionSet) -> Result<Exits, AllocError>
-    ensures { IfOk result (λ exits. (exceptions : List ℕ) → ((exception : ℕ) → is_one_of (raised_list found.arith found.bounds) exception ≡ is_one_of exceptions exception) →
-        (entries : List Exits) → IsFound (Return ∷ thrown_ends exceptions) [] entries entries raised.old.words.items raised.new.words.items exits) }
+    ensures { IfOk result (λ exits. (exceptions : List ℕ) → AreRaised found exceptions →
+        IsFoundAlone (Return ∷ thrown_ends exceptions)
+        raised.old.words.items raised.new.words.items exits) }
 {
     Ok(Exits::returning(found.add_to(raised)?))
 }
 
 // The ends of a condition, for a statement that goes on with its value.
 fn test(condition: &Expression, raised: &mut ExceptionSet) -> Result<Exits, AllocError>
-    ensures { IfOk result (λ exits. (entries : List Exits) →
-        IsFound (thrown_ends (raises (expression_of condition.now))) [] entries entries raised.old.words.items raised.new.words.items exits) }
+    ensures { IfOk result (IsFoundAlone (thrown_ends (raises (expression_of condition.now)))
+        raised.old.words.items raised.new.words.items) }
 {
     Ok(Exits::raising(raises_of(condition).add_to(raised)?))
 }
 
 // The ends of a receive.
 fn receive(raised: &mut ExceptionSet) -> Result<Exits, AllocError>
-    ensures { IfOk result (λ exits. (entries : List Exits) →
-        IsFound (Normal ∷ Throw end_exception ∷ []) [] entries entries raised.old.words.items raised.new.words.items exits) }
+    ensures { IfOk result (IsFoundAlone (Normal ∷ Throw end_exception ∷ [])
+        raised.old.words.items raised.new.words.items) }
 {
     raised.insert(END)?;
     Ok(Exits::going_on(Raised::One(END)))
@@ -240,43 +236,20 @@ fn call(
     arguments: Raises,
     raised: &mut ExceptionSet,
 ) -> Result<Exits, AllocError>
-    ensures { IfOk result (λ exits. (exceptions : List ℕ) → ((exception : ℕ) → is_one_of (raised_list arguments.arith arguments.bounds) exception ≡ is_one_of exceptions exception) →
-        (entries : List Exits) → IsFound (Normal ∷ thrown_ends (exceptions ++ declared_by (procedure_at (program_of walk.now.core.now) callee).throws)) []
-        entries entries raised.old.words.items raised.new.words.items exits) }
+    ensures { IfOk result (λ exits. (exceptions : List ℕ) → AreRaised arguments exceptions →
+        let declared = declared_by (procedure_at (program_of walk.now.core.now) callee).throws in
+        IsFoundAlone (Normal ∷ thrown_ends (exceptions ++ declared))
+        raised.old.words.items raised.new.words.items exits) }
 {
     let own = arguments.add_to(raised)?;
-    let declared = add_declared(walk, callee, raised)?;
+    let declared = walk.add_declared(callee, raised)?;
     Ok(Exits::going_on(own.join(declared)))
-}
-
-// What is kept of the exceptions that a procedure declares, which are added to a set.
-fn add_declared(walk: &Walk, callee: u32, set: &mut ExceptionSet) -> Result<Raised, AllocError>
-    ensures kept { IfOk result (λ kept. kept ≡ raised_by (declared_by (procedure_at (program_of walk.now.core.now) callee).throws)) }
-    ensures added { OnOk result (IsSum set.old.words.items (is_one_of (declared_by (procedure_at (program_of walk.now.core.now) callee).throws)) set.new.words.items) }
-{
-    match walk.core.procedures.get(callee as usize) {
-        None => Ok(Raised::Nothing),
-        Some(procedure) => add_thrown(&procedure.throws, set),
-    }
-}
-
-// What is kept of declared exceptions, which are added to a set.
-fn add_thrown(throws: &[Thrown], set: &mut ExceptionSet) -> Result<Raised, AllocError>
-    ensures kept { IfOk result (λ kept. kept ≡ raised_by (declared_by (map thrown_entry throws.now))) }
-    ensures added { OnOk result (IsSum set.old.words.items (is_one_of (declared_by (map thrown_entry throws.now))) set.new.words.items) }
-{
-    let mut kept = Raised::Nothing;
-    for thrown in throws {
-        set.insert(thrown.exception)?;
-        kept = kept.join(Raised::One(thrown.exception));
-    }
-    Ok(kept)
 }
 
 // The ends of `break`, `continue` or `throw`.
 fn leave(exit: Exit, raised: &mut ExceptionSet) -> Result<Exits, AllocError>
-    ensures { IfOk result (λ exits. (entries : List Exits) →
-        IsFound (exit ∷ []) [] entries entries raised.old.words.items raised.new.words.items exits) }
+    ensures { IfOk result (IsFoundAlone (exit ∷ [])
+        raised.old.words.items raised.new.words.items) }
 {
     let none = Exits::raising(Raised::Nothing);
     match exit {

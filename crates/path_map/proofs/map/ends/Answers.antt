@@ -1,9 +1,11 @@
-use Rattle.std.proofs.Common.{◌≡◌, ap, sym, ◌∙◌, subst, map, drop, ◌+◌, ◌∷◌, [], rules, List}
+use Rattle.std.proofs.Common.{◌≡◌, ap, sym, ◌∙◌, subst, map, drop, ◌+◌, ◌∷◌, ◌++◌, [], rules, List}
 use Rattle.resolved.specs.CoreOf.{program_of}
-use Rattle.resolved.specs.EndFaults.{end_faults}
+use Rattle.resolved.specs.EndFaults.{end_faults, procedure_faults}
 use Rattle.resolved.specs.Program.{ProcedureEntry}
 use Rattle.resolved.specs.ProgramOf.{procedure_entry}
+use Rattle.path_map.specs.Exits.{exits_of}
 use Rattle.path_map.specs.FirstFault.{IsFirst}
+use Rattle.path_map.specs.Paths.{block_paths}
 use Rattle.path_map.proofs.Procedures.{Beside, beside-begin, beside-first, beside-step, beside-end, beside-clean, next-procedure, last-procedure}
 use Rattle.path_map.proofs.map.ends.Goals as goal
 
@@ -17,23 +19,26 @@ loop-procedure-init c =
 pub loop-procedure-preserved : goal.loop-procedure-preserved
 loop-procedure-preserved c =
     let program = program_of c.args.core.now in
+    let procedure = procedure_entry c.procedure-item.result in
     let all = map procedure_entry c.args.core.now.procedures.items in
     let tail = map procedure_entry (drop (c.loop-procedure.procedure-index + 1) c.deref-procedure-items.result.now) in
-    beside-step program all (procedure_entry c.procedure-item.result) tail c.loop-procedure.entries.items c.walk_procedure.new.entries.items
+    beside-step program all procedure tail c.loop-procedure.entries.items c.walk_procedure.new.entries.items
     (subst (λ list. Beside program all list c.loop-procedure.entries.items)
     (next-procedure c.deref-procedure-items.result.now c.loop-procedure.procedure-index c.procedure-item.result c.loop-procedure-test.true c.procedure-item.is) c.loop-procedure.invariant)
-    c.in_ok-walk_procedure.ensures.found c.in_ok-walk_procedure.ensures.accepted
+    (subst (λ core. c.walk_procedure.new.entries.items ≡ c.loop-procedure.entries.items ++ map exits_of (block_paths (program_of core) procedure.body)) c.in_ok-walk.ensures c.in_ok-walk_procedure.ensures.found)
+    (subst (λ core. procedure_faults (program_of core) procedure ≡ []) c.in_ok-walk.ensures c.in_ok-walk_procedure.ensures.accepted)
 
 pub returns-in_err-walk_procedure-clause-first_fault : goal.returns-in_err-walk_procedure-clause-first_fault
 returns-in_err-walk_procedure-clause-first_fault c =
     let program = program_of c.args.core.now in
+    let procedure = procedure_entry c.procedure-item.result in
     let all = map procedure_entry c.args.core.now.procedures.items in
     let tail = map procedure_entry (drop (c.loop-procedure.procedure-index + 1) c.deref-procedure-items.result.now) in
     let first : IsFirst (end_faults program) c.in_err-walk_procedure.field-0.0 =
-    beside-first program all (procedure_entry c.procedure-item.result) tail c.loop-procedure.entries.items c.in_err-walk_procedure.field-0.0
+    beside-first program all procedure tail c.loop-procedure.entries.items c.in_err-walk_procedure.field-0.0
     (subst (λ list. Beside program all list c.loop-procedure.entries.items)
     (next-procedure c.deref-procedure-items.result.now c.loop-procedure.procedure-index c.procedure-item.result c.loop-procedure-test.true c.procedure-item.is) c.loop-procedure.invariant)
-    c.in_err-walk_procedure.ensures.first_fault in
+    (subst (λ core. IsFirst (procedure_faults (program_of core) procedure) c.in_err-walk_procedure.field-0.0) c.in_ok-walk.ensures c.in_err-walk_procedure.ensures.first_fault) in
     search (rules, first)
 
 pub returns-clause-exact : goal.returns-clause-exact
