@@ -1,0 +1,144 @@
+-- What a walk finds of each form of statement, from what it finds of the blocks in it.
+use Rattle.std.proofs.Common.{◌≡◌, refl, sym, ap, ◌∙◌, subst, ℕ, List, [], ◌∷◌, ◌++◌, Bool, true, false, not, ◌&&◌, ◌||◌, map, filter, drop, get_or, length, ◌<◌, suc, ◌+◌, arith}
+use Rattle.std.specs.Prelude.{◌==◌, if◌then◌else◌, Option, Some, None, Vec}
+use Rattle.std.specs.declared.alloc.Global.{Global}
+use Rattle.std.proofs.Math.Seq.{drop-cons}
+use Rattle.std.proofs.Math.Numerals.{add-one}
+use Rattle.resolved.specs.declared.expression.Expression as E
+use Rattle.resolved.specs.declared.statement.Statement as S
+use Rattle.resolved.specs.declared.statement.Handler.{Handler}
+use Rattle.resolved.specs.declared.statement.Exit.{Exit}
+use Rattle.resolved.specs.declared.statement.Exit.TheVariants.{Normal, Return, Throw}
+use Rattle.resolved.specs.Tree.{Expression, Statement, If, While, Try, Nested, ReturnWith, Block, Then, Handlers, Catch}
+use Rattle.resolved.specs.TreeOf.{expression_of, some_expression_of, statement_of, block_of, handlers_of}
+use Rattle.resolved.proofs.Views.{at_if, at_while, at_try, at_nested}
+use Rattle.resolved.specs.Program.{Program}
+use Rattle.resolved.specs.Ends.{thrown_ends, leaves_loop, passes, raises, index_can_raise, index_raises, statement_ends, block_ends, handlers_ends}
+use Rattle.resolved.specs.EndFaults.{inner_faults, block_faults, handlers_faults}
+use Rattle.path_map.specs.declared.exits.Raised.{Raised}
+use Rattle.path_map.specs.declared.exits.Exits.{Exits}
+use Rattle.path_map.specs.declared.fault.EndsFault.{EndsFault}
+use Rattle.path_map.specs.FirstFault.{IsFirst}
+use Rattle.path_map.specs.Joins.{join, of_loop, raised_list, raises_some}
+use Rattle.path_map.specs.Paths.{inner_paths, block_paths, rest_paths, handlers_paths}
+use Rattle.path_map.specs.Sets.{row_has, IsSum, IsKeptOf, is_one_of, throws}
+use Rattle.path_map.specs.Walks.{IsFound, AreThrown, AreLeft}
+use Rattle.path_map.proofs.Kept.{any-append, loop-thrown}
+use Rattle.path_map.proofs.Walking.{both, looped, try-found, are-thrown, first-left, first-right, none-both}
+
+-- what is found of a tree is found of the statement that stands for it
+module _ (program : Program) (s : S.Statement) (tree : Statement) (is : statement_of s ≡ tree) where
+  pub found-at : (e0 e1 : List Exits) (r0 r1 : List ℕ) (x : Exits) → IsFound (statement_ends program tree) (inner_paths program tree) e0 e1 r0 r1 x
+      → IsFound (statement_ends program (statement_of s)) (inner_paths program (statement_of s)) e0 e1 r0 r1 x
+  found-at e0 e1 r0 r1 x found =
+      subst (λ t. IsFound (statement_ends program t) (inner_paths program t) e0 e1 r0 r1 x) (sym is) found
+
+  pub faults-at : (in_loop : Bool) → inner_faults program in_loop tree ≡ [] → inner_faults program in_loop (statement_of s) ≡ []
+  faults-at in_loop none = ap (inner_faults program in_loop) is ∙ none
+
+  pub first-at : (in_loop : Bool) (fault : EndsFault) → IsFirst (inner_faults program in_loop tree) fault
+      → IsFirst (inner_faults program in_loop (statement_of s)) fault
+  first-at in_loop fault first = subst (λ t. IsFirst (inner_faults program in_loop t) fault) (sym is) first
+
+pub found-same : (ends : List Exit) (paths : List (List Exit)) (e0 e1 : List Exits) (r0 r1 : List ℕ) (x y : Exits)
+    → y ≡ x → IsFound ends paths e0 e1 r0 r1 x → IsFound ends paths e0 e1 r0 r1 y
+found-same ends paths e0 e1 r0 r1 x y is found = subst (λ z. IsFound ends paths e0 e1 r0 r1 z) (sym is) found
+
+-- the trees, by the lists that the walk goes along
+pub tree-if : (s : S.Statement) (at : ℕ) (e : E.Expression) (yes_block no_block : Vec S.Statement Global) (ys ns : List S.Statement)
+    → s ≡ S.If at e yes_block no_block → ys ≡ yes_block.items → ns ≡ no_block.items
+    → statement_of s ≡ If at (expression_of e) (block_of ys) (block_of ns)
+tree-if s at e yes_block no_block ys ns is first second =
+    at_if (λ t. t) yes_block no_block is
+    ∙ (ap (λ list. If at (expression_of e) (block_of list) (block_of no_block.items)) (sym first)
+    ∙ ap (λ list. If at (expression_of e) (block_of ys) (block_of list)) (sym second))
+
+pub tree-while : (s : S.Statement) (at loop : ℕ) (e : E.Expression) (body : Vec S.Statement Global) (list : List S.Statement)
+    → s ≡ S.While at loop e body → list ≡ body.items → statement_of s ≡ While at loop (expression_of e) (block_of list)
+tree-while s at loop e body list is lent =
+    at_while (λ t. t) body is ∙ ap (λ l. While at loop (expression_of e) (block_of l)) (sym lent)
+
+pub tree-try : (s : S.Statement) (at : ℕ) (block : Vec S.Statement Global) (handlers : Vec Handler Global) (bs : List S.Statement) (hs : List Handler)
+    → s ≡ S.Try at block handlers → bs ≡ block.items → hs ≡ handlers.items → statement_of s ≡ Try at (block_of bs) (handlers_of hs)
+tree-try s at block handlers bs hs is first second =
+    at_try (λ t. t) block handlers is
+    ∙ (ap (λ list. Try at (block_of list) (handlers_of handlers.items)) (sym first) ∙ ap (λ list. Try at (block_of bs) (handlers_of list)) (sym second))
+
+pub tree-nested : (s : S.Statement) (at : ℕ) (block : Vec S.Statement Global) (list : List S.Statement)
+    → s ≡ S.Nested at block → list ≡ block.items → statement_of s ≡ Nested at (block_of list)
+tree-nested s at block list is lent = at_nested (λ t. t) block is ∙ ap (λ l. Nested at (block_of l)) (sym lent)
+
+-- a return, with a value or without one
+pub return-found : (program : Program) (at : ℕ) (value : Option Expression) (e0 e1 : List Exits) (r0 r1 : List ℕ) (x : Exits)
+    → IsFound (Return ∷ thrown_ends (raises_some value)) [] e0 e1 r0 r1 x
+    → IsFound (statement_ends program (ReturnWith at value)) (inner_paths program (ReturnWith at value)) e0 e1 r0 r1 x
+return-found program at None e0 e1 r0 r1 x found = found
+return-found program at (Some e) e0 e1 r0 r1 x found = found
+
+-- the exceptions of a store
+pub store-same : (index value : Expression) (length : ℕ) (can : Bool) (first second both_first all : List ℕ) → can ≡ index_can_raise index length
+    → ((e : ℕ) → is_one_of first e ≡ is_one_of (raises index) e) → ((e : ℕ) → is_one_of second e ≡ is_one_of (raises value) e)
+    → ((e : ℕ) → is_one_of both_first e ≡ (is_one_of first e || is_one_of second e))
+    → ((e : ℕ) → is_one_of all e ≡ (is_one_of both_first e || is_one_of (raised_list false can) e))
+    → (e : ℕ) → is_one_of all e ≡ is_one_of (raises index ++ raises value ++ index_raises index length) e
+store-same index value length can first second both_first all is p q r t e =
+    t e
+    ∙ ap (λ b. b || is_one_of (raised_list false can) e) (r e ∙ (ap (λ b. b || is_one_of second e) (p e) ∙ ap (λ b. is_one_of (raises index) e || b) (q e)))
+    ∙ ap (λ b. (is_one_of (raises index) e || is_one_of (raises value) e) || is_one_of (raised_list false b) e) is
+    ∙ ap (λ b. b || is_one_of (index_raises index length) e) (sym (any-append (λ other. e == other) (raises index) (raises value)))
+    ∙ sym (any-append (λ other. e == other) (raises index ++ raises value) (index_raises index length))
+
+-- the forms with blocks
+pub if-found : (program : Program) (at : ℕ) (e : Expression) (yes_block no_block : Block) (e0 e1 e2 : List Exits) (r0 r1 r2 r3 : List ℕ) (x y z j k : Exits)
+    → IsFound (thrown_ends (raises e)) [] e0 e0 r0 r1 x
+    → IsFound (block_ends program yes_block) (block_paths program yes_block) e0 e1 r1 r2 y
+    → IsFound (block_ends program no_block) (block_paths program no_block) e1 e2 r2 r3 z
+    → j ≡ join x y → k ≡ join j z
+    → IsFound (statement_ends program (If at e yes_block no_block)) (inner_paths program (If at e yes_block no_block)) e0 e2 r0 r3 k
+if-found program at e yes_block no_block e0 e1 e2 r0 r1 r2 r3 x y z j k tested taken other first second =
+    found-same (statement_ends program (If at e yes_block no_block)) (inner_paths program (If at e yes_block no_block)) e0 e2 r0 r3 (join (join x y) z) k
+    (second ∙ ap (λ w. join w z) first)
+    (both (thrown_ends (raises e) ++ block_ends program yes_block) (block_ends program no_block) (block_paths program yes_block) (block_paths program no_block) e0 e1 e2 r0 r2 r3 (join x y) z
+    (both (thrown_ends (raises e)) (block_ends program yes_block) [] (block_paths program yes_block) e0 e0 e1 r0 r1 r2 x y tested taken) other)
+
+pub while-found : (program : Program) (at loop : ℕ) (e : Expression) (body : Block) (e0 e1 : List Exits) (r0 r1 r2 : List ℕ) (x y j k : Exits)
+    → IsFound (thrown_ends (raises e)) [] e0 e0 r0 r1 x
+    → IsFound (block_ends program body) (block_paths program body) e0 e1 r1 r2 y
+    → j ≡ join x y → k ≡ of_loop j
+    → IsFound (statement_ends program (While at loop e body)) (inner_paths program (While at loop e body)) e0 e1 r0 r2 k
+while-found program at loop e body e0 e1 r0 r1 r2 x y j k tested turned first second =
+    subst (λ ends. IsFound (Normal ∷ ends) (block_paths program body) e0 e1 r0 r2 k) (loop-thrown (raises e) (block_ends program body))
+    (found-same (Normal ∷ filter leaves_loop (thrown_ends (raises e) ++ block_ends program body)) (block_paths program body) e0 e1 r0 r2 (of_loop (join x y)) k
+    (second ∙ ap of_loop first)
+    (looped (thrown_ends (raises e) ++ block_ends program body) (block_paths program body) e0 e1 r0 r2 (join x y)
+    (both (thrown_ends (raises e)) (block_ends program body) [] (block_paths program body) e0 e0 e1 r0 r1 r2 x y tested turned)))
+
+module _ (program : Program) (at : ℕ) (block : Block) (handlers : Handlers) (e0 e1 : List Exits) (none i1 : List ℕ) (x : Exits)
+    (empty : (e : ℕ) → row_has none e ≡ false) (tried : IsFound (block_ends program block) (block_paths program block) e0 e1 none i1 x) where
+  pub tried-throws : AreThrown i1 (block_ends program block)
+  tried-throws = record { has = λ e. tried.raised.has e ∙ ap (λ z. z || throws (block_ends program block) e) (empty e) }
+
+  pub try-is-found : (e2 : List Exits) (i2 r0 r1 r2 : List ℕ) (y w j : Exits) (k : Raised)
+      → IsFound (handlers_ends program handlers) (handlers_paths program handlers) e1 e2 r0 r1 y → AreLeft i1 i2 handlers
+      → IsSum r1 (row_has i2) r2 → IsKeptOf (row_has i2) k → w ≡ record x { raised = k } → j ≡ join w y
+      → IsFound (statement_ends program (Try at block handlers)) (inner_paths program (Try at block handlers)) e0 e2 r0 r2 j
+  try-is-found e2 i2 r0 r1 r2 y w j k handled left united kept first second =
+      found-same (statement_ends program (Try at block handlers)) (inner_paths program (Try at block handlers)) e0 e2 r0 r2 (join (record x { raised = k }) y) j
+      (second ∙ ap (λ v. join v y) first)
+      (try-found (block_ends program block) (handlers_ends program handlers) handlers (block_paths program block) (handlers_paths program handlers)
+      e0 e1 e2 none i1 i2 r0 r1 r2 x y k empty tried handled left united kept)
+
+-- the next statement of a block, and the next handler
+pub next-statement : (block : List S.Statement) (i : ℕ) (statement : S.Statement) → i < length block → statement ≡ get_or block i statement
+    → block_of (drop i block) ≡ Then (statement_of statement) (block_of (drop (i + 1) block))
+next-statement block i statement inside is =
+    ap block_of (drop-cons block i statement inside ∙ ap (λ s. s ∷ drop (suc i) block) (sym is))
+    ∙ ap (λ n. Then (statement_of statement) (block_of (drop n block))) (sym (add-one i))
+
+pub next-handler : (handlers : List Handler) (i : ℕ) (handler : Handler) (body : List S.Statement) → i < length handlers → handler ≡ get_or handlers i handler
+    → body ≡ handler.body.items
+    → handlers_of (drop i handlers) ≡ Catch handler.at handler.exception (block_of body) (handlers_of (drop (i + 1) handlers))
+next-handler handlers i handler body inside is lent =
+    ap handlers_of (drop-cons handlers i handler inside ∙ ap (λ h. h ∷ drop (suc i) handlers) (sym is))
+    ∙ ap (λ n. Catch handler.at handler.exception (block_of handler.body.items) (handlers_of (drop n handlers))) (sym (add-one i))
+    ∙ ap (λ list. Catch handler.at handler.exception (block_of list) (handlers_of (drop (i + 1) handlers))) (sym lent)

@@ -1,0 +1,6 @@
+pub mod Kept
+pub mod Rows
+pub mod Single
+pub mod Walking
+pub mod Forms
+pub mod Procedures

@@ -1,0 +1,235 @@
+-- The faults of a procedure, and the entries and faults of all of a program's.
+use Rattle.std.proofs.Common.{◌≡◌, refl, sym, ap, ◌∙◌, subst, ℕ, List, [], ◌∷◌, ◌++◌, Bool, true, false, not, ◌&&◌, ◌||◌, map, flat_map, append_assoc, append-nil, take, drop, get_or, length, ◌<◌, ◌≤◌, ◌+◌, suc}
+use Rattle.std.specs.Prelude.{◌==◌, if◌then◌else◌, is_some, Some, None, Option}
+use Rattle.std.specs.List.{list_all, list_any}
+use Rattle.std.proofs.lemmas.List.{map-append, take_more, take-append-drop}
+use Rattle.std.proofs.Math.ListN.{drop_of_length-le}
+use Rattle.std.proofs.Math.Seq.{drop-cons}
+use Rattle.std.proofs.Math.Numerals.{add-one}
+use Rattle.std.proofs.lemmas.Bool.{eqb-true, and_parts}
+use Rattle.resolved.specs.declared.statement.Exit.{Exit}
+use Rattle.resolved.specs.declared.statement.Exit.TheVariants.{Normal, Return, Break, Continue, Throw}
+use Rattle.resolved.specs.declared.statement.Statement as S
+use Rattle.resolved.specs.TreeOf.{block_of}
+use Rattle.resolved.specs.declared.tables.ResultType.{ResultType}
+use Rattle.resolved.specs.declared.tables.Thrown.{Thrown}
+use Rattle.resolved.specs.declared.tables.Procedure.{Procedure}
+use Rattle.resolved.specs.Program.{Program, ProcedureEntry, ThrownEntry}
+use Rattle.resolved.specs.ProgramOf.{result_entry, thrown_entry, procedure_entry}
+use Rattle.resolved.specs.Ends.{same_exit, has_end, thrown_ends, declared_by, block_ends}
+use Rattle.resolved.specs.EndFaults.{EndFault, NoValueReturned, Undeclared, fault_unless, may_end, block_faults, procedure_faults}
+use Rattle.path_map.specs.declared.exits.Raised.{Raised}
+use Rattle.path_map.specs.declared.exits.Raised.TheVariants.{Several}
+use Rattle.path_map.specs.declared.exits.Exits.{Exits}
+use Rattle.path_map.specs.declared.fault.EndDefect.TheVariants as defect
+use Rattle.path_map.specs.declared.fault.EndsFault.{EndsFault}
+use Rattle.path_map.specs.declared.fault.EndsFault.TheVariants.{NoMemory, Refused}
+use Rattle.path_map.specs.FirstFault.{IsFirst}
+use Rattle.path_map.specs.Exits.{exits_of, raised_by}
+use Rattle.path_map.specs.Joins.{join_raised}
+use Rattle.path_map.specs.Paths.{block_paths}
+use Rattle.path_map.specs.Sets.{AreDeclared, HasUndeclared, is_one_of, row_has, throws}
+use Rattle.path_map.specs.Walks.{IsFound}
+use Rattle.path_map.proofs.Kept.{same-number, or-true, or-false, any-append, raised-append, throws-thrown}
+use Rattle.path_map.proofs.Walking.{first-left, first-right, none-both}
+
+same-is : (x y : Exit) → same_exit x y ≡ true → x ≡ y
+same-is Normal Normal e = refl
+same-is Return Return e = refl
+same-is Break Break e = refl
+same-is Continue Continue e = refl
+same-is (Throw a) (Throw b) e = ap Throw (eqb-true a b e)
+same-is _ _ e = absurd (let no : false ≡ true = e in cc)
+
+-- what all ends are, one of them is
+one-of-all : (f : Exit → Bool) (ends : List Exit) (x : Exit) → has_end ends x ≡ true → list_all f ends ≡ true → f x ≡ true
+one-of-all f [] x there all = absurd (let no : false ≡ true = there in cc)
+one-of-all f (y ∷ ends) x there all =
+    let parts = and_parts (f y) (list_all f ends) all in
+    go (same_exit x y) refl parts.0 (λ more. one-of-all f ends x more parts.1)
+  where
+    go : (b : Bool) → same_exit x y ≡ b → f y ≡ true → (has_end ends x ≡ true → f x ≡ true) → f x ≡ true
+    go true e here more = ap f (same-is x y e) ∙ here
+    go false e here more = more (rw e at there)
+
+not-all : (f : Exit → Bool) (ends : List Exit) (x : Exit) → has_end ends x ≡ true → f x ≡ false → list_all f ends ≡ false
+not-all f ends x there is = go (list_all f ends) refl
+  where
+    go : (b : Bool) → list_all f ends ≡ b → list_all f ends ≡ false
+    go false e = e
+    go true e = absurd (let no : true ≡ false = sym (one-of-all f ends x there e) ∙ is in cc)
+
+module _ (procedure : ProcedureEntry) where
+  throw-ends : (e : ℕ) → may_end procedure (Throw e) ≡ is_one_of (declared_by procedure.throws) e
+  throw-ends e = throws-thrown (declared_by procedure.throws) e
+
+  all-end : (ends : List Exit) → has_end ends Break ≡ false → has_end ends Continue ≡ false
+      → ((e : ℕ) → throws ends e ≡ true → is_one_of (declared_by procedure.throws) e ≡ true) → list_all (may_end procedure) ends ≡ true
+  all-end [] b c each = refl
+  all-end (Normal ∷ ends) b c each = all-end ends b c each
+  all-end (Return ∷ ends) b c each = all-end ends b c each
+  all-end (Break ∷ ends) b c each = absurd (let no : true ≡ false = b in cc)
+  all-end (Continue ∷ ends) b c each = absurd (let no : true ≡ false = c in cc)
+  all-end (Throw e ∷ ends) b c each =
+      ap (λ t. t && list_all (may_end procedure) ends) (throw-ends e ∙ each e (ap (λ t. t || throws ends e) (same-number e)))
+      ∙ all-end ends b c (λ x there. each x (ap (λ t. (x == e) || t) there ∙ or-true (x == e)))
+
+  pub may-all : (ends : List Exit) (set : ℕ → Bool) (declared : Bool) → ((e : ℕ) → set e ≡ throws ends e)
+      → AreDeclared set (declared_by procedure.throws) declared
+      → list_all (may_end procedure) ends ≡ not (has_end ends Break || (has_end ends Continue || not declared))
+  may-all ends set declared same are = go (has_end ends Break) refl (has_end ends Continue) refl declared are
+    where
+      go : (b : Bool) → has_end ends Break ≡ b → (c : Bool) → has_end ends Continue ≡ c → (d : Bool) → AreDeclared set (declared_by procedure.throws) d
+          → list_all (may_end procedure) ends ≡ not (has_end ends Break || (has_end ends Continue || not d))
+      go true e c f d are = rw e (not-all (may_end procedure) ends Break e refl)
+      go false e true f d are = rw (e, f) (not-all (may_end procedure) ends Continue f refl)
+      go false e false f true are = rw (e, f) (all-end ends e f (λ x there. are x (same x ∙ there)))
+      go false e false f false are =
+          rw (e, f) (not-all (may_end procedure) ends (Throw are.exception) (sym (same are.exception) ∙ are.has) (throw-ends are.exception ∙ are.none))
+
+-- whether there is a result
+pub some-result : (result : Option ResultType) → is_some (result_entry result) ≡ is_some result
+some-result None = refl
+some-result (Some type) = refl
+
+-- the faults of a procedure
+module _ (program : Program) (procedure : ProcedureEntry) where
+  ends_here : List Exit
+  ends_here = block_ends program procedure.body
+
+  pub body-first : (fault : EndsFault) → IsFirst (block_faults program false true procedure.body) fault → IsFirst (procedure_faults program procedure) fault
+  body-first fault first =
+      first-left (block_faults program false true procedure.body
+      ++ fault_unless (not (is_some procedure.result && has_end (block_ends program procedure.body) Normal)) NoValueReturned procedure.at)
+      (fault_unless (list_all (may_end procedure) (block_ends program procedure.body)) Undeclared procedure.at) fault
+      (first-left (block_faults program false true procedure.body)
+      (fault_unless (not (is_some procedure.result && has_end (block_ends program procedure.body) Normal)) NoValueReturned procedure.at) fault first)
+
+  pub no-value-first : block_faults program false true procedure.body ≡ []
+      → (is_some procedure.result && has_end (block_ends program procedure.body) Normal) ≡ true
+      → IsFirst (procedure_faults program procedure) (Refused (record { defect = defect.NoValueReturned; at = procedure.at }))
+  no-value-first clean value = rw (clean, value) refl
+
+  pub undeclared-first : block_faults program false true procedure.body ≡ []
+      → (is_some procedure.result && has_end (block_ends program procedure.body) Normal) ≡ false
+      → list_all (may_end procedure) (block_ends program procedure.body) ≡ false
+      → IsFirst (procedure_faults program procedure) (Refused (record { defect = defect.Undeclared; at = procedure.at }))
+  undeclared-first clean value ends = rw (clean, value, ends) refl
+
+  pub no-faults : block_faults program false true procedure.body ≡ []
+      → (is_some procedure.result && has_end (block_ends program procedure.body) Normal) ≡ false
+      → list_all (may_end procedure) (block_ends program procedure.body) ≡ true
+      → procedure_faults program procedure ≡ []
+  no-faults clean value ends = rw (clean, value, ends) refl
+
+-- what a walk along a procedure's body has found of its ends
+pub record Ended (program : Program) (procedure : ProcedureEntry) (raised : List ℕ) (exits : Exits) : Type 0 where
+  pub kept : exits ≡ exits_of (block_ends program procedure.body)
+  pub same : (e : ℕ) → row_has raised e ≡ throws (block_ends program procedure.body) e
+  pub clean : block_faults program false true procedure.body ≡ []
+  pub value : (is_some procedure.result && has_end (block_ends program procedure.body) Normal) ≡ (is_some procedure.result && exits.normal)
+
+pub walked : (program : Program) (procedure : Procedure) (body : List S.Statement) (old new : List Exits) (none raised : List ℕ) (exits : Exits)
+    → body ≡ procedure.body.items → ((e : ℕ) → row_has none e ≡ false)
+    → IsFound (block_ends program (block_of body)) (block_paths program (block_of body)) old new none raised exits
+    → block_faults program false true (block_of body) ≡ []
+    → Ended program (procedure_entry procedure) raised exits
+walked program procedure body old new none raised exits lent empty found clean =
+    let kept : exits ≡ exits_of (block_ends program (block_of procedure.body.items)) =
+    found.kept ∙ ap (λ list. exits_of (block_ends program (block_of list))) lent in
+    record {
+      kept = kept;
+      same = λ e.
+          found.raised.has e ∙ ap (λ b. b || throws (block_ends program (block_of body)) e) (empty e)
+          ∙ ap (λ list. throws (block_ends program (block_of list)) e) lent;
+      clean = sym (ap (λ list. block_faults program false true (block_of list)) lent) ∙ clean;
+      value = ap (λ (x : Exits). is_some (result_entry procedure.result) && x.normal) (sym kept);
+    }
+
+pub all-may-end : (program : Program) (procedure : Procedure) (list : List Thrown) (raised : List ℕ) (exits : Exits) (declared : Bool)
+    → list ≡ procedure.throws.items → Ended program (procedure_entry procedure) raised exits
+    → AreDeclared (row_has raised) (declared_by (map thrown_entry list)) declared
+    → list_all (may_end (procedure_entry procedure)) (block_ends program (block_of procedure.body.items)) ≡ not (exits.breaks || (exits.continues || not declared))
+all-may-end program procedure list raised exits declared lent ended are =
+    may-all (procedure_entry procedure) (block_ends program (block_of procedure.body.items)) (row_has raised) declared ended.same
+    (subst (λ throws. AreDeclared (row_has raised) (declared_by (map thrown_entry throws)) declared) lent are)
+    ∙ ap (λ (x : Exits). not (x.breaks || (x.continues || not declared))) (sym ended.kept)
+
+-- along the procedures of a program
+pub record Beside (program : Program) (all tail : List ProcedureEntry) (now : List Exits) : Type 0 where
+  pub entries : now ++ map exits_of (flat_map (λ (procedure : ProcedureEntry). block_paths program procedure.body) tail)
+      ≡ map exits_of (flat_map (λ (procedure : ProcedureEntry). block_paths program procedure.body) all)
+  pub faults : flat_map (procedure_faults program) tail ≡ flat_map (procedure_faults program) all
+
+module _ (program : Program) (all : List ProcedureEntry) where
+  pub beside-begin : (now : List Exits) → now ≡ [] → Beside program all all now
+  beside-begin now none = record {
+    entries = ap (λ xs. xs ++ map exits_of (flat_map (λ (procedure : ProcedureEntry). block_paths program procedure.body) all)) none;
+    faults = refl;
+  }
+
+  pub beside-first : (procedure : ProcedureEntry) (tail : List ProcedureEntry) (now : List Exits) (fault : EndsFault) → Beside program all (procedure ∷ tail) now
+      → IsFirst (procedure_faults program procedure) fault → IsFirst (flat_map (procedure_faults program) all) fault
+  beside-first procedure tail now fault along first =
+      subst (λ faults. IsFirst faults fault) along.faults
+      (first-left (procedure_faults program procedure) (flat_map (procedure_faults program) tail) fault first)
+
+  pub beside-step : (procedure : ProcedureEntry) (tail : List ProcedureEntry) (now next : List Exits) → Beside program all (procedure ∷ tail) now
+      → next ≡ now ++ map exits_of (block_paths program procedure.body) → procedure_faults program procedure ≡ []
+      → Beside program all tail next
+  beside-step procedure tail now next along grown clean =
+      let rest = flat_map (λ (other : ProcedureEntry). block_paths program other.body) tail in
+      record {
+        entries =
+            ap (λ xs. xs ++ map exits_of rest) grown
+            ∙ append_assoc now (map exits_of (block_paths program procedure.body)) (map exits_of rest)
+            ∙ ap (λ xs. now ++ xs) (sym (map-append exits_of (block_paths program procedure.body) rest))
+            ∙ along.entries;
+        faults = sym (ap (λ xs. xs ++ flat_map (procedure_faults program) tail) clean) ∙ along.faults;
+      }
+
+  pub beside-end : (now : List Exits) → Beside program all [] now
+      → now ≡ map exits_of (flat_map (λ (procedure : ProcedureEntry). block_paths program procedure.body) all)
+  beside-end now along = sym (append-nil now) ∙ along.entries
+
+  pub beside-clean : (now : List Exits) → Beside program all [] now → flat_map (procedure_faults program) all ≡ []
+  beside-clean now along = sym along.faults
+
+-- along declared exceptions
+pub not-more : (a b c : Bool) → ((a && not b) && not c) ≡ (a && not (b || c))
+not-more false b c = refl
+not-more true true c = refl
+not-more true false c = refl
+
+pub declared-more : (throws : List Thrown) (i : ℕ) (thrown : Thrown) → i < length throws → thrown ≡ get_or throws i thrown → (e : ℕ)
+    → is_one_of (declared_by (map thrown_entry (take (i + 1) throws))) e
+    ≡ (is_one_of (declared_by (map thrown_entry (take i throws))) e || (e == thrown.exception))
+declared-more throws i thrown inside is e =
+    ap (λ list. is_one_of (declared_by (map thrown_entry list)) e) (take_more throws i thrown inside ∙ ap (λ t. take i throws ++ t ∷ []) (sym is))
+    ∙ ap (λ list. is_one_of (declared_by list) e) (map-append thrown_entry (take i throws) (thrown ∷ []))
+    ∙ ap (λ list. is_one_of list e) (map-append (λ (entry : ThrownEntry). entry.exception) (map thrown_entry (take i throws)) (map thrown_entry (thrown ∷ [])))
+    ∙ any-append (λ other. e == other) (declared_by (map thrown_entry (take i throws))) (thrown.exception ∷ [])
+    ∙ ap (λ b. is_one_of (declared_by (map thrown_entry (take i throws))) e || b) (or-false (e == thrown.exception))
+
+-- along procedures
+pub next-procedure : (procedures : List Procedure) (i : ℕ) (procedure : Procedure) → i < length procedures → procedure ≡ get_or procedures i procedure
+    → map procedure_entry (drop i procedures) ≡ procedure_entry procedure ∷ map procedure_entry (drop (i + 1) procedures)
+next-procedure procedures i procedure inside is =
+    ap (map procedure_entry) (drop-cons procedures i procedure inside ∙ ap (λ p. p ∷ drop (suc i) procedures) (sym is))
+    ∙ ap (λ n. procedure_entry procedure ∷ map procedure_entry (drop n procedures)) (sym (add-one i))
+
+pub last-procedure : (procedures : List Procedure) (i : ℕ) → length procedures ≤ i → map procedure_entry (drop i procedures) ≡ []
+last-procedure procedures i past = ap (map procedure_entry) (drop_of_length-le procedures past)
+
+-- more than one exception stays more than one
+pub several-stays : (throws : List Thrown) (i : ℕ) → raised_by (declared_by (map thrown_entry (take i throws))) ≡ Several
+    → Several ≡ raised_by (declared_by (map thrown_entry throws))
+several-stays throws i some =
+    let first : List ℕ = declared_by (map thrown_entry (take i throws)) in
+    let rest : List ℕ = declared_by (map thrown_entry (drop i throws)) in
+    sym (ap (λ r. join_raised r (raised_by rest)) some)
+    ∙ sym (raised-append first rest)
+    ∙ ap raised_by (
+    sym (map-append (λ (entry : ThrownEntry). entry.exception) (map thrown_entry (take i throws)) (map thrown_entry (drop i throws)))
+    ∙ ap declared_by (sym (map-append thrown_entry (take i throws) (drop i throws)) ∙ ap (map thrown_entry) (take-append-drop i throws))
+    )

@@ -1,0 +1,382 @@
+-- The one end of ends, by what is kept of them.
+use Rattle.std.proofs.Common.{◌≡◌, refl, sym, ap, ◌∙◌, ℕ, List, [], ◌∷◌, ◌++◌, Bool, true, false, not, ◌&&◌, ◌||◌, map, arith}
+use Rattle.std.specs.Prelude.{◌==◌, if◌then◌else◌, Option, Some, None, is_some}
+use Rattle.std.specs.List.{list_all, list_any}
+use Rattle.resolved.specs.declared.statement.Exit.{Exit}
+use Rattle.resolved.specs.declared.statement.Exit.TheVariants.{Normal, Return, Break, Continue, Throw}
+use Rattle.resolved.specs.Ends.{same_exit, has_end, one_end}
+use Rattle.resolved.specs.Labelled.{as_one_end}
+use Rattle.path_map.specs.declared.exits.Raised.{Raised}
+use Rattle.path_map.specs.declared.exits.Raised.TheVariants.{Nothing, One, Several}
+use Rattle.path_map.specs.declared.exits.Exits.{Exits}
+use Rattle.path_map.specs.Exits.{thrown_in, raised_by, exits_of, single_end}
+use Rattle.path_map.proofs.Kept.{or-assoc}
+
+abbrev pub single_of : (normal returns breaks continues : Bool) → Raised → Option Exit
+single_of true false false false Nothing = Some Normal
+single_of false true false false Nothing = Some Return
+single_of false false true false Nothing = Some Break
+single_of false false false true Nothing = Some Continue
+single_of false false false false (One e) = Some (Throw e)
+single_of _ _ _ _ _ = None
+
+abbrev pub single_kept : Exits → Option Exit
+single_kept kept = single_of kept.normal kept.returns kept.breaks kept.continues kept.raised
+
+is_nothing : Raised → Bool
+is_nothing Nothing = true
+is_nothing (One e) = false
+is_nothing Several = false
+
+nothing-else : (a b c : Bool) → false ≡ (not a && (not b && (not c && false)))
+nothing-else true b c = refl
+nothing-else false true c = refl
+nothing-else false false true = refl
+nothing-else false false false = refl
+
+second-out : (a c : Bool) (d : Bool) → false ≡ (not a && (not true && (not c && d)))
+second-out true c d = refl
+second-out false c d = refl
+
+third-out : (a b : Bool) (d : Bool) → false ≡ (not a && (not b && (not true && d)))
+third-out true b d = refl
+third-out false true d = refl
+third-out false false d = refl
+
+some-raised : (e : ℕ) (es : List ℕ) → false ≡ is_nothing (raised_by (e ∷ es))
+unfolding is_nothing
+some-raised e es = go (list_all (λ other. e == other) es)
+  where
+    go : (b : Bool) → false ≡ is_nothing (if b then One e else Several)
+    go true = refl
+    go false = refl
+
+all-normal : (ends : List Exit) → list_all (same_exit Normal) ends
+    ≡ (not (has_end ends Return) && (not (has_end ends Break) && (not (has_end ends Continue) && is_nothing (raised_by (thrown_in ends)))))
+unfolding is_nothing
+all-normal [] = refl
+all-normal (Normal ∷ ends) = all-normal ends
+all-normal (Return ∷ ends) = refl
+all-normal (Break ∷ ends) = second-out (has_end ends Return) (has_end ends Continue) (is_nothing (raised_by (thrown_in ends)))
+all-normal (Continue ∷ ends) = third-out (has_end ends Return) (has_end ends Break) (is_nothing (raised_by (thrown_in ends)))
+all-normal (Throw e ∷ ends) =
+    nothing-else (has_end ends Return) (has_end ends Break) (has_end ends Continue)
+    ∙ ap (λ b. not (has_end ends Return) && (not (has_end ends Break) && (not (has_end ends Continue) && b))) (some-raised e (thrown_in ends))
+
+first-normal : (a b c : Bool) (r : Raised) → (if not a && (not b && (not c && is_nothing r)) then Some Normal else None) ≡ single_of true a b c r
+unfolding is_nothing
+first-normal true true true Nothing = refl
+first-normal true true true (One e) = refl
+first-normal true true true Several = refl
+first-normal true true false Nothing = refl
+first-normal true true false (One e) = refl
+first-normal true true false Several = refl
+first-normal true false true Nothing = refl
+first-normal true false true (One e) = refl
+first-normal true false true Several = refl
+first-normal true false false Nothing = refl
+first-normal true false false (One e) = refl
+first-normal true false false Several = refl
+first-normal false true true Nothing = refl
+first-normal false true true (One e) = refl
+first-normal false true true Several = refl
+first-normal false true false Nothing = refl
+first-normal false true false (One e) = refl
+first-normal false true false Several = refl
+first-normal false false true Nothing = refl
+first-normal false false true (One e) = refl
+first-normal false false true Several = refl
+first-normal false false false Nothing = refl
+first-normal false false false (One e) = refl
+first-normal false false false Several = refl
+
+all-return : (ends : List Exit) → list_all (same_exit Return) ends
+    ≡ (not (has_end ends Normal) && (not (has_end ends Break) && (not (has_end ends Continue) && is_nothing (raised_by (thrown_in ends)))))
+unfolding is_nothing
+all-return [] = refl
+all-return (Normal ∷ ends) = refl
+all-return (Return ∷ ends) = all-return ends
+all-return (Break ∷ ends) = second-out (has_end ends Normal) (has_end ends Continue) (is_nothing (raised_by (thrown_in ends)))
+all-return (Continue ∷ ends) = third-out (has_end ends Normal) (has_end ends Break) (is_nothing (raised_by (thrown_in ends)))
+all-return (Throw e ∷ ends) =
+    nothing-else (has_end ends Normal) (has_end ends Break) (has_end ends Continue)
+    ∙ ap (λ b. not (has_end ends Normal) && (not (has_end ends Break) && (not (has_end ends Continue) && b))) (some-raised e (thrown_in ends))
+
+first-return : (a b c : Bool) (r : Raised) → (if not a && (not b && (not c && is_nothing r)) then Some Return else None) ≡ single_of a true b c r
+unfolding is_nothing
+first-return true true true Nothing = refl
+first-return true true true (One e) = refl
+first-return true true true Several = refl
+first-return true true false Nothing = refl
+first-return true true false (One e) = refl
+first-return true true false Several = refl
+first-return true false true Nothing = refl
+first-return true false true (One e) = refl
+first-return true false true Several = refl
+first-return true false false Nothing = refl
+first-return true false false (One e) = refl
+first-return true false false Several = refl
+first-return false true true Nothing = refl
+first-return false true true (One e) = refl
+first-return false true true Several = refl
+first-return false true false Nothing = refl
+first-return false true false (One e) = refl
+first-return false true false Several = refl
+first-return false false true Nothing = refl
+first-return false false true (One e) = refl
+first-return false false true Several = refl
+first-return false false false Nothing = refl
+first-return false false false (One e) = refl
+first-return false false false Several = refl
+
+all-break : (ends : List Exit) → list_all (same_exit Break) ends
+    ≡ (not (has_end ends Normal) && (not (has_end ends Return) && (not (has_end ends Continue) && is_nothing (raised_by (thrown_in ends)))))
+unfolding is_nothing
+all-break [] = refl
+all-break (Normal ∷ ends) = refl
+all-break (Return ∷ ends) = second-out (has_end ends Normal) (has_end ends Continue) (is_nothing (raised_by (thrown_in ends)))
+all-break (Break ∷ ends) = all-break ends
+all-break (Continue ∷ ends) = third-out (has_end ends Normal) (has_end ends Return) (is_nothing (raised_by (thrown_in ends)))
+all-break (Throw e ∷ ends) =
+    nothing-else (has_end ends Normal) (has_end ends Return) (has_end ends Continue)
+    ∙ ap (λ b. not (has_end ends Normal) && (not (has_end ends Return) && (not (has_end ends Continue) && b))) (some-raised e (thrown_in ends))
+
+first-break : (a b c : Bool) (r : Raised) → (if not a && (not b && (not c && is_nothing r)) then Some Break else None) ≡ single_of a b true c r
+unfolding is_nothing
+first-break true true true Nothing = refl
+first-break true true true (One e) = refl
+first-break true true true Several = refl
+first-break true true false Nothing = refl
+first-break true true false (One e) = refl
+first-break true true false Several = refl
+first-break true false true Nothing = refl
+first-break true false true (One e) = refl
+first-break true false true Several = refl
+first-break true false false Nothing = refl
+first-break true false false (One e) = refl
+first-break true false false Several = refl
+first-break false true true Nothing = refl
+first-break false true true (One e) = refl
+first-break false true true Several = refl
+first-break false true false Nothing = refl
+first-break false true false (One e) = refl
+first-break false true false Several = refl
+first-break false false true Nothing = refl
+first-break false false true (One e) = refl
+first-break false false true Several = refl
+first-break false false false Nothing = refl
+first-break false false false (One e) = refl
+first-break false false false Several = refl
+
+all-continue : (ends : List Exit) → list_all (same_exit Continue) ends
+    ≡ (not (has_end ends Normal) && (not (has_end ends Return) && (not (has_end ends Break) && is_nothing (raised_by (thrown_in ends)))))
+unfolding is_nothing
+all-continue [] = refl
+all-continue (Normal ∷ ends) = refl
+all-continue (Return ∷ ends) = second-out (has_end ends Normal) (has_end ends Break) (is_nothing (raised_by (thrown_in ends)))
+all-continue (Break ∷ ends) = third-out (has_end ends Normal) (has_end ends Return) (is_nothing (raised_by (thrown_in ends)))
+all-continue (Continue ∷ ends) = all-continue ends
+all-continue (Throw e ∷ ends) =
+    nothing-else (has_end ends Normal) (has_end ends Return) (has_end ends Break)
+    ∙ ap (λ b. not (has_end ends Normal) && (not (has_end ends Return) && (not (has_end ends Break) && b))) (some-raised e (thrown_in ends))
+
+first-continue : (a b c : Bool) (r : Raised) → (if not a && (not b && (not c && is_nothing r)) then Some Continue else None) ≡ single_of a b c true r
+unfolding is_nothing
+first-continue true true true Nothing = refl
+first-continue true true true (One e) = refl
+first-continue true true true Several = refl
+first-continue true true false Nothing = refl
+first-continue true true false (One e) = refl
+first-continue true true false Several = refl
+first-continue true false true Nothing = refl
+first-continue true false true (One e) = refl
+first-continue true false true Several = refl
+first-continue true false false Nothing = refl
+first-continue true false false (One e) = refl
+first-continue true false false Several = refl
+first-continue false true true Nothing = refl
+first-continue false true true (One e) = refl
+first-continue false true true Several = refl
+first-continue false true false Nothing = refl
+first-continue false true false (One e) = refl
+first-continue false true false Several = refl
+first-continue false false true Nothing = refl
+first-continue false false true (One e) = refl
+first-continue false false true Several = refl
+first-continue false false false Nothing = refl
+first-continue false false false (One e) = refl
+first-continue false false false Several = refl
+
+-- the same of an exception
+and-out : (a b c d e : Bool) → (a ≡ true) → false ≡ (not a && (not b && (not c && (not d && e))))
+and-out a b c d e is = rw is refl
+
+all-throw : (x : ℕ) (ends : List Exit) → list_all (same_exit (Throw x)) ends
+    ≡ (not (has_end ends Normal) && (not (has_end ends Return) && (not (has_end ends Break) && (not (has_end ends Continue) && list_all (λ other. x == other) (thrown_in ends)))))
+all-throw x [] = refl
+all-throw x (Normal ∷ ends) = refl
+all-throw x (Return ∷ ends) = go (has_end ends Normal)
+  where
+    go : (a : Bool) → false ≡ (not a && false)
+    go true = refl
+    go false = refl
+all-throw x (Break ∷ ends) = go (has_end ends Normal) (has_end ends Return)
+  where
+    go : (a b : Bool) → false ≡ (not a && (not b && false))
+    go true b = refl
+    go false true = refl
+    go false false = refl
+all-throw x (Continue ∷ ends) = nothing-else (has_end ends Normal) (has_end ends Return) (has_end ends Break)
+all-throw x (Throw y ∷ ends) = go (x == y) (has_end ends Normal) (has_end ends Return) (has_end ends Break) (has_end ends Continue) (all-throw x ends)
+  where
+    go : (same a b c d : Bool) → list_all (same_exit (Throw x)) ends ≡ (not a && (not b && (not c && (not d && list_all (λ other. x == other) (thrown_in ends)))))
+        → (same && list_all (same_exit (Throw x)) ends)
+        ≡ (not a && (not b && (not c && (not d && (same && list_all (λ other. x == other) (thrown_in ends))))))
+    go true a b c d rest = rest
+    go false true b c d rest = refl
+    go false false true c d rest = refl
+    go false false false true d rest = refl
+    go false false false false true rest = refl
+    go false false false false false rest = refl
+
+first-throw : (x : ℕ) (a b c d e : Bool) → (if not a && (not b && (not c && (not d && e))) then Some (Throw x) else None)
+    ≡ single_of a b c d (if e then One x else Several)
+first-throw x true true true true true = refl
+first-throw x true true true true false = refl
+first-throw x true true true false true = refl
+first-throw x true true true false false = refl
+first-throw x true true false true true = refl
+first-throw x true true false true false = refl
+first-throw x true true false false true = refl
+first-throw x true true false false false = refl
+first-throw x true false true true true = refl
+first-throw x true false true true false = refl
+first-throw x true false true false true = refl
+first-throw x true false true false false = refl
+first-throw x true false false true true = refl
+first-throw x true false false true false = refl
+first-throw x true false false false true = refl
+first-throw x true false false false false = refl
+first-throw x false true true true true = refl
+first-throw x false true true true false = refl
+first-throw x false true true false true = refl
+first-throw x false true true false false = refl
+first-throw x false true false true true = refl
+first-throw x false true false true false = refl
+first-throw x false true false false true = refl
+first-throw x false true false false false = refl
+first-throw x false false true true true = refl
+first-throw x false false true true false = refl
+first-throw x false false true false true = refl
+first-throw x false false true false false = refl
+first-throw x false false false true true = refl
+first-throw x false false false true false = refl
+first-throw x false false false false true = refl
+first-throw x false false false false false = refl
+
+pub single-is : (ends : List Exit) → single_end ends ≡ single_kept (exits_of ends)
+single-is [] = refl
+single-is (Normal ∷ ends) =
+    ap (λ b. if b then Some Normal else None) (all-normal ends)
+    ∙ first-normal (has_end ends Return) (has_end ends Break) (has_end ends Continue) (raised_by (thrown_in ends))
+single-is (Return ∷ ends) =
+    ap (λ b. if b then Some Return else None) (all-return ends)
+    ∙ first-return (has_end ends Normal) (has_end ends Break) (has_end ends Continue) (raised_by (thrown_in ends))
+single-is (Break ∷ ends) =
+    ap (λ b. if b then Some Break else None) (all-break ends)
+    ∙ first-break (has_end ends Normal) (has_end ends Return) (has_end ends Continue) (raised_by (thrown_in ends))
+single-is (Continue ∷ ends) =
+    ap (λ b. if b then Some Continue else None) (all-continue ends)
+    ∙ first-continue (has_end ends Normal) (has_end ends Return) (has_end ends Break) (raised_by (thrown_in ends))
+single-is (Throw x ∷ ends) =
+    ap (λ b. if b then Some (Throw x) else None) (all-throw x ends)
+    ∙ first-throw x (has_end ends Normal) (has_end ends Return) (has_end ends Break) (has_end ends Continue) (list_all (λ other. x == other) (thrown_in ends))
+
+-- the answer of a function that finds it
+pub answer : (kept : Exits) (found : Option Exit) → found ≡ single_kept kept → (ends : List Exit) → kept ≡ exits_of ends → found ≡ single_end ends
+answer kept found is ends e = is ∙ (ap single_kept e ∙ sym (single-is ends))
+
+pub one-is : (ends : List Exit) → is_some (single_end ends) ≡ one_end ends
+one-is [] = refl
+one-is (exit ∷ ends) = go (list_all (same_exit exit) ends)
+  where
+    go : (b : Bool) → is_some (if b then Some exit else None) ≡ b
+    go true = refl
+    go false = refl
+
+-- for a procedure, where a normal end and a return are one
+normal-joined : (ends : List Exit) → has_end (map as_one_end ends) Normal ≡ (has_end ends Normal || has_end ends Return)
+normal-joined [] = refl
+normal-joined (Normal ∷ ends) = refl
+normal-joined (Return ∷ ends) = go (has_end ends Normal)
+  where
+    go : (a : Bool) → true ≡ (a || true)
+    go true = refl
+    go false = refl
+normal-joined (Break ∷ ends) = normal-joined ends
+normal-joined (Continue ∷ ends) = normal-joined ends
+normal-joined (Throw e ∷ ends) = normal-joined ends
+
+return-joined : (ends : List Exit) → has_end (map as_one_end ends) Return ≡ false
+return-joined [] = refl
+return-joined (Normal ∷ ends) = return-joined ends
+return-joined (Return ∷ ends) = return-joined ends
+return-joined (Break ∷ ends) = return-joined ends
+return-joined (Continue ∷ ends) = return-joined ends
+return-joined (Throw e ∷ ends) = return-joined ends
+
+break-joined : (ends : List Exit) → has_end (map as_one_end ends) Break ≡ has_end ends Break
+break-joined [] = refl
+break-joined (Normal ∷ ends) = break-joined ends
+break-joined (Return ∷ ends) = break-joined ends
+break-joined (Break ∷ ends) = refl
+break-joined (Continue ∷ ends) = break-joined ends
+break-joined (Throw e ∷ ends) = break-joined ends
+
+continue-joined : (ends : List Exit) → has_end (map as_one_end ends) Continue ≡ has_end ends Continue
+continue-joined [] = refl
+continue-joined (Normal ∷ ends) = continue-joined ends
+continue-joined (Return ∷ ends) = continue-joined ends
+continue-joined (Break ∷ ends) = continue-joined ends
+continue-joined (Continue ∷ ends) = refl
+continue-joined (Throw e ∷ ends) = continue-joined ends
+
+thrown-joined : (ends : List Exit) → thrown_in (map as_one_end ends) ≡ thrown_in ends
+thrown-joined [] = refl
+thrown-joined (Normal ∷ ends) = thrown-joined ends
+thrown-joined (Return ∷ ends) = thrown-joined ends
+thrown-joined (Break ∷ ends) = thrown-joined ends
+thrown-joined (Continue ∷ ends) = thrown-joined ends
+thrown-joined (Throw e ∷ ends) = ap (λ es. e ∷ es) (thrown-joined ends)
+
+pub joined-is : (kept : Exits) (ends : List Exit) → kept ≡ exits_of ends
+    → record kept { normal = kept.normal || kept.returns; returns = false } ≡ exits_of (map as_one_end ends)
+joined-is kept ends is =
+    ap (λ (x : Exits). record x { normal = x.normal || x.returns; returns = false }) is
+    ∙ sym (rw (normal-joined ends, return-joined ends, break-joined ends, continue-joined ends, thrown-joined ends) refl)
+
+-- several ends have no single one
+pub more-normal : (r : Raised) → (r ≡ Nothing → ⊥) → None ≡ single_of true false false false r
+more-normal Nothing more = absurd (more refl)
+more-normal (One e) more = refl
+more-normal Several more = refl
+
+pub more-return : (r : Raised) → (r ≡ Nothing → ⊥) → None ≡ single_of false true false false r
+more-return Nothing more = absurd (more refl)
+more-return (One e) more = refl
+more-return Several more = refl
+
+pub more-break : (r : Raised) → (r ≡ Nothing → ⊥) → None ≡ single_of false false true false r
+more-break Nothing more = absurd (more refl)
+more-break (One e) more = refl
+more-break Several more = refl
+
+pub more-continue : (r : Raised) → (r ≡ Nothing → ⊥) → None ≡ single_of false false false true r
+more-continue Nothing more = absurd (more refl)
+more-continue (One e) more = refl
+more-continue Several more = refl
+
+pub more-throws : (r : Raised) → ((e : ℕ) → r ≡ One e → ⊥) → None ≡ single_of false false false false r
+more-throws Nothing more = refl
+more-throws (One e) more = absurd (more e refl)
+more-throws Several more = refl

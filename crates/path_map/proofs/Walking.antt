@@ -1,0 +1,390 @@
+-- What a walk finds, put together from what it finds of the pieces.
+use Rattle.std.proofs.Common.{◌≡◌, ◌≢◌, refl, sym, ap, ◌∙◌, subst, ℕ, ◌+◌, ◌<◌, List, [], ◌∷◌, ◌++◌, Bool, true, false, not, ◌&&◌, ◌||◌, map, filter, length, set, get_or, drop, arith, append_assoc, append-nil}
+use Rattle.std.specs.Prelude.{◌==◌, if◌then◌else◌, Some}
+use Rattle.std.proofs.lemmas.Bool.{eqb-true, eqb-false, eq-eqb, ne_eqb}
+use Rattle.std.proofs.lemmas.List.{map-append, length-append}
+use Rattle.resolved.specs.declared.statement.Exit.{Exit}
+use Rattle.resolved.specs.declared.statement.Exit.TheVariants.{Normal, Return, Break, Continue, Throw}
+use Rattle.resolved.specs.Tree.{Statement, Block, Empty, Then, Handlers, NoMore, Catch, place_of}
+use Rattle.resolved.specs.Program.{Program}
+use Rattle.resolved.specs.Ends.{same_exit, has_end, thrown_ends, then_ends, leaves_loop, handles, passes, statement_ends, block_ends, handlers_ends}
+use Rattle.resolved.specs.EndFaults.{EndFault, fault_unless, may_stand, inner_faults, block_faults, handlers_faults, OutsideLoop, Unreachable, NeverRaised}
+use Rattle.path_map.specs.declared.exits.Raised.{Raised}
+use Rattle.path_map.specs.declared.exits.Raised.TheVariants.{Nothing, One, Several}
+use Rattle.path_map.specs.declared.exits.Exits.{Exits}
+use Rattle.path_map.specs.declared.fault.EndDefect.TheVariants as defect
+use Rattle.path_map.specs.declared.fault.EndsFault.{EndsFault}
+use Rattle.path_map.specs.declared.fault.EndsFault.TheVariants.{NoMemory, Refused}
+use Rattle.path_map.specs.FirstFault.{IsFirst, fault_of, first_of}
+use Rattle.path_map.specs.Exits.{exits_of, raised_by, thrown_in}
+use Rattle.path_map.specs.Joins.{join, join_raised, after, only_raised, of_loop}
+use Rattle.path_map.specs.Paths.{statement_paths, inner_paths, block_paths, rest_paths, handlers_paths}
+use Rattle.path_map.specs.Sets.{row_has, IsSum, IsKeptOf, is_one_of, throws}
+use Rattle.path_map.specs.Walks.{IsFound, AreThrown, AreLeft}
+use Rattle.path_map.proofs.Kept.{or-assoc, or-false, or-true, same-number, any-append, exits-append, exits-assoc, exits-then, throws-then, after-assoc, after-normal, and-false, join-none, loop-kept, loop-throws, exits-pass, throws-pass, throws-in, throws-thrown, exits-thrown, raised-same, raised-append, kept-is}
+
+-- sums of sets
+pub sum-then : (a b c : List ℕ) (f g h : ℕ → Bool) → IsSum a f b → IsSum b g c → ((e : ℕ) → h e ≡ (f e || g e)) → IsSum a h c
+sum-then a b c f g h first second each = record {
+  has = λ e.
+      second.has e ∙ ap (λ x. x || g e) (first.has e) ∙ or-assoc (row_has a e) (f e) (g e)
+      ∙ ap (λ x. row_has a e || x) (sym (each e));
+}
+
+pub sum-same : (a b : List ℕ) (f g : ℕ → Bool) → IsSum a f b → ((e : ℕ) → g e ≡ f e) → IsSum a g b
+sum-same a b f g sum each = record { has = λ e. sum.has e ∙ ap (λ x. row_has a e || x) (sym (each e)) }
+
+pub sum-none : (a : List ℕ) → IsSum a (λ e. false) a
+sum-none a = record { has = λ e. sym (or-false (row_has a e)) }
+
+-- an entry for which room was made
+set-at : {A : Type 0} (old : List A) (p : A) (rest : List A) (x : A) → set (old ++ p ∷ rest) (length old) x ≡ old ++ x ∷ rest
+set-at [] p rest x = refl
+set-at (o ∷ old) p rest x = ap (λ xs. o ∷ xs) (set-at old p rest x)
+
+pub reserved : (ends : List Exit) (paths : List (List Exit)) (old room new : List Exits) (p : Exits) (at : ℕ) (had has : List ℕ) (found : Exits)
+    → room ≡ old ++ p ∷ [] → at ≡ length old → IsFound ends paths room new had has found
+    → IsFound ends (ends ∷ paths) old (set new at found) had has found
+reserved ends paths old room new p at had has found made number piece = record {
+  kept = piece.kept;
+  entries =
+      ap (λ xs. set xs at found) (piece.entries ∙ ap (λ xs. xs ++ map exits_of paths) made ∙ append_assoc old (p ∷ []) (map exits_of paths))
+      ∙ ap (λ i. set (old ++ p ∷ map exits_of paths) i found) number
+      ∙ set-at old p (map exits_of paths) found
+      ∙ ap (λ x. old ++ x ∷ map exits_of paths) piece.kept;
+  raised = piece.raised;
+}
+
+pub has-room : (ends : List Exit) (paths : List (List Exit)) (old room new : List Exits) (p : Exits) (at : ℕ) (had has : List ℕ) (found : Exits)
+    → room ≡ old ++ p ∷ [] → at ≡ length old → IsFound ends paths room new had has found → at < length new
+has-room ends paths old room new p at had has found made number piece =
+    omega (arith, number, ap length piece.entries, ap length made, length-append room (map exits_of paths), length-append old (p ∷ []))
+
+-- two pieces, one after the other
+pub both : (a b : List Exit) (ps qs : List (List Exit)) (e0 e1 e2 : List Exits) (r0 r1 r2 : List ℕ) (x y : Exits)
+    → IsFound a ps e0 e1 r0 r1 x → IsFound b qs e1 e2 r1 r2 y → IsFound (a ++ b) (ps ++ qs) e0 e2 r0 r2 (join x y)
+both a b ps qs e0 e1 e2 r0 r1 r2 x y first second = record {
+  kept = ap (λ k. join k y) first.kept ∙ ap (λ k. join (exits_of a) k) second.kept ∙ sym (exits-append a b);
+  entries =
+      second.entries ∙ ap (λ xs. xs ++ map exits_of qs) first.entries
+      ∙ append_assoc e0 (map exits_of ps) (map exits_of qs) ∙ ap (λ xs. e0 ++ xs) (sym (map-append exits_of ps qs));
+  raised = sum-then r0 r1 r2 (throws a) (throws b) (throws (a ++ b)) first.raised second.raised (λ e. any-append (same_exit (Throw e)) a b);
+}
+
+-- a loop by its condition and body
+pub looped : (ends : List Exit) (ps : List (List Exit)) (e0 e1 : List Exits) (r0 r1 : List ℕ) (x : Exits)
+    → IsFound ends ps e0 e1 r0 r1 x → IsFound (Normal ∷ filter leaves_loop ends) ps e0 e1 r0 r1 (of_loop x)
+looped ends ps e0 e1 r0 r1 x piece = record {
+  kept = ap of_loop piece.kept ∙ sym (loop-kept ends);
+  entries = piece.entries;
+  raised = sum-same r0 r1 (throws ends) (throws (Normal ∷ filter leaves_loop ends)) piece.raised (loop-throws ends);
+}
+
+-- a block with handlers
+or-swap : (a b c : Bool) → ((a || b) || c) ≡ (a || (c || b))
+or-swap true b c = refl
+or-swap false true true = refl
+or-swap false true false = refl
+or-swap false false true = refl
+or-swap false false false = refl
+
+module _ (b h : List Exit) (handlers : Handlers) (pb ph : List (List Exit)) (e0 e1 e2 : List Exits)
+    (none i1 i2 r0 r1 r2 : List ℕ) (x y : Exits) (k : Raised)
+    (empty : (e : ℕ) → row_has none e ≡ false) (tried : IsFound b pb e0 e1 none i1 x)
+    (handled : IsFound h ph e1 e2 r0 r1 y) (left : AreLeft i1 i2 handlers) (united : IsSum r1 (row_has i2) r2) (kept : IsKeptOf (row_has i2) k) where
+  inner-throws : (e : ℕ) → row_has i1 e ≡ throws b e
+  inner-throws e = tried.raised.has e ∙ ap (λ z. z || throws b e) (empty e)
+
+  pass-throws : (e : ℕ) → throws (filter (passes handlers) b) e ≡ row_has i2 e
+  pass-throws e =
+      throws-pass handlers b e ∙ ap (λ z. z && not (handles handlers e)) (sym (inner-throws e)) ∙ sym (left.has e)
+
+  pub are-thrown : AreThrown i1 b
+  are-thrown = record { has = inner-throws }
+
+  pub try-found : IsFound (filter (passes handlers) b ++ h) (pb ++ ph) e0 e2 r0 r2 (join (record x { raised = k }) y)
+  try-found =
+      let passing : List Exit = filter (passes handlers) b in
+      let is : k ≡ raised_by (thrown_in passing) =
+      kept-is (thrown_in passing) (row_has i2) (λ e. throws-in passing e ∙ pass-throws e) k kept in
+      record {
+        kept =
+            ap (λ (z : Exits). join (record z { raised = k }) y) tried.kept
+            ∙ ap (λ z. join z y) (exits-pass handlers b k is)
+            ∙ ap (λ z. join (exits_of passing) z) handled.kept ∙ sym (exits-append passing h);
+        entries =
+            handled.entries ∙ ap (λ xs. xs ++ map exits_of ph) tried.entries
+            ∙ append_assoc e0 (map exits_of pb) (map exits_of ph) ∙ ap (λ xs. e0 ++ xs) (sym (map-append exits_of pb ph));
+        raised = record {
+          has = λ e.
+              united.has e ∙ ap (λ z. z || row_has i2 e) (handled.raised.has e)
+              ∙ or-swap (row_has r0 e) (throws h e) (row_has i2 e)
+              ∙ ap (λ z. row_has r0 e || (z || throws h e)) (sym (pass-throws e))
+              ∙ ap (λ z. row_has r0 e || z) (sym (any-append (same_exit (Throw e)) passing h));
+        };
+      }
+
+-- the first of faults that are put together
+pub first-left : (a b : List EndFault) (fault : EndsFault) → IsFirst a fault → IsFirst (a ++ b) fault
+first-left a b NoMemory first = tt
+first-left [] b (Refused refusal) first = absurd (cc)
+first-left (x ∷ a) b (Refused refusal) first = first
+
+pub first-right : (a b : List EndFault) (fault : EndsFault) → a ≡ [] → IsFirst b fault → IsFirst (a ++ b) fault
+first-right a b fault none first = subst (λ xs. IsFirst (xs ++ b) fault) (sym none) first
+
+pub none-both : (a b : List EndFault) → a ≡ [] → b ≡ [] → a ++ b ≡ []
+none-both a b p q = ap (λ xs. xs ++ b) p ∙ q
+
+-- along the statements of a block: what was found so far, with what is to come, is what is found of the block
+pub record Along (program : Program) (in_loop : Bool) (block tail : Block) (old now : List Exits) (had has : List ℕ) (so_far : Exits) : Type 0 where
+  pub kept : after so_far (exits_of (block_ends program tail)) ≡ exits_of (block_ends program block)
+  pub entries : now ++ map exits_of (rest_paths program tail) ≡ old ++ map exits_of (rest_paths program block)
+  pub raised : (e : ℕ) → (row_has has e || (so_far.normal && throws (block_ends program tail) e)) ≡ (row_has had e || throws (block_ends program block) e)
+  pub faults : block_faults program in_loop so_far.normal tail ≡ block_faults program in_loop true block
+
+module _ (program : Program) (in_loop : Bool) (block : Block) (old : List Exits) (had : List ℕ) where
+  pub along-begin : (so_far : Exits) → so_far ≡ record (only_raised Nothing) { normal = true } → Along program in_loop block block old old had had so_far
+  along-begin so_far is = record {
+    kept = ap (λ (x : Exits). after x (exits_of (block_ends program block))) is;
+    entries = refl;
+    raised = λ e. ap (λ (x : Exits). row_has had e || (x.normal && throws (block_ends program block) e)) is;
+    faults = ap (λ (x : Exits). block_faults program in_loop x.normal block) is;
+  }
+
+  module _ (statement : Statement) (tail : Block) (now : List Exits) (has : List ℕ) (so_far : Exits)
+      (along : Along program in_loop block (Then statement tail) old now had has so_far) where
+    pub outside : may_stand in_loop statement ≡ false
+        → IsFirst (block_faults program in_loop true block) (Refused (record { defect = defect.OutsideLoop; at = place_of statement }))
+    outside stands =
+        subst (λ faults. IsFirst faults (Refused (record { defect = defect.OutsideLoop; at = place_of statement }))) along.faults
+        (rw stands refl)
+
+    pub unreachable : may_stand in_loop statement ≡ true → so_far.normal ≡ false
+        → IsFirst (block_faults program in_loop true block) (Refused (record { defect = defect.Unreachable; at = place_of statement }))
+    unreachable stands reached =
+        subst (λ faults. IsFirst faults (Refused (record { defect = defect.Unreachable; at = place_of statement }))) along.faults
+        (rw (stands, reached) refl)
+
+    pub inside : may_stand in_loop statement ≡ true → so_far.normal ≡ true → (fault : EndsFault) → IsFirst (inner_faults program in_loop statement) fault
+        → IsFirst (block_faults program in_loop true block) fault
+    inside stands reached fault first =
+        subst (λ faults. IsFirst faults fault) along.faults
+        (rw (stands, reached) (first-left (inner_faults program in_loop statement) (block_faults program in_loop (has_end (statement_ends program statement) Normal) tail) fault first))
+
+    pub along-step : may_stand in_loop statement ≡ true → so_far.normal ≡ true → (next : List Exits) (more : List ℕ) (found : Exits)
+        → IsFound (statement_ends program statement) (statement_paths program statement) now next has more found
+        → inner_faults program in_loop statement ≡ [] → Along program in_loop block tail old next had more (after so_far found)
+    along-step stands reached next more found piece clean =
+        let ends : List Exit = statement_ends program statement in
+        let rest : List Exit = block_ends program tail in
+        let goes_on : (after so_far found).normal ≡ has_end ends Normal = rw reached (ap (λ (x : Exits). x.normal) piece.kept) in
+        record {
+          kept =
+              ap (λ x. after (after so_far x) (exits_of rest)) piece.kept
+              ∙ after-assoc so_far (exits_of ends) (exits_of rest)
+              ∙ ap (λ x. after so_far x) (sym (exits-then ends rest))
+              ∙ along.kept;
+          entries =
+              ap (λ xs. xs ++ map exits_of (rest_paths program tail)) piece.entries
+              ∙ append_assoc now (map exits_of (statement_paths program statement)) (map exits_of (rest_paths program tail))
+              ∙ ap (λ xs. now ++ xs) (sym (map-append exits_of (statement_paths program statement) (rest_paths program tail)))
+              ∙ along.entries;
+          raised = λ e.
+              ap (λ b. row_has more e || (b && throws rest e)) goes_on
+              ∙ ap (λ b. b || (has_end ends Normal && throws rest e)) (piece.raised.has e)
+              ∙ or-assoc (row_has has e) (throws ends e) (has_end ends Normal && throws rest e)
+              ∙ ap (λ b. row_has has e || b) (sym (throws-then ends rest e))
+              ∙ ap (λ b. row_has has e || (b && throws (then_ends ends rest) e)) (sym reached)
+              ∙ along.raised e;
+          faults =
+              ap (λ b. block_faults program in_loop b tail) goes_on
+              ∙ sym (rw (stands, reached, clean) refl)
+              ∙ along.faults;
+        }
+
+  pub along-end : (now : List Exits) (has : List ℕ) (so_far : Exits) → Along program in_loop block Empty old now had has so_far
+      → IsFound (block_ends program block) (rest_paths program block) old now had has so_far
+  along-end now has so_far along = record {
+    kept = after-normal so_far ∙ along.kept;
+    entries = sym (append-nil now) ∙ along.entries;
+    raised = record { has = λ e. sym (ap (λ b. row_has has e || b) (and-false so_far.normal) ∙ or-false (row_has has e)) ∙ along.raised e };
+  }
+
+  pub along-clean : (now : List Exits) (has : List ℕ) (so_far : Exits) → Along program in_loop block Empty old now had has so_far
+      → block_faults program in_loop true block ≡ []
+  along-clean now has so_far along = sym along.faults
+
+-- along handlers: what the walk has taken out of the inner set, and the faults that are to come
+pub record Remaining (program : Program) (in_loop : Bool) (faults : List EndFault) (row : List ℕ) (tail : Handlers) : Type 0 where
+  pub ends : List Exit
+  pub are : AreThrown row ends
+  pub same : handlers_faults program in_loop ends tail ≡ faults
+
+pub record Handling (program : Program) (in_loop : Bool) (handlers tail : Handlers) (old now : List Exits) (had has was row : List ℕ) (so_far : Exits) : Type 0 where
+  pub kept : join so_far (exits_of (handlers_ends program tail)) ≡ exits_of (handlers_ends program handlers)
+  pub entries : now ++ map exits_of (handlers_paths program tail) ≡ old ++ map exits_of (handlers_paths program handlers)
+  pub raised : (e : ℕ) → (row_has has e || throws (handlers_ends program tail) e) ≡ (row_has had e || throws (handlers_ends program handlers) e)
+  pub left : (e : ℕ) → (row_has row e && not (handles tail e)) ≡ (row_has was e && not (handles handlers e))
+  pub remaining : (ends : List Exit) → AreThrown was ends → Remaining program in_loop (handlers_faults program in_loop ends handlers) row tail
+
+throws-without : (h : ℕ) (ends : List Exit) (e : ℕ)
+    → throws (filter (λ exit. not (same_exit (Throw h) exit)) ends) e ≡ (throws ends e && not (e == h))
+throws-without h [] e = refl
+throws-without h (Normal ∷ ends) e = throws-without h ends e
+throws-without h (Return ∷ ends) e = throws-without h ends e
+throws-without h (Break ∷ ends) e = throws-without h ends e
+throws-without h (Continue ∷ ends) e = throws-without h ends e
+throws-without h (Throw x ∷ ends) e = go (h == x) refl (e == x) refl (throws-without h ends e)
+  where
+    go : (taken : Bool) → (h == x) ≡ taken → (same : Bool) → (e == x) ≡ same
+        → throws (filter (λ exit. not (same_exit (Throw h) exit)) ends) e ≡ (throws ends e && not (e == h))
+        → throws (filter (λ exit. not (same_exit (Throw h) exit)) (Throw x ∷ ends)) e ≡ (((e == x) || throws ends e) && not (e == h))
+    go false f false g rest = rw (f, g) rest
+    go false f true g rest =
+        let is : e ≡ x = eqb-true e x g in
+        let differs : (e == h) ≡ false = ne_eqb e h (λ same. eqb-false h x f (sym same ∙ is)) in
+        rw (f, g, differs) refl
+    go true f false g rest = rw (f, g) rest
+    go true f true g rest =
+        let is : e ≡ x = eqb-true e x g in
+        let same : (e == h) ≡ true = eq-eqb e h (is ∙ sym (eqb-true h x f)) in
+        rw (f, g) (rest ∙ rw same (and-false (throws ends e)))
+
+module _ (program : Program) (in_loop : Bool) (handlers : Handlers) (old : List Exits) (had was : List ℕ) where
+  pub handling-begin : (so_far : Exits) → so_far ≡ only_raised Nothing → Handling program in_loop handlers handlers old old had had was was so_far
+  handling-begin so_far is = record {
+    kept = ap (λ x. join x (exits_of (handlers_ends program handlers))) is;
+    entries = refl;
+    raised = λ e. refl;
+    left = λ e. refl;
+    remaining = λ ends are. record { ends = ends; are = are; same = refl };
+  }
+
+  module _ (at handled : ℕ) (body : Block) (tail : Handlers) (now : List Exits) (has row taken : List ℕ) (so_far : Exits)
+      (along : Handling program in_loop handlers (Catch at handled body tail) old now had has was row so_far)
+      (without : (e : ℕ) → row_has taken e ≡ (row_has row e && not (e == handled))) where
+    pub never-raised : row_has row handled ≡ false → (ends : List Exit) → AreThrown was ends
+        → IsFirst (handlers_faults program in_loop ends handlers) (Refused (record { defect = defect.NeverRaised; at = at }))
+    never-raised absent ends are =
+        let there = along.remaining ends are in
+        let none : throws there.ends handled ≡ false = sym (there.are.has handled) ∙ absent in
+        subst (λ faults. IsFirst faults (Refused (record { defect = defect.NeverRaised; at = at }))) there.same (rw none refl)
+
+    pub in-handler : row_has row handled ≡ true → (fault : EndsFault) → IsFirst (block_faults program in_loop true body) fault
+        → (ends : List Exit) → AreThrown was ends → IsFirst (handlers_faults program in_loop ends handlers) fault
+    in-handler present fault first ends are =
+        let there = along.remaining ends are in
+        let some : throws there.ends handled ≡ true = sym (there.are.has handled) ∙ present in
+        subst (λ faults. IsFirst faults fault) there.same
+        (rw some (first-left (block_faults program in_loop true body)
+        (handlers_faults program in_loop (filter (λ exit. not (same_exit (Throw handled) exit)) there.ends) tail) fault first))
+
+    pub handling-step : row_has row handled ≡ true → (next : List Exits) (more : List ℕ) (found : Exits)
+        → IsFound (block_ends program body) (block_paths program body) now next has more found
+        → block_faults program in_loop true body ≡ []
+        → Handling program in_loop handlers tail old next had more was taken (join so_far found)
+    handling-step present next more found piece clean =
+        let ends : List Exit = block_ends program body in
+        let rest : List Exit = handlers_ends program tail in
+        record {
+          kept =
+              ap (λ x. join (join so_far x) (exits_of rest)) piece.kept
+              ∙ exits-assoc so_far (exits_of ends) (exits_of rest)
+              ∙ ap (λ x. join so_far x) (sym (exits-append ends rest))
+              ∙ along.kept;
+          entries =
+              ap (λ xs. xs ++ map exits_of (handlers_paths program tail)) piece.entries
+              ∙ append_assoc now (map exits_of (block_paths program body)) (map exits_of (handlers_paths program tail))
+              ∙ ap (λ xs. now ++ xs) (sym (map-append exits_of (block_paths program body) (handlers_paths program tail)))
+              ∙ along.entries;
+          raised = λ e.
+              ap (λ b. b || throws rest e) (piece.raised.has e)
+              ∙ or-assoc (row_has has e) (throws ends e) (throws rest e)
+              ∙ ap (λ b. row_has has e || b) (sym (any-append (same_exit (Throw e)) ends rest))
+              ∙ along.raised e;
+          left = λ e.
+              ap (λ b. b && not (handles tail e)) (without e)
+              ∙ not-or (row_has row e) (e == handled) (handles tail e)
+              ∙ along.left e;
+          remaining = λ given are.
+              let there = along.remaining given are in
+              let some : throws there.ends handled ≡ true = sym (there.are.has handled) ∙ present in
+              record {
+                ends = filter (λ exit. not (same_exit (Throw handled) exit)) there.ends;
+                are = record {
+                  has = λ e.
+                      without e ∙ ap (λ b. b && not (e == handled)) (there.are.has e) ∙ sym (throws-without handled there.ends e);
+                };
+                same = sym (rw (some, clean) refl) ∙ there.same;
+              };
+        }
+      where
+        not-or : (a b c : Bool) → ((a && not b) && not c) ≡ (a && not (b || c))
+        not-or false b c = refl
+        not-or true true c = refl
+        not-or true false c = refl
+
+  pub handling-end : (now : List Exits) (has row : List ℕ) (so_far : Exits) → Handling program in_loop handlers NoMore old now had has was row so_far
+      → IsFound (handlers_ends program handlers) (handlers_paths program handlers) old now had has so_far
+  handling-end now has row so_far along = record {
+    kept = sym (join-none so_far) ∙ along.kept;
+    entries = sym (append-nil now) ∙ along.entries;
+    raised = record { has = λ e. sym (or-false (row_has has e)) ∙ along.raised e };
+  }
+
+  pub handling-left : (now : List Exits) (has row : List ℕ) (so_far : Exits) → Handling program in_loop handlers NoMore old now had has was row so_far
+      → AreLeft was row handlers
+  handling-left now has row so_far along = record { has = λ e. sym (and-true (row_has row e)) ∙ along.left e }
+    where
+      and-true : (b : Bool) → (b && true) ≡ b
+      and-true true = refl
+      and-true false = refl
+
+  pub handling-clean : (now : List Exits) (has row : List ℕ) (so_far : Exits) → Handling program in_loop handlers NoMore old now had has was row so_far
+      → (ends : List Exit) → AreThrown was ends → handlers_faults program in_loop ends handlers ≡ []
+  handling-clean now has row so_far along ends are = sym (along.remaining ends are).same
+
+-- a statement that only raises, goes on or returns
+module _ (listed exceptions : List ℕ) (same : (e : ℕ) → is_one_of listed e ≡ is_one_of exceptions e) (raised : Raised) (is : raised ≡ raised_by listed)
+    (had has : List ℕ) (sum : IsSum had (is_one_of listed) has) (exits : Exits) (entries : List Exits) where
+  raised-is : raised ≡ raised_by exceptions
+  raised-is = is ∙ raised-same listed exceptions same
+
+  sum-is : IsSum had (throws (thrown_ends exceptions)) has
+  sum-is = sum-same had has (is_one_of listed) (throws (thrown_ends exceptions)) sum (λ e. throws-thrown exceptions e ∙ sym (same e))
+
+  pub raising-found : exits ≡ only_raised raised → IsFound (thrown_ends exceptions) [] entries entries had has exits
+  raising-found made = record {
+    kept = made ∙ (ap only_raised raised-is ∙ sym (exits-thrown exceptions));
+    entries = sym (append-nil entries);
+    raised = sum-is;
+  }
+
+  pub going-found : exits ≡ record (only_raised raised) { normal = true } → IsFound (Normal ∷ thrown_ends exceptions) [] entries entries had has exits
+  going-found made = record {
+    kept = made ∙ ap (λ (x : Exits). record x { normal = true }) (ap only_raised raised-is ∙ sym (exits-thrown exceptions));
+    entries = sym (append-nil entries);
+    raised = sum-same had has (throws (thrown_ends exceptions)) (throws (Normal ∷ thrown_ends exceptions)) sum-is (λ e. refl);
+  }
+
+  pub returning-found : exits ≡ record (only_raised raised) { returns = true } → IsFound (Return ∷ thrown_ends exceptions) [] entries entries had has exits
+  returning-found made = record {
+    kept = made ∙ ap (λ (x : Exits). record x { returns = true }) (ap only_raised raised-is ∙ sym (exits-thrown exceptions));
+    entries = sym (append-nil entries);
+    raised = sum-same had has (throws (thrown_ends exceptions)) (throws (Return ∷ thrown_ends exceptions)) sum-is (λ e. refl);
+  }
+
+-- a call: what its arguments raise, and what the procedure declares
+pub call-found : (listed exceptions declared : List ℕ) (same : (e : ℕ) → is_one_of listed e ≡ is_one_of exceptions e) (own other : Raised)
+    → own ≡ raised_by listed → other ≡ raised_by declared → (had mid has : List ℕ) → IsSum had (is_one_of listed) mid → IsSum mid (is_one_of declared) has
+    → (exits : Exits) (entries : List Exits) → exits ≡ record (only_raised (join_raised own other)) { normal = true }
+    → IsFound (Normal ∷ thrown_ends (exceptions ++ declared)) [] entries entries had has exits
+call-found listed exceptions declared same own other own_is other_is had mid has first second exits entries made =
+    going-found (exceptions ++ declared) (exceptions ++ declared) (λ e. refl) (join_raised own other)
+    (ap (λ r. join_raised r other) (own_is ∙ raised-same listed exceptions same) ∙ ap (λ r. join_raised (raised_by exceptions) r) other_is
+    ∙ sym (raised-append exceptions declared))
+    had has
+    (sum-then had mid has (is_one_of listed) (is_one_of declared) (is_one_of (exceptions ++ declared)) first second
+    (λ e. any-append (λ other. e == other) exceptions declared ∙ ap (λ b. b || is_one_of declared e) (sym (same e))))
+    exits entries made

@@ -1,0 +1,9 @@
+use Rattle.std.proofs.Common.{map, take}
+use Rattle.resolved.specs.Ends.{declared_by}
+use Rattle.resolved.specs.ProgramOf.{thrown_entry}
+use Rattle.path_map.specs.Sets.{IsSum, is_one_of}
+use Rattle.path_map.proofs.calls.insert_all.Given as goal
+
+abbrev pub invariant-loop-thrown : goal.invariant-loop-thrown
+invariant-loop-thrown l =
+    IsSum l.fn.set.words.items (is_one_of (declared_by (map thrown_entry (take l.thrown-index l.throws)))) l.set.words.items

@@ -1,0 +1,18 @@
+use Rattle.std.proofs.Common.{◌≡◌, ℕ, ◌+◌, ◌&&◌, not, map, take, List, ap, ◌∙◌, sym, ◌++◌, ◌∷◌, [], get_or, ◌<◌, length}
+use Rattle.std.specs.Prelude.{◌==◌}
+use Rattle.std.proofs.lemmas.List.{take_more}
+use Rattle.resolved.specs.Ends.{declared_by}
+use Rattle.resolved.specs.ProgramOf.{thrown_entry}
+use Rattle.resolved.specs.declared.tables.Thrown.{Thrown}
+use Rattle.path_map.specs.Sets.{row_has, is_one_of}
+use Rattle.path_map.proofs.Procedures.{declared-more, not-more}
+use Rattle.path_map.proofs.map.are_declared.Goals as goal
+
+pub loop-thrown-preserved : goal.loop-thrown-preserved
+loop-thrown-preserved c = λ e.
+    let i : ℕ = c.loop-thrown.thrown-index in
+    let throws = c.args.throws.now in
+    c.remove-there.ensures.left e
+    ∙ ap (λ b. b && not (e == c.thrown-item.result.exception)) (c.loop-thrown.invariant e)
+    ∙ not-more (row_has c.args.set.now.words.items e) (is_one_of (declared_by (map thrown_entry (take i throws))) e) (e == c.thrown-item.result.exception)
+    ∙ ap (λ b. row_has c.args.set.now.words.items e && not b) (sym (declared-more throws i c.thrown-item.result c.loop-thrown-test.true c.thrown-item.is e))

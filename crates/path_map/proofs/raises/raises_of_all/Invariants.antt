@@ -1,0 +1,11 @@
+use Rattle.std.proofs.Common.{◌≡◌, ℕ, ◌||◌, map, drop}
+use Rattle.resolved.specs.Ends.{raises_all}
+use Rattle.resolved.specs.TreeOf.{expression_of}
+use Rattle.path_map.specs.Joins.{raised_list}
+use Rattle.path_map.specs.Sets.{is_one_of}
+use Rattle.path_map.proofs.raises.raises_of_all.Given as goal
+
+abbrev pub invariant-loop-expression : goal.invariant-loop-expression
+invariant-loop-expression l = (exception : ℕ) →
+    (is_one_of (raised_list l.found.arith l.found.bounds) exception || is_one_of (raises_all (map expression_of (drop l.expression-index l.expressions))) exception)
+    ≡ is_one_of (raises_all (map expression_of l.expressions)) exception

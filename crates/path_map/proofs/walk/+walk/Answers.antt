@@ -1,0 +1,346 @@
+use Rattle.std.proofs.Common.{◌≡◌, refl, sym, ap, ◌∙◌, subst, ℕ, ◌+◌, List, [], ◌∷◌, Bool, true, false, not, map, drop, rules, ◌++◌}
+use Rattle.std.specs.Prelude.{Some, None, if◌then◌else◌}
+use Rattle.std.specs.Result.{IfOk, IfErr, OnOk}
+use Rattle.std.proofs.lemmas.Bool.{not-false}
+use Rattle.std.proofs.lemmas.Result.{IfOk-weaker, IfErr-weaker, on_ok_weaker}
+use Rattle.resolved.specs.CoreOf.{program_of}
+use Rattle.resolved.specs.Program.{Program, procedure_at}
+use Rattle.resolved.specs.Ends.{block_ends, handlers_ends, raises, raises_all, index_raises, declared_by, statement_ends, thrown_ends}
+use Rattle.resolved.specs.EndFaults.{block_faults, handlers_faults, inner_faults}
+use Rattle.resolved.specs.Tree as T
+use Rattle.resolved.specs.TreeOf.{expression_of, some_expression_of, statement_of, block_of, handlers_of}
+use Rattle.resolved.specs.declared.statement.Exit.{Exit}
+use Rattle.path_map.specs.declared.fault.EndDefect.TheVariants as defect
+use Rattle.path_map.specs.declared.fault.EndsFault.TheVariants.{Refused}
+use Rattle.path_map.specs.FirstFault.{IsFirst}
+use Rattle.path_map.specs.Paths.{block_paths, rest_paths, inner_paths}
+use Rattle.path_map.specs.Joins.{raised_list, raises_some}
+use Rattle.path_map.specs.Walks.{IsFound, AreThrown}
+use Rattle.path_map.proofs.Walking.{reserved, outside, along-step, never-raised, in-handler, handling-step, first-left, first-right, none-both, Along, Handling}
+use Rattle.path_map.proofs.Forms.{found-at, faults-at, first-at, tree-if, tree-while, tree-try, tree-nested, return-found, store-same, if-found, while-found, try-is-found, tried-throws, next-statement, next-handler}
+use Rattle.path_map.proofs.walk.+walk.Goals as goal
+
+-- an entry for which room was made
+pub walk_block-returns-clause-found : goal.walk_block-returns-clause-found
+walk_block-returns-clause-found t c =
+    let program = program_of c.args.walk.now.core.now in
+    let block = block_of c.args.block.now in
+    reserved (block_ends program block) (rest_paths program block) c.args.entries.now.items c.reserve.new.entries.items c.walk_statements.new.entries.items _ c.in_ok-at.at
+    c.args.raised.now.words.items c.walk_statements.new.raised.words.items c.in_ok-exits.exits c.in_ok-at.ensures.room c.in_ok-at.ensures.number c.in_ok-exits.ensures.found
+
+pub walk_statement-returns-clause-found : goal.walk_statement-returns-clause-found
+walk_statement-returns-clause-found t c =
+    let program = program_of c.args.walk.now.core.now in
+    let statement = statement_of c.args.statement.now in
+    reserved (statement_ends program statement) (inner_paths program statement) c.args.entries.now.items c.reserve.new.entries.items c.walk_form.new.entries.items _ c.in_ok-at.at
+    c.args.raised.now.words.items c.walk_form.new.raised.words.items c.in_ok-exits.exits c.in_ok-at.ensures.room c.in_ok-at.ensures.number c.in_ok-exits.ensures.found
+
+-- statements without blocks
+pub walk_form-returns-in_ok-go_on-in-Assign-clause-found : goal.walk_form-returns-in_ok-go_on-in-Assign-clause-found
+walk_form-returns-in_ok-go_on-in-Assign-clause-found t c =
+    let value = expression_of c.in-Assign.value in
+    found-at (program_of c.args.walk.now.core.now) c.args.statement.now (T.Assign c.in-Assign.field-0 c.in-Assign.field-1 value) (ap statement_of c.in-Assign.is)
+    c.args.entries.now.items c.args.entries.now.items c.args.raised.now.words.items c.go_on.new.raised.words.items c.in_ok-go_on-in-Assign.field-0
+    (c.in_ok-go_on-in-Assign.ensures (raises value) c.raises_of.ensures c.args.entries.now.items)
+
+pub walk_form-returns-in_ok-go_on-in-Clear-clause-found : goal.walk_form-returns-in_ok-go_on-in-Clear-clause-found
+walk_form-returns-in_ok-go_on-in-Clear-clause-found t c =
+    found-at (program_of c.args.walk.now.core.now) c.args.statement.now (T.Clear c.in-Clear.field-0 c.in-Clear.field-1) (ap statement_of c.in-Clear.is)
+    c.args.entries.now.items c.args.entries.now.items c.args.raised.now.words.items c.go_on-in-Clear.new.raised.words.items c.in_ok-go_on-in-Clear.field-0
+    (c.in_ok-go_on-in-Clear.ensures [] (λ e. refl) c.args.entries.now.items)
+
+pub walk_form-returns-in_ok-go_on-in-Store-clause-found : goal.walk_form-returns-in_ok-go_on-in-Store-clause-found
+walk_form-returns-in_ok-go_on-in-Store-clause-found t c =
+    let index = expression_of c.in-Store.index in
+    let value = expression_of c.in-Store.value in
+    found-at (program_of c.args.walk.now.core.now) c.args.statement.now (T.Store c.in-Store.field-0 c.in-Store.field-1 c.in-Store.length index value) (ap statement_of c.in-Store.is)
+    c.args.entries.now.items c.args.entries.now.items c.args.raised.now.words.items c.go_on-in-Store.new.raised.words.items c.in_ok-go_on-in-Store.field-0
+    (c.in_ok-go_on-in-Store.ensures (raises index ++ raises value ++ index_raises index c.in-Store.length)
+    (store-same index value c.in-Store.length c.index_can_raise.result
+    (raised_list c.raises_of-in-Store.result.arith c.raises_of-in-Store.result.bounds) (raised_list c.raises_of-in-Store-2.result.arith c.raises_of-in-Store-2.result.bounds)
+    (raised_list c.or.result.arith c.or.result.bounds) (raised_list c.or-in-Store.result.arith c.or-in-Store.result.bounds)
+    c.index_can_raise.ensures c.raises_of-in-Store.ensures c.raises_of-in-Store-2.ensures c.or.ensures c.or-in-Store.ensures)
+    c.args.entries.now.items)
+
+pub walk_form-returns-in_ok-receive-in-Receive-clause-found : goal.walk_form-returns-in_ok-receive-in-Receive-clause-found
+walk_form-returns-in_ok-receive-in-Receive-clause-found t c =
+    found-at (program_of c.args.walk.now.core.now) c.args.statement.now (T.Receive c.in-Receive.field-0 c.in-Receive.field-1 c.in-Receive.field-2) (ap statement_of c.in-Receive.is)
+    c.args.entries.now.items c.args.entries.now.items c.args.raised.now.words.items c.receive.new.raised.words.items c.in_ok-receive-in-Receive.field-0
+    (c.in_ok-receive-in-Receive.ensures c.args.entries.now.items)
+
+pub walk_form-returns-in_ok-go_on-in-Send-clause-found : goal.walk_form-returns-in_ok-go_on-in-Send-clause-found
+walk_form-returns-in_ok-go_on-in-Send-clause-found t c =
+    let value = expression_of c.in-Send.value in
+    found-at (program_of c.args.walk.now.core.now) c.args.statement.now (T.Send c.in-Send.field-0 c.in-Send.field-1 value) (ap statement_of c.in-Send.is)
+    c.args.entries.now.items c.args.entries.now.items c.args.raised.now.words.items c.go_on-in-Send.new.raised.words.items c.in_ok-go_on-in-Send.field-0
+    (c.in_ok-go_on-in-Send.ensures (raises value) c.raises_of-in-Send.ensures c.args.entries.now.items)
+
+pub walk_form-returns-in_ok-call-in-Call-clause-found : goal.walk_form-returns-in_ok-call-in-Call-clause-found
+walk_form-returns-in_ok-call-in-Call-clause-found t c =
+    let arguments = map expression_of c.deref.result.now in
+    found-at (program_of c.args.walk.now.core.now) c.args.statement.now (T.Call c.in-Call.field-0 c.in-Call.callee arguments c.in-Call.field-3)
+    (ap statement_of c.in-Call.is ∙ ap (λ list. T.Call c.in-Call.field-0 c.in-Call.callee (map expression_of list) c.in-Call.field-3) (sym c.deref.ensures.value))
+    c.args.entries.now.items c.args.entries.now.items c.args.raised.now.words.items c.call.new.raised.words.items c.in_ok-call-in-Call.field-0
+    (c.in_ok-call-in-Call.ensures (raises_all arguments) c.raises_of_all.ensures c.args.entries.now.items)
+
+pub walk_form-returns-in_ok-leave-in-Leave-clause-found : goal.walk_form-returns-in_ok-leave-in-Leave-clause-found
+walk_form-returns-in_ok-leave-in-Leave-clause-found t c =
+    found-at (program_of c.args.walk.now.core.now) c.args.statement.now (T.Leave c.in-Leave.field-0 c.in-Leave.exit) (ap statement_of c.in-Leave.is)
+    c.args.entries.now.items c.args.entries.now.items c.args.raised.now.words.items c.leave.new.raised.words.items c.in_ok-leave-in-Leave.field-0
+    (c.in_ok-leave-in-Leave.ensures c.args.entries.now.items)
+
+pub walk_form-returns-in_ok-give_back-in-Return-clause-found : goal.walk_form-returns-in_ok-give_back-in-Return-clause-found
+walk_form-returns-in_ok-give_back-in-Return-clause-found t c =
+    let value = some_expression_of c.in-Return.value in
+    found-at (program_of c.args.walk.now.core.now) c.args.statement.now (T.ReturnWith c.in-Return.field-0 value) (ap statement_of c.in-Return.is)
+    c.args.entries.now.items c.args.entries.now.items c.args.raised.now.words.items c.give_back.new.raised.words.items c.in_ok-give_back-in-Return.field-0
+    (return-found (program_of c.args.walk.now.core.now) c.in-Return.field-0 value c.args.entries.now.items c.args.entries.now.items c.args.raised.now.words.items c.give_back.new.raised.words.items c.in_ok-give_back-in-Return.field-0
+    (c.in_ok-give_back-in-Return.ensures (raises_some value) c.raises_of_some.ensures c.args.entries.now.items))
+
+-- `if`
+pub walk_form-returns-in_ok-no-in-If-clause-found : goal.walk_form-returns-in_ok-no-in-If-clause-found
+walk_form-returns-in_ok-no-in-If-clause-found t c =
+    let program = program_of c.args.walk.now.core.now in
+    let test = expression_of c.in-If.condition in
+    let yes_block = block_of c.deref-in-If.result.now in
+    let no_block = block_of c.deref-in-If-2.result.now in
+    found-at program c.args.statement.now (T.If c.in-If.field-0 test yes_block no_block)
+    (tree-if c.args.statement.now c.in-If.field-0 c.in-If.condition c.in-If.yes_block c.in-If.no_block c.deref-in-If.result.now c.deref-in-If-2.result.now c.in-If.is c.deref-in-If.ensures.value c.deref-in-If-2.ensures.value)
+    c.args.entries.now.items c.walk_block-in-If.new.entries.items c.args.raised.now.words.items c.walk_block-in-If.new.raised.words.items c.join-in-If.result
+    (if-found program c.in-If.field-0 test yes_block no_block c.args.entries.now.items c.walk_block.new.entries.items c.walk_block-in-If.new.entries.items
+    c.args.raised.now.words.items c.test.new.raised.words.items c.walk_block.new.raised.words.items c.walk_block-in-If.new.raised.words.items
+    c.in_ok-tested-in-If.tested c.in_ok-yes-in-If.yes c.in_ok-no-in-If.no c.join.result c.join-in-If.result
+    (c.in_ok-tested-in-If.ensures c.args.entries.now.items) c.in_ok-yes-in-If.ensures.found c.in_ok-no-in-If.ensures.found c.join.ensures c.join-in-If.ensures)
+
+pub walk_form-returns-in_ok-no-in-If-clause-accepted : goal.walk_form-returns-in_ok-no-in-If-clause-accepted
+walk_form-returns-in_ok-no-in-If-clause-accepted t c =
+    let program = program_of c.args.walk.now.core.now in
+    let yes_block = block_of c.deref-in-If.result.now in
+    let no_block = block_of c.deref-in-If-2.result.now in
+    faults-at program c.args.statement.now (T.If c.in-If.field-0 (expression_of c.in-If.condition) yes_block no_block)
+    (tree-if c.args.statement.now c.in-If.field-0 c.in-If.condition c.in-If.yes_block c.in-If.no_block c.deref-in-If.result.now c.deref-in-If-2.result.now c.in-If.is c.deref-in-If.ensures.value c.deref-in-If-2.ensures.value)
+    c.args.in_loop
+    (none-both (block_faults program c.args.in_loop true yes_block) (block_faults program c.args.in_loop true no_block) c.in_ok-yes-in-If.ensures.accepted c.in_ok-no-in-If.ensures.accepted)
+
+pub walk_form-returns-in_err-yes-in-If-clause-first_fault : goal.walk_form-returns-in_err-yes-in-If-clause-first_fault
+walk_form-returns-in_err-yes-in-If-clause-first_fault t c =
+    let program = program_of c.args.walk.now.core.now in
+    let first : IsFirst (inner_faults program c.args.in_loop (statement_of c.args.statement.now)) c.in_err-yes-in-If.field-0.0 =
+    first-at program c.args.statement.now (T.If c.in-If.field-0 (expression_of c.in-If.condition) (block_of c.deref-in-If.result.now) (block_of c.in-If.no_block.items))
+    (tree-if c.args.statement.now c.in-If.field-0 c.in-If.condition c.in-If.yes_block c.in-If.no_block c.deref-in-If.result.now c.in-If.no_block.items c.in-If.is c.deref-in-If.ensures.value refl)
+    c.args.in_loop c.in_err-yes-in-If.field-0.0
+    (first-left (block_faults program c.args.in_loop true (block_of c.deref-in-If.result.now)) (block_faults program c.args.in_loop true (block_of c.in-If.no_block.items)) c.in_err-yes-in-If.field-0.0
+    c.in_err-yes-in-If.ensures.first_fault) in
+    search (rules, first)
+
+pub walk_form-returns-in_err-no-in-If-clause-first_fault : goal.walk_form-returns-in_err-no-in-If-clause-first_fault
+walk_form-returns-in_err-no-in-If-clause-first_fault t c =
+    let program = program_of c.args.walk.now.core.now in
+    let yes_block = block_of c.deref-in-If.result.now in
+    let no_block = block_of c.deref-in-If-2.result.now in
+    let first : IsFirst (inner_faults program c.args.in_loop (statement_of c.args.statement.now)) c.in_err-no-in-If.field-0.0 =
+    first-at program c.args.statement.now (T.If c.in-If.field-0 (expression_of c.in-If.condition) yes_block no_block)
+    (tree-if c.args.statement.now c.in-If.field-0 c.in-If.condition c.in-If.yes_block c.in-If.no_block c.deref-in-If.result.now c.deref-in-If-2.result.now c.in-If.is c.deref-in-If.ensures.value c.deref-in-If-2.ensures.value)
+    c.args.in_loop c.in_err-no-in-If.field-0.0
+    (first-right (block_faults program c.args.in_loop true yes_block) (block_faults program c.args.in_loop true no_block) c.in_err-no-in-If.field-0.0
+    c.in_ok-yes-in-If.ensures.accepted c.in_err-no-in-If.ensures.first_fault) in
+    search (rules, first)
+
+-- `while`
+pub walk_form-returns-in_ok-body-in-While-clause-found : goal.walk_form-returns-in_ok-body-in-While-clause-found
+walk_form-returns-in_ok-body-in-While-clause-found t c =
+    let program = program_of c.args.walk.now.core.now in
+    let test = expression_of c.in-While.condition in
+    let body = block_of c.deref-in-While.result.now in
+    found-at program c.args.statement.now (T.While c.in-While.field-0 c.in-While.field-1 test body)
+    (tree-while c.args.statement.now c.in-While.field-0 c.in-While.field-1 c.in-While.condition c.in-While.body c.deref-in-While.result.now c.in-While.is c.deref-in-While.ensures.value)
+    c.args.entries.now.items c.walk_block-in-While.new.entries.items c.args.raised.now.words.items c.walk_block-in-While.new.raised.words.items c.of_loop.result
+    (while-found program c.in-While.field-0 c.in-While.field-1 test body c.args.entries.now.items c.walk_block-in-While.new.entries.items
+    c.args.raised.now.words.items c.test-in-While.new.raised.words.items c.walk_block-in-While.new.raised.words.items
+    c.in_ok-tested-in-While.tested c.in_ok-body-in-While.body c.join-in-While.result c.of_loop.result
+    (c.in_ok-tested-in-While.ensures c.args.entries.now.items) c.in_ok-body-in-While.ensures.found c.join-in-While.ensures c.of_loop.ensures)
+
+pub walk_form-returns-in_ok-body-in-While-clause-accepted : goal.walk_form-returns-in_ok-body-in-While-clause-accepted
+walk_form-returns-in_ok-body-in-While-clause-accepted t c =
+    faults-at (program_of c.args.walk.now.core.now) c.args.statement.now (T.While c.in-While.field-0 c.in-While.field-1 (expression_of c.in-While.condition) (block_of c.deref-in-While.result.now))
+    (tree-while c.args.statement.now c.in-While.field-0 c.in-While.field-1 c.in-While.condition c.in-While.body c.deref-in-While.result.now c.in-While.is c.deref-in-While.ensures.value)
+    c.args.in_loop c.in_ok-body-in-While.ensures.accepted
+
+pub walk_form-returns-in_err-body-in-While-clause-first_fault : goal.walk_form-returns-in_err-body-in-While-clause-first_fault
+walk_form-returns-in_err-body-in-While-clause-first_fault t c =
+    let program = program_of c.args.walk.now.core.now in
+    let first : IsFirst (inner_faults program c.args.in_loop (statement_of c.args.statement.now)) c.in_err-body-in-While.field-0.0 =
+    first-at program c.args.statement.now (T.While c.in-While.field-0 c.in-While.field-1 (expression_of c.in-While.condition) (block_of c.deref-in-While.result.now))
+    (tree-while c.args.statement.now c.in-While.field-0 c.in-While.field-1 c.in-While.condition c.in-While.body c.deref-in-While.result.now c.in-While.is c.deref-in-While.ensures.value)
+    c.args.in_loop c.in_err-body-in-While.field-0.0 c.in_err-body-in-While.ensures.first_fault in
+    search (rules, first)
+
+-- `try`
+pub walk_form-returns-in_ok-unite-in-Try-clause-found : goal.walk_form-returns-in_ok-unite-in-Try-clause-found
+walk_form-returns-in_ok-unite-in-Try-clause-found t c =
+    let program = program_of c.args.walk.now.core.now in
+    let block = block_of c.deref-in-Try.result.now in
+    let handlers = handlers_of c.deref-in-Try-2.result.now in
+    found-at program c.args.statement.now (T.Try c.in-Try.field-0 block handlers)
+    (tree-try c.args.statement.now c.in-Try.field-0 c.in-Try.block c.in-Try.handlers c.deref-in-Try.result.now c.deref-in-Try-2.result.now c.in-Try.is c.deref-in-Try.ensures.value c.deref-in-Try-2.ensures.value)
+    c.args.entries.now.items c.walk_handlers.new.entries.items c.args.raised.now.words.items c.unite.new.self.words.items c.join-in-Try.result
+    (try-is-found program c.in-Try.field-0 block handlers c.args.entries.now.items c.walk_block-in-Try.new.entries.items c.new-inner.result.words.items c.walk_block-in-Try.new.raised.words.items c.in_ok-tried-in-Try.tried
+    c.new-inner.ensures c.in_ok-tried-in-Try.ensures.found
+    c.walk_handlers.new.entries.items c.walk_handlers.new.inner.words.items c.args.raised.now.words.items c.walk_handlers.new.raised.words.items c.unite.new.self.words.items
+    c.in_ok-handled-in-Try.handled c.with.result c.join-in-Try.result c.kept.result
+    c.in_ok-handled-in-Try.ensures.found c.in_ok-handled-in-Try.ensures.left c.in_ok-unite-in-Try.ensures c.kept.ensures c.with.ensures c.join-in-Try.ensures)
+
+pub walk_form-returns-in_ok-unite-in-Try-clause-accepted : goal.walk_form-returns-in_ok-unite-in-Try-clause-accepted
+walk_form-returns-in_ok-unite-in-Try-clause-accepted t c =
+    let program = program_of c.args.walk.now.core.now in
+    let block = block_of c.deref-in-Try.result.now in
+    let handlers = handlers_of c.deref-in-Try-2.result.now in
+    faults-at program c.args.statement.now (T.Try c.in-Try.field-0 block handlers)
+    (tree-try c.args.statement.now c.in-Try.field-0 c.in-Try.block c.in-Try.handlers c.deref-in-Try.result.now c.deref-in-Try-2.result.now c.in-Try.is c.deref-in-Try.ensures.value c.deref-in-Try-2.ensures.value)
+    c.args.in_loop
+    (none-both (block_faults program c.args.in_loop true block) (handlers_faults program c.args.in_loop (block_ends program block) handlers) c.in_ok-tried-in-Try.ensures.accepted
+    (c.in_ok-handled-in-Try.ensures.accepted (block_ends program block)
+    (tried-throws program c.in-Try.field-0 block handlers c.args.entries.now.items c.walk_block-in-Try.new.entries.items c.new-inner.result.words.items c.walk_block-in-Try.new.raised.words.items c.in_ok-tried-in-Try.tried
+    c.new-inner.ensures c.in_ok-tried-in-Try.ensures.found)))
+
+pub walk_form-returns-in_err-tried-in-Try-clause-first_fault : goal.walk_form-returns-in_err-tried-in-Try-clause-first_fault
+walk_form-returns-in_err-tried-in-Try-clause-first_fault t c =
+    let program = program_of c.args.walk.now.core.now in
+    let block = block_of c.deref-in-Try.result.now in
+    let handlers = handlers_of c.in-Try.handlers.items in
+    let first : IsFirst (inner_faults program c.args.in_loop (statement_of c.args.statement.now)) c.in_err-tried-in-Try.field-0.0 =
+    first-at program c.args.statement.now (T.Try c.in-Try.field-0 block handlers)
+    (tree-try c.args.statement.now c.in-Try.field-0 c.in-Try.block c.in-Try.handlers c.deref-in-Try.result.now c.in-Try.handlers.items c.in-Try.is c.deref-in-Try.ensures.value refl)
+    c.args.in_loop c.in_err-tried-in-Try.field-0.0
+    (first-left (block_faults program c.args.in_loop true block) (handlers_faults program c.args.in_loop (block_ends program block) handlers) c.in_err-tried-in-Try.field-0.0
+    c.in_err-tried-in-Try.ensures.first_fault) in
+    search (rules, first)
+
+pub walk_form-returns-in_err-handled-in-Try-clause-first_fault : goal.walk_form-returns-in_err-handled-in-Try-clause-first_fault
+walk_form-returns-in_err-handled-in-Try-clause-first_fault t c =
+    let program = program_of c.args.walk.now.core.now in
+    let block = block_of c.deref-in-Try.result.now in
+    let handlers = handlers_of c.deref-in-Try-2.result.now in
+    let first : IsFirst (inner_faults program c.args.in_loop (statement_of c.args.statement.now)) c.in_err-handled-in-Try.field-0.0 =
+    first-at program c.args.statement.now (T.Try c.in-Try.field-0 block handlers)
+    (tree-try c.args.statement.now c.in-Try.field-0 c.in-Try.block c.in-Try.handlers c.deref-in-Try.result.now c.deref-in-Try-2.result.now c.in-Try.is c.deref-in-Try.ensures.value c.deref-in-Try-2.ensures.value)
+    c.args.in_loop c.in_err-handled-in-Try.field-0.0
+    (first-right (block_faults program c.args.in_loop true block) (handlers_faults program c.args.in_loop (block_ends program block) handlers) c.in_err-handled-in-Try.field-0.0
+    c.in_ok-tried-in-Try.ensures.accepted
+    (c.in_err-handled-in-Try.ensures.first_fault (block_ends program block)
+    (tried-throws program c.in-Try.field-0 block handlers c.args.entries.now.items c.walk_block-in-Try.new.entries.items c.new-inner.result.words.items c.walk_block-in-Try.new.raised.words.items c.in_ok-tried-in-Try.tried
+    c.new-inner.ensures c.in_ok-tried-in-Try.ensures.found))) in
+    search (rules, first)
+
+-- a block in braces
+pub walk_form-returns-in-Nested-clause-found : goal.walk_form-returns-in-Nested-clause-found
+walk_form-returns-in-Nested-clause-found t c =
+    let program = program_of c.args.walk.now.core.now in
+    let block = block_of c.deref-in-Nested.result.now in
+    IfOk-weaker c.walk_block-in-Nested.result
+    (λ x. IsFound (block_ends program block) (block_paths program block) c.args.entries.now.items c.walk_block-in-Nested.new.entries.items c.args.raised.now.words.items c.walk_block-in-Nested.new.raised.words.items x)
+    (λ x. IsFound (statement_ends program (statement_of c.args.statement.now)) (inner_paths program (statement_of c.args.statement.now)) c.args.entries.now.items c.walk_block-in-Nested.new.entries.items c.args.raised.now.words.items c.walk_block-in-Nested.new.raised.words.items x)
+    (λ x found.
+    found-at program c.args.statement.now (T.Nested c.in-Nested.field-0 block)
+    (tree-nested c.args.statement.now c.in-Nested.field-0 c.in-Nested.block c.deref-in-Nested.result.now c.in-Nested.is c.deref-in-Nested.ensures.value)
+    c.args.entries.now.items c.walk_block-in-Nested.new.entries.items c.args.raised.now.words.items c.walk_block-in-Nested.new.raised.words.items x found)
+    c.walk_block-in-Nested.ensures.found
+
+pub walk_form-returns-in-Nested-clause-accepted : goal.walk_form-returns-in-Nested-clause-accepted
+walk_form-returns-in-Nested-clause-accepted t c =
+    let program = program_of c.args.walk.now.core.now in
+    let block = block_of c.deref-in-Nested.result.now in
+    on_ok_weaker c.walk_block-in-Nested.result
+    (λ (none : block_faults program c.args.in_loop true block ≡ []).
+    faults-at program c.args.statement.now (T.Nested c.in-Nested.field-0 block)
+    (tree-nested c.args.statement.now c.in-Nested.field-0 c.in-Nested.block c.deref-in-Nested.result.now c.in-Nested.is c.deref-in-Nested.ensures.value)
+    c.args.in_loop none)
+    c.walk_block-in-Nested.ensures.accepted
+
+pub walk_form-returns-in-Nested-clause-first_fault : goal.walk_form-returns-in-Nested-clause-first_fault
+walk_form-returns-in-Nested-clause-first_fault t c =
+    let program = program_of c.args.walk.now.core.now in
+    let block = block_of c.deref-in-Nested.result.now in
+    IfErr-weaker c.walk_block-in-Nested.result
+    (λ fault. IsFirst (block_faults program c.args.in_loop true block) fault)
+    (λ fault. IsFirst (inner_faults program c.args.in_loop (statement_of c.args.statement.now)) fault)
+    (λ fault first.
+    first-at program c.args.statement.now (T.Nested c.in-Nested.field-0 block)
+    (tree-nested c.args.statement.now c.in-Nested.field-0 c.in-Nested.block c.deref-in-Nested.result.now c.in-Nested.is c.deref-in-Nested.ensures.value)
+    c.args.in_loop fault first)
+    c.walk_block-in-Nested.ensures.first_fault
+
+-- along the statements of a block
+pub walk_statements-returns-then-not-may_stand-clause-first_fault : goal.walk_statements-returns-then-not-may_stand-clause-first_fault
+walk_statements-returns-then-not-may_stand-clause-first_fault t c =
+    let program = program_of c.args.walk.now.core.now in
+    let block = block_of c.args.block.now in
+    let statement = statement_of c.statement-item.result in
+    let tail = block_of (drop (c.loop-statement.statement-index + 1) c.args.block.now) in
+    let along : Along program c.args.in_loop block (T.Then statement tail) c.args.entries.now.items c.loop-statement.entries.items c.args.raised.now.words.items c.loop-statement.raised.words.items c.loop-statement.exits =
+    subst (λ rest. Along program c.args.in_loop block rest c.args.entries.now.items c.loop-statement.entries.items c.args.raised.now.words.items c.loop-statement.raised.words.items c.loop-statement.exits)
+    (next-statement c.args.block.now c.loop-statement.statement-index c.statement-item.result c.loop-statement-test.true c.statement-item.is) c.loop-statement.invariant in
+    subst (λ fault. IsFirst (block_faults program c.args.in_loop true block) fault)
+    (sym (c.refused.ensures ∙ ap (λ at. Refused (record { defect = defect.OutsideLoop; at = at })) c.at.ensures))
+    (outside program c.args.in_loop block c.args.entries.now.items c.args.raised.now.words.items statement tail c.loop-statement.entries.items c.loop-statement.raised.words.items c.loop-statement.exits along
+    (sym c.may_stand.ensures ∙ c.if-not-may_stand.true))
+
+pub walk_statements-loop-statement-preserved : goal.walk_statements-loop-statement-preserved
+walk_statements-loop-statement-preserved t c =
+    let program = program_of c.args.walk.now.core.now in
+    let block = block_of c.args.block.now in
+    let statement = statement_of c.statement-item.result in
+    let tail = block_of (drop (c.loop-statement.statement-index + 1) c.args.block.now) in
+    let along : Along program c.args.in_loop block (T.Then statement tail) c.args.entries.now.items c.loop-statement.entries.items c.args.raised.now.words.items c.loop-statement.raised.words.items c.loop-statement.exits =
+    subst (λ rest. Along program c.args.in_loop block rest c.args.entries.now.items c.loop-statement.entries.items c.args.raised.now.words.items c.loop-statement.raised.words.items c.loop-statement.exits)
+    (next-statement c.args.block.now c.loop-statement.statement-index c.statement-item.result c.loop-statement-test.true c.statement-item.is) c.loop-statement.invariant in
+    subst (λ exits. Along program c.args.in_loop block tail c.args.entries.now.items c.walk_statement.new.entries.items c.args.raised.now.words.items c.walk_statement.new.raised.words.items exits)
+    (sym c.then-exits.ensures)
+    (along-step program c.args.in_loop block c.args.entries.now.items c.args.raised.now.words.items statement tail c.loop-statement.entries.items c.loop-statement.raised.words.items c.loop-statement.exits along
+    (sym c.may_stand.ensures ∙ c.if-not-may_stand.false) (not-false c.loop-statement.exits.normal c.if-not-exits.false) c.walk_statement.new.entries.items c.walk_statement.new.raised.words.items c.in_ok-found.found c.in_ok-found.ensures.found c.in_ok-found.ensures.accepted)
+
+-- along handlers
+pub walk_handlers-returns-then-not-remove-clause-first_fault : goal.walk_handlers-returns-then-not-remove-clause-first_fault
+walk_handlers-returns-then-not-remove-clause-first_fault t c =
+    let program = program_of c.args.walk.now.core.now in
+    let handlers = handlers_of c.args.handlers.now in
+    let handler = c.handler-item.result in
+    let body = block_of handler.body.items in
+    let tail = handlers_of (drop (c.loop-handler.handler-index + 1) c.args.handlers.now) in
+    let along : Handling program c.args.in_loop handlers (T.Catch handler.at handler.exception body tail) c.args.entries.now.items c.loop-handler.entries.items c.args.raised.now.words.items c.loop-handler.raised.words.items c.args.inner.now.words.items c.loop-handler.inner.words.items c.loop-handler.exits =
+    subst (λ rest. Handling program c.args.in_loop handlers rest c.args.entries.now.items c.loop-handler.entries.items c.args.raised.now.words.items c.loop-handler.raised.words.items c.args.inner.now.words.items c.loop-handler.inner.words.items c.loop-handler.exits)
+    (next-handler c.args.handlers.now c.loop-handler.handler-index handler handler.body.items c.loop-handler-test.true c.handler-item.is refl) c.loop-handler.invariant in
+    λ ends are.
+    subst (λ fault. IsFirst (handlers_faults program c.args.in_loop ends handlers) fault) (sym c.refused.ensures)
+    (never-raised program c.args.in_loop handlers c.args.entries.now.items c.args.raised.now.words.items c.args.inner.now.words.items handler.at handler.exception body tail c.loop-handler.entries.items c.loop-handler.raised.words.items c.loop-handler.inner.words.items c.remove.new.self.words.items c.loop-handler.exits along
+    c.remove.ensures.left (sym c.remove.ensures.there ∙ c.if-not-remove.true) ends are)
+
+pub walk_handlers-returns-in_err-found-clause-first_fault : goal.walk_handlers-returns-in_err-found-clause-first_fault
+walk_handlers-returns-in_err-found-clause-first_fault t c =
+    let program = program_of c.args.walk.now.core.now in
+    let handlers = handlers_of c.args.handlers.now in
+    let handler = c.handler-item.result in
+    let body = block_of c.deref.result.now in
+    let tail = handlers_of (drop (c.loop-handler.handler-index + 1) c.args.handlers.now) in
+    let along : Handling program c.args.in_loop handlers (T.Catch handler.at handler.exception body tail) c.args.entries.now.items c.loop-handler.entries.items c.args.raised.now.words.items c.loop-handler.raised.words.items c.args.inner.now.words.items c.loop-handler.inner.words.items c.loop-handler.exits =
+    subst (λ rest. Handling program c.args.in_loop handlers rest c.args.entries.now.items c.loop-handler.entries.items c.args.raised.now.words.items c.loop-handler.raised.words.items c.args.inner.now.words.items c.loop-handler.inner.words.items c.loop-handler.exits)
+    (next-handler c.args.handlers.now c.loop-handler.handler-index handler c.deref.result.now c.loop-handler-test.true c.handler-item.is c.deref.ensures.value) c.loop-handler.invariant in
+    let first : (ends : List Exit) → AreThrown c.args.inner.now.words.items ends → IsFirst (handlers_faults program c.args.in_loop ends handlers) c.in_err-found.field-0.0 =
+    in-handler program c.args.in_loop handlers c.args.entries.now.items c.args.raised.now.words.items c.args.inner.now.words.items handler.at handler.exception body tail c.loop-handler.entries.items c.loop-handler.raised.words.items c.loop-handler.inner.words.items c.remove.new.self.words.items c.loop-handler.exits along
+    c.remove.ensures.left (sym c.remove.ensures.there ∙ c.if-not-remove.false) c.in_err-found.field-0.0 c.in_err-found.ensures.first_fault in
+    search (rules, first)
+
+pub walk_handlers-loop-handler-preserved : goal.walk_handlers-loop-handler-preserved
+walk_handlers-loop-handler-preserved t c =
+    let program = program_of c.args.walk.now.core.now in
+    let handlers = handlers_of c.args.handlers.now in
+    let handler = c.handler-item.result in
+    let body = block_of c.deref.result.now in
+    let tail = handlers_of (drop (c.loop-handler.handler-index + 1) c.args.handlers.now) in
+    let along : Handling program c.args.in_loop handlers (T.Catch handler.at handler.exception body tail) c.args.entries.now.items c.loop-handler.entries.items c.args.raised.now.words.items c.loop-handler.raised.words.items c.args.inner.now.words.items c.loop-handler.inner.words.items c.loop-handler.exits =
+    subst (λ rest. Handling program c.args.in_loop handlers rest c.args.entries.now.items c.loop-handler.entries.items c.args.raised.now.words.items c.loop-handler.raised.words.items c.args.inner.now.words.items c.loop-handler.inner.words.items c.loop-handler.exits)
+    (next-handler c.args.handlers.now c.loop-handler.handler-index handler c.deref.result.now c.loop-handler-test.true c.handler-item.is c.deref.ensures.value) c.loop-handler.invariant in
+    subst (λ exits. Handling program c.args.in_loop handlers tail c.args.entries.now.items c.walk_block.new.entries.items c.args.raised.now.words.items c.walk_block.new.raised.words.items c.args.inner.now.words.items c.remove.new.self.words.items exits)
+    (sym c.join-exits.ensures)
+    (handling-step program c.args.in_loop handlers c.args.entries.now.items c.args.raised.now.words.items c.args.inner.now.words.items handler.at handler.exception body tail c.loop-handler.entries.items c.loop-handler.raised.words.items c.loop-handler.inner.words.items c.remove.new.self.words.items c.loop-handler.exits along
+    c.remove.ensures.left (sym c.remove.ensures.there ∙ c.if-not-remove.false) c.walk_block.new.entries.items c.walk_block.new.raised.words.items c.in_ok-found.found c.in_ok-found.ensures.found c.in_ok-found.ensures.accepted)

@@ -1,0 +1,48 @@
+-- The possible ends of every statement and block of a program, in the order in which a walk along the text meets them: a block
+-- before its statements, a statement before the blocks in it, and these in the order of the text.
+-- Source: our own.
+use Rattle.std.specs.Prelude.{List, [], ◌∷◌, ◌++◌, flat_map}
+use Rattle.resolved.specs.declared.statement.Exit.{Exit}
+use Rattle.resolved.specs.Tree.{Statement, Assign, Clear, Store, Receive, Send, Call, If, While, Leave, ReturnWith, Try, Nested, Block, Empty, Then, Handlers, NoMore, Catch}
+use Rattle.resolved.specs.Program.{Program, ProcedureEntry}
+use Rattle.resolved.specs.Ends.{statement_ends, block_ends}
+
+-- of the blocks in a statement, of the statements of a block, and of the bodies of handlers, each with what is in it
+abbrev mutual
+  pub inner_paths : Program → Statement → List (List Exit)
+  inner_paths program (Assign at x e) = []
+  inner_paths program (Clear at slot) = []
+  inner_paths program (Store at array length index e) = []
+  inner_paths program (Receive at channel target) = []
+  inner_paths program (Send at channel e) = []
+  inner_paths program (Call at procedure arguments target) = []
+  inner_paths program (If at e yes_block no_block) =
+      (block_ends program yes_block ∷ rest_paths program yes_block) ++ (block_ends program no_block ∷ rest_paths program no_block)
+  inner_paths program (While at loop e body) = block_ends program body ∷ rest_paths program body
+  inner_paths program (Leave at exit) = []
+  inner_paths program (ReturnWith at value) = []
+  inner_paths program (Try at block handlers) =
+      (block_ends program block ∷ rest_paths program block) ++ handlers_paths program handlers
+  inner_paths program (Nested at block) = block_ends program block ∷ rest_paths program block
+
+  pub rest_paths : Program → Block → List (List Exit)
+  rest_paths program Empty = []
+  rest_paths program (Then statement rest) =
+      (statement_ends program statement ∷ inner_paths program statement) ++ rest_paths program rest
+
+  pub handlers_paths : Program → Handlers → List (List Exit)
+  handlers_paths program NoMore = []
+  handlers_paths program (Catch at handled body rest) =
+      (block_ends program body ∷ rest_paths program body) ++ handlers_paths program rest
+
+-- of a statement and what is in it, and of a block and what is in it
+abbrev pub statement_paths : Program → Statement → List (List Exit)
+statement_paths program statement = statement_ends program statement ∷ inner_paths program statement
+
+abbrev pub block_paths : Program → Block → List (List Exit)
+block_paths program block = block_ends program block ∷ rest_paths program block
+
+-- of the bodies of all procedures
+abbrev pub program_paths : Program → List (List Exit)
+program_paths program =
+    flat_map (λ (procedure : ProcedureEntry). block_paths program procedure.body) program.procedures

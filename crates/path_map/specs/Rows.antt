@@ -1,0 +1,23 @@
+-- Rows of the exceptions that procedures declare.
+-- Source: our own.
+use Rattle.std.specs.Prelude.{◌≡◌, ℕ, List, Bool, Option, Some, None, slice_index_or}
+use Rattle.resolved.specs.declared.program.Core.{Core}
+use Rattle.resolved.specs.CoreOf.{program_of}
+use Rattle.resolved.specs.Program.{procedure_at}
+use Rattle.resolved.specs.Ends.{declared_by}
+use Rattle.path_map.specs.declared.set.ExceptionSet.{ExceptionSet}
+use Rattle.path_map.specs.Sets.{row_has, is_one_of}
+
+-- whether an exception is declared, by a row if there is one
+abbrev pub says : Option ExceptionSet → (declared : List ℕ) → ℕ → Bool
+says None declared exception = is_one_of declared exception
+says (Some row) declared exception = row_has row.words.items exception
+
+-- the rows that there are have the exceptions that the procedures with their numbers declare
+abbrev pub no_row : Option ExceptionSet
+no_row = None
+
+abbrev pub AreRows : Core → List (Option ExceptionSet) → Type 0
+AreRows core rows = (f exception : ℕ) →
+    says (slice_index_or rows f no_row) (declared_by (procedure_at (program_of core) f).throws) exception
+    ≡ is_one_of (declared_by (procedure_at (program_of core) f).throws) exception

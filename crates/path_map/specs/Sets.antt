@@ -1,0 +1,67 @@
+-- Sets of exceptions as rows of bits, 64 in a word, and what is kept of such a set.
+-- Source: our own.
+use Rattle.std.specs.Prelude.{◌≡◌, ◌≢◌, ℕ, ◌/◌, ◌%◌, List, Bool, true, false, ◌==◌, ◌&&◌, ◌||◌, slice_index}
+use Rattle.std.specs.List.{list_any}
+use Rattle.std.specs.Int.{bit_at}
+use Rattle.resolved.specs.declared.statement.Exit.{Exit}
+use Rattle.resolved.specs.declared.statement.Exit.TheVariants.{Throw}
+use Rattle.resolved.specs.Ends.{has_end}
+use Rattle.path_map.specs.declared.exits.Raised.{Raised}
+use Rattle.path_map.specs.declared.raises.Raises.{Raises}
+use Rattle.path_map.specs.Joins.{raised_list}
+use Rattle.path_map.specs.declared.exits.Raised.TheVariants.{Nothing, One, Several}
+
+-- whether an exception is in a row
+abbrev pub row_has : List ℕ → ℕ → Bool
+row_has words exception = bit_at (slice_index words (exception / 64)) (exception % 64) == 1
+
+-- whether an exception is in one word of a row
+abbrev pub word_has : (word index : ℕ) → ℕ → Bool
+word_has word index exception = (exception / 64 == index) && (bit_at word (exception % 64) == 1)
+
+-- whether an exception is among these
+abbrev pub is_one_of : List ℕ → ℕ → Bool
+is_one_of exceptions exception = list_any (λ other. exception == other) exceptions
+
+-- two exceptions of a set
+pub record HasTwo (set : ℕ → Bool) : Type 0 where
+  pub first : ℕ
+  pub second : ℕ
+  pub has_first : set first ≡ true
+  pub has_second : set second ≡ true
+  pub differ : first ≢ second
+
+-- the only one of a set
+pub record HasOnly (set : ℕ → Bool) (exception : ℕ) : Type 0 where
+  pub has : set exception ≡ true
+  pub only : (other : ℕ) → set other ≡ true → other ≡ exception
+
+-- what is kept of a set
+abbrev pub IsKeptOf : (ℕ → Bool) → Raised → Type 0
+IsKeptOf set Nothing = (exception : ℕ) → set exception ≡ false
+IsKeptOf set (One exception) = HasOnly set exception
+IsKeptOf set Several = HasTwo set
+
+-- an expression raises these: two sets that are the same
+abbrev pub AreRaised : Raises → List ℕ → Type 0
+AreRaised found exceptions = (exception : ℕ) →
+    is_one_of (raised_list found.arith found.bounds) exception ≡ is_one_of exceptions exception
+
+-- an exception of a set that is not declared
+pub record HasUndeclared (set : ℕ → Bool) (declared : List ℕ) : Type 0 where
+  pub exception : ℕ
+  pub has : set exception ≡ true
+  pub none : is_one_of declared exception ≡ false
+
+-- whether all exceptions of a set are declared
+abbrev pub AreDeclared : (ℕ → Bool) → (declared : List ℕ) → Bool → Type 0
+AreDeclared set declared true = (exception : ℕ) → set exception ≡ true → is_one_of declared exception ≡ true
+AreDeclared set declared false = HasUndeclared set declared
+
+-- a row to which those of a set were added
+pub record IsSum (old : List ℕ) (added : ℕ → Bool) (new : List ℕ) : Type 0 where
+  pub has : (exception : ℕ) → row_has new exception ≡ (row_has old exception || added exception)
+
+-- the exceptions among ends, as a set
+abbrev pub throws : List Exit → ℕ → Bool
+throws ends exception = has_end ends (Throw exception)

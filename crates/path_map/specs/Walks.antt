@@ -1,0 +1,67 @@
+-- What a walk finds of a piece of a program.
+-- Source: our own.
+use Rattle.std.specs.Prelude.{◌≡◌, ℕ, List, [], ◌++◌, Bool, true, not, ◌&&◌, map}
+use Rattle.resolved.specs.declared.program.Core.{Core}
+use Rattle.resolved.specs.declared.statement.Exit.{Exit}
+use Rattle.resolved.specs.declared.statement.Statement as S
+use Rattle.resolved.specs.declared.statement.Handler.{Handler}
+use Rattle.resolved.specs.CoreOf.{program_of}
+use Rattle.resolved.specs.TreeOf.{statement_of, block_of, handlers_of}
+use Rattle.resolved.specs.Tree.{Handlers}
+use Rattle.resolved.specs.Ends.{handles, statement_ends, block_ends, handlers_ends}
+use Rattle.resolved.specs.EndFaults.{EndFault, inner_faults, block_faults, handlers_faults}
+use Rattle.path_map.specs.declared.exits.Exits.{Exits}
+use Rattle.path_map.specs.Exits.{exits_of}
+use Rattle.path_map.specs.Paths.{statement_paths, inner_paths, block_paths, rest_paths, handlers_paths}
+use Rattle.path_map.specs.Sets.{IsSum, row_has, throws}
+
+-- of a piece with these ends, and with these in it, where `old` are the entries before it and `had` the exceptions so far
+pub record IsFound (ends : List Exit) (paths : List (List Exit)) (old new : List Exits) (had has : List ℕ) (found : Exits) : Type 0 where
+  pub kept : found ≡ exits_of ends
+  pub entries : new ≡ old ++ map exits_of paths
+  pub raised : IsSum had (throws ends) has
+
+-- of a piece with nothing in it
+abbrev pub IsFoundAlone : (ends : List Exit) → (had has : List ℕ) → Exits → Type 0
+IsFoundAlone ends had has found = (entries : List Exits) → IsFound ends [] entries entries had has found
+
+-- of a block with its own entry, and without it
+abbrev pub IsBlockFound : Core → List S.Statement → (old new : List Exits) (had has : List ℕ) → Exits → Type 0
+IsBlockFound core block =
+    IsFound (block_ends (program_of core) (block_of block)) (block_paths (program_of core) (block_of block))
+
+abbrev pub AreStatementsFound : Core → List S.Statement → (old new : List Exits) (had has : List ℕ) → Exits → Type 0
+AreStatementsFound core block =
+    IsFound (block_ends (program_of core) (block_of block)) (rest_paths (program_of core) (block_of block))
+
+-- of a statement with its own entry, and without it
+abbrev pub IsStatementFound : Core → S.Statement → (old new : List Exits) (had has : List ℕ) → Exits → Type 0
+IsStatementFound core statement =
+    IsFound (statement_ends (program_of core) (statement_of statement)) (statement_paths (program_of core) (statement_of statement))
+
+abbrev pub IsFormFound : Core → S.Statement → (old new : List Exits) (had has : List ℕ) → Exits → Type 0
+IsFormFound core statement =
+    IsFound (statement_ends (program_of core) (statement_of statement)) (inner_paths (program_of core) (statement_of statement))
+
+-- of handlers
+abbrev pub AreHandlersFound : Core → List Handler → (old new : List Exits) (had has : List ℕ) → Exits → Type 0
+AreHandlersFound core handlers =
+    IsFound (handlers_ends (program_of core) (handlers_of handlers)) (handlers_paths (program_of core) (handlers_of handlers))
+
+-- the faults of a block, of what is in a statement, and of handlers of a block with these ends
+abbrev pub faults_of_block : Core → (in_loop : Bool) → List S.Statement → List EndFault
+faults_of_block core in_loop block = block_faults (program_of core) in_loop true (block_of block)
+
+abbrev pub faults_within : Core → (in_loop : Bool) → S.Statement → List EndFault
+faults_within core in_loop statement = inner_faults (program_of core) in_loop (statement_of statement)
+
+abbrev pub faults_of_handlers : Core → (in_loop : Bool) → (ends : List Exit) → List Handler → List EndFault
+faults_of_handlers core in_loop ends handlers = handlers_faults (program_of core) in_loop ends (handlers_of handlers)
+
+-- the exceptions of a row are those of ends
+pub record AreThrown (row : List ℕ) (ends : List Exit) : Type 0 where
+  pub has : (exception : ℕ) → row_has row exception ≡ throws ends exception
+
+-- the exceptions of a row that handlers leave
+pub record AreLeft (old new : List ℕ) (handlers : Handlers) : Type 0 where
+  pub has : (exception : ℕ) → row_has new exception ≡ (row_has old exception && not (handles handlers exception))

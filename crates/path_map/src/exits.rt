@@ -1,0 +1,162 @@
+//! What a path map keeps of the possible ends of a statement or block.
+ghost use Rattle.path_map.specs.Exits.{exits_of, single_end};
+ghost use Rattle.path_map.specs.Joins.{after, join, join_raised, of_loop, only_raised};
+ghost use Rattle.resolved.specs.Ends.{one_end};
+ghost use Rattle.resolved.specs.Labelled.{as_one_end};
+ghost use Rattle.resolved.specs.declared.statement.Exit.{Exit};
+ghost use Rattle.std.specs.Prelude.{List, map, true, ◌≡◌};
+
+use resolved::statement::Exit;
+
+/// The exceptions among possible ends: none, this one only, or more than one.
+#[derive(Clone, Copy, Debug, PartialEq, Eq)]
+pub enum Raised {
+    Nothing,
+    One(u32),
+    Several,
+}
+
+/// The possible ends of a statement or block: whether each of the four ends that are no exception is among them, and which
+/// exceptions are.
+#[derive(Clone, Copy, Debug, PartialEq, Eq)]
+pub struct Exits {
+    pub normal: bool,
+    pub returns: bool,
+    pub breaks: bool,
+    pub continues: bool,
+    pub raised: Raised,
+}
+
+impl Raised {
+    // What is kept of the exceptions of two lists.
+    pub(crate) fn join(self, other: Raised) -> Raised
+        ensures { result ≡ join_raised self other }
+    {
+        match (self, other) {
+            (Raised::Nothing, _) => other,
+            (_, Raised::Nothing) => self,
+            (Raised::One(exception), Raised::One(again)) if exception == again => self,
+            _ => Raised::Several,
+        }
+    }
+}
+
+impl Exits {
+    // What is kept of these exceptions as ends.
+    pub(crate) fn raising(raised: Raised) -> Exits
+        ensures { result ≡ only_raised raised }
+    {
+        Exits {
+            normal: false,
+            returns: false,
+            breaks: false,
+            continues: false,
+            raised,
+        }
+    }
+
+    // What is kept of a normal end and these exceptions.
+    pub(crate) fn going_on(raised: Raised) -> Exits
+        ensures { result ≡ record (only_raised raised) { normal = true } }
+    {
+        Exits {
+            normal: true,
+            ..Exits::raising(raised)
+        }
+    }
+
+    // What is kept of a return and these exceptions.
+    pub(crate) fn returning(raised: Raised) -> Exits
+        ensures { result ≡ record (only_raised raised) { returns = true } }
+    {
+        Exits {
+            returns: true,
+            ..Exits::raising(raised)
+        }
+    }
+
+    // What is kept of the same ends with these exceptions in place of theirs.
+    pub(crate) fn with(self, raised: Raised) -> Exits
+        ensures { result ≡ record self { raised = raised } }
+    {
+        Exits { raised, ..self }
+    }
+
+    // What is kept of the ends of two lists.
+    pub(crate) fn join(self, other: Exits) -> Exits
+        ensures { result ≡ join self other }
+    {
+        Exits {
+            normal: self.normal || other.normal,
+            returns: self.returns || other.returns,
+            breaks: self.breaks || other.breaks,
+            continues: self.continues || other.continues,
+            raised: self.raised.join(other.raised),
+        }
+    }
+
+    // What is kept of the ends of a statement and of what follows it.
+    pub(crate) fn then(self, rest: Exits) -> Exits
+        ensures { result ≡ after self rest }
+    {
+        if !self.normal {
+            return self;
+        }
+        let leaving = Exits {
+            normal: false,
+            ..self
+        };
+        leaving.join(rest)
+    }
+
+    // What is kept of the ends of a loop with this body, but for its condition.
+    pub(crate) fn of_loop(self) -> Exits
+        ensures { result ≡ of_loop self }
+    {
+        Exits {
+            normal: true,
+            breaks: false,
+            continues: false,
+            ..self
+        }
+    }
+
+    /// The possible end, where there is one only.
+    pub fn single(self) -> Option<Exit>
+        ensures { (ends : List Exit) → self ≡ exits_of ends → result ≡ single_end ends }
+    {
+        match (
+            self.normal,
+            self.returns,
+            self.breaks,
+            self.continues,
+            self.raised,
+        ) {
+            (true, false, false, false, Raised::Nothing) => Some(Exit::Normal),
+            (false, true, false, false, Raised::Nothing) => Some(Exit::Return),
+            (false, false, true, false, Raised::Nothing) => Some(Exit::Break),
+            (false, false, false, true, Raised::Nothing) => Some(Exit::Continue),
+            (false, false, false, false, Raised::One(exception)) => Some(Exit::Throw(exception)),
+            _ => None,
+        }
+    }
+
+    /// Whether there is one possible end only.
+    pub fn is_single(self) -> bool
+        ensures { (ends : List Exit) → self ≡ exits_of ends → result ≡ one_end ends }
+    {
+        self.single().is_some()
+    }
+
+    /// Whether there is one possible end only, where a normal end and a return are one end, as they are for a procedure.
+    pub fn is_single_of_procedure(self) -> bool
+        ensures { (ends : List Exit) → self ≡ exits_of ends → result ≡ one_end (map as_one_end ends) }
+    {
+        let joined = Exits {
+            normal: self.normal || self.returns,
+            returns: false,
+            ..self
+        };
+        joined.is_single()
+    }
+}

@@ -1,0 +1,14 @@
+//! The path map of a program: what the possible ends of each statement and block are, or the first fault of the ends.
+#![tactic(auto)]
+
+mod calls;
+pub mod exits;
+pub mod fault;
+pub mod map;
+mod raises;
+mod set;
+mod walk;
+
+pub use exits::{Exits, Raised};
+pub use fault::{EndDefect, EndRefusal, EndsFault};
+pub use map::{PathMap, ends};

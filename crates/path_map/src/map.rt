@@ -1,0 +1,94 @@
+//! The path map of a program.
+ghost use Rattle.path_map.specs.Exits.{exits_of};
+ghost use Rattle.path_map.specs.FirstFault.{IsFirst};
+ghost use Rattle.path_map.specs.Paths.{block_paths, program_paths};
+ghost use Rattle.path_map.specs.Sets.{AreDeclared, row_has};
+ghost use Rattle.resolved.specs.CoreOf.{program_of};
+ghost use Rattle.resolved.specs.EndFaults.{end_faults, procedure_faults};
+ghost use Rattle.resolved.specs.Ends.{declared_by};
+ghost use Rattle.resolved.specs.ProgramOf.{procedure_entry, thrown_entry};
+ghost use Rattle.std.specs.Prelude.{IfErr, IfOk, OnOk, [], is_some, map, not, ◌&&◌, ◌++◌, ◌||◌, ◌≡◌};
+
+use crate::calls::Walk;
+use crate::exits::{Exits, Raised};
+use crate::fault::{EndDefect, EndsFault};
+use crate::set::ExceptionSet;
+use crate::walk::{refused, walk_block};
+use resolved::program::Core;
+use resolved::tables::{Procedure, Thrown};
+use std::alloc::Global;
+
+/// The possible ends of each statement and block of a program. A block comes before its statements, and a statement before the
+/// blocks in it: so a walk over the same program in the order of the text that counts each block and each statement as it comes to
+/// it finds its entry under that number.
+#[derive(Debug, Drop)]
+pub struct PathMap {
+    pub entries: Vec<Exits>,
+}
+
+/// The path map of a program, or the first fault of its ends.
+///
+/// It takes time and memory in proportion to the program, and for each call and each `try` one step more for each 64 exceptions.
+pub fn ends(alloc: Global, core: &Core) -> Result<PathMap, EndsFault>
+    ensures exact { IfOk result (λ found. found.entries.items
+        ≡ map exits_of (program_paths (program_of core.now))) }
+    ensures accepted { OnOk result (end_faults (program_of core.now) ≡ []) }
+    ensures first_fault { IfErr result (IsFirst (end_faults (program_of core.now))) }
+{
+    let walk = Walk::along(alloc, core)?;
+    let mut entries = Vec::new(alloc);
+    for procedure in &core.procedures {
+        walk_procedure(&walk, procedure, &mut entries)?;
+    }
+    Ok(PathMap { entries })
+}
+
+// Finds the ends of a procedure's body and of what is in it.
+fn walk_procedure(
+    walk: &Walk,
+    procedure: &Procedure,
+    entries: &mut Vec<Exits>,
+) -> Result<(), EndsFault>
+    ensures found { OnOk result (entries.new.items ≡ entries.old.items ++ map exits_of
+        (block_paths (program_of walk.now.core.now) (procedure_entry procedure.now).body)) }
+    ensures accepted { OnOk result (procedure_faults
+        (program_of walk.now.core.now) (procedure_entry procedure.now) ≡ []) }
+    ensures first_fault { IfErr result (IsFirst (procedure_faults
+        (program_of walk.now.core.now) (procedure_entry procedure.now))) }
+{
+    let mut raised = ExceptionSet::new(walk.alloc);
+    let exits = walk_block(walk, false, &procedure.body, entries, &mut raised)?;
+    if lacks_value(procedure, exits) {
+        return Err(refused(EndDefect::NoValueReturned, procedure.at));
+    }
+    let declared = are_declared(&procedure.throws, &mut raised);
+    if lets_out(exits, declared) {
+        return Err(refused(EndDefect::Undeclared, procedure.at));
+    }
+    Ok(())
+}
+
+// Whether a procedure has a value and its body, with these ends, can end without one.
+fn lacks_value(procedure: &Procedure, exits: Exits) -> bool
+    ensures { result ≡ (is_some (procedure_entry procedure.now).result && exits.normal) }
+{
+    procedure.result.is_some() && exits.normal
+}
+
+// Whether a body with these ends can end as no procedure may. Its exceptions are declared or not.
+fn lets_out(exits: Exits, declared: bool) -> bool
+    ensures { result ≡ (exits.breaks || (exits.continues || not declared)) }
+{
+    exits.breaks || exits.continues || !declared
+}
+
+// Whether all exceptions of a set are declared. Those that are, are taken out.
+fn are_declared(throws: &[Thrown], set: &mut ExceptionSet) -> bool
+    ensures { AreDeclared (row_has set.old.words.items)
+        (declared_by (map thrown_entry throws.now)) result }
+{
+    for thrown in throws {
+        let _there = set.remove(thrown.exception);
+    }
+    set.kept() == Raised::Nothing
+}

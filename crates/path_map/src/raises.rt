@@ -1,0 +1,152 @@
+//! The exceptions that expressions can raise.
+ghost use Rattle.path_map.specs.Exits.{raised_by};
+ghost use Rattle.path_map.specs.Joins.{raised_list, raises_some};
+ghost use Rattle.path_map.specs.Sets.{AreRaised, IsSum, is_one_of};
+ghost use Rattle.resolved.specs.Ends.{divisor_can_raise, index_can_raise, is_division, raises, raises_all};
+ghost use Rattle.resolved.specs.TreeOf.{expression_of, some_expression_of};
+ghost use Rattle.resolved.specs.Value.{in_range, is_zero, literal_number};
+ghost use Rattle.std.specs.Prelude.{IfOk, OnOk, map, ℕ, ◌||◌, ◌≡◌};
+
+use crate::exits::Raised;
+use crate::set::ExceptionSet;
+use resolved::expression::{Expression, Operator, Prefix};
+use std::alloc::AllocError;
+
+const ARITH: u32 = 0;
+
+const BOUNDS: u32 = 1;
+// The greatest number; literals above it mean negative numbers.
+const MAX_NUMBER: u32 = 2_147_483_647;
+
+// Whether an expression, or one of several, can raise `Arith` and `Bounds`. It can raise no other exception.
+#[derive(Clone, Copy, Debug, PartialEq, Eq)]
+pub(crate) struct Raises {
+    pub(crate) arith: bool,
+    pub(crate) bounds: bool,
+}
+
+impl Raises {
+    pub(crate) const NONE: Raises = Raises {
+        arith: false,
+        bounds: false,
+    };
+
+    pub(crate) fn or(self, other: Raises) -> Raises
+        ensures { (exception : ℕ) →
+            is_one_of (raised_list result.arith result.bounds) exception
+            ≡ (is_one_of (raised_list self.arith self.bounds) exception
+            || is_one_of (raised_list other.arith other.bounds) exception) }
+    {
+        Raises {
+            arith: self.arith || other.arith,
+            bounds: self.bounds || other.bounds,
+        }
+    }
+
+    // What is kept of these exceptions, which are added to a set.
+    pub(crate) fn add_to(self, set: &mut ExceptionSet) -> Result<Raised, AllocError>
+        ensures kept { IfOk result (λ kept. kept
+            ≡ raised_by (raised_list self.arith self.bounds)) }
+        ensures added { OnOk result (IsSum set.old.words.items
+            (is_one_of (raised_list self.arith self.bounds)) set.new.words.items) }
+    {
+        if self.arith {
+            set.insert(ARITH)?;
+        }
+        if self.bounds {
+            set.insert(BOUNDS)?;
+        }
+        Ok(match (self.arith, self.bounds) {
+            (false, false) => Raised::Nothing,
+            (true, false) => Raised::One(ARITH),
+            (false, true) => Raised::One(BOUNDS),
+            (true, true) => Raised::Several,
+        })
+    }
+}
+
+// What an expression can raise.
+pub(crate) fn raises_of(expression: &Expression) -> Raises
+    ensures { AreRaised result (raises (expression_of expression.now)) }
+{
+    match expression {
+        Expression::Integer(_) | Expression::Logical(_) | Expression::Read(_) => Raises::NONE,
+        Expression::Element(_, length, index) => raises_of(index).or(Raises {
+            arith: false,
+            bounds: index_can_raise(index, *length),
+        }),
+        Expression::Unary(_, operand) => raises_of(operand),
+        Expression::Binary(operator, left, right) => {
+            raises_of(left).or(raises_of(right)).or(Raises {
+                arith: is_division(*operator) && divisor_can_raise(right),
+                bounds: false,
+            })
+        }
+        Expression::Short(_, left, right) => raises_of(left).or(raises_of(right)),
+    }
+}
+
+// What an expression can raise, if there is one.
+pub(crate) fn raises_of_some(expression: &Option<Expression>) -> Raises
+    ensures { AreRaised result (raises_some (some_expression_of expression.now)) }
+{
+    match expression {
+        None => Raises::NONE,
+        Some(expression) => raises_of(expression),
+    }
+}
+
+// What several expressions can raise.
+pub(crate) fn raises_of_all(expressions: &[Expression]) -> Raises
+    ensures { AreRaised result (raises_all (map expression_of expressions.now)) }
+{
+    let mut found = Raises::NONE;
+    for expression in expressions {
+        found = found.or(raises_of(expression));
+    }
+    found
+}
+
+// Whether an index of an array of this length may be out of range.
+pub(crate) fn index_can_raise(index: &Expression, length: u32) -> bool
+    ensures { result ≡ index_can_raise (expression_of index.now) length }
+{
+    match index {
+        Expression::Integer(literal) => !is_in_range(*literal, length),
+        _ => true,
+    }
+}
+
+// Whether a literal is an index of an array of this length.
+fn is_in_range(literal: u32, length: u32) -> bool
+    ensures { result ≡ in_range (literal_number literal) length }
+{
+    literal <= MAX_NUMBER && literal < length
+}
+
+// Whether a divisor may be 0.
+fn divisor_can_raise(divisor: &Expression) -> bool
+    ensures { result ≡ divisor_can_raise (expression_of divisor.now) }
+{
+    match divisor {
+        Expression::Integer(literal) => is_zero(*literal),
+        Expression::Unary(Prefix::Negate, operand) => match &**operand {
+            Expression::Integer(literal) => is_zero(*literal),
+            _ => true,
+        },
+        _ => true,
+    }
+}
+
+// Whether a literal is 0.
+fn is_zero(literal: u32) -> bool
+    ensures { result ≡ is_zero (literal_number literal) }
+{
+    literal == 0
+}
+
+fn is_division(operator: Operator) -> bool
+    ensures { result ≡ is_division operator }
+{
+    matches!(operator, Operator::Divide | Operator::Remainder)
+}

@@ -1,0 +1,285 @@
+//! The walk along a program that finds its ends.
+ghost use Rattle.path_map.specs.FirstFault.{IsFirst};
+ghost use Rattle.path_map.specs.Joins.{only_raised};
+ghost use Rattle.path_map.specs.Sets.{AreRaised};
+ghost use Rattle.path_map.specs.Walks.{AreHandlersFound, AreLeft, AreStatementsFound, AreThrown, IsBlockFound, IsFormFound, IsFoundAlone, IsStatementFound, faults_of_block, faults_of_handlers, faults_within};
+ghost use Rattle.path_map.specs.declared.exits.Raised.TheVariants.{Nothing};
+ghost use Rattle.path_map.specs.declared.fault.EndsFault.TheVariants.{Refused};
+ghost use Rattle.resolved.specs.CoreOf.{program_of};
+ghost use Rattle.resolved.specs.EndFaults.{may_stand};
+ghost use Rattle.resolved.specs.Ends.{declared_by, raises, thrown_ends};
+ghost use Rattle.resolved.specs.Program.{procedure_at};
+ghost use Rattle.resolved.specs.TreeOf.{expression_of, handlers_of, statement_of};
+ghost use Rattle.resolved.specs.Value.{end_exception};
+ghost use Rattle.resolved.specs.declared.statement.Exit.{Exit};
+ghost use Rattle.resolved.specs.declared.statement.Exit.TheVariants.{Normal, Return, Throw};
+ghost use Rattle.std.specs.Prelude.{IfErr, IfOk, List, OnOk, [], length, ℕ, ◌++◌, ◌∷◌, ◌≡◌};
+
+use crate::calls::Walk;
+use crate::exits::{Exits, Raised};
+use crate::fault::{EndDefect, EndRefusal, EndsFault};
+use crate::raises::{Raises, index_can_raise, raises_of, raises_of_all, raises_of_some};
+use crate::set::ExceptionSet;
+use resolved::expression::Expression;
+use resolved::statement::{Exit, Handler, Statement};
+use std::alloc::AllocError;
+
+// The exception that a receive may raise.
+const END: u32 = 2;
+
+// Finds the ends of a block and of what is in it. The block's own entry is the first of the new ones. Its exceptions are added to
+// the set.
+#[cycle(walk)]
+pub(crate) fn walk_block(
+    walk: &Walk,
+    in_loop: bool,
+    block: &[Statement],
+    entries: &mut Vec<Exits>,
+    raised: &mut ExceptionSet,
+) -> Result<Exits, EndsFault>
+    ensures found { IfOk result (IsBlockFound walk.now.core.now block.now
+        entries.old.items entries.new.items raised.old.words.items raised.new.words.items) }
+    ensures accepted { OnOk result (faults_of_block walk.now.core.now in_loop block.now ≡ []) }
+    ensures first_fault { IfErr result (IsFirst
+        (faults_of_block walk.now.core.now in_loop block.now)) }
+{
+    let at = reserve(entries)?;
+    let exits = walk_statements(walk, in_loop, block, entries, raised)?;
+    entries[at] = exits;
+    Ok(exits)
+}
+
+// Finds the ends of a block, and of the statements in it.
+#[cycle(walk)]
+fn walk_statements(
+    walk: &Walk,
+    in_loop: bool,
+    block: &[Statement],
+    entries: &mut Vec<Exits>,
+    raised: &mut ExceptionSet,
+) -> Result<Exits, EndsFault>
+    ensures found { IfOk result (AreStatementsFound walk.now.core.now block.now
+        entries.old.items entries.new.items raised.old.words.items raised.new.words.items) }
+    ensures accepted { OnOk result (faults_of_block walk.now.core.now in_loop block.now ≡ []) }
+    ensures first_fault { IfErr result (IsFirst
+        (faults_of_block walk.now.core.now in_loop block.now)) }
+{
+    let mut exits = Exits::going_on(Raised::Nothing);
+    for statement in block {
+        if !may_stand(in_loop, statement) {
+            return Err(refused(EndDefect::OutsideLoop, statement.at()));
+        }
+        if !exits.normal {
+            return Err(refused(EndDefect::Unreachable, statement.at()));
+        }
+        let found = walk_statement(walk, in_loop, statement, entries, raised)?;
+        exits = exits.then(found);
+    }
+    Ok(exits)
+}
+
+// Finds the ends of a statement and of what is in it. The statement's own entry is the first of the new ones.
+#[cycle(walk)]
+fn walk_statement(
+    walk: &Walk,
+    in_loop: bool,
+    statement: &Statement,
+    entries: &mut Vec<Exits>,
+    raised: &mut ExceptionSet,
+) -> Result<Exits, EndsFault>
+    ensures found { IfOk result (IsStatementFound walk.now.core.now statement.now
+        entries.old.items entries.new.items raised.old.words.items raised.new.words.items) }
+    ensures accepted { OnOk result (faults_within walk.now.core.now in_loop statement.now ≡ []) }
+    ensures first_fault { IfErr result (IsFirst
+        (faults_within walk.now.core.now in_loop statement.now)) }
+{
+    let at = reserve(entries)?;
+    let exits = walk_form(walk, in_loop, statement, entries, raised)?;
+    entries[at] = exits;
+    Ok(exits)
+}
+
+// Finds the ends of a statement, and of the blocks in it.
+#[cycle(walk)]
+fn walk_form(
+    walk: &Walk,
+    in_loop: bool,
+    statement: &Statement,
+    entries: &mut Vec<Exits>,
+    raised: &mut ExceptionSet,
+) -> Result<Exits, EndsFault>
+    ensures found { IfOk result (IsFormFound walk.now.core.now statement.now
+        entries.old.items entries.new.items raised.old.words.items raised.new.words.items) }
+    ensures accepted { OnOk result (faults_within walk.now.core.now in_loop statement.now ≡ []) }
+    ensures first_fault { IfErr result (IsFirst
+        (faults_within walk.now.core.now in_loop statement.now)) }
+{
+    match statement {
+        Statement::Assign(_, _, value) => Ok(go_on(raises_of(value), raised)?),
+        Statement::Clear(_, _) => Ok(go_on(Raises::NONE, raised)?),
+        Statement::Store(_, _, length, index, value) => {
+            let access = Raises {
+                arith: false,
+                bounds: index_can_raise(index, *length),
+            };
+            Ok(go_on(raises_of(index).or(raises_of(value)).or(access), raised)?)
+        }
+        Statement::Receive(_, _, _) => Ok(receive(raised)?),
+        Statement::Send(_, _, value) => Ok(go_on(raises_of(value), raised)?),
+        Statement::Call(_, callee, arguments, _) => {
+            Ok(call(walk, *callee, raises_of_all(arguments), raised)?)
+        }
+        Statement::If(_, condition, yes_block, no_block) => {
+            let tested = test(condition, raised)?;
+            let yes = walk_block(walk, in_loop, yes_block, entries, raised)?;
+            let no = walk_block(walk, in_loop, no_block, entries, raised)?;
+            Ok(tested.join(yes).join(no))
+        }
+        Statement::While(_, _, condition, body) => {
+            let tested = test(condition, raised)?;
+            let body = walk_block(walk, true, body, entries, raised)?;
+            Ok(tested.join(body).of_loop())
+        }
+        Statement::Leave(_, exit) => Ok(leave(*exit, raised)?),
+        Statement::Return(_, value) => Ok(give_back(raises_of_some(value), raised)?),
+        Statement::Try(_, block, handlers) => {
+            let mut inner = ExceptionSet::new(walk.alloc);
+            let tried = walk_block(walk, in_loop, block, entries, &mut inner)?;
+            let handled = walk_handlers(walk, in_loop, handlers, &mut inner, entries, raised)?;
+            raised.unite(&inner)?;
+            Ok(tried.with(inner.kept()).join(handled))
+        }
+        Statement::Nested(_, block) => walk_block(walk, in_loop, block, entries, raised),
+    }
+}
+
+// Finds the ends of handlers, of a block that can raise the exceptions of the inner set, and takes out what they handle.
+#[cycle(walk)]
+fn walk_handlers(
+    walk: &Walk,
+    in_loop: bool,
+    handlers: &[Handler],
+    inner: &mut ExceptionSet,
+    entries: &mut Vec<Exits>,
+    raised: &mut ExceptionSet,
+) -> Result<Exits, EndsFault>
+    ensures found { IfOk result (AreHandlersFound walk.now.core.now handlers.now
+        entries.old.items entries.new.items raised.old.words.items raised.new.words.items) }
+    ensures left { OnOk result (AreLeft inner.old.words.items inner.new.words.items
+        (handlers_of handlers.now)) }
+    ensures accepted { OnOk result ((ends : List Exit) → AreThrown inner.old.words.items ends →
+        faults_of_handlers walk.now.core.now in_loop ends handlers.now ≡ []) }
+    ensures first_fault { IfErr result (λ fault. (ends : List Exit)
+        → AreThrown inner.old.words.items ends →
+        IsFirst (faults_of_handlers walk.now.core.now in_loop ends handlers.now) fault) }
+{
+    let mut exits = Exits::raising(Raised::Nothing);
+    for handler in handlers {
+        if !inner.remove(handler.exception) {
+            return Err(refused(EndDefect::NeverRaised, handler.at));
+        }
+        let found = walk_block(walk, in_loop, &handler.body, entries, raised)?;
+        exits = exits.join(found);
+    }
+    Ok(exits)
+}
+
+// Makes room for an entry, and gives its number.
+fn reserve(entries: &mut Vec<Exits>) -> Result<usize, AllocError>
+    ensures number { IfOk result (λ at. at ≡ length entries.old.items) }
+    ensures room { OnOk result (entries.new.items ≡ entries.old.items ++ only_raised Nothing ∷ []) }
+{
+    let at = entries.len();
+    entries.push(Exits::raising(Raised::Nothing))?;
+    Ok(at)
+}
+
+// The ends of a statement that goes on or raises these exceptions.
+fn go_on(found: Raises, raised: &mut ExceptionSet) -> Result<Exits, AllocError>
+    ensures { IfOk result (λ exits. (exceptions : List ℕ) → AreRaised found exceptions →
+        IsFoundAlone (Normal ∷ thrown_ends exceptions)
+        raised.old.words.items raised.new.words.items exits) }
+{
+    Ok(Exits::going_on(found.add_to(raised)?))
+}
+
+// The ends of a statement that returns or raises these exceptions.
+fn give_back(found: Raises, raised: &mut ExceptionSet) -> Result<Exits, AllocError>
+    ensures { IfOk result (λ exits. (exceptions : List ℕ) → AreRaised found exceptions →
+        IsFoundAlone (Return ∷ thrown_ends exceptions)
+        raised.old.words.items raised.new.words.items exits) }
+{
+    Ok(Exits::returning(found.add_to(raised)?))
+}
+
+// The ends of a condition, for a statement that goes on with its value.
+fn test(condition: &Expression, raised: &mut ExceptionSet) -> Result<Exits, AllocError>
+    ensures { IfOk result (IsFoundAlone (thrown_ends (raises (expression_of condition.now)))
+        raised.old.words.items raised.new.words.items) }
+{
+    Ok(Exits::raising(raises_of(condition).add_to(raised)?))
+}
+
+// The ends of a receive.
+fn receive(raised: &mut ExceptionSet) -> Result<Exits, AllocError>
+    ensures { IfOk result (IsFoundAlone (Normal ∷ Throw end_exception ∷ [])
+        raised.old.words.items raised.new.words.items) }
+{
+    raised.insert(END)?;
+    Ok(Exits::going_on(Raised::One(END)))
+}
+
+// The ends of a call, with arguments that can raise these exceptions.
+fn call(
+    walk: &Walk,
+    callee: u32,
+    arguments: Raises,
+    raised: &mut ExceptionSet,
+) -> Result<Exits, AllocError>
+    ensures { IfOk result (λ exits. (exceptions : List ℕ) → AreRaised arguments exceptions →
+        let declared = declared_by (procedure_at (program_of walk.now.core.now) callee).throws in
+        IsFoundAlone (Normal ∷ thrown_ends (exceptions ++ declared))
+        raised.old.words.items raised.new.words.items exits) }
+{
+    let own = arguments.add_to(raised)?;
+    let declared = walk.add_declared(callee, raised)?;
+    Ok(Exits::going_on(own.join(declared)))
+}
+
+// The ends of `break`, `continue` or `throw`.
+fn leave(exit: Exit, raised: &mut ExceptionSet) -> Result<Exits, AllocError>
+    ensures { IfOk result (IsFoundAlone (exit ∷ [])
+        raised.old.words.items raised.new.words.items) }
+{
+    let none = Exits::raising(Raised::Nothing);
+    match exit {
+        Exit::Normal => Ok(Exits::going_on(Raised::Nothing)),
+        Exit::Return => Ok(Exits::returning(Raised::Nothing)),
+        Exit::Break => Ok(Exits {
+            breaks: true,
+            ..none
+        }),
+        Exit::Continue => Ok(Exits {
+            continues: true,
+            ..none
+        }),
+        Exit::Throw(exception) => {
+            raised.insert(exception)?;
+            Ok(Exits::raising(Raised::One(exception)))
+        }
+    }
+}
+
+// Whether a statement may stand here, in a loop or not.
+fn may_stand(in_loop: bool, statement: &Statement) -> bool
+    ensures { result ≡ may_stand in_loop (statement_of statement.now) }
+{
+    in_loop || !matches!(statement, Statement::Leave(_, Exit::Break | Exit::Continue))
+}
+
+// The fault that a refusal reports.
+pub(crate) fn refused(defect: EndDefect, at: usize) -> EndsFault
+    ensures { result ≡ Refused (record { defect = defect; at = at }) }
+{
+    EndsFault::Refused(EndRefusal { defect, at })
+}
