@@ -4,8 +4,8 @@
 mod fault;
 pub mod laws;
 mod messages;
-mod perform;
 mod running;
+mod tasks;
 mod view;
 
 pub use bytecode::{FormatFault, Module, Refusal, decode};
@@ -14,5 +14,5 @@ pub use command_line::{MOST_STEPS, Task, TaskFault, USUAL_STEPS, task};
 pub use compiler::{Cause, Fault, Text, compile};
 pub use host::{Answer, Event, Host, HostFault, Id, MAX_SESSIONS};
 pub use machine::Status;
-pub use perform::{Outcome, perform};
-pub use verifier::{Defect, Fault as CodeFault, VerifyFault, Verified, verify};
+pub use tasks::{Outcome, perform};
+pub use verifier::{Defect, Fault as CodeFault, Verified, VerifyFault, verify};

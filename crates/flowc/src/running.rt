@@ -18,8 +18,8 @@ ghost use Rattle.std.specs.Prelude.{◌≡◌, IfErr, IfOk, IsUtf8, List, ℕ, O
 ghost use Rattle.std.specs.String.{string_bytes};
 ghost use Rattle.verifier.specs.Faults.{HasNoFault};
 
-use crate::messages::{encoding_line, fault_line, observer_line, refusal_line, world_line};
 use crate::fault::PerformFault;
+use crate::messages::{encoding_line, fault_line, observer_line, refusal_line, world_line};
 use crate::view::show;
 use bytecode::{FormatFault, Module, decode};
 use channels::{Sink, World, WorldDefect, WorldFault};

@@ -3,8 +3,8 @@
 
 pub mod event;
 pub mod fault;
-pub mod laws;
 pub mod hosts;
+pub mod laws;
 mod session;
 
 pub use event::{Answer, Event, Id};

@@ -4,7 +4,7 @@ use Rattle.flowc.proofs.Refusals.{run_shows}
 use Rattle.std.specs.String.{string_bytes}
 use Rattle.flowc.proofs.Settled.{accepted_along, held_at_zero, ok_is_zero, refused_at_one}
 use Rattle.flowc.proofs.Telling.{ok_is_silent, run_message, texts_message}
-use Rattle.flowc.proofs.perform.perform.Goals as goal
+use Rattle.flowc.proofs.tasks.perform.Goals as goal
 
 pub returns-in-Run-clause-shown : goal.returns-in-Run-clause-shown
 returns-in-Run-clause-shown g c = rw c.in-Run.is

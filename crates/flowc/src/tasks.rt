@@ -9,9 +9,9 @@ ghost use Rattle.std.specs.Io.KnownBytes.{Appends};
 ghost use Rattle.std.specs.Prelude.{[], ◌≡◌, ◌≤◌, ◌<◌, ◌↔◌, IfErr, IfOk, IfSome, IsSome, IsTrue, MatchResult, None, OnOk, codes, false, length, option_map};
 ghost use Rattle.std.specs.String.{string_bytes};
 
-use crate::running::{Ended, File, run};
-use crate::messages::cause_line;
 use crate::fault::PerformFault;
+use crate::messages::cause_line;
+use crate::running::{Ended, File, run};
 use channels::{Sink, write_all};
 use command_line::Task;
 use compiler::{Fault, Text, compile};

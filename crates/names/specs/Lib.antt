@@ -1,0 +1,9 @@
+pub use Rattle.syntax.specs.Tree
+pub use Rattle.resolved.specs.CoreOf
+pub mod Outcome
+pub mod Environment
+pub mod Labels
+pub mod Expressions
+pub mod Statements
+pub mod Resolution
+pub mod Views

@@ -1,0 +1,77 @@
+//! A point of the body of a procedure.
+
+ghost use Rattle.names.specs.Outcome.{give};
+ghost use Rattle.names.specs.Statements.{with_local};
+ghost use Rattle.names.specs.Views.{Gives, found_in, names_of, point_of, setting_of, signature_view};
+ghost use Rattle.resolved.specs.ProgramOf.{slot_entry};
+ghost use Rattle.std.specs.Prelude.{[], None, OnOk, length, map, take, ◌+◌, ◌<◌, ◌≡◌};
+ghost use Rattle.syntax.specs.Tree.{name_tree};
+
+use crate::fault::TypeFault;
+use crate::scope::{Meaning, find, insert};
+use crate::top::TopNames;
+use indexmap::IndexMap;
+use principals::Hierarchy;
+use resolved::expression::Base;
+use resolved::tables::Slot;
+use std::alloc::Global;
+use syntax::Name;
+
+/// A point of a body: the names of the top level, the parameters and locals in scope, the slots that they and those of blocks that
+/// have ended have taken, and how many loops have begun.
+#[derive(Drop)]
+pub struct Body<'a> {
+    pub alloc: Global,
+    pub hierarchy: &'a Hierarchy,
+    pub top: &'a TopNames,
+    pub result: Option<Base>,
+    pub locals: IndexMap<String, Meaning>,
+    pub slots: Vec<Slot>,
+    pub loops: u32,
+}
+
+impl<'a> Body<'a> {
+    /// The point before the first parameter.
+    pub fn new(
+        alloc: Global,
+        hierarchy: &'a Hierarchy,
+        top: &'a TopNames,
+        value: Option<Base>,
+    ) -> Body<'a>
+        ensures setting { setting_of result ≡ record { hierarchy = hierarchy.now; signatures = map signature_view top.now.signatures.items; result = value } }
+        ensures point { point_of result ≡ record { names = found_in top.now.names; slots = []; loops = 0 } }
+    {
+        Body {
+            alloc,
+            hierarchy,
+            top,
+            result: value,
+            locals: IndexMap::new(alloc),
+            slots: Vec::new(alloc),
+            loops: 0,
+        }
+    }
+
+    /// What a name stands for.
+    pub fn meaning(&self, name: &Name) -> Option<Meaning>
+        ensures { result ≡ names_of self.now (name_tree name.now).text }
+    {
+        match find(&self.locals, name.text.as_str()) {
+            Some(meaning) => Some(meaning),
+            None => find(&self.top.names, name.text.as_str()),
+        }
+    }
+
+    /// Declares a parameter or local, which takes the next slot.
+    pub fn declare(&mut self, slot: Slot, meaning: Meaning) -> Result<(), TypeFault>
+        requires fresh { names_of self.old (slot_entry slot).name ≡ None }
+        ensures setting { OnOk result (setting_of self.new ≡ setting_of self.old) }
+        ensures made { Gives (λ _. point_of self.new) result (give (with_local (point_of self.old) (slot_entry slot) meaning)) }
+        ensures behind { OnOk result (take (length self.old.locals.entries) self.new.locals.entries ≡ self.old.locals.entries) }
+        ensures grows { OnOk result (length self.new.slots.items ≡ length self.old.slots.items + 1) }
+    {
+        insert(self.alloc, &mut self.locals, slot.name.as_str(), meaning)?;
+        self.slots.push(slot)?;
+        Ok(())
+    }
+}

@@ -1,0 +1,104 @@
+//! Expressions and the types of their values.
+
+ghost use Rattle.names.specs.Expressions.{expression_outcome, of_base, typed_outcome};
+ghost use Rattle.names.specs.Views.{Gives, names_of, typed_view};
+ghost use Rattle.resolved.specs.TreeOf.{expression_of};
+ghost use Rattle.std.specs.Prelude.{◌≡◌};
+ghost use Rattle.syntax.specs.Tree.{expression_tree};
+
+use crate::body::Body;
+use crate::fault::{Refusal, TypeFault};
+use crate::operator::{
+    base_of_prefix, combine, is_same, operands_base, prefix_of, use_of, value_base,
+};
+use crate::scope::{array, scalar};
+use resolved::expression::{Base, Expression};
+
+/// An expression with the type of its values.
+#[derive(Drop)]
+pub struct TypedExpression {
+    pub expression: Expression,
+    pub base: Base,
+}
+
+impl TypedExpression {
+    fn new(expression: Expression, base: Base) -> TypedExpression
+        ensures { typed_view result ≡ record { expression = expression_of expression; base = base } }
+    {
+        TypedExpression { expression, base }
+    }
+
+    /// The expression, whose values have to have a type.
+    #[tactic(auto, unfolding(crate::specs::Expressions::of_base))]
+    pub fn of_base(self, base: Base, at: usize) -> Result<Expression, TypeFault>
+        ensures { Gives expression_of result (of_base base at (typed_view self)) }
+    {
+        if is_same(self.base, base) {
+            Ok(self.expression)
+        } else {
+            Err(TypeFault::Refused(Refusal::WrongType, at))
+        }
+    }
+}
+
+impl<'a> Body<'a> {
+    /// An expression, and the type of its values.
+    #[tactic(auto, unfolding(crate::specs::Expressions::expression_outcome))]
+    pub fn expression(&self, written: &syntax::Expression) -> Result<TypedExpression, TypeFault>
+        ensures { Gives typed_view result (expression_outcome (names_of self.now) (expression_tree written.now)) }
+    {
+        match written {
+            syntax::Expression::Integer { value, .. } => {
+                Ok(TypedExpression::new(Expression::Integer(*value), Base::Int))
+            }
+            syntax::Expression::Truth { value, .. } => {
+                Ok(TypedExpression::new(Expression::Logical(*value), Base::Boolean))
+            }
+            syntax::Expression::Variable(name) => {
+                let found = scalar(self.meaning(name), name.at)?;
+                Ok(TypedExpression::new(Expression::Read(found.variable), found.base))
+            }
+            syntax::Expression::Element { array: name, index } => {
+                let found = array(self.meaning(name), name.at)?;
+                let index = self.expression(index)?.of_base(Base::Int, index.place())?;
+                let index = Box::new(self.alloc, index)?;
+                let element = Expression::Element(found.variable, found.size, index);
+                Ok(TypedExpression::new(element, found.base))
+            }
+            syntax::Expression::Unary {
+                operator,
+                operand,
+                ..
+            } => {
+                let prefix = prefix_of(*operator);
+                let base = base_of_prefix(prefix);
+                let operand = self.expression(operand)?.of_base(base, operand.place())?;
+                let operand = Box::new(self.alloc, operand)?;
+                Ok(TypedExpression::new(Expression::Unary(prefix, operand), base))
+            }
+            syntax::Expression::Binary {
+                operator,
+                left,
+                right,
+                ..
+            } => {
+                let used = use_of(*operator);
+                let found = self.expression(left)?;
+                let base = operands_base(used, found.base);
+                let given = found.base;
+                let left = found.of_base(base, left.place())?;
+                let right = self.expression(right)?.of_base(base, right.place())?;
+                let made = combine(self.alloc, used, given, left, right)?;
+                Ok(TypedExpression::new(made, value_base(used)))
+            }
+        }
+    }
+
+    /// An expression at a place that wants a type.
+    #[tactic(auto, unfolding(crate::specs::Expressions::typed_outcome))]
+    pub fn typed(&self, base: Base, written: &syntax::Expression) -> Result<Expression, TypeFault>
+        ensures { Gives expression_of result (typed_outcome (names_of self.now) base (expression_tree written.now)) }
+    {
+        self.expression(written)?.of_base(base, written.place())
+    }
+}

@@ -1,0 +1,121 @@
+//! Channels and globals.
+
+ghost use Rattle.names.specs.Resolution as spec;
+ghost use Rattle.names.specs.Resolution.{channel_outcome, first_outcome, global_outcome};
+ghost use Rattle.names.specs.Views.{Gives, first_view};
+ghost use Rattle.resolved.specs.ProgramOf.{channel_entry, global_entry};
+ghost use Rattle.std.specs.Prelude.{◌≡◌};
+ghost use Rattle.syntax.specs.Tree.{channel_tree, constant_tree, global_tree, global_value_tree};
+ghost use Rattle.syntax.specs.Written.{Anywhere, IsWrittenConstant, IsWrittenGlobalValue};
+ghost use Rattle.syntax.specs.Limits.{longest_name};
+
+use crate::fault::{Refusal, TypeFault};
+use crate::label::label;
+use crate::operator::{base_of, is_same};
+use crate::statement::length_of;
+use principals::Hierarchy;
+use resolved::expression::{Base, Value};
+use resolved::tables::{Channel, Direction, GlobalVariable};
+use std::alloc::Global;
+use syntax::{Constant, GlobalValue};
+
+/// A channel.
+#[tactic(auto, unfolding(crate::specs::Resolution::channel_outcome))]
+pub fn channel(
+    alloc: Global,
+    hierarchy: &Hierarchy,
+    written: &syntax::Channel,
+) -> Result<Channel, TypeFault>
+    ensures { Gives channel_entry result (channel_outcome hierarchy.now (channel_tree written.now)) }
+{
+    let label = label(alloc, hierarchy, &written.label)?;
+    Ok(Channel {
+        direction: match written.direction {
+            syntax::Direction::Input => Direction::Input,
+            syntax::Direction::Output => Direction::Output,
+        },
+        name: String::from_str(alloc, written.name.text.as_str())?,
+        label,
+    })
+}
+
+/// The value of a constant, and its type.
+fn value_of(constant: Constant) -> (Value, Base)
+    requires small { IsWrittenConstant Anywhere longest_name (constant_tree constant) }
+    ensures value { result.0 ≡ spec.constant_value (constant_tree constant) }
+    ensures base { result.1 ≡ spec.constant_base (constant_tree constant) }
+{
+    match constant {
+        Constant::Integer {
+            negative,
+            value,
+            ..
+        } => {
+            let number = value as i32;
+            (
+                Value::Number(if negative { -number } else { number }),
+                Base::Int,
+            )
+        }
+        Constant::Truth { value, .. } => (Value::Truth(value), Base::Boolean),
+    }
+}
+
+fn place_of(constant: Constant) -> usize
+    ensures { result ≡ spec.constant_place (constant_tree constant) }
+{
+    match constant {
+        Constant::Integer { at, .. } | Constant::Truth { at, .. } => at,
+    }
+}
+
+/// What each element of an array holds at first.
+fn zero_of(base: Base) -> Value
+    ensures { result ≡ spec.zero_of base }
+{
+    match base {
+        Base::Int => Value::Number(0),
+        Base::Boolean => Value::Truth(false),
+    }
+}
+
+/// The length of a global that is an array, and what its cells hold at first.
+#[tactic(auto, unfolding(crate::specs::Resolution::first_outcome))]
+fn first(base: Base, value: &GlobalValue) -> Result<(Option<u32>, Value), TypeFault>
+    requires small { IsWrittenGlobalValue Anywhere longest_name (global_value_tree value.now) }
+    ensures { Gives first_view result (first_outcome base (global_value_tree value.now)) }
+{
+    match value {
+        GlobalValue::Scalar(constant) => {
+            let (value, given) = value_of(*constant);
+            if is_same(given, base) {
+                Ok((None, value))
+            } else {
+                Err(TypeFault::Refused(Refusal::WrongType, place_of(*constant)))
+            }
+        }
+        GlobalValue::Array(size) => Ok((Some(length_of(*size)?), zero_of(base))),
+    }
+}
+
+/// A global.
+#[tactic(auto, unfolding(crate::specs::Resolution::global_outcome))]
+pub fn global(
+    alloc: Global,
+    hierarchy: &Hierarchy,
+    written: &syntax::GlobalVariable,
+) -> Result<GlobalVariable, TypeFault>
+    requires small { IsWrittenGlobalValue Anywhere longest_name (global_value_tree written.now.value) }
+    ensures { Gives global_entry result (global_outcome hierarchy.now (global_tree written.now)) }
+{
+    let label = label(alloc, hierarchy, &written.label)?;
+    let base = base_of(written.base);
+    let (size, first) = first(base, &written.value)?;
+    Ok(GlobalVariable {
+        name: String::from_str(alloc, written.name.text.as_str())?,
+        base,
+        size,
+        label,
+        first,
+    })
+}

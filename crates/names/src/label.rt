@@ -1,0 +1,94 @@
+//! Labels as they are kept, from labels as they are written.
+
+ghost use Rattle.std.specs.Prelude.{All, IfOk, map};
+ghost use Rattle.labels.specs.Canonical.{IsCanonicalPolicy};
+ghost use Rattle.syntax.specs.Tree.{label_tree, name_tree, optional_label_tree, policy_tree};
+ghost use Rattle.names.specs.Labels.{label_outcome, policies_outcome, policy_outcome, principal_outcome, readers_outcome, optional_label_outcome};
+ghost use Rattle.names.specs.Views.{Gives, itself};
+
+use crate::fault::{Refusal, TypeFault};
+use labels::{Label, Policy};
+use principals::Hierarchy;
+use std::alloc::Global;
+use syntax::{Name, WrittenLabel, WrittenPolicy};
+
+/// The number of a principal.
+#[tactic(auto, unfolding(crate::specs::Labels::principal_outcome))]
+fn principal(hierarchy: &Hierarchy, name: &Name) -> Result<u32, TypeFault>
+    ensures { Gives itself result (principal_outcome hierarchy.now (name_tree name.now)) }
+{
+    match hierarchy.find(name.text.as_str()) {
+        Some(number) => Ok(number),
+        None => Err(TypeFault::Refused(Refusal::UnknownPrincipal, name.at)),
+    }
+}
+
+/// The numbers of readers.
+fn readers(alloc: Global, hierarchy: &Hierarchy, names: &[Name]) -> Result<Vec<u32>, TypeFault>
+    ensures { Gives (λ numbers. numbers.items) result (readers_outcome hierarchy.now (map name_tree names.now)) }
+{
+    let mut numbers = Vec::new(alloc);
+    for name in names {
+        numbers.push(principal(hierarchy, name)?)?;
+    }
+    Ok(numbers)
+}
+
+/// A policy.
+#[tactic(auto, unfolding(crate::specs::Labels::policy_outcome))]
+fn policy(
+    alloc: Global,
+    hierarchy: &Hierarchy,
+    written: &WrittenPolicy,
+) -> Result<Policy, TypeFault>
+    ensures made { Gives itself result (policy_outcome hierarchy.now (policy_tree written.now)) }
+    ensures canonical { IfOk result IsCanonicalPolicy }
+{
+    let owner = principal(hierarchy, &written.owner)?;
+    let readers = readers(alloc, hierarchy, written.readers.as_slice())?;
+    Ok(Policy::written(owner, readers))
+}
+
+/// The policies of a label.
+fn policies(
+    alloc: Global,
+    hierarchy: &Hierarchy,
+    written: &[WrittenPolicy],
+) -> Result<Vec<Policy>, TypeFault>
+    ensures made { Gives (λ policies. policies.items) result (policies_outcome hierarchy.now (map policy_tree written.now)) }
+    ensures canonical { IfOk result (λ policies. All IsCanonicalPolicy policies.items) }
+{
+    let mut policies = Vec::new(alloc);
+    for one in written {
+        policies.push(policy(alloc, hierarchy, one)?)?;
+    }
+    Ok(policies)
+}
+
+/// A label.
+#[tactic(auto, unfolding(crate::specs::Labels::label_outcome))]
+pub fn label(
+    alloc: Global,
+    hierarchy: &Hierarchy,
+    written: &WrittenLabel,
+) -> Result<Label, TypeFault>
+    ensures { Gives itself result (label_outcome hierarchy.now (label_tree written.now)) }
+{
+    let policies = policies(alloc, hierarchy, written.policies.as_slice())?;
+    Ok(Label::written(policies))
+}
+
+/// A label that may be left out.
+#[tactic(auto, unfolding(crate::specs::Labels::optional_label_outcome))]
+pub fn optional_label(
+    alloc: Global,
+    hierarchy: &Hierarchy,
+    written: &Option<WrittenLabel>,
+) -> Result<Option<Label>, TypeFault>
+    ensures { Gives itself result (optional_label_outcome hierarchy.now (optional_label_tree written.now)) }
+{
+    match written {
+        None => Ok(None),
+        Some(written) => Ok(Some(label(alloc, hierarchy, written)?)),
+    }
+}

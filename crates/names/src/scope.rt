@@ -1,0 +1,150 @@
+//! What names stand for, and the uses that places make of them.
+
+ghost use Rattle.names.specs.Environment.{array_outcome, declaring, exception_outcome, fresh_outcome, input_outcome, output_outcome, procedure_outcome, scalar_outcome};
+ghost use Rattle.names.specs.Outcome.{give};
+ghost use Rattle.names.specs.Views.{Gives, array_use, found_in, itself, scalar_use};
+ghost use Rattle.std.specs.Prelude.{OnOk, List, length, take, ◌≡◌, None, ℕ};
+
+use crate::fault::{Refusal, TypeFault};
+use indexmap::IndexMap;
+use resolved::expression::{Base, Variable};
+use std::alloc::Global;
+
+/// What a name stands for. Channels are numbered in their order, inputs and outputs together; so are globals, procedures and
+/// exceptions, of which 0, 1 and 2 are `Arith`, `Bounds` and `End`; a local has the number of its slot.
+#[derive(Clone, Copy, Debug, PartialEq, Eq)]
+pub enum Meaning {
+    Input(u32),
+    Output(u32),
+    Exception(u32),
+    Procedure(u32),
+    /// A global, parameter or local that holds one value of this type.
+    Scalar(Variable, Base),
+    /// An array of values of this type, with its length.
+    Array(Variable, Base, u32),
+}
+
+/// A scalar that is used.
+#[derive(Clone, Copy, Debug)]
+pub struct FoundScalar {
+    pub variable: Variable,
+    pub base: Base,
+}
+
+/// An array that is used.
+#[derive(Clone, Copy, Debug)]
+pub struct FoundArray {
+    pub variable: Variable,
+    pub base: Base,
+    pub size: u32,
+}
+
+/// What a name stands for by a table.
+pub fn find(table: &IndexMap<String, Meaning>, name: &str) -> Option<Meaning>
+    ensures { result ≡ found_in table.now name.now }
+{
+    table.get(name).copied()
+}
+
+/// Puts a name into a table in which it is not yet.
+pub fn insert(
+    alloc: Global,
+    table: &mut IndexMap<String, Meaning>,
+    name: &str,
+    meaning: Meaning,
+) -> Result<(), TypeFault>
+    requires fresh { found_in table.old name.now ≡ None }
+    ensures made { Gives (λ _. λ (other : List ℕ). found_in table.new other) result (give (declaring name.now meaning (found_in table.old))) }
+    ensures behind { OnOk result (take (length table.old.entries) table.new.entries ≡ table.old.entries) }
+{
+    table.insert(String::from_str(alloc, name)?, meaning)?;
+    Ok(())
+}
+
+/// Refuses the declaration of a name that stands for something already.
+#[tactic(auto, unfolding(crate::specs::Environment::fresh_outcome))]
+pub fn fresh(found: Option<Meaning>, at: usize) -> Result<(), TypeFault>
+    ensures made { Gives (λ _. tt) result (fresh_outcome found at) }
+    ensures none { OnOk result (found ≡ None) }
+{
+    match found {
+        None => Ok(()),
+        Some(_) => Err(TypeFault::Refused(Refusal::DeclaredTwice, at)),
+    }
+}
+
+/// A scalar variable.
+#[tactic(auto, unfolding(crate::specs::Environment::scalar_outcome))]
+pub fn scalar(found: Option<Meaning>, at: usize) -> Result<FoundScalar, TypeFault>
+    ensures { Gives scalar_use result (scalar_outcome found at) }
+{
+    match found {
+        None => Err(TypeFault::Refused(Refusal::UnknownName, at)),
+        Some(Meaning::Scalar(variable, base)) => Ok(FoundScalar { variable, base }),
+        Some(_) => Err(TypeFault::Refused(Refusal::WrongUse, at)),
+    }
+}
+
+/// An array.
+#[tactic(auto, unfolding(crate::specs::Environment::array_outcome))]
+pub fn array(found: Option<Meaning>, at: usize) -> Result<FoundArray, TypeFault>
+    ensures { Gives array_use result (array_outcome found at) }
+{
+    match found {
+        None => Err(TypeFault::Refused(Refusal::UnknownName, at)),
+        Some(Meaning::Array(variable, base, size)) => Ok(FoundArray {
+            variable,
+            base,
+            size,
+        }),
+        Some(_) => Err(TypeFault::Refused(Refusal::WrongUse, at)),
+    }
+}
+
+/// The number of an input.
+#[tactic(auto, unfolding(crate::specs::Environment::input_outcome))]
+pub fn input(found: Option<Meaning>, at: usize) -> Result<u32, TypeFault>
+    ensures { Gives itself result (input_outcome found at) }
+{
+    match found {
+        None => Err(TypeFault::Refused(Refusal::UnknownName, at)),
+        Some(Meaning::Input(channel)) => Ok(channel),
+        Some(_) => Err(TypeFault::Refused(Refusal::WrongUse, at)),
+    }
+}
+
+/// The number of an output.
+#[tactic(auto, unfolding(crate::specs::Environment::output_outcome))]
+pub fn output(found: Option<Meaning>, at: usize) -> Result<u32, TypeFault>
+    ensures { Gives itself result (output_outcome found at) }
+{
+    match found {
+        None => Err(TypeFault::Refused(Refusal::UnknownName, at)),
+        Some(Meaning::Output(channel)) => Ok(channel),
+        Some(_) => Err(TypeFault::Refused(Refusal::WrongUse, at)),
+    }
+}
+
+/// The number of an exception.
+#[tactic(auto, unfolding(crate::specs::Environment::exception_outcome))]
+pub fn exception(found: Option<Meaning>, at: usize) -> Result<u32, TypeFault>
+    ensures { Gives itself result (exception_outcome found at) }
+{
+    match found {
+        None => Err(TypeFault::Refused(Refusal::UnknownName, at)),
+        Some(Meaning::Exception(number)) => Ok(number),
+        Some(_) => Err(TypeFault::Refused(Refusal::WrongUse, at)),
+    }
+}
+
+/// The number of a procedure.
+#[tactic(auto, unfolding(crate::specs::Environment::procedure_outcome))]
+pub fn procedure(found: Option<Meaning>, at: usize) -> Result<u32, TypeFault>
+    ensures { Gives itself result (procedure_outcome found at) }
+{
+    match found {
+        None => Err(TypeFault::Refused(Refusal::UnknownName, at)),
+        Some(Meaning::Procedure(number)) => Ok(number),
+        Some(_) => Err(TypeFault::Refused(Refusal::WrongUse, at)),
+    }
+}

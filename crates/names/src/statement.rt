@@ -1,0 +1,236 @@
+//! Statements that hold no others.
+
+ghost use Rattle.names.specs.Statements as spec;
+ghost use Rattle.names.specs.Statements.{arguments_outcome, assign_outcome, assigned_outcome, call_outcome, call_statement_outcome, receive_outcome, return_outcome, send_outcome, size_outcome, store_outcome, throw_outcome};
+ghost use Rattle.names.specs.Views.{Gives, call_use, expressions_of, itself, names_of, signatures_of};
+ghost use Rattle.resolved.specs.ProgramOf.{slot_entry};
+ghost use Rattle.resolved.specs.TreeOf.{statement_of};
+ghost use Rattle.std.specs.Prelude.{IfOk, map, ◌≡◌};
+ghost use Rattle.syntax.specs.Tree.{call_tree, expression_tree, name_tree, optional_expression_tree, right_tree, size_tree};
+
+use crate::body::Body;
+use crate::fault::{Refusal, TypeFault};
+use crate::operator::is_same;
+use crate::scope::{array, exception, input, output, procedure, scalar};
+use labels::Label;
+use resolved::expression::{Base, Expression, Variable};
+use resolved::statement::{Exit, Statement};
+use resolved::tables::Slot;
+use std::alloc::AllocError;
+use syntax::{Call, Name, RightSide, Size};
+
+/// The greatest length of an array.
+pub const MAX_LENGTH: u32 = 65_536;
+
+/// A call: its procedure, its arguments, and the type of its value, if it gives one.
+#[derive(Drop)]
+pub struct UsedCall {
+    pub procedure: u32,
+    pub arguments: Vec<Expression>,
+    pub result: Option<Base>,
+}
+
+/// The length of an array.
+#[tactic(auto, unfolding(crate::specs::Statements::size_outcome))]
+pub fn length_of(size: Size) -> Result<u32, TypeFault>
+    ensures { Gives itself result (size_outcome (size_tree size)) }
+{
+    if 0 < size.size && size.size <= MAX_LENGTH {
+        Ok(size.size)
+    } else {
+        Err(TypeFault::Refused(Refusal::ArraySize, size.at))
+    }
+}
+
+impl<'a> Body<'a> {
+    /// The arguments of a call, at places that want the types of the parameters.
+    #[tactic(auto, unfolding(crate::specs::Statements::arguments_outcome))]
+    fn arguments(
+        &self,
+        parameters: &[Base],
+        written: &[syntax::Expression],
+    ) -> Result<Vec<Expression>, TypeFault>
+        ensures { Gives expressions_of result (arguments_outcome (names_of self.now) parameters.now (map expression_tree written.now)) }
+    {
+        let mut arguments = Vec::new(self.alloc);
+        for argument in written {
+            let base = match parameters.get(arguments.len()) {
+                Some(base) => *base,
+                None => Base::Int,
+            };
+            arguments.push(self.typed(base, argument)?)?;
+        }
+        Ok(arguments)
+    }
+
+    /// A call.
+    #[tactic(auto, unfolding(crate::specs::Statements::call_outcome, crate::specs::Statements::applied_outcome))]
+    fn call(&self, written: &Call) -> Result<UsedCall, TypeFault>
+        ensures { Gives call_use result (call_outcome (signatures_of self.now) (names_of self.now) (call_tree written.now)) }
+    {
+        let name = &written.procedure;
+        let number = procedure(self.meaning(name), name.at)?;
+        let (parameters, value) = self.top.signature(number);
+        if parameters.len() != written.arguments.len() {
+            return Err(TypeFault::Refused(Refusal::WrongArgumentCount, name.at));
+        }
+        let arguments = self.arguments(parameters, &written.arguments)?;
+        Ok(UsedCall {
+            procedure: number,
+            arguments,
+            result: value,
+        })
+    }
+
+    /// The assignment of a right side to a variable of a type, by a statement that begins at a byte.
+    #[tactic(auto, unfolding(crate::specs::Statements::assigned_outcome))]
+    fn assigned(
+        &self,
+        at: usize,
+        target: Variable,
+        base: Base,
+        value: &RightSide,
+    ) -> Result<Statement, TypeFault>
+        ensures { Gives statement_of result (assigned_outcome (signatures_of self.now) (names_of self.now) at target base (right_tree value.now)) }
+    {
+        match value {
+            RightSide::Receive {
+                at: receive_at,
+                channel,
+            } => {
+                if !is_same(Base::Int, base) {
+                    return Err(TypeFault::Refused(Refusal::WrongType, *receive_at));
+                }
+                let number = input(self.meaning(channel), channel.at)?;
+                Ok(Statement::Receive(at, number, Some(target)))
+            }
+            RightSide::Call(call) => {
+                let made = self.call(call)?;
+                if !gives(base, made.result) {
+                    return Err(TypeFault::Refused(Refusal::WrongType, call.procedure.at));
+                }
+                Ok(Statement::Call(at, made.procedure, made.arguments, Some(target)))
+            }
+            RightSide::Value(value) => Ok(Statement::Assign(at, target, self.typed(base, value)?)),
+        }
+    }
+
+    /// The slot of a local that is declared next.
+    pub fn slot(
+        &self,
+        at: usize,
+        base: Base,
+        size: Option<u32>,
+        written: Option<Label>,
+        name: &Name,
+    ) -> Result<Slot, AllocError>
+        ensures { IfOk result (λ slot. slot_entry slot ≡ record { base = base; size = size; written = written; at = at; name = (name_tree name.now).text }) }
+    {
+        Ok(Slot {
+            base,
+            size,
+            written,
+            at,
+            name: String::from_str(self.alloc, name.text.as_str())?,
+        })
+    }
+
+    #[tactic(auto, unfolding(crate::specs::Statements::assign_outcome))]
+    pub fn assign(&self, target: &Name, value: &RightSide) -> Result<Statement, TypeFault>
+        ensures { Gives statement_of result (assign_outcome (signatures_of self.now) (names_of self.now) (name_tree target.now) (right_tree value.now)) }
+    {
+        let found = scalar(self.meaning(target), target.at)?;
+        self.assigned(target.at, found.variable, found.base, value)
+    }
+
+    #[tactic(auto, unfolding(crate::specs::Statements::store_outcome))]
+    pub fn store(
+        &self,
+        name: &Name,
+        index: &syntax::Expression,
+        value: &syntax::Expression,
+    ) -> Result<Statement, TypeFault>
+        ensures { Gives statement_of result (store_outcome (names_of self.now) (name_tree name.now) (expression_tree index.now) (expression_tree value.now)) }
+    {
+        let found = array(self.meaning(name), name.at)?;
+        let index = self.typed(Base::Int, index)?;
+        let value = self.typed(found.base, value)?;
+        Ok(Statement::Store(name.at, found.variable, found.size, index, value))
+    }
+
+    #[tactic(auto, unfolding(crate::specs::Statements::call_statement_outcome))]
+    pub fn call_statement(&self, call: &Call) -> Result<Statement, TypeFault>
+        ensures { Gives statement_of result (call_statement_outcome (signatures_of self.now) (names_of self.now) (call_tree call.now)) }
+    {
+        let made = self.call(call)?;
+        Ok(Statement::Call(call.procedure.at, made.procedure, made.arguments, None))
+    }
+
+    #[tactic(auto, unfolding(crate::specs::Statements::receive_outcome))]
+    pub fn receive(&self, at: usize, channel: &Name) -> Result<Statement, TypeFault>
+        ensures { Gives statement_of result (receive_outcome (names_of self.now) at (name_tree channel.now)) }
+    {
+        let number = input(self.meaning(channel), channel.at)?;
+        Ok(Statement::Receive(at, number, None))
+    }
+
+    #[tactic(auto, unfolding(crate::specs::Statements::send_outcome))]
+    pub fn send(
+        &self,
+        at: usize,
+        channel: &Name,
+        value: &syntax::Expression,
+    ) -> Result<Statement, TypeFault>
+        ensures { Gives statement_of result (send_outcome (names_of self.now) at (name_tree channel.now) (expression_tree value.now)) }
+    {
+        let number = output(self.meaning(channel), channel.at)?;
+        Ok(Statement::Send(at, number, self.typed(Base::Int, value)?))
+    }
+
+    #[tactic(auto, unfolding(crate::specs::Statements::throw_outcome))]
+    pub fn throw(&self, at: usize, name: &Name) -> Result<Statement, TypeFault>
+        ensures { Gives statement_of result (throw_outcome (names_of self.now) at (name_tree name.now)) }
+    {
+        let number = exception(self.meaning(name), name.at)?;
+        Ok(Statement::Leave(at, Exit::Throw(number)))
+    }
+
+    #[tactic(auto, unfolding(crate::specs::Statements::return_outcome))]
+    pub fn return_value(
+        &self,
+        at: usize,
+        value: &Option<syntax::Expression>,
+    ) -> Result<Statement, TypeFault>
+        ensures { Gives statement_of result (return_outcome self.now.result (names_of self.now) at (optional_expression_tree value.now)) }
+    {
+        match value {
+            None => match self.result {
+                None => Ok(Statement::Return(at, None)),
+                Some(_) => Err(TypeFault::Refused(Refusal::WrongType, at)),
+            },
+            Some(value) => {
+                let found = self.expression(value)?;
+                match self.result {
+                    None => Err(TypeFault::Refused(Refusal::WrongType, value.place())),
+                    Some(base) => {
+                        if is_same(found.base, base) {
+                            Ok(Statement::Return(at, Some(found.expression)))
+                        } else {
+                            Err(TypeFault::Refused(Refusal::WrongType, value.place()))
+                        }
+                    }
+                }
+            }
+        }
+    }
+}
+
+/// Whether a value that a call gives, if it gives one, has a type.
+fn gives(base: Base, given: Option<Base>) -> bool
+    ensures { result ≡ spec.gives_base base given }
+{
+    match given {
+        None => false,
+        Some(given) => is_same(given, base),
+    }
+}
