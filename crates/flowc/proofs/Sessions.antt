@@ -139,7 +139,7 @@ module _ (code : List ℕ) (world : List InputNumbers) (m : ModuleContents) (can
   unfolding after
   answered = (
     opened,
-    (record { place_left = omega arith; id_left = omega arith }, refl, (m, can, refl)),
+    (record { room_left = omega arith; id_left = omega arith }, refl, (m, can, refl)),
     (
       turned,
       (fresh, refl, (after, record { within = run.within; running = run.running; machine = refl; reported = run.is }, refl)),
