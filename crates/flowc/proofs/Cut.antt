@@ -1,19 +1,26 @@
 -- What a run has shown where a stream failed or memory ran out.
-use Rattle.std.proofs.Common.{◌≡◌, ℕ, ◌≤◌, List, ap, ◌∙◌, subst, inr, Option, Result, Ok, Err, OnErr}
+use Rattle.std.proofs.Common.{◌≡◌, ℕ, ◌≤◌, List, ap, ◌∙◌, subst, inr, Option, Result, Ok, Err, IfOk, OnErr}
 use Rattle.std.specs.Str.{IsUtf8}
 use Rattle.std.specs.Io.KnownBytes.{Appends}
+use Rattle.std.specs.String.{string_bytes}
 use Rattle.labels.specs.declared.sent.Pair.{Pair}
 use Rattle.labels.proofs.Begins.{Begins-itself}
 use Rattle.principals.specs.ActsFor.{PrincipalHierarchy}
 use Rattle.bytecode.specs.Contents.{ModuleContents}
 use Rattle.bytecode.specs.Form.{Spells}
 use Rattle.bytecode.specs.Format.{module_file}
-use Rattle.bytecode.specs.Machine.{Machine, Running, exec, first_state, program_of, sent_of}
+use Rattle.bytecode.specs.Machine.{Machine, Running, after_steps, exec, first_state, program_of, sent_of}
 use Rattle.channels.specs.Sink.{AppendsPrefix}
 use Rattle.channels.specs.World.{input_names}
 use Rattle.channels.specs.WorldText.{IsWorldText, lines_of}
 use Rattle.verifier.specs.Faults.{HasNoFault}
-use Rattle.flowc.specs.Stdout.{CanRun, ShowsSome, numbers_in, text_shown}
+use Rattle.machine.specs.Run.{IsTold}
+use Rattle.machine.specs.declared.status.Status.{Status}
+use Rattle.flowc.specs.Messages.{IsEndLine, reported_line}
+use Rattle.flowc.specs.Stdout.{CanRun, ShowsRun, ShowsSome, numbers_in, text_shown}
+use Rattle.flowc.specs.Task.{reported_status}
+use Rattle.flowc.specs.declared.fault.PerformFault.{PerformFault}
+use Rattle.flowc.specs.declared.running.Ended.{Ended}
 use Rattle.flowc.specs.View.{IsObserver, shown, view_text}
 
 pub on_err : {X Y : Type 0} (result : Result X Y) (P : Type 0) → P → OnErr result P
@@ -47,3 +54,50 @@ cut_off code text name steps old new m program principal taken pairs before afte
     ∙ ap (λ (list : List Pair). view_text m (shown m principal list)) (sent ∙ ap sent_of reached ∙ ap (λ (x : Machine). sent_of (exec (program_of m) taken x)) first) in
     let cut = subst (λ (t : List ℕ). AppendsPrefix old new t) all part in
     inr (cut.0, record { program = m; principal = principal; taken = taken; can_run = can; within = within; begins = cut.1 }, cut.2)
+
+-- what is known of a run that has taken some steps from the first state on
+module _ (code text : List ℕ) (name : Option (List ℕ)) (steps : ℕ) (m program : ModuleContents) (principal : Option ℕ) (taken : ℕ)
+    (before after : Machine) (end : Status) (can : CanRun code text name m principal) (within : taken ≤ steps) (is : program ≡ m)
+    (first : before ≡ Running (first_state m (numbers_in m text))) (reached : after ≡ exec (program_of m) taken before)
+    (stands : IsTold (program_of m) steps taken end after) where
+  there : after ≡ after_steps m (numbers_in m text) taken
+  there = reached ∙ ap (λ (x : Machine). exec (program_of m) taken x) first
+
+  -- it was shown, with the status that reports how it then stands
+  pub shows_run : (old new : Option (List ℕ)) (pairs : List Pair) (result : Result Ended PerformFault) → pairs ≡ sent_of after
+      → Appends old new (view_text program (shown program principal pairs))
+      → IfOk result (λ ended. ended.status ≡ reported_status principal end)
+      → IfOk result (λ ended. ShowsRun code text name steps ended.status old new)
+  shows_run old new pairs (Err fault) sent view status = tt
+  shows_run old new pairs (Ok ended) sent view status =
+      let all : view_text program (shown program principal pairs) ≡ text_shown m text principal taken =
+      ap (λ (w : ModuleContents). view_text w (shown w principal pairs)) is
+      ∙ ap (λ (list : List Pair). view_text m (shown m principal list)) (sent ∙ ap sent_of there) in
+      record {
+        program = m;
+        principal = principal;
+        taken = taken;
+        can_run = can;
+        within = within;
+        view = subst (λ (t : List ℕ). Appends old new t) all view;
+        end = end;
+        ended = subst (λ (x : Machine). IsTold (program_of m) steps taken end x) there stands;
+        reported = status;
+      }
+
+  -- and its line reports that
+  pub ends_so : (result : Result Ended PerformFault) → IfOk result (λ ended. ended.status ≡ reported_status principal end)
+      → IfOk result (λ ended. string_bytes ended.line ≡ reported_line program principal end)
+      → IfOk result (λ ended. IsEndLine code text name steps ended.status (string_bytes ended.line))
+  ends_so (Err fault) status line = tt
+  ends_so (Ok ended) status line = record {
+    program = m;
+    principal = principal;
+    taken = taken;
+    can_run = can;
+    within = within;
+    end = end;
+    ended = subst (λ (x : Machine). IsTold (program_of m) steps taken end x) there stands;
+    reported = status;
+    says = line ∙ ap (λ (w : ModuleContents). reported_line w principal end) is;
+  }

@@ -1,6 +1,6 @@
 use Rattle.std.proofs.Common.{◌∙◌, ap}
 use Rattle.bytecode.specs.Contents.{ModuleContents}
-use Rattle.flowc.proofs.Cut.{appended_all, can_run, cut_off, on_err}
+use Rattle.flowc.proofs.Cut.{appended_all, can_run, cut_off, ends_so, on_err, shows_run}
 use Rattle.flowc.proofs.Telling.{observer_message, start_message}
 use Rattle.flowc.proofs.running.run.Goals as goal
 
@@ -30,3 +30,21 @@ returns-in_err-principal-clause-message g c =
     c.in_ok-machine.ensures.spelled c.in_ok-machine.ensures.faultless c.in_ok-machine.ensures.encoded c.in_ok-machine.ensures.right
     (c.hierarchy.ensures.hierarchy ∙ ap (λ (w : ModuleContents). w.hierarchy) c.module.ensures)
     c.from_residual-in_err-principal.ensures.1 c.in_err-principal.ensures.message
+
+pub returns-clause-shown : goal.returns-clause-shown
+returns-clause-shown g c =
+    let m = c.in_ok-machine.machine.program in
+    let can = can_run _ _ _ m c.in_ok-principal.principal c.hierarchy.result.now c.in_ok-machine.ensures.spelled c.in_ok-machine.ensures.faultless c.in_ok-machine.ensures.encoded c.in_ok-machine.ensures.right c.in_ok-principal.ensures.found
+    (c.hierarchy.ensures.hierarchy ∙ ap (λ (w : ModuleContents). w.hierarchy) c.module.ensures) in
+    shows_run _ _ _ c.args.steps m c.module-program.result.now c.in_ok-principal.principal c.run-status.result.0 _ _ c.run-status.result.1 can c.run-status.ensures.within
+    (c.module-program.ensures ∙ c.run-status.ensures.kept) c.in_ok-machine.ensures.first c.run-status.ensures.after c.run-status.ensures.told _ _ c.sent.result.now
+    c.report_end.result c.sent.ensures c.in_ok-show.ensures.view c.report_end.ensures.message
+
+pub returns-clause-end : goal.returns-clause-end
+returns-clause-end g c =
+    let m = c.in_ok-machine.machine.program in
+    let can = can_run _ _ _ m c.in_ok-principal.principal c.hierarchy.result.now c.in_ok-machine.ensures.spelled c.in_ok-machine.ensures.faultless c.in_ok-machine.ensures.encoded c.in_ok-machine.ensures.right c.in_ok-principal.ensures.found
+    (c.hierarchy.ensures.hierarchy ∙ ap (λ (w : ModuleContents). w.hierarchy) c.module.ensures) in
+    ends_so _ _ _ c.args.steps m c.module-program.result.now c.in_ok-principal.principal c.run-status.result.0 _ _ c.run-status.result.1 can c.run-status.ensures.within
+    (c.module-program.ensures ∙ c.run-status.ensures.kept) c.in_ok-machine.ensures.first c.run-status.ensures.after c.run-status.ensures.told
+    c.report_end.result c.report_end.ensures.message c.report_end.ensures.line
