@@ -24,6 +24,8 @@ fn laws_of_isolation(_rt: HostRuntime) {
     noninterference::flows_are_kept();
     examples::a_label_decides();
     examples::lists_may_differ_in_length();
+    acceptance::laws::one_verdict();
+    acceptance::laws::accepted_programs_are_isolated();
 }
 
 #[test]

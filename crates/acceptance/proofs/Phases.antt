@@ -1,0 +1,313 @@
+-- Each phase lets a text pass or refuses it, for one cause at one byte.
+use Rattle.std.proofs.Common.{◌≡◌, ℕ, ◌≤◌, refl, sym, ap, ◌∙◌, subst, Bool, true, false, List, [], ◌∷◌, length, ◌⊎◌, inl, inr, ⊎_elim, arith}
+use Rattle.std.specs.Prelude.{Option, Some, Ok, Err}
+use Rattle.std.specs.Str.{is_utf8}
+use Rattle.std.proofs.lemmas.Str.{IsUtf8-from_is_utf8}
+use Rattle.std.proofs.lemmas.Bool.Decides.{leb_tells}
+use Rattle.lexer.specs.Cut.{IsCut}
+use Rattle.lexer.specs.Cut as lexer
+use Rattle.lexer.specs.Terminal.{Terminal}
+use Rattle.lexer.specs.declared.fault.LexFault.{LexFault}
+use Rattle.lexer.specs.declared.fault.LexFault.TheVariants as lexical
+use Rattle.lexer.proofs.Cutting.{has_one_cut, not_cut_and_refused, has_one_refusal}
+use Rattle.lexer.proofs.Total.{is_cut_or_refused}
+use Rattle.lexer.proofs.Listed.{listed}
+use Rattle.parser.specs.Refusal as parser
+use Rattle.parser.specs.declared.fault.ParseFault.{ParseFault}
+use Rattle.parser.specs.declared.fault.ParseFault.TheVariants as syntactic
+use Rattle.parser.proofs.Programs.{one_tree}
+use Rattle.parser.proofs.Refusals.{spelled_or_refused, spelled_not_refused, one_refusal}
+use Rattle.principals.specs.ActsFor.{PrincipalHierarchy}
+use Rattle.principals.specs.HierarchyText.{greatest_text, IsRefusedText}
+use Rattle.principals.specs.declared.fault.HierFault.{HierFault}
+use Rattle.principals.specs.declared.fault.HierFault.TheVariants as hierarchies
+use Rattle.principals.specs.Laws.{HasOneHierarchy, IsReadOrRefused, IsNotReadAndRefused, HasOneRefusal}
+use Rattle.syntax.specs.Grammar.{Spells}
+use Rattle.syntax.specs.Tree.{ProgramTree}
+use Rattle.labels.specs.Label.{ReaderPolicy}
+use Rattle.resolved.specs.Program.{Program}
+use Rattle.resolved.specs.EndFaults.{EndFault, end_faults}
+use Rattle.resolved.specs.Labelled.{Demand, Labelled}
+use Rattle.resolved.specs.Flow as flow
+use Rattle.resolved.proofs.Flow.{labelled-or_refused, chain-refuses}
+use Rattle.names.specs.Outcome.{Outcome, Fault}
+use Rattle.names.specs.Resolution.{resolution}
+use Rattle.acceptance.specs.Accepted.{IsText, IsTreeOf, IsResolvedFrom, IsAccepted, HasHierarchy, StandFor}
+use Rattle.acceptance.specs.Refused.{IsNoText, TooLong, NotUtf8, IsHierarchyRefused, Unreadable, Wrong, IsSourceRefused, NoText, NoTokens, NoTree, WrongName, WrongEnd, WrongFlow, IsRefusedAt, Hierarchy, Source, hierarchy_refusal, lexical_refusal, parse_refusal, cause_of_name, cause_of_end}
+use Rattle.acceptance.specs.Laws.{Verdict, Accepted, Refused, IsVerdict, HasVerdict, HasOneVerdict}
+use Rattle.acceptance.specs.declared.cause.Cause.{Cause}
+use Rattle.acceptance.specs.declared.cause.Cause.TheVariants as causes
+use Rattle.acceptance.specs.declared.cause.Text.{Text}
+use Rattle.acceptance.specs.declared.cause.Text.TheVariants as texts
+use Rattle.acceptance.proofs.Demands.{one_last}
+
+-- two causes at two bytes are the same
+abbrev pub Same : Cause → ℕ → Cause → ℕ → Type 0
+Same cause at other there = (cause ≡ other) × (at ≡ there)
+
+same_some : (cause other : Cause) (at there : ℕ) (found : Option (Cause × ℕ)) → found ≡ Some (cause, at) → found ≡ Some (other, there) → Same cause at other there
+same_some cause other at there found one two =
+    let first : Cause × ℕ = (cause, at) in
+    let second : Cause × ℕ = (other, there) in
+    let both : Some first ≡ Some second = sym one ∙ two in
+    let same : first ≡ second = cc in
+    (ap (λ (pair : Cause × ℕ). pair.0) same, ap (λ (pair : Cause × ℕ). pair.1) same)
+
+-- ---- bytes that are no text
+
+no_text_once : (bytes : List ℕ) (cause other : Cause) (at there : ℕ) → IsNoText bytes cause at → IsNoText bytes other there → Same cause at other there
+no_text_once bytes _ _ _ _ (TooLong long) (TooLong again) = (refl, refl)
+no_text_once bytes _ _ _ _ (TooLong long) (NotUtf8 short not_utf8) = absurd (omega (arith, long, short))
+no_text_once bytes _ _ _ _ (NotUtf8 short not_utf8) (TooLong long) = absurd (omega (arith, long, short))
+no_text_once bytes _ _ _ _ (NotUtf8 short not_utf8) (NotUtf8 again others) = (refl, refl)
+
+text_or_none : (bytes : List ℕ) (cause : Cause) (at : ℕ) → IsNoText bytes cause at → IsText bytes → ⊥
+text_or_none bytes _ _ (TooLong long) text = omega (arith, long, text.short)
+text_or_none bytes _ _ (NotUtf8 short not_utf8) text = not_utf8 text.characters
+
+readable : (bytes : List ℕ) → IsText bytes ⊎ ((cause : Cause) × (at : ℕ) × IsNoText bytes cause at)
+readable bytes =
+    ⊎_elim (λ fits. by_characters (is_utf8 bytes) refl fits.1) (λ long. inr (causes.TextTooLong, 0, TooLong long.1)) (leb_tells (length bytes) greatest_text)
+  where
+    by_characters : (b : Bool) → is_utf8 bytes ≡ b → length bytes ≤ greatest_text → IsText bytes ⊎ ((cause : Cause) × (at : ℕ) × IsNoText bytes cause at)
+    by_characters true e short = inl (record { short = short; characters = e })
+    by_characters false e short = inr (causes.NotUtf8, 0, NotUtf8 short (λ f. let i : false ≡ true = sym e ∙ f in cc))
+
+-- ---- the source: what a phase let pass is not what an earlier one refused
+
+cut_refused : (source : List ℕ) (tokens : List Terminal) (fault : LexFault) → IsCut source tokens → lexer.IsRefused source fault → ⊥
+cut_refused source tokens fault cut refused = not_cut_and_refused source tokens fault cut refused
+
+same_tokens : (source : List ℕ) (tree : ProgramTree) (of : IsTreeOf source tree) (tokens : List Terminal) → IsCut source tokens → of.tokens ≡ tokens
+same_tokens source tree of tokens cut = has_one_cut source of.tokens tokens of.cut cut
+
+tree_refused : (source : List ℕ) (tree : ProgramTree) (tokens : List Terminal) (fault : ParseFault) → IsTreeOf source tree → IsCut source tokens → parser.IsRefused tokens fault → ⊥
+tree_refused source tree tokens fault of cut refused =
+    spelled_not_refused tokens tree fault (subst (λ ts. Spells ts tree) (same_tokens source tree of tokens cut) of.spelled) refused
+
+same_tree : (source : List ℕ) (tree other : ProgramTree) → IsTreeOf source tree → IsTreeOf source other → tree ≡ other
+same_tree source tree other one two =
+    one_tree two.tokens tree other (subst (λ ts. Spells ts tree) (same_tokens source tree one two.tokens two.cut) one.spelled) two.spelled
+
+module _ (h : PrincipalHierarchy) (source : List ℕ) where
+  named_refused : (tree : ProgramTree) (fault : Fault) (program : Program) → IsTreeOf source tree → resolution h tree ≡ Err fault → IsResolvedFrom h source program → ⊥
+  named_refused tree fault program of refused resolved =
+      let same = same_tree source tree resolved.tree of resolved.tree_of in
+      let both : Err fault ≡ Ok program = sym refused ∙ (ap (resolution h) same ∙ resolved.resolved) in
+      cc
+
+  same_fault : (tree other : ProgramTree) (fault again : Fault) → IsTreeOf source tree → IsTreeOf source other → resolution h tree ≡ Err fault → resolution h other ≡ Err again → fault ≡ again
+  same_fault tree other fault again one two e f =
+      let both : Err fault ≡ Err again = sym e ∙ (ap (resolution h) (same_tree source tree other one two) ∙ f) in cc
+
+  same_program : (program other : Program) → IsResolvedFrom h source program → IsResolvedFrom h source other → program ≡ other
+  same_program program other one two =
+      let both : Ok program ≡ Ok other = sym one.resolved ∙ (ap (resolution h) (same_tree source one.tree two.tree one.tree_of two.tree_of) ∙ two.resolved) in cc
+
+  same_end : (program other : Program) (fault again : EndFault) (faults more : List EndFault) → program ≡ other → end_faults program ≡ fault ∷ faults → end_faults other ≡ again ∷ more → fault ≡ again
+  same_end program other fault again faults more same e f =
+      let both : fault ∷ faults ≡ again ∷ more = sym e ∙ (ap end_faults same ∙ f) in cc
+
+  ended_refused : (program other : Program) (fault : EndFault) (faults : List EndFault) → program ≡ other → end_faults program ≡ fault ∷ faults → end_faults other ≡ [] → ⊥
+  ended_refused program other fault faults same e f =
+      let both : fault ∷ faults ≡ [] = sym e ∙ (ap end_faults same ∙ f) in cc
+
+  same_flow : (program other : Program) (policy other_policy : ReaderPolicy) (chain others : List Demand) (last again : Demand) → program ≡ other →
+      flow.IsRefused program policy chain last → flow.IsRefused other other_policy others again → last ≡ again
+  same_flow program other policy other_policy chain others last again same one two =
+      one_last other policy other_policy chain others last again (subst (λ p. flow.IsRefused p policy chain last) same one) two
+
+  -- what an earlier phase refuses does not come to a later one
+  lexed_later : (fault : LexFault) → lexer.IsRefused source fault → (tree : ProgramTree) → IsTreeOf source tree → ⊥
+  lexed_later fault refused tree of = cut_refused source of.tokens fault of.cut refused
+
+  source_once : (cause other : Cause) (at there : ℕ) → IsSourceRefused h source cause at → IsSourceRefused h source other there → Same cause at other there
+  source_once cause other at there (NoText _ _ one) (NoText _ _ two) = no_text_once source cause other at there one two
+  source_once cause other at there (NoText _ _ one) (NoTokens _ _ text _ _ _) = absurd (text_or_none source cause at one text)
+  source_once cause other at there (NoText _ _ one) (NoTree _ _ text _ _ _ _ _) = absurd (text_or_none source cause at one text)
+  source_once cause _ at _ (NoText _ _ one) (WrongName tree of fault e) = absurd (text_or_none source cause at one of.text)
+  source_once cause _ at _ (NoText _ _ one) (WrongEnd program from fault others e) = absurd (text_or_none source cause at one from.tree_of.text)
+  source_once cause _ at _ (NoText _ _ one) (WrongFlow program from ended policy chain last refused) = absurd (text_or_none source cause at one from.tree_of.text)
+  source_once cause other at there (NoTokens _ _ text _ _ _) (NoText _ _ two) = absurd (text_or_none source other there two text)
+  source_once cause other at there (NoTokens _ _ _ fault refused named) (NoTokens _ _ _ again refused_too named_too) =
+      same_some cause other at there (lexical_refusal fault) named (ap lexical_refusal (has_one_refusal source fault again refused refused_too) ∙ named_too)
+  source_once cause other at there (NoTokens _ _ _ fault refused named) (NoTree _ _ _ tokens cut _ _ _) = absurd (cut_refused source tokens fault cut refused)
+  source_once cause _ at _ (NoTokens _ _ _ fault refused named) (WrongName tree of wrong e) = absurd (lexed_later fault refused tree of)
+  source_once cause _ at _ (NoTokens _ _ _ fault refused named) (WrongEnd program from wrong others e) = absurd (lexed_later fault refused from.tree from.tree_of)
+  source_once cause _ at _ (NoTokens _ _ _ fault refused named) (WrongFlow program from ended policy chain last unmet) = absurd (lexed_later fault refused from.tree from.tree_of)
+  source_once cause other at there (NoTree _ _ text _ _ _ _ _) (NoText _ _ two) = absurd (text_or_none source other there two text)
+  source_once cause other at there (NoTree _ _ _ tokens cut _ _ _) (NoTokens _ _ _ fault refused named) = absurd (cut_refused source tokens fault cut refused)
+  source_once cause other at there (NoTree _ _ _ tokens cut fault refused named) (NoTree _ _ _ others cut_too again refused_too named_too) =
+      let same : tokens ≡ others = has_one_cut source tokens others cut cut_too in
+      same_some cause other at there (parse_refusal fault) named
+      (ap parse_refusal (one_refusal others fault again (subst (λ ts. parser.IsRefused ts fault) same refused) refused_too) ∙ named_too)
+  source_once cause _ at _ (NoTree _ _ _ tokens cut fault refused named) (WrongName tree of wrong e) = absurd (tree_refused source tree tokens fault of cut refused)
+  source_once cause _ at _ (NoTree _ _ _ tokens cut fault refused named) (WrongEnd program from wrong others e) = absurd (tree_refused source from.tree tokens fault from.tree_of cut refused)
+  source_once cause _ at _ (NoTree _ _ _ tokens cut fault refused named) (WrongFlow program from ended policy chain last unmet) = absurd (tree_refused source from.tree tokens fault from.tree_of cut refused)
+  source_once _ other _ there (WrongName tree of wrong e) (NoText _ _ two) = absurd (text_or_none source other there two of.text)
+  source_once _ other _ there (WrongName tree of wrong e) (NoTokens _ _ _ fault refused named) = absurd (lexed_later fault refused tree of)
+  source_once _ other _ there (WrongName tree of wrong e) (NoTree _ _ _ tokens cut fault refused named) = absurd (tree_refused source tree tokens fault of cut refused)
+  source_once _ _ _ _ (WrongName tree of wrong e) (WrongName other of_too again f) =
+      let same : wrong ≡ again = same_fault tree other wrong again of of_too e f in
+      (ap (λ (fault : Fault). cause_of_name fault.refusal) same, ap (λ (fault : Fault). fault.at) same)
+  source_once _ _ _ _ (WrongName tree of wrong e) (WrongEnd program from fault others f) = absurd (named_refused tree wrong program of e from)
+  source_once _ _ _ _ (WrongName tree of wrong e) (WrongFlow program from ended policy chain last unmet) = absurd (named_refused tree wrong program of e from)
+  source_once _ other _ there (WrongEnd program from wrong others e) (NoText _ _ two) = absurd (text_or_none source other there two from.tree_of.text)
+  source_once _ other _ there (WrongEnd program from wrong others e) (NoTokens _ _ _ fault refused named) = absurd (lexed_later fault refused from.tree from.tree_of)
+  source_once _ other _ there (WrongEnd program from wrong others e) (NoTree _ _ _ tokens cut fault refused named) = absurd (tree_refused source from.tree tokens fault from.tree_of cut refused)
+  source_once _ _ _ _ (WrongEnd program from wrong others e) (WrongName tree of fault f) = absurd (named_refused tree fault program of f from)
+  source_once _ _ _ _ (WrongEnd program from wrong others e) (WrongEnd other from_too again more f) =
+      let same : wrong ≡ again = same_end program other wrong again others more (same_program program other from from_too) e f in
+      (ap (λ (fault : EndFault). cause_of_end fault.refusal) same, ap (λ (fault : EndFault). fault.at) same)
+  source_once _ _ _ _ (WrongEnd program from wrong others e) (WrongFlow other from_too ended policy chain last unmet) =
+      absurd (ended_refused program other wrong others (same_program program other from from_too) e ended)
+  source_once _ other _ there (WrongFlow program from ended policy chain last unmet) (NoText _ _ two) = absurd (text_or_none source other there two from.tree_of.text)
+  source_once _ other _ there (WrongFlow program from ended policy chain last unmet) (NoTokens _ _ _ fault refused named) = absurd (lexed_later fault refused from.tree from.tree_of)
+  source_once _ other _ there (WrongFlow program from ended policy chain last unmet) (NoTree _ _ _ tokens cut fault refused named) = absurd (tree_refused source from.tree tokens fault from.tree_of cut refused)
+  source_once _ _ _ _ (WrongFlow program from ended policy chain last unmet) (WrongName tree of fault f) = absurd (named_refused tree fault program of f from)
+  source_once _ _ _ _ (WrongFlow program from ended policy chain last unmet) (WrongEnd other from_too again more f) =
+      absurd (ended_refused other program again more (same_program other program from_too from) f ended)
+  source_once _ _ _ _ (WrongFlow program from ended policy chain last unmet) (WrongFlow other from_too ended_too other_policy others again unmet_too) =
+      (refl, ap (λ (d : Demand). d.at) (same_flow program other policy other_policy chain others last again (same_program program other from from_too) unmet unmet_too))
+
+  -- an accepted source is not refused
+  accepted_refused : (program : Program) (cause : Cause) (at : ℕ) → IsAccepted h source program → IsSourceRefused h source cause at → ⊥
+  accepted_refused program cause at accepted (NoText _ _ no_text) = text_or_none source cause at no_text accepted.resolved.tree_of.text
+  accepted_refused program cause at accepted (NoTokens _ _ _ fault refused named) = lexed_later fault refused accepted.resolved.tree accepted.resolved.tree_of
+  accepted_refused program cause at accepted (NoTree _ _ _ tokens cut fault refused named) = tree_refused source accepted.resolved.tree tokens fault accepted.resolved.tree_of cut refused
+  accepted_refused program _ _ accepted (WrongName tree of wrong e) = named_refused tree wrong program of e accepted.resolved
+  accepted_refused program _ _ accepted (WrongEnd other from wrong others e) =
+      ended_refused other program wrong others (same_program other program from accepted.resolved) e accepted.ended
+  accepted_refused program _ _ accepted (WrongFlow other from ended policy chain last unmet) =
+      chain-refuses other policy chain last unmet.chained (subst Labelled (same_program program other accepted.resolved from) accepted.labelled)
+
+  -- ---- each phase lets the source pass or refuses it
+
+  abbrev Refusal : Type 0
+  Refusal = (cause : Cause) × (at : ℕ) × IsSourceRefused h source cause at
+
+  checked : (program : Program) → IsResolvedFrom h source program → ((found : Program) × IsAccepted h source found) ⊎ Refusal
+  checked program from = by_ends (end_faults program) refl
+    where
+      by_ends : (faults : List EndFault) → end_faults program ≡ faults → ((found : Program) × IsAccepted h source found) ⊎ Refusal
+      by_ends (fault ∷ others) e = inr (cause_of_end fault.refusal, fault.at, WrongEnd program from fault others e)
+      by_ends [] e =
+          ⊎_elim
+          (λ labelled. inl (program, record { resolved = from; ended = e; labelled = labelled }))
+          (λ unmet. inr (causes.FlowNotAllowed, unmet.2.at, WrongFlow program from e unmet.0 unmet.1 unmet.2 unmet.3))
+          (labelled-or_refused program)
+
+  named : (tree : ProgramTree) → IsTreeOf source tree → ((found : Program) × IsAccepted h source found) ⊎ Refusal
+  named tree of = by_outcome (resolution h tree) refl
+    where
+      by_outcome : (outcome : Outcome Program) → resolution h tree ≡ outcome → ((found : Program) × IsAccepted h source found) ⊎ Refusal
+      by_outcome (Ok program) e = checked program (record { tree = tree; tree_of = of; resolved = e })
+      by_outcome (Err fault) e = inr (cause_of_name fault.refusal, fault.at, WrongName tree of fault e)
+
+  parsed : (text : IsText source) (tokens : List Terminal) → IsCut source tokens → ((found : Program) × IsAccepted h source found) ⊎ Refusal
+  parsed text tokens cut =
+      ⊎_elim
+      (λ found. named found.0 (record { text = text; tokens = tokens; cut = cut; spelled = found.1 }))
+      (λ found. inr (by_fault found.0 found.1))
+      (spelled_or_refused tokens (listed source tokens (IsUtf8-from_is_utf8 source text.characters) cut).terminated)
+    where
+      by_fault : (fault : ParseFault) → parser.IsRefused tokens fault → Refusal
+      by_fault syntactic.NoMemory refused = absurd refused
+      by_fault (syntactic.Unexpected at) refused = (causes.UnexpectedToken, at, NoTree causes.UnexpectedToken at text tokens cut (syntactic.Unexpected at) refused refl)
+      by_fault (syntactic.TooDeep at) refused = (causes.TooDeep, at, NoTree causes.TooDeep at text tokens cut (syntactic.TooDeep at) refused refl)
+
+  lexed : IsText source → ((found : Program) × IsAccepted h source found) ⊎ Refusal
+  lexed text =
+      ⊎_elim (λ found. parsed text found.0 found.1) (λ found. inr (by_fault found.0 found.1)) (is_cut_or_refused source (IsUtf8-from_is_utf8 source text.characters))
+    where
+      by_fault : (fault : LexFault) → lexer.IsRefused source fault → Refusal
+      by_fault lexical.NoMemory refused = absurd refused.stuck
+      by_fault (lexical.NoToken at) refused = (causes.NoToken, at, NoTokens causes.NoToken at text (lexical.NoToken at) refused refl)
+      by_fault (lexical.LiteralTooLarge at) refused = (causes.LiteralTooLarge, at, NoTokens causes.LiteralTooLarge at text (lexical.LiteralTooLarge at) refused refl)
+      by_fault (lexical.UnclosedComment at) refused = (causes.OpenComment, at, NoTokens causes.OpenComment at text (lexical.UnclosedComment at) refused refl)
+
+  read : ((found : Program) × IsAccepted h source found) ⊎ Refusal
+  read = ⊎_elim lexed (λ none. inr (none.0, none.1, NoText none.0 none.1 none.2)) (readable source)
+
+-- the laws of the texts of hierarchies
+pub record HierarchyLaws : Type 0 where
+  pub read_or_refused : IsReadOrRefused
+  pub one_hierarchy : HasOneHierarchy
+  pub not_both : IsNotReadAndRefused
+  pub one_refusal : HasOneRefusal
+
+module _ (laws : HierarchyLaws) where
+  -- ---- the hierarchy
+
+  hierarchy_once : (text : List ℕ) (cause other : Cause) (at there : ℕ) → IsHierarchyRefused text cause at → IsHierarchyRefused text other there → Same cause at other there
+  hierarchy_once text cause other at there (Unreadable _ _ one) (Unreadable _ _ two) = no_text_once text cause other at there one two
+  hierarchy_once text cause other at there (Unreadable _ _ one) (Wrong _ _ is_text fault refused named) = absurd (text_or_none text cause at one is_text)
+  hierarchy_once text cause other at there (Wrong _ _ is_text fault refused named) (Unreadable _ _ two) = absurd (text_or_none text other there two is_text)
+  hierarchy_once text cause other at there (Wrong _ _ _ fault refused named) (Wrong _ _ _ again refused_too named_too) =
+      let same : fault ≡ again = laws.one_refusal text fault again refused refused_too in
+      same_some cause other at there (hierarchy_refusal fault) named (ap hierarchy_refusal same ∙ named_too)
+
+  hierarchy_or_refused : (text : List ℕ) (h : PrincipalHierarchy) (cause : Cause) (at : ℕ) → HasHierarchy text h → IsHierarchyRefused text cause at → ⊥
+  hierarchy_or_refused text h cause at has (Unreadable _ _ no_text) =
+      text_or_none text cause at no_text (record { short = has.hierarchy_of.says.fits; characters = has.characters })
+  hierarchy_or_refused text h cause at has (Wrong _ _ is_text fault refused named) = laws.not_both text h fault has.hierarchy_of refused
+
+  hierarchy_read : (text : List ℕ) → ((h : PrincipalHierarchy) × HasHierarchy text h) ⊎ ((cause : Cause) × (at : ℕ) × IsHierarchyRefused text cause at)
+  hierarchy_read text = ⊎_elim reads (λ none. inr (none.0, none.1, Unreadable none.0 none.1 none.2)) (readable text)
+    where
+      refused_by : (fault : HierFault) → IsText text → IsRefusedText text fault → (cause : Cause) × (at : ℕ) × IsHierarchyRefused text cause at
+      refused_by hierarchies.NoMemory is_text r = absurd r
+      refused_by hierarchies.TooLong is_text r = absurd (omega (arith, r, is_text.short))
+      refused_by (hierarchies.Syntax at) is_text r = (causes.Syntax, at, Wrong causes.Syntax at is_text (hierarchies.Syntax at) r refl)
+      refused_by (hierarchies.DeclaredTwice at) is_text r = (causes.PrincipalTwice, at, Wrong causes.PrincipalTwice at is_text (hierarchies.DeclaredTwice at) r refl)
+      refused_by (hierarchies.UnknownPrincipal at) is_text r = (causes.UnknownPrincipal, at, Wrong causes.UnknownPrincipal at is_text (hierarchies.UnknownPrincipal at) r refl)
+      refused_by (hierarchies.TooManyPrincipals at) is_text r = (causes.TooManyPrincipals, at, Wrong causes.TooManyPrincipals at is_text (hierarchies.TooManyPrincipals at) r refl)
+
+      reads : IsText text → ((h : PrincipalHierarchy) × HasHierarchy text h) ⊎ ((cause : Cause) × (at : ℕ) × IsHierarchyRefused text cause at)
+      reads is_text =
+          ⊎_elim
+          (λ found. inl (found.0, record { characters = is_text.characters; hierarchy_of = found.1 }))
+          (λ found. inr (refused_by found.0 is_text found.1))
+          (laws.read_or_refused text (IsUtf8-from_is_utf8 text is_text.characters))
+
+  -- ---- both texts
+
+  pub has_verdict : HasVerdict
+  has_verdict hierarchy source = ⊎_elim under (λ refused. (Refused texts.Hierarchy refused.0 refused.1, Hierarchy refused.0 refused.1 refused.2)) (hierarchy_read hierarchy)
+    where
+      under : ((h : PrincipalHierarchy) × HasHierarchy hierarchy h) → (verdict : Verdict) × IsVerdict hierarchy source verdict
+      under found =
+          ⊎_elim
+          (λ accepted. (Accepted accepted.0, record { principals = found.0; has = found.1; accepted = accepted.1 }))
+          (λ refused. (Refused texts.Source refused.0 refused.1, Source found.0 found.1 refused.0 refused.1 refused.2))
+          (read found.0 source)
+
+  same_hierarchy : (text : List ℕ) (h other : PrincipalHierarchy) → HasHierarchy text h → HasHierarchy text other → h ≡ other
+  same_hierarchy text h other one two = laws.one_hierarchy text h other one.hierarchy_of two.hierarchy_of
+
+  refused_once : (hierarchy source : List ℕ) (text again : Text) (cause other : Cause) (at there : ℕ) →
+      IsRefusedAt hierarchy source text cause at → IsRefusedAt hierarchy source again other there → Refused text cause at ≡ Refused again other there
+  refused_once hierarchy source _ _ cause other at there (Hierarchy _ _ one) (Hierarchy _ _ two) =
+      let same = hierarchy_once hierarchy cause other at there one two in
+      ap (λ c. Refused texts.Hierarchy c at) same.0 ∙ ap (Refused texts.Hierarchy other) same.1
+  refused_once hierarchy source _ _ cause other at there (Hierarchy _ _ one) (Source h has _ _ two) = absurd (hierarchy_or_refused hierarchy h cause at has one)
+  refused_once hierarchy source _ _ cause other at there (Source h has _ _ one) (Hierarchy _ _ two) = absurd (hierarchy_or_refused hierarchy h other there has two)
+  refused_once hierarchy source _ _ cause other at there (Source h has _ _ one) (Source k has_too _ _ two) =
+      let same = source_once k source cause other at there (subst (λ p. IsSourceRefused p source cause at) (same_hierarchy hierarchy h k has has_too) one) two in
+      ap (λ c. Refused texts.Source c at) same.0 ∙ ap (Refused texts.Source other) same.1
+
+  accepted_or_refused : (hierarchy source : List ℕ) (program : Program) (text : Text) (cause : Cause) (at : ℕ) →
+      StandFor hierarchy source program → IsRefusedAt hierarchy source text cause at → ⊥
+  accepted_or_refused hierarchy source program _ cause at stand (Hierarchy _ _ refused) = hierarchy_or_refused hierarchy stand.principals cause at stand.has refused
+  accepted_or_refused hierarchy source program _ cause at stand (Source h has _ _ refused) =
+      accepted_refused stand.principals source program cause at stand.accepted
+      (subst (λ p. IsSourceRefused p source cause at) (same_hierarchy hierarchy h stand.principals has stand.has) refused)
+
+  pub has_one_verdict : HasOneVerdict
+  has_one_verdict hierarchy source (Accepted program) (Accepted other) one two =
+      let same = same_hierarchy hierarchy one.principals two.principals one.has two.has in
+      let accepted = subst (λ p. IsAccepted p source program) same one.accepted in
+      ap Accepted (same_program two.principals source program other accepted.resolved two.accepted.resolved)
+  has_one_verdict hierarchy source (Accepted program) (Refused text cause at) one two = absurd (accepted_or_refused hierarchy source program text cause at one two)
+  has_one_verdict hierarchy source (Refused text cause at) (Accepted program) one two = absurd (accepted_or_refused hierarchy source program text cause at two one)
+  has_one_verdict hierarchy source (Refused text cause at) (Refused again other there) one two = refused_once hierarchy source text again cause other at there one two

@@ -1,0 +1,108 @@
+-- Why the first of two texts that is wrong is refused, and the byte at which that stands: one clause for each cause. Each phase looks
+-- at what the ones before it let pass.
+-- Source: our own.
+use Rattle.std.specs.Prelude.{◌≡◌, ℕ, ◌≤◌, ◌<◌, List, [], ◌∷◌, length, IsTrue, Option, Some, None, Err}
+use Rattle.std.specs.Str.{is_utf8}
+use Rattle.lexer.specs.Cut.{IsCut}
+use Rattle.lexer.specs.Cut as lexer
+use Rattle.lexer.specs.Terminal.{Terminal}
+use Rattle.lexer.specs.declared.fault.LexFault.{LexFault}
+use Rattle.lexer.specs.declared.fault.LexFault.TheVariants as lexical
+use Rattle.parser.specs.Refusal as parser
+use Rattle.parser.specs.declared.fault.ParseFault.{ParseFault}
+use Rattle.parser.specs.declared.fault.ParseFault.TheVariants as syntactic
+use Rattle.principals.specs.ActsFor.{PrincipalHierarchy}
+use Rattle.principals.specs.HierarchyText.{greatest_text, IsRefusedText}
+use Rattle.principals.specs.declared.fault.HierFault.{HierFault}
+use Rattle.principals.specs.declared.fault.HierFault.TheVariants as hierarchies
+use Rattle.syntax.specs.Tree.{ProgramTree}
+use Rattle.labels.specs.Label.{ReaderPolicy}
+use Rattle.resolved.specs.Program.{Program}
+use Rattle.resolved.specs.EndFaults.{EndRefusal, EndFault, end_faults}
+use Rattle.resolved.specs.EndFaults as ends
+use Rattle.resolved.specs.Labelled.{Demand}
+use Rattle.resolved.specs.Flow as flow
+use Rattle.names.specs.Outcome.{Fault}
+use Rattle.names.specs.Resolution.{resolution}
+use Rattle.names.specs.declared.fault.Refusal.{Refusal}
+use Rattle.names.specs.declared.fault.Refusal.TheVariants as names
+use Rattle.acceptance.specs.Accepted.{IsText, IsTreeOf, IsResolvedFrom, HasHierarchy}
+use Rattle.acceptance.specs.declared.cause.Cause.{Cause}
+use Rattle.acceptance.specs.declared.cause.Cause.TheVariants as causes
+use Rattle.acceptance.specs.declared.cause.Text.{Text}
+use Rattle.acceptance.specs.declared.cause.Text.TheVariants as texts
+
+-- the causes of faults of names, types and sizes
+abbrev pub cause_of_name : Refusal → Cause
+cause_of_name names.UnknownName = causes.UnknownName
+cause_of_name names.DeclaredTwice = causes.DeclaredTwice
+cause_of_name names.UnknownPrincipal = causes.UnknownPrincipalInLabel
+cause_of_name names.NoProperMain = causes.NoProperMain
+cause_of_name names.WrongType = causes.WrongType
+cause_of_name names.WrongArgumentCount = causes.WrongArgumentCount
+cause_of_name names.WrongUse = causes.WrongUse
+cause_of_name names.ArraySize = causes.ArraySize
+cause_of_name names.TooManyCells = causes.TooManyCells
+
+-- the causes of faults of the ends
+abbrev pub cause_of_end : EndRefusal → Cause
+cause_of_end ends.OutsideLoop = causes.OutsideLoop
+cause_of_end ends.Unreachable = causes.Unreachable
+cause_of_end ends.NeverRaised = causes.NeverRaised
+cause_of_end ends.NoValueReturned = causes.NoValueReturned
+cause_of_end ends.Undeclared = causes.ExceptionNotDeclared
+
+-- the causes of the other faults, and their bytes. That memory ran out is no fault of a text, and that a text is too long is told of
+-- its bytes
+abbrev pub hierarchy_refusal : HierFault → Option (Cause × ℕ)
+hierarchy_refusal hierarchies.NoMemory = None
+hierarchy_refusal hierarchies.TooLong = None
+hierarchy_refusal (hierarchies.Syntax at) = Some (causes.Syntax, at)
+hierarchy_refusal (hierarchies.DeclaredTwice at) = Some (causes.PrincipalTwice, at)
+hierarchy_refusal (hierarchies.UnknownPrincipal at) = Some (causes.UnknownPrincipal, at)
+hierarchy_refusal (hierarchies.TooManyPrincipals at) = Some (causes.TooManyPrincipals, at)
+
+abbrev pub lexical_refusal : LexFault → Option (Cause × ℕ)
+lexical_refusal lexical.NoMemory = None
+lexical_refusal (lexical.NoToken at) = Some (causes.NoToken, at)
+lexical_refusal (lexical.LiteralTooLarge at) = Some (causes.LiteralTooLarge, at)
+lexical_refusal (lexical.UnclosedComment at) = Some (causes.OpenComment, at)
+
+abbrev pub parse_refusal : ParseFault → Option (Cause × ℕ)
+parse_refusal syntactic.NoMemory = None
+parse_refusal (syntactic.Unexpected at) = Some (causes.UnexpectedToken, at)
+parse_refusal (syntactic.TooDeep at) = Some (causes.TooDeep, at)
+
+-- bytes that are no text are refused at their begin: that they are too long comes before that they are not UTF-8
+pub data IsNoText (bytes : List ℕ) : Cause → (at : ℕ) → Type 0 where
+  TooLong : greatest_text < length bytes → IsNoText bytes causes.TextTooLong 0
+  NotUtf8 : length bytes ≤ greatest_text → ¬ IsTrue (is_utf8 bytes) → IsNoText bytes causes.NotUtf8 0
+
+-- why the text of a hierarchy is refused
+pub data IsHierarchyRefused (text : List ℕ) : Cause → (at : ℕ) → Type 0 where
+  Unreadable : (cause : Cause) (at : ℕ) → IsNoText text cause at → IsHierarchyRefused text cause at
+  Wrong : (cause : Cause) (at : ℕ) → IsText text → (fault : HierFault) → IsRefusedText text fault
+      → hierarchy_refusal fault ≡ Some (cause, at) → IsHierarchyRefused text cause at
+
+-- why a source is refused under a hierarchy: the first fault of its tokens, of its tree, of names, types and sizes, or of the ends,
+-- or the first demand that no labelling meets
+pub data IsSourceRefused (h : PrincipalHierarchy) (source : List ℕ) : Cause → (at : ℕ) → Type 0 where
+  NoText : (cause : Cause) (at : ℕ) → IsNoText source cause at → IsSourceRefused h source cause at
+  NoTokens : (cause : Cause) (at : ℕ) → IsText source → (fault : LexFault) → lexer.IsRefused source fault
+      → lexical_refusal fault ≡ Some (cause, at) → IsSourceRefused h source cause at
+  NoTree : (cause : Cause) (at : ℕ) → IsText source → (tokens : List Terminal) → IsCut source tokens → (fault : ParseFault)
+      → parser.IsRefused tokens fault → parse_refusal fault ≡ Some (cause, at) → IsSourceRefused h source cause at
+  WrongName : (tree : ProgramTree) → IsTreeOf source tree → (fault : Fault) → resolution h tree ≡ Err fault
+      → IsSourceRefused h source (cause_of_name fault.refusal) fault.at
+  WrongEnd : (program : Program) → IsResolvedFrom h source program → (fault : EndFault) (others : List EndFault)
+      → end_faults program ≡ fault ∷ others → IsSourceRefused h source (cause_of_end fault.refusal) fault.at
+  WrongFlow : (program : Program) → IsResolvedFrom h source program → end_faults program ≡ [] → (policy : ReaderPolicy)
+      (chain : List Demand) (last : Demand) → flow.IsRefused program policy chain last
+      → IsSourceRefused h source causes.FlowNotAllowed last.at
+
+-- the first of two texts that is wrong: the source is looked at where the other text has a hierarchy
+pub data IsRefusedAt (hierarchy source : List ℕ) : Text → Cause → (at : ℕ) → Type 0 where
+  Hierarchy : (cause : Cause) (at : ℕ) → IsHierarchyRefused hierarchy cause at
+      → IsRefusedAt hierarchy source texts.Hierarchy cause at
+  Source : (h : PrincipalHierarchy) → HasHierarchy hierarchy h → (cause : Cause) (at : ℕ) → IsSourceRefused h source cause at
+      → IsRefusedAt hierarchy source texts.Source cause at

@@ -1,0 +1,25 @@
+//! What a check has to decide, and what an accepted program promises, for all texts of the whole language.
+
+ghost use Rattle.acceptance.specs.Accepted.{StandFor};
+ghost use Rattle.acceptance.specs.Laws.{HasOneVerdict, HasVerdict};
+ghost use Rattle.resolved.specs.Isolated.{Isolated};
+ghost use Rattle.resolved.specs.Program.{Program};
+ghost use Rattle.std.specs.Prelude.{List, ℕ};
+
+/// Every two lists of bytes have one verdict: they stand for one program, or the first text that is wrong is refused, for one cause
+/// at one byte; and not both.
+pub fn one_verdict()
+    ensures some { HasVerdict }
+    ensures one { HasOneVerdict }
+{
+    principals::laws::one_reading();
+}
+
+/// A program that two texts stand for is isolated: for every principal, all worlds that agree for it and any two bounds on the turns
+/// of loops, one of the lists that it sees is a prefix of the other.
+pub fn accepted_programs_are_isolated()
+    ensures { (hierarchy source : List ℕ) (program : Program) → StandFor hierarchy source program →
+        Isolated program }
+{
+    isolation::noninterference::labelled_programs_are_isolated();
+}

@@ -1,0 +1,8 @@
+//! Which two texts stand for a program of the whole language, and why others do not: what a check has to decide. It holds
+//! definitions and their laws alone.
+#![tactic(auto)]
+
+pub mod cause;
+pub mod laws;
+
+pub use cause::{Cause, Text};
