@@ -52,7 +52,7 @@ cause_of_end ends.NeverRaised = causes.NeverRaised
 cause_of_end ends.NoValueReturned = causes.NoValueReturned
 cause_of_end ends.Undeclared = causes.ExceptionNotDeclared
 
--- the causes of the other faults, and their bytes. That memory ran out is no fault of a text, and that a text is too long is told of
+-- the causes of the other faults, and their bytes. That memory ran out is no fault of a text, and that a text is too long is said of
 -- its bytes
 abbrev pub hierarchy_refusal : HierFault → Option (Cause × ℕ)
 hierarchy_refusal hierarchies.NoMemory = None

@@ -45,7 +45,7 @@ impl WorldDefect {
 /// A world was not read.
 #[derive(Clone, Copy, Debug, PartialEq, Eq, Error)]
 pub enum WorldFault {
-    /// A growth of memory was refused.
+    /// Memory ran out.
     #[error("no memory")]
     NoMemory,
     /// This line, counted from 1, is the first wrong one.

@@ -142,7 +142,7 @@ fn steps<'a>(alloc: Global) -> Arg<'a>
         .help("at most so many steps, 1000000 if not given")
 }
 
-// The text of an error of the parser, which is want of memory where the parser had none.
+// The text of an error of the parser, which is that memory ran out where the parser had none.
 fn words_fault(alloc: Global, error: &clap::Error) -> TaskFault
     ensures memory { kind_of error.now ≡ ErrorKind.OutOfMemory → result ≡ OutOfMemory }
 {

@@ -85,7 +85,7 @@ IsSourceRefused h source cause.TextTooLong at = IsNoText greatest_source source 
 IsSourceRefused h source cause at =
     IsTrue (is_utf8 source) × (why : CheckCause) × (cause_of why ≡ cause) × IsRefusedAt h source why at
 
--- a fault tells why the first of the two texts that is refused is so, and the place; or that memory was refused
+-- a fault tells why the first of the two texts that is refused is so, and the place; or that memory ran out
 abbrev pub TellsFault : (hierarchy source : List ℕ) → Fault → Type 0
 TellsFault hierarchy source NoMemory = ⊤
 TellsFault hierarchy source (Refused text.Hierarchy cause place) =

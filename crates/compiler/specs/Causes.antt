@@ -4,7 +4,7 @@ use Rattle.std.specs.Prelude.{ℕ, List, codes}
 use Rattle.compiler.specs.declared.fault.Cause.{Cause}
 use Rattle.compiler.specs.declared.fault.Cause.TheVariants as cause
 
--- the number that a fault is told by
+-- the number that a fault is reported by
 abbrev pub cause_number : Cause → ℕ
 cause_number cause.NotUtf8 = 100
 cause_number cause.NoToken = 101
@@ -31,7 +31,7 @@ cause_number cause.FlowNotAllowed = 601
 cause_number cause.TextTooLong = 701
 cause_number cause.TooManyCells = 704
 
--- the words that it is told by
+-- the words that it is reported by
 abbrev pub cause_words : Cause → List ℕ
 cause_words cause.NotUtf8 = codes "not UTF-8"
 cause_words cause.NoToken = codes "no token"

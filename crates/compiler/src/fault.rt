@@ -70,7 +70,7 @@ pub enum Cause {
 }
 
 impl Cause {
-    /// The number that the fault is told by.
+    /// The number that the fault is reported by.
     pub fn number(&self) -> u32
         ensures { result ≡ cause_number self.now }
     {
@@ -102,7 +102,7 @@ impl Cause {
         }
     }
 
-    /// The words that the fault is told by.
+    /// The words that the fault is reported by.
     pub fn words(&self) -> &'static str
         ensures { result.now ≡ cause_words self.now }
     {
@@ -148,7 +148,7 @@ impl Error for Cause {}
 /// Why two texts gave no module.
 #[derive(Clone, Copy, Debug, PartialEq, Eq, thiserror::Error)]
 pub enum Fault {
-    /// A growth of memory was refused.
+    /// Memory ran out.
     #[error("no memory")]
     NoMemory,
     /// One of the texts is refused, at this place.

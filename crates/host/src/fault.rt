@@ -9,7 +9,7 @@ use verifier::Fault;
 /// An event was refused, and no session has changed.
 #[derive(Clone, Copy, Debug, PartialEq, Eq)]
 pub enum HostFault {
-    /// A growth of memory was refused.
+    /// Memory ran out.
     NoMemory,
     /// 901: as many sessions are open as the host has room for, or every id was given.
     Full,

@@ -1,4 +1,4 @@
-//! Isolation: what a principal sees of the outputs tells it nothing of the inputs that it may not read.
+//! Isolation: what a principal sees of the outputs does not depend on the inputs that it may not read.
 
 ghost use Rattle.isolation.specs.TwoRuns.{StatementsAgree};
 ghost use Rattle.isolation.specs.Larger.{FlowsAreKept, FlowsStayByName, IsolatedCarried, KeepsActsFor, NamesKeepActsFor, number_by_name};

@@ -38,7 +38,7 @@ impl Label {
         }
     }
 
-    /// The label of these policies. The caller owes that they ascend, each once; that each is canonical, as every `Policy` is,
+    /// The label of these policies. Precondition: they ascend, each once; that each is canonical, as every `Policy` is,
     /// its makers and `readers` say.
     pub fn of(policies: Vec<Policy>) -> Label
         requires ascending { IsStrictlySortedBy policy_cmp policies.items }
@@ -48,7 +48,7 @@ impl Label {
         Label { policies }
     }
 
-    /// The label that is written with these policies, in any order and any number of times. The caller owes that each is
+    /// The label that is written with these policies, in any order and any number of times. Precondition: each is
     /// canonical, as every `Policy` is, its makers and `readers` say.
     pub fn written(mut policies: Vec<Policy>) -> Label
         requires { All IsCanonicalPolicy policies.items }

@@ -20,7 +20,7 @@ pub trait Lattice {
     fn leq(&self, left: &Self::Elem, right: &Self::Elem) -> bool
         ensures { result ≡ (order self.now).leq left.now right.now };
 
-    /// The join: above both, and below all that are above both. It fails only where memory was refused.
+    /// The join: above both, and below all that are above both. It fails only where memory ran out.
     fn join(
         &self,
         alloc: Global,

@@ -31,7 +31,7 @@ impl Model for Policy {
 }
 
 impl Policy {
-    /// The policy of these parts. The caller owes readers that ascend, each once, without the owner among them.
+    /// The policy of these parts. Precondition: the readers ascend, each once, without the owner among them.
     pub fn of(owner: u32, readers: Vec<u32>) -> Policy
         requires ascending { IsStrictlyIncreasing readers.items }
         requires owner_left_out { ¬ Contains readers.items owner }

@@ -59,7 +59,7 @@ fn lay_out_procedures(alloc: Global, procedures: &[Procedure]) -> Result<Vec<Pro
 ///
 /// # Errors
 ///
-/// Memory was refused.
+/// Memory ran out.
 pub fn emit(alloc: Global, graph: &Graph) -> Result<Module, AllocError>
     ensures exact { IfOk result (λ m. m ≡ laid_out graph.now) }
     ensures runs { IfOk result (λ m. SameRuns graph.now m) }

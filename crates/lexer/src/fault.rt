@@ -7,7 +7,7 @@ use thiserror::Error;
 /// Why a text gave no tokens. Each place is a byte of the text.
 #[derive(Clone, Copy, Debug, Drop, PartialEq, Eq, Error)]
 pub enum LexFault {
-    /// Memory was refused.
+    /// Memory ran out.
     #[error("no memory")]
     NoMemory,
     /// At this byte no token, white space or comment begins.

@@ -12,13 +12,13 @@ use std::alloc::Global;
 
 /// The tokens of `src` by longest match, with an `End` behind them.
 ///
-/// White space and comments give no token. The first refusal in the text is told, unless memory was
-/// refused before.
+/// White space and comments give no token. The first refusal in the text is reported, unless memory ran
+/// out before.
 pub fn lex(alloc: Global, src: &str) -> Result<Vec<Token<'_>>, LexFault>
     ensures cut { IfOk result (λ tokens. IsCut src.now (terminals_of tokens.items)) }
     ensures only { (tokens : List Terminal) → IsCut src.now tokens → MatchResult result (λ found. terminals_of found.items ≡ tokens) (λ fault. fault ≡ LexFault.NoMemory) }
     ensures refused { IfErr result (λ fault. (fault ≡ LexFault.NoMemory) ⊎ IsRefused src.now fault) }
-    ensures first { (fault : LexFault) → IsRefused src.now fault → MatchResult result (λ _. ⊥) (λ told. (told ≡ fault) ⊎ (told ≡ LexFault.NoMemory)) }
+    ensures first { (fault : LexFault) → IsRefused src.now fault → MatchResult result (λ _. ⊥) (λ found. (found ≡ fault) ⊎ (found ≡ LexFault.NoMemory)) }
     ensures terminated { IfOk result (λ tokens. IsTerminated (terminals_of tokens.items)) }
     ensures in_order { IfOk result (λ tokens. IsInOrder 0 (terminals_of tokens.items) (length src.now)) }
     ensures slices { IfOk result (λ tokens. All (IsSliceOf src.now) (terminals_of tokens.items)) }

@@ -1,7 +1,7 @@
 //! Tokens of a text by longest match, names, and places in a text.
 //!
-//! [`lex`] cuts a text into tokens or tells its first refusal; [`is_name`] tests a whole text for
-//! one name; [`place`] tells the line and the column of a byte.
+//! [`lex`] cuts a text into tokens or reports its first refusal; [`is_name`] tests a whole text for
+//! one name; [`place`] gives the line and the column of a byte.
 #![tactic(auto)]
 
 pub mod fault;

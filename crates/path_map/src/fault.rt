@@ -36,7 +36,7 @@ pub struct EndRefusal {
 /// The ends of a program were not found.
 #[derive(Clone, Copy, Debug, PartialEq, Eq, Error)]
 pub enum EndsFault {
-    /// A growth of memory was refused.
+    /// Memory ran out.
     #[error("no memory")]
     NoMemory,
     /// The program has this fault, and none before it.

@@ -82,7 +82,7 @@ written [] = []
 written (Declares name ∷ entries) = written entries
 written (Relates left right ∷ entries) = (left.text, right.text) ∷ written entries
 
--- an entry is refused, where these names are declared before it; of two refusals of one entry the first is told
+-- an entry is refused, where these names are declared before it; of two refusals of one entry the first is reported
 pub data IsRefusal (names : List (List ℕ)) : Entry → HierFault → Type 0 where
   Twice : (name : Terminal) → Contains names name.text → IsRefusal names (Declares name) (DeclaredTwice name.start)
   Crowded : (name : Terminal) → (Contains names name.text → ⊥) → 256 ≤ length names
@@ -151,14 +151,14 @@ IsSyntaxFault text at =
     ((fault : LexFault) × IsRefused text fault × IsLexFaultAt fault at)
     ⊎ ((tokens : List Terminal) × IsCut text tokens × IsUnexpectedAt tokens at)
 
--- the first refusal of a text; want of memory is none of the text's
+-- the first refusal of a text; out of memory is none of the text's
 abbrev pub IsRefusedText : List ℕ → HierFault → Type 0
 IsRefusedText text NoMemory = ⊥
 IsRefusedText text TooLong = greatest_text < length text
 IsRefusedText text (Syntax at) = (length text ≤ greatest_text) × IsSyntaxFault text at
 IsRefusedText text fault = (entries : List Entry) × Says text entries × IsFirstRefusal entries fault
 
--- the place of a fault is a character boundary of the text, so that its line and its column can be told
+-- the place of a fault is a character boundary of the text, so that its line and its column can be found
 abbrev pub HasBoundary : List ℕ → HierFault → Type 0
 HasBoundary text NoMemory = Unit {0}
 HasBoundary text TooLong = Unit {0}

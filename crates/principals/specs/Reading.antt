@@ -102,7 +102,7 @@ pub record Built (entries : List Entry) (names : List (List ℕ)) (pairs : List 
   pub accepted : AllAccepted entries
   pub same_pairs : HaveNames names (written entries) pairs
 
--- why an entry is not added: want of memory, or its refusal
+-- why an entry is not added: out of memory, or its refusal
 abbrev pub IsBuildFault : List (List ℕ) → Entry → HierFault → Type 0
 IsBuildFault names entry fault.NoMemory = Unit {0}
 IsBuildFault names entry other = IsRefusal names entry other
@@ -112,7 +112,7 @@ abbrev pub IsStatementsFault : List Entry → HierFault → Type 0
 IsStatementsFault entries fault.NoMemory = Unit {0}
 IsStatementsFault entries other = IsFirstRefusal entries other
 
--- a fault of a text, want of memory among them
+-- a fault of a text, out of memory among them
 abbrev pub IsReadFault : List ℕ → HierFault → Type 0
 IsReadFault text fault.NoMemory = Unit {0}
 IsReadFault text other = IsRefusedText text other

@@ -8,7 +8,7 @@ use thiserror::Error;
 /// Why a text gave no hierarchy. Each place is a byte of the text.
 #[derive(Clone, Copy, Debug, Drop, PartialEq, Eq, Error)]
 pub enum HierFault {
-    /// Memory was refused.
+    /// Memory ran out.
     #[error("no memory")]
     NoMemory,
     /// The text is longer than 1,048,576 bytes.

@@ -73,7 +73,7 @@ fn numbered(alloc: Global, names: Vec<String>) -> Result<IndexSet<String>, Alloc
 impl Hierarchy {
     /// The hierarchy of these names and written pairs, where `(a, b)` says that `a` acts for `b`.
     ///
-    /// The caller owes at most 256 names, all different, and numbers of principals that are there.
+    /// Precondition: at most 256 names, all different, and numbers of principals that are there.
     pub fn of(
         alloc: Global,
         names: Vec<String>,

@@ -21,7 +21,7 @@ impl Hierarchy {
     ///
     /// The text is a list of items: `principal A, B;` declares principals, and `A actsfor B;` writes that `A` acts for `B`.
     /// The length of the text is tested first, then the form of the whole text, then the items in order. Each principal is
-    /// declared once, before it is named in a pair; there are at most 256. Want of memory is told only where it was refused.
+    /// declared once, before it is named in a pair; there are at most 256. Out of memory is reported only where memory ran out.
     pub fn read(alloc: Global, text: &str) -> Result<Hierarchy, HierFault>
         // At a hierarchy it is that of the text, and no text of a hierarchy is refused.
         ensures hierarchy { IfOk result (IsHierarchyOf text.now) }
@@ -31,9 +31,9 @@ impl Hierarchy {
         // At a fault it is the first of the text, and no text with a fault is read.
         ensures refused { IfErr result (λ fault. (fault ≡ HierFault.NoMemory) ⊎ IsRefusedText text.now fault) }
         ensures first { (fault : HierFault) → IsRefusedText text.now fault →
-            MatchResult result (λ _. ⊥) (λ told. (told ≡ fault) ⊎ (told ≡ HierFault.NoMemory)) }
+            MatchResult result (λ _. ⊥) (λ found. (found ≡ fault) ⊎ (found ≡ HierFault.NoMemory)) }
 
-        // The line and the column of a fault can be told.
+        // The line and the column of a fault can be found.
         ensures boundary { IfErr result (HasBoundary text.now) }
     {
         read_text(alloc, text)

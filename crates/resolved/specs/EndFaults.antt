@@ -98,6 +98,6 @@ procedure_faults program procedure =
     ++ fault_unless (not (is_some procedure.result && has_end ends Normal)) NoValueReturned procedure.at
     ++ fault_unless (list_all (may_end procedure) ends) Undeclared procedure.at
 
--- all faults of a program's ends; the first is the one that is told
+-- all faults of a program's ends; the first is the one that is reported
 abbrev pub end_faults : Program → List EndFault
 end_faults program = flat_map (procedure_faults program) program.procedures

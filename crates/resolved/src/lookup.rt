@@ -8,7 +8,7 @@ use crate::program::Core;
 use crate::tables::{Channel, GlobalVariable, Procedure, Slot};
 
 impl Core {
-    /// The procedure with this number, which the caller owes to be there.
+    /// The procedure with this number, which has to be there.
     pub fn procedure(&self, number: u32) -> &Procedure
         requires { number < length self.now.procedures.items }
         ensures { procedure_entry result.now ≡ procedure_at (program_of self.now) number }
@@ -16,7 +16,7 @@ impl Core {
         &self.procedures[number as usize]
     }
 
-    /// The channel with this number, which the caller owes to be there.
+    /// The channel with this number, which has to be there.
     pub fn channel(&self, number: u32) -> &Channel
         requires { number < length self.now.channels.items }
         ensures { channel_entry result.now ≡ channel_at (program_of self.now) number }
@@ -24,7 +24,7 @@ impl Core {
         &self.channels[number as usize]
     }
 
-    /// The global with this number, which the caller owes to be there.
+    /// The global with this number, which has to be there.
     pub fn global(&self, number: u32) -> &GlobalVariable
         requires { number < length self.now.globals.items }
         ensures { global_entry result.now ≡ global_at (program_of self.now) number }
@@ -34,7 +34,7 @@ impl Core {
 }
 
 impl Procedure {
-    /// The parameter or local with this number, which the caller owes to be there.
+    /// The parameter or local with this number, which has to be there.
     pub fn slot(&self, number: u32) -> &Slot
         requires { number < length self.now.slots.items }
         ensures { slot_entry result.now ≡ slot_at (procedure_entry self.now) number }

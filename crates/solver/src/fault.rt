@@ -18,7 +18,7 @@ pub struct Refusal {
 /// Constraints were not solved.
 #[derive(Debug, Drop, Error)]
 pub enum SolveFault {
-    /// A growth of memory was refused.
+    /// Memory ran out.
     #[error("no memory")]
     NoMemory,
     /// No values fit all constraints.

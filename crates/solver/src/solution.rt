@@ -35,7 +35,7 @@ impl Solution {
     }
 
     /// The value of an unknown, exact up to the order: the join of the written elements that reach it. The precondition holds of the
-    /// table of written elements that was solved. It fails only where memory was refused, and goes through the whole solution.
+    /// table of written elements that was solved. It fails only where memory ran out, and goes through the whole solution.
     pub fn value<L: Lattice>(
         &self,
         alloc: Global,

@@ -70,7 +70,7 @@ fn counts_its_steps(rt: HostRuntime) -> Result<(), Fail> {
     Ok(())
 }
 
-// A step that is refused memory changes nothing, and is taken by the next call.
+// A step for which memory runs out changes nothing, and is taken by the next call.
 #[test]
 fn tries_a_refused_step_again(rt: HostRuntime) -> Result<(), Fail> {
     let mut machine = machine_of(rt.alloc()).ok_or("no machine")?;

@@ -49,7 +49,7 @@ fn size_of(alloc: Global) -> Result<usize, Fault> {
     Ok(compile(alloc, b"", source)?.len())
 }
 
-// Whichever growth is refused, the answer is want of memory or the undisturbed one, and asked again it is that.
+// Whichever growth is refused, the answer is that memory ran out or the undisturbed one, and asked again it is that.
 // `tools/refused-memory` refuses each of them in turn.
 #[test]
 fn a_refused_growth_changes_no_answer(rt: HostRuntime) -> Result<(), Fail> {

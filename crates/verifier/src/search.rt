@@ -18,7 +18,7 @@ use crate::operands::Operands;
 use bytecode::Instruction;
 use std::alloc::{AllocError, Global};
 
-/// Why a search stopped: a growth of memory was refused, or there is a defect at an offset.
+/// Why a search stopped: memory ran out, or there is a defect at an offset.
 #[derive(Clone, Copy, Debug, PartialEq, Eq)]
 pub(crate) enum Stop {
     NoMemory,
