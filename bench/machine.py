@@ -1,0 +1,269 @@
+#!/usr/bin/env python3
+"""How fast the machine runs code, beside Lua 5.4 in the same run.
+
+    bench/machine.py PROGRAM [LUA]
+
+PROGRAM is the built program (crates/flowc_main/out/flowc_main), LUA the interpreter (`lua5.4` if none is given). Four programs are
+written for both: a loop of 20,000,000 turns, a sieve of 65,536 cells that is run 40 times, fib(30) by calls, and a loop of
+2,000,000 turns that throws and catches. The modules are assembled here from names of instructions and labels. Each is run ROUNDS
+times, in turn with its twin, and the least time counts; the time of a program that does nothing is taken off. Both have to send
+the same number.
+"""
+
+import struct
+import subprocess
+import sys
+import tempfile
+import time
+from pathlib import Path
+
+ROUNDS = 5
+NUMBER, BYTE = ">I", "B"
+OPCODES = {
+    "Push": (0x01, ">i"), "PushBoolean": (0x02, BYTE), "Pop": (0x03, ""), "Load": (0x04, NUMBER), "Store": (0x05, NUMBER),
+    "LoadElement": (0x08, NUMBER), "StoreElement": (0x09, NUMBER), "Clear": (0x0C, NUMBER), "Add": (0x10, ""),
+    "Subtract": (0x11, ""), "Multiply": (0x12, ""), "Less": (0x17, ""), "AtMost": (0x18, ""), "Jump": (0x20, NUMBER),
+    "JumpIfFalse": (0x21, NUMBER), "Call": (0x22, NUMBER), "Return": (0x23, ""), "ReturnValue": (0x24, ""), "Send": (0x26, NUMBER),
+    "Throw": (0x27, NUMBER), "Not": (0x16, ""),
+}
+
+
+def assemble(text):
+    """The code of lines with an instruction each, where `NAME:` stands before the place NAME; and the offsets of the places."""
+    lines = [line.split() for line in text.strip().splitlines()]
+    places, offset = {}, 0
+    for words in lines:
+        if words[0].endswith(":"):
+            places[words[0][:-1]] = offset
+        else:
+            offset += 1 + struct.calcsize(OPCODES[words[0]][1] or "")
+    code = b""
+    for words in lines:
+        if not words[0].endswith(":"):
+            opcode, form = OPCODES[words[0]]
+            code += bytes([opcode])
+            if form:
+                code += struct.pack(form, places[words[1]] if words[1] in places else int(words[1]))
+    return code, places
+
+
+def procedure(slots, text, gives=0, parameters=0, handlers=()):
+    """A procedure whose slots are 0 for an int, and a length for an array of ints."""
+    code, places = assemble(text)
+    out = struct.pack(">BII", gives, parameters, len(slots))
+    out += b"".join(struct.pack(">BI", 0, size) for size in slots)
+    out += struct.pack(">I", len(code)) + code + struct.pack(">I", len(handlers))
+    for start, end, exception, target in handlers:
+        out += struct.pack(">IIII", places[start], places[end], exception, places[target])
+    return out
+
+
+def module(*procedures, exceptions=()):
+    """A module with one output `out` that everyone may read; it starts at its first procedure."""
+    out = b"FLOB" + struct.pack(">III", 1, 0, 0) + struct.pack(">I", len(exceptions))
+    out += b"".join(struct.pack(">I", len(name)) + name for name in exceptions)
+    out += struct.pack(">IB", 1, 1) + struct.pack(">I", 3) + b"out" + struct.pack(">I", 0) + struct.pack(">I", 0)
+    return out + struct.pack(">I", len(procedures)) + b"".join(procedures) + struct.pack(">I", 0)
+
+
+NOTHING = module(procedure([], "Push 0\nSend 0\nReturn"))
+
+LOOP = module(procedure([0, 0], """
+    Jump test
+    body:
+    Load 1
+    Load 0
+    Add
+    Store 1
+    Load 0
+    Push 1
+    Add
+    Store 0
+    test:
+    Load 0
+    Push 20000000
+    AtMost
+    Not
+    JumpIfFalse body
+    Load 1
+    Send 0
+    Return
+"""))
+
+# Slots: the round, the candidate, the multiple, how many primes there are, and the sieve: 1 where a number is composite.
+SIEVE = module(procedure([0, 0, 0, 0, 65536], """
+    Jump rounds
+    round:
+    Clear 4
+    Push 0
+    Store 3
+    Push 2
+    Store 1
+    Jump candidates
+    candidate:
+    Load 1
+    LoadElement 4
+    Push 0
+    AtMost
+    JumpIfFalse next
+    Load 3
+    Push 1
+    Add
+    Store 3
+    Load 1
+    Load 1
+    Add
+    Store 2
+    Jump multiples
+    multiple:
+    Load 2
+    Push 1
+    StoreElement 4
+    Load 2
+    Load 1
+    Add
+    Store 2
+    multiples:
+    Load 2
+    Push 65536
+    Less
+    Not
+    JumpIfFalse multiple
+    next:
+    Load 1
+    Push 1
+    Add
+    Store 1
+    candidates:
+    Load 1
+    Push 65536
+    Less
+    Not
+    JumpIfFalse candidate
+    Load 0
+    Push 1
+    Add
+    Store 0
+    rounds:
+    Load 0
+    Push 40
+    Less
+    Not
+    JumpIfFalse round
+    Load 3
+    Send 0
+    Return
+"""))
+
+FIB = module(procedure([], "Push 30\nCall 1\nSend 0\nReturn"), procedure([0], """
+    Load 0
+    Push 2
+    Less
+    JumpIfFalse more
+    Load 0
+    ReturnValue
+    more:
+    Load 0
+    Push 1
+    Subtract
+    Call 1
+    Load 0
+    Push 2
+    Subtract
+    Call 1
+    Add
+    ReturnValue
+""", gives=1, parameters=1))
+
+THROWS = module(procedure([0, 0], """
+    Jump test
+    body:
+    Throw 3
+    behind:
+    catch:
+    Load 1
+    Push 1
+    Add
+    Store 1
+    Load 0
+    Push 1
+    Add
+    Store 0
+    test:
+    Load 0
+    Push 2000000
+    Less
+    Not
+    JumpIfFalse body
+    Load 1
+    Send 0
+    Return
+""", handlers=[("body", "behind", 3, "catch")]), exceptions=[b"Oops"])
+
+PROGRAMS = {
+    "nothing": (NOTHING, "print(0)"),
+    "loop": (LOOP, """
+local i, sum = 0, 0
+while i <= 20000000 do sum = sum + i; i = i + 1 end
+sum = sum & 0xffffffff
+if sum >= 0x80000000 then sum = sum - 0x100000000 end
+print(sum)"""),
+    "sieve": (SIEVE, """
+local count
+for round = 1, 40 do
+  local sieve = {}
+  for i = 0, 65535 do sieve[i] = 0 end
+  count = 0
+  local i = 2
+  while i < 65536 do
+    if sieve[i] == 0 then
+      count = count + 1
+      local multiple = i + i
+      while multiple < 65536 do sieve[multiple] = 1; multiple = multiple + i end
+    end
+    i = i + 1
+  end
+end
+print(count)"""),
+    "fib": (FIB, "local function fib(n) if n < 2 then return n end return fib(n - 1) + fib(n - 2) end\nprint(fib(30))"),
+    "throws": (THROWS, """
+local caught, i = 0, 0
+while i < 2000000 do pcall(error, nil); caught = caught + 1; i = i + 1 end
+print(caught)"""),
+}
+
+
+def seconds(command):
+    begun = time.perf_counter()
+    said = subprocess.run(command, check=True, capture_output=True).stdout
+    return time.perf_counter() - begun, said.split()[-1]
+
+
+def main():
+    program, lua = sys.argv[1], sys.argv[2] if len(sys.argv) > 2 else "lua5.4"
+    folder = Path(tempfile.mkdtemp())
+    (folder / "world").write_text("")
+    start = None
+    print("| Program | flowc | Lua | times as fast |")
+    print("|---|---|---|---|")
+    for name, (code, text) in PROGRAMS.items():
+        (folder / name).write_bytes(code)
+        (folder / f"{name}.lua").write_text(text)
+        commands = [program, "run", folder / name, folder / "world"], [lua, folder / f"{name}.lua"]
+        best = [float("inf")] * 2
+        sent = [None] * 2
+        for _ in range(ROUNDS):
+            for i, command in enumerate(commands):
+                took, sent[i] = seconds(command)
+                best[i] = min(best[i], took)
+        if sent[0] != sent[1]:
+            sys.exit(f"{name}: {sent[0]!r} is not {sent[1]!r}")
+        if start is None:
+            start = best
+            continue
+        ours, theirs = best[0] - start[0], best[1] - start[1]
+        print(f"| {name} | {ours:.3f} s | {theirs:.3f} s | {theirs / ours:.2f} |")
+
+
+if __name__ == "__main__":
+    main()
