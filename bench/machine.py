@@ -249,7 +249,7 @@ def main():
     for name, (code, text) in PROGRAMS.items():
         (folder / name).write_bytes(code)
         (folder / f"{name}.lua").write_text(text)
-        commands = [program, "run", folder / name, folder / "world"], [lua, folder / f"{name}.lua"]
+        commands = [program, "run", folder / name, folder / "world", "--steps", "4000000000"], [lua, folder / f"{name}.lua"]
         best = [float("inf")] * 2
         sent = [None] * 2
         for _ in range(ROUNDS):
