@@ -17,7 +17,8 @@ use Rattle.std.proofs.lemmas.List.{append-nil}
 use Rattle.resolved.specs.StraightLine.{is_straight_statement, is_straight_block, is_straight_procedure, is_straight_line, is_only_procedure}
 use Rattle.resolved.specs.Ends.{block_ends, one_end}
 use Rattle.resolved.specs.EndFaults.{EndFault, EndRefusal, Undeclared, end_faults, fault_unless, procedure_faults}
-use Rattle.resolved.specs.Labelled.{Scope, here, Join, ExitLabels, Demand, ToEnd, ToThrown, demand, one, label_of, ToBegin, target_demand, statement_demands, block_demands, end_demands, as_one_end, statement_exits, block_exits, procedure_demands, demands_from, program_demands}
+use Rattle.resolved.specs.declared.target.Target.TheVariants.{ToEnd, ToThrown, ToBegin}
+use Rattle.resolved.specs.Labelled.{Scope, here, Join, ExitLabels, Demand, demand, one, label_of, target_demand, statement_demands, block_demands, end_demands, as_one_end, statement_exits, block_exits, procedure_demands, demands_from, program_demands}
 use Rattle.types.specs.Laws.{PlacesPass}
 use Rattle.checker.specs.FirstFault.{first_of}
 use Rattle.checker.proofs.Parts.{straight_parts, is_only, only-ready}

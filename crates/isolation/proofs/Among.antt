@@ -138,7 +138,7 @@ raises-division s e w result f = go (divisor_can_raise e) refl (is_zero (number_
   where
     go : (b : Bool) → divisor_can_raise e ≡ b → (c : Bool) → is_zero (number_in w) ≡ c →
         RaisesAmong (if divisor_can_raise e then arith_exception ∷ [] else []) (unless_zero (number_in w) result)
-    go b g false h = rw h (raises-none (if divisor_can_raise e then arith_exception ∷ [] else []) (Number (wrapped result)))
+    go b g false h = rw h (raises-none (if divisor_can_raise e then arith_exception ∷ [] else []) (Number result))
     go true g true h = rw (g, h) (raises-this (arith_exception ∷ []) arith_exception refl)
     go false g true h = let i : true ≡ false = sym h ∙ divisor-not_zero s e w g f in absurd (cc)
 

@@ -16,7 +16,8 @@ use Rattle.resolved.specs.State.{State, assigned, cells}
 use Rattle.resolved.specs.Meaning.{Stop, Outcome, Ended, Stopped, leaving, returned_to, state_after}
 use Rattle.resolved.specs.Ends.{same_exit, has_end, one_end, thrown_ends, declared_by}
 use Rattle.resolved.specs.EndFaults.{may_end}
-use Rattle.resolved.specs.Labelled.{Labelling, ExitLabels, Demand, demand, Fits, label_if, any_of, ToEnd, ToThrown, one, label_of, join_under, Scope, here, as_one_end, end_demands, one}
+use Rattle.resolved.specs.declared.target.Target.TheVariants.{ToEnd, ToThrown}
+use Rattle.resolved.specs.Labelled.{Labelling, ExitLabels, Demand, demand, Fits, label_if, any_of, one, label_of, join_under, Scope, here, as_one_end, end_demands, one}
 use Rattle.isolation.proofs.Grows.{Grows, grows-itself, grows-returned_to}
 use Rattle.isolation.proofs.Among.{Among, same-exit, same_exit-itself, all-has, raised_in, thrown-is}
 use Rattle.isolation.proofs.Observer.{LabelReader, under, Reader, View, view_of, shown, AgreeFor, agree-back, agree-through, agree-unread, agree-with_cells, unread-left, unread-right}

@@ -19,7 +19,9 @@ use Rattle.resolved.specs.Value.{Raises, truth_in, checked_index, end_exception}
 use Rattle.resolved.specs.State.{State, assigned, stored, cleared, value_of, values_of}
 use Rattle.resolved.specs.Meaning.{Stop, Outcome, Ended, Stopped, normally, after, caught, kept_in, received, sending, returned_to, Calls, statement_meaning, block_meaning, handlers_meaning, state_after}
 use Rattle.resolved.specs.Ends.{same_exit, has_end, raises, thrown_ends, leaves_loop, handles, passes, statement_ends, block_ends, index_can_raise}
-use Rattle.resolved.specs.Labelled.{chosen, Scope, ExitLabels, Demand, demand, Target, join_under, label_under, ToEnd, ToThrown, ToValue, Fits, variable_label, channel_label, result_label, value_label, raise_label, raise_labels, label_if, at_ends, own_label, raised_exits, call_exits, any_of, loop_exits, statement_rule, block_rule, handlers_rule, block_exits, target_demand, argument_demands, statement_demands, block_demands, handlers_demands, Labelling, Join, one, label_of, here, ToVariable, ToChannel, ToBegin, ToValue, ToLoop, LabelAtom}
+use Rattle.resolved.specs.declared.target.Target.{Target}
+use Rattle.resolved.specs.declared.target.Target.TheVariants.{ToEnd, ToThrown, ToValue, ToVariable, ToChannel, ToBegin, ToValue, ToLoop}
+use Rattle.resolved.specs.Labelled.{chosen, Scope, ExitLabels, Demand, demand, join_under, label_under, Fits, variable_label, channel_label, result_label, value_label, raise_label, raise_labels, label_if, at_ends, own_label, raised_exits, call_exits, any_of, loop_exits, statement_rule, block_rule, handlers_rule, block_exits, target_demand, argument_demands, statement_demands, block_demands, handlers_demands, Labelling, Join, one, label_of, here, LabelAtom}
 use Rattle.labels.specs.Constraints.{holds, label_lattice}
 use Rattle.isolation.proofs.Among.{CallsAmong, expression-raises, thrown-among, statement-among, block-among}
 use Rattle.isolation.proofs.Observer.{Reader, View, view_of, AgreeFor, agree-itself, agree-through, agree-unread, agree-unread_input, agree-unread_sending, with_input, unread-left, unread-right, unread-flowing}

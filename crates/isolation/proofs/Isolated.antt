@@ -15,7 +15,8 @@ use Rattle.resolved.specs.Program.{Program, ChannelEntry, ProcedureEntry, proced
 use Rattle.resolved.specs.State.{State, World, cells}
 use Rattle.resolved.specs.Meaning.{Deep, Outcome, leaving, Stopped, entering, slot_cells, block_meaning, calls_with, first_state, channel_numbers, numbers_by, run_within, state_after}
 use Rattle.resolved.specs.Ends.{block_ends}
-use Rattle.resolved.specs.Labelled.{parameter_label, Scope, OfLocal, Join, one, written_or, label_of, ToBegin, join_under, Labelling, Fits, channel_label, block_rule, block_exits, block_demands, end_demands, procedure_demands, demands_from, program_demands}
+use Rattle.resolved.specs.declared.target.Target.TheVariants.{ToBegin}
+use Rattle.resolved.specs.Labelled.{parameter_label, Scope, OfLocal, Join, one, written_or, label_of, join_under, Labelling, Fits, channel_label, block_rule, block_exits, block_demands, end_demands, procedure_demands, demands_from, program_demands}
 use Rattle.labels.specs.Constraints.{Written}
 use Rattle.isolation.proofs.Grows.{calls-grow}
 use Rattle.isolation.proofs.Among.{EndsAsDeclared, calls-among, block-among}

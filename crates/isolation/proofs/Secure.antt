@@ -14,7 +14,9 @@ use Rattle.resolved.specs.Value.{truth_in, checked_index, end_exception, zero_va
 use Rattle.resolved.specs.State.{State, assigned, stored, cleared, cells, value_of, values_of}
 use Rattle.resolved.specs.Meaning.{Ended, normally, kept_in, received, sending, returned_to, Calls, statement_meaning, block_meaning, handlers_meaning}
 use Rattle.resolved.specs.Ends.{same_exit, passes, statement_ends, block_ends, index_can_raise}
-use Rattle.resolved.specs.Labelled.{Target, ToParameter, ToValue, Scope, ExitLabels, demand, Fits, variable_label, value_label, raise_label, raise_labels, label_if, at_ends, own_label, raised_exits, call_exits, statement_rule, block_rule, handlers_rule, target_demand, argument_demands, statement_demands, block_demands, handlers_demands, Labelling, Join, one, label_of, here, ToVariable, ToChannel, ToBegin, ToValue, ToLoop}
+use Rattle.resolved.specs.declared.target.Target.{Target}
+use Rattle.resolved.specs.declared.target.Target.TheVariants.{ToParameter, ToValue, ToVariable, ToChannel, ToBegin, ToValue, ToLoop}
+use Rattle.resolved.specs.Labelled.{Scope, ExitLabels, demand, Fits, variable_label, value_label, raise_label, raise_labels, label_if, at_ends, own_label, raised_exits, call_exits, statement_rule, block_rule, handlers_rule, target_demand, argument_demands, statement_demands, block_demands, handlers_demands, Labelling, Join, one, label_of, here}
 use Rattle.isolation.proofs.Grows.{CallsGrow, block-grows, handlers-grow}
 use Rattle.isolation.proofs.Among.{statement-among, block-among}
 use Rattle.isolation.proofs.Observer.{Reader, View, view_of, AgreeFor, agree-with_cells, agree-with_input, agree-sending, with_input, read-left, read-right, unread-left, unread-right}

@@ -10,7 +10,8 @@ use Rattle.resolved.specs.declared.statement.Exit.TheVariants.{Normal, Return, B
 use Rattle.resolved.specs.Tree.{Statement, Call, If, While, ReturnWith, Try, Nested, Block, Empty, Then, Handlers, NoMore, Catch, place_of}
 use Rattle.resolved.specs.Ends.{same_exit, has_end, raises, thrown_ends, leaves_loop, passes, then_ends, statement_ends, block_ends, handlers_ends}
 use Rattle.resolved.specs.EndFaults.{OutsideLoop, Unreachable, NeverRaised, fault_unless, may_stand, inner_faults, block_faults, handlers_faults}
-use Rattle.resolved.specs.Labelled.{Scope, ExitLabels, demand, Fits, value_label, label_if, at_ends, own_label, raised_exits, loop_exits, statement_rule, block_rule, handlers_rule, statement_demands, block_demands, handlers_demands, Labelling, Join, one, label_of, ToLoop}
+use Rattle.resolved.specs.declared.target.Target.TheVariants.{ToLoop}
+use Rattle.resolved.specs.Labelled.{Scope, ExitLabels, demand, Fits, value_label, label_if, at_ends, own_label, raised_exits, loop_exits, statement_rule, block_rule, handlers_rule, statement_demands, block_demands, handlers_demands, Labelling, Join, one, label_of}
 use Rattle.isolation.proofs.Among.{same-exit, end-filter}
 use Rattle.isolation.proofs.Declared.{append-empty, no_fault-test}
 use Rattle.isolation.proofs.Observer.{Reader, unread-left, unread-right}

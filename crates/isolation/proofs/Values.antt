@@ -65,7 +65,7 @@ division-alike b d e m n no_zero same = go (is_zero e) refl
   where
     go : (c : Bool) → is_zero e ≡ c → Alike (SameIf b) (unless_zero d m) (unless_zero e n)
     go true f = rw (no_zero, f) (both_raise arith_exception)
-    go false f = rw (no_zero, f) (both_give (Number (wrapped m)) (Number (wrapped n)) (λ i. ap (λ x. Number (wrapped x)) (same i)))
+    go false f = rw (no_zero, f) (both_give (Number m) (Number n) (λ i. ap (λ x. Number x) (same i)))
 
 operator-alike : (b : Bool) (operator : Operator) (v w v' w' : Value) →
     (is_division operator ≡ true → is_zero (number_in w) ≡ is_zero (number_in w')) → SameIf b v v' → SameIf b w w' →

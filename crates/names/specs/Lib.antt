@@ -7,3 +7,4 @@ pub mod Expressions
 pub mod Statements
 pub mod Resolution
 pub mod Views
+pub mod Laws

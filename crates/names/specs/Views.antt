@@ -1,7 +1,7 @@
 -- What the private functions work with, as the definitions see it, and what each of them gives: what the outcome finds, or the first
 -- fault.
 -- Source: our own.
-use Rattle.std.specs.Prelude.{◌≡◌, ℕ, ◌+◌, List, length, map, Option, Some, None, Result, Ok, Err, String, Vec}
+use Rattle.std.specs.Prelude.{◌≡◌, ℕ, ◌+◌, List, length, map, take, Option, Some, None, Result, Ok, Err, String, Vec}
 use Rattle.std.specs.declared.alloc.Global.{Global}
 use Rattle.std.specs.HashMap.{HashMap, get_by_text}
 use Rattle.std.specs.String.{string_bytes}
@@ -77,6 +77,17 @@ setting_of body = record { hierarchy = body.hierarchy.now; signatures = signatur
 
 abbrev pub point_of : Body → Point
 point_of body = record { names = names_of body; slots = map slot_entry body.slots.items; loops = body.loops }
+
+-- a later point of the same body, where the names that were in the table of locals are its first ones still
+pub record IsLater (before after : Body) : Type 0 where
+  pub hierarchy : after.hierarchy.now ≡ before.hierarchy.now
+  pub top : after.top.now ≡ before.top.now
+  pub result : after.result ≡ before.result
+  pub locals : take (length before.locals.entries) after.locals.entries ≡ before.locals.entries
+
+-- what is found together with the point behind it
+abbrev pub at_point : {X A : Type 0} → Body → (X → A) → X → Point × A
+at_point body view x = (point_of body, view x)
 
 abbrev pub typed_view : TypedExpression → Typed
 typed_view found = record { expression = expression_of found.expression; base = found.base }

@@ -2,9 +2,9 @@
 
 ghost use Rattle.names.specs.Outcome.{give};
 ghost use Rattle.names.specs.Statements.{with_local};
-ghost use Rattle.names.specs.Views.{Gives, found_in, names_of, point_of, setting_of, signature_view};
+ghost use Rattle.names.specs.Views.{Gives, IsLater, found_in, names_of, point_of, setting_of, signature_view, taken};
 ghost use Rattle.resolved.specs.ProgramOf.{slot_entry};
-ghost use Rattle.std.specs.Prelude.{[], None, OnOk, length, map, take, ◌+◌, ◌<◌, ◌≡◌};
+ghost use Rattle.std.specs.Prelude.{[], None, OnOk, map, ◌+◌, ◌≡◌};
 ghost use Rattle.syntax.specs.Tree.{name_tree};
 
 use crate::fault::TypeFault;
@@ -40,6 +40,7 @@ impl<'a> Body<'a> {
     ) -> Body<'a>
         ensures setting { setting_of result ≡ record { hierarchy = hierarchy.now; signatures = map signature_view top.now.signatures.items; result = value } }
         ensures point { point_of result ≡ record { names = found_in top.now.names; slots = []; loops = 0 } }
+        ensures none { taken result ≡ 0 }
     {
         Body {
             alloc,
@@ -65,10 +66,9 @@ impl<'a> Body<'a> {
     /// Declares a parameter or local, which takes the next slot.
     pub fn declare(&mut self, slot: Slot, meaning: Meaning) -> Result<(), TypeFault>
         requires fresh { names_of self.old (slot_entry slot).name ≡ None }
-        ensures setting { OnOk result (setting_of self.new ≡ setting_of self.old) }
         ensures made { Gives (λ _. point_of self.new) result (give (with_local (point_of self.old) (slot_entry slot) meaning)) }
-        ensures behind { OnOk result (take (length self.old.locals.entries) self.new.locals.entries ≡ self.old.locals.entries) }
-        ensures grows { OnOk result (length self.new.slots.items ≡ length self.old.slots.items + 1) }
+        ensures later { OnOk result (IsLater self.old self.new) }
+        ensures grows { OnOk result (taken self.new ≡ taken self.old + 1) }
     {
         insert(self.alloc, &mut self.locals, slot.name.as_str(), meaning)?;
         self.slots.push(slot)?;

@@ -1,16 +1,21 @@
-//! Names, base types and sizes of the whole language: scopes, labels, expressions, the top level, and the statements that hold no
-//! others. Blocks, procedures and `resolve`, which makes a resolved program of a syntax tree, are defined and not here yet.
+//! Names, base types and sizes of the whole language: scopes, labels, expressions, the top level, statements, blocks and procedures.
+//! `resolve` makes a resolved program of a syntax tree.
 #![tactic(auto)]
 
+pub mod block;
 pub mod body;
+pub mod cells;
 pub mod expression;
 pub mod fault;
 pub mod item;
 pub mod label;
+pub mod laws;
 pub mod operator;
+pub mod procedure;
 pub mod program;
 pub mod scope;
 pub mod statement;
 pub mod top;
 
 pub use fault::{Refusal, TypeFault};
+pub use program::resolve;

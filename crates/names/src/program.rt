@@ -1,13 +1,27 @@
-//! The tables of a program, and the procedure at which a run begins.
+//! Whole programs: their tables, and the procedure at which a run begins.
 
-ghost use Rattle.names.specs.Resolution.{main_outcome};
-ghost use Rattle.names.specs.Views.{Gives, itself};
+ghost use Rattle.names.specs.Outcome.{give};
+ghost use Rattle.names.specs.Resolution.{items_outcome, main_outcome, next_item, no_tables, program_with, resolution};
+ghost use Rattle.names.specs.Views.{Fails, Gives, itself, tables_view, top_view};
+ghost use Rattle.resolved.specs.CoreOf.{program_of};
 ghost use Rattle.resolved.specs.ProgramOf.{procedure_entry};
-ghost use Rattle.std.specs.Prelude.{map};
+ghost use Rattle.std.specs.Prelude.{All, IfErr, IfOk, map, sum_by, ◌<◌, ◌≡◌};
+ghost use Rattle.syntax.specs.Limits.{longest_name, most_nodes};
+ghost use Rattle.syntax.specs.Nodes.{item_nodes};
+ghost use Rattle.syntax.specs.Tree.{item_tree, program_tree};
+ghost use Rattle.syntax.specs.Written.{Anywhere, IsWrittenItem};
 
+use crate::cells::{cells_of_globals, limit_frames};
 use crate::fault::{Refusal, TypeFault};
-use crate::scope::Meaning;
+use crate::item::{channel, global};
+use crate::procedure::resolve_procedure;
+use crate::scope::{Meaning, find};
+use crate::top::TopNames;
+use principals::Hierarchy;
+use resolved::program::Core;
 use resolved::tables::{Channel, GlobalVariable, Procedure};
+use std::alloc::Global;
+use syntax::Item;
 
 /// The tables of a program.
 #[derive(Drop)]
@@ -16,6 +30,66 @@ pub struct ItemTables {
     pub exceptions: Vec<String>,
     pub globals: Vec<GlobalVariable>,
     pub procedures: Vec<Procedure>,
+}
+
+impl ItemTables {
+    fn empty(alloc: Global) -> ItemTables
+        ensures { tables_view result ≡ no_tables }
+    {
+        ItemTables {
+            channels: Vec::new(alloc),
+            exceptions: Vec::new(alloc),
+            globals: Vec::new(alloc),
+            procedures: Vec::new(alloc),
+        }
+    }
+
+    /// Puts the entry of the next item behind the others of its kind.
+    #[tactic(auto, unfolding(crate::specs::Resolution::next_item))]
+    fn add(
+        &mut self,
+        alloc: Global,
+        hierarchy: &Hierarchy,
+        top: &TopNames,
+        item: &Item,
+    ) -> Result<(), TypeFault>
+        requires written { IsWrittenItem Anywhere longest_name (item_tree item.now) }
+        requires room { item_nodes (item_tree item.now) < most_nodes }
+        ensures { Gives (λ _. tables_view self.new) result (next_item hierarchy.now (top_view top.now) (tables_view self.old) (item_tree item.now)) }
+    {
+        match item {
+            Item::Channel(one) => self.channels.push(channel(alloc, hierarchy, one)?)?,
+            Item::Exception { name, .. } => {
+                self.exceptions
+                    .push(String::from_str(alloc, name.text.as_str())?)?
+            }
+            Item::Global(one) => self.globals.push(global(alloc, hierarchy, one)?)?,
+            Item::Procedure(one) => {
+                self.procedures
+                    .push(resolve_procedure(alloc, hierarchy, top, one)?)?
+            }
+        }
+        Ok(())
+    }
+
+    /// The tables of these items, each kind in the order of the text.
+    #[tactic(auto, unfolding(crate::specs::Resolution::items_outcome))]
+    pub fn of(
+        alloc: Global,
+        hierarchy: &Hierarchy,
+        top: &TopNames,
+        items: &[Item],
+    ) -> Result<ItemTables, TypeFault>
+        requires written { All (IsWrittenItem Anywhere longest_name) (map item_tree items.now) }
+        requires room { sum_by item_nodes (map item_tree items.now) < most_nodes }
+        ensures { Gives tables_view result (items_outcome hierarchy.now (top_view top.now) (map item_tree items.now)) }
+    {
+        let mut tables = ItemTables::empty(alloc);
+        for item in items {
+            tables.add(alloc, hierarchy, top, item)?;
+        }
+        Ok(tables)
+    }
 }
 
 /// The number of the procedure at which a run begins.
@@ -34,4 +108,56 @@ pub fn main_number(found: Option<Meaning>, procedures: &[Procedure]) -> Result<u
     } else {
         Err(TypeFault::Refused(Refusal::NoProperMain, procedure.at))
     }
+}
+
+/// The tables of a program, and the number of the procedure at which a run begins.
+#[tactic(auto, unfolding(crate::specs::Resolution::resolution))]
+fn parts_of(
+    alloc: Global,
+    hierarchy: &Hierarchy,
+    items: &[Item],
+) -> Result<(ItemTables, u32), TypeFault>
+    requires written { All (IsWrittenItem Anywhere longest_name) (map item_tree items.now) }
+    requires room { sum_by item_nodes (map item_tree items.now) < most_nodes }
+    ensures { Gives (λ parts. program_with hierarchy.now (tables_view parts.0) parts.1) result
+        (resolution hierarchy.now (program_tree items.now)) }
+{
+    let top = TopNames::of(alloc, items)?;
+    let tables = ItemTables::of(alloc, hierarchy, &top, items)?;
+    let main = main_number(find(&top.names, "main"), tables.procedures.as_slice())?;
+    cells_of_globals(items)?;
+    limit_frames(tables.procedures.as_slice())?;
+    Ok((tables, main))
+}
+
+/// The resolved program that a program stands for under a hierarchy: names give way to numbers, labels to their canonical forms, and
+/// each expression has the type that its place wants.
+///
+/// # Errors
+///
+/// The first fault in the order in which the definitions look: the names of the items, the items from left to right, `main`, and
+/// the cells of the globals and of each procedure; or out of memory.
+pub fn resolve(
+    alloc: Global,
+    hierarchy: &Hierarchy,
+    program: &syntax::Program,
+) -> Result<Core, TypeFault>
+    // An answer is the program that the tree stands for.
+    ensures resolved { IfOk result (λ core.
+        resolution hierarchy.now (program_tree program.now) ≡ give (program_of core)) }
+
+    // A refusal is the first fault, and stands where that stands.
+    ensures refused { IfErr result (λ fault.
+        Fails fault (resolution hierarchy.now (program_tree program.now))) }
+{
+    prove!(hierarchy.count() <= 256);
+    let (tables, main) = parts_of(alloc, hierarchy, program.items())?;
+    Ok(Core {
+        hierarchy: hierarchy.clone()?,
+        channels: tables.channels,
+        exceptions: tables.exceptions,
+        globals: tables.globals,
+        procedures: tables.procedures,
+        main,
+    })
 }

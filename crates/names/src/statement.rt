@@ -1,23 +1,25 @@
 //! Statements that hold no others.
 
 ghost use Rattle.names.specs.Statements as spec;
-ghost use Rattle.names.specs.Statements.{arguments_outcome, assign_outcome, assigned_outcome, call_outcome, call_statement_outcome, receive_outcome, return_outcome, send_outcome, size_outcome, store_outcome, throw_outcome};
-ghost use Rattle.names.specs.Views.{Gives, call_use, expressions_of, itself, names_of, signatures_of};
+ghost use Rattle.names.specs.Statements.{arguments_outcome, assign_outcome, assigned_outcome, call_outcome, call_statement_outcome, declare_array_outcome, declare_outcome, receive_outcome, return_outcome, send_outcome, size_outcome, store_outcome, throw_outcome};
+ghost use Rattle.names.specs.Views.{Gives, IsLater, at_point, call_use, expressions_of, itself, names_of, point_of, setting_of, signatures_of, taken};
 ghost use Rattle.resolved.specs.ProgramOf.{slot_entry};
 ghost use Rattle.resolved.specs.TreeOf.{statement_of};
-ghost use Rattle.std.specs.Prelude.{IfOk, map, ◌≡◌};
-ghost use Rattle.syntax.specs.Tree.{call_tree, expression_tree, name_tree, optional_expression_tree, right_tree, size_tree};
+ghost use Rattle.std.specs.Prelude.{IfOk, OnOk, map, ◌+◌, ◌<◌, ◌≡◌};
+ghost use Rattle.syntax.specs.Limits.{most_nodes};
+ghost use Rattle.syntax.specs.Tree.{call_tree, expression_tree, name_tree, optional_expression_tree, optional_label_tree, right_tree, size_tree};
 
 use crate::body::Body;
 use crate::fault::{Refusal, TypeFault};
+use crate::label::optional_label;
 use crate::operator::is_same;
-use crate::scope::{array, exception, input, output, procedure, scalar};
+use crate::scope::{Meaning, array, exception, fresh, input, output, procedure, scalar};
 use labels::Label;
 use resolved::expression::{Base, Expression, Variable};
 use resolved::statement::{Exit, Statement};
 use resolved::tables::Slot;
 use std::alloc::AllocError;
-use syntax::{Call, Name, RightSide, Size};
+use syntax::{Call, Name, RightSide, Size, WrittenLabel};
 
 /// The greatest length of an array.
 pub const MAX_LENGTH: u32 = 65_536;
@@ -133,6 +135,54 @@ impl<'a> Body<'a> {
             at,
             name: String::from_str(self.alloc, name.text.as_str())?,
         })
+    }
+
+    /// The declaration of a local with its first value.
+    #[tactic(auto, unfolding(crate::specs::Statements::declare_outcome))]
+    pub fn declare_scalar(
+        &mut self,
+        at: usize,
+        base: Base,
+        label: &Option<WrittenLabel>,
+        name: &Name,
+        value: &RightSide,
+    ) -> Result<Statement, TypeFault>
+        requires room { taken self.old < most_nodes }
+        ensures made { Gives (at_point self.new statement_of) result (declare_outcome (setting_of self.old) (point_of self.old) at base (optional_label_tree label.now) (name_tree name.now) (right_tree value.now)) }
+        ensures later { OnOk result (IsLater self.old self.new) }
+        ensures grows { OnOk result (taken self.new ≡ taken self.old + 1) }
+    {
+        let written = optional_label(self.alloc, self.hierarchy, label)?;
+        fresh(self.meaning(name), name.at)?;
+        let variable = Variable::Local(self.slots.len() as u32);
+        let statement = self.assigned(at, variable, base, value)?;
+        let slot = self.slot(at, base, None, written, name)?;
+        self.declare(slot, Meaning::Scalar(variable, base))?;
+        Ok(statement)
+    }
+
+    /// The declaration of a local that is an array.
+    #[tactic(auto, unfolding(crate::specs::Statements::declare_array_outcome))]
+    pub fn declare_array(
+        &mut self,
+        at: usize,
+        base: Base,
+        written: &Option<WrittenLabel>,
+        name: &Name,
+        size: Size,
+    ) -> Result<Statement, TypeFault>
+        requires room { taken self.old < most_nodes }
+        ensures made { Gives (at_point self.new statement_of) result (declare_array_outcome (setting_of self.old) (point_of self.old) at base (optional_label_tree written.now) (name_tree name.now) (size_tree size)) }
+        ensures later { OnOk result (IsLater self.old self.new) }
+        ensures grows { OnOk result (taken self.new ≡ taken self.old + 1) }
+    {
+        let label = optional_label(self.alloc, self.hierarchy, written)?;
+        fresh(self.meaning(name), name.at)?;
+        let length = length_of(size)?;
+        let number = self.slots.len() as u32;
+        let slot = self.slot(at, base, Some(length), label, name)?;
+        self.declare(slot, Meaning::Array(Variable::Local(number), base, length))?;
+        Ok(Statement::Clear(at, number))
     }
 
     #[tactic(auto, unfolding(crate::specs::Statements::assign_outcome))]

@@ -5,10 +5,11 @@ mod calls;
 pub mod exits;
 pub mod fault;
 pub mod map;
-mod raises;
+pub mod raises;
 mod set;
 mod walk;
 
 pub use exits::{Exits, Raised};
 pub use fault::{EndDefect, EndRefusal, EndsFault};
 pub use map::{PathMap, ends};
+pub use raises::Raises;

@@ -18,20 +18,22 @@ const BOUNDS: u32 = 1;
 // The greatest number; literals above it mean negative numbers.
 const MAX_NUMBER: u32 = 2_147_483_647;
 
-// Whether an expression, or one of several, can raise `Arith` and `Bounds`. It can raise no other exception.
+/// Whether an expression, or one of several, can raise `Arith` and `Bounds`. It can raise no other exception.
 #[derive(Clone, Copy, Debug, PartialEq, Eq)]
-pub(crate) struct Raises {
-    pub(crate) arith: bool,
-    pub(crate) bounds: bool,
+pub struct Raises {
+    pub arith: bool,
+    pub bounds: bool,
 }
 
 impl Raises {
-    pub(crate) const NONE: Raises = Raises {
+    /// No exception.
+    pub const NONE: Raises = Raises {
         arith: false,
         bounds: false,
     };
 
-    pub(crate) fn or(self, other: Raises) -> Raises
+    /// What is raised of this or of another, or of both.
+    pub fn or(self, other: Raises) -> Raises
         ensures { (exception : ℕ) →
             is_one_of (raised_list result.arith result.bounds) exception
             ≡ (is_one_of (raised_list self.arith self.bounds) exception
@@ -65,8 +67,8 @@ impl Raises {
     }
 }
 
-// What an expression can raise.
-pub(crate) fn raises_of(expression: &Expression) -> Raises
+/// What an expression can raise.
+pub fn raises_of(expression: &Expression) -> Raises
     ensures { AreRaised result (raises (expression_of expression.now)) }
 {
     match expression {
@@ -96,8 +98,8 @@ pub(crate) fn raises_of_some(expression: &Option<Expression>) -> Raises
     }
 }
 
-// What several expressions can raise.
-pub(crate) fn raises_of_all(expressions: &[Expression]) -> Raises
+/// What several expressions can raise.
+pub fn raises_of_all(expressions: &[Expression]) -> Raises
     ensures { AreRaised result (raises_all (map expression_of expressions.now)) }
 {
     let mut found = Raises::NONE;
@@ -107,8 +109,8 @@ pub(crate) fn raises_of_all(expressions: &[Expression]) -> Raises
     found
 }
 
-// Whether an index of an array of this length may be out of range.
-pub(crate) fn index_can_raise(index: &Expression, length: u32) -> bool
+/// Whether an index of an array of this length may be out of range: not if it is a literal in range.
+pub fn index_can_raise(index: &Expression, length: u32) -> bool
     ensures { result ≡ index_can_raise (expression_of index.now) length }
 {
     match index {
@@ -124,8 +126,8 @@ fn is_in_range(literal: u32, length: u32) -> bool
     literal <= MAX_NUMBER && literal < length
 }
 
-// Whether a divisor may be 0.
-fn divisor_can_raise(divisor: &Expression) -> bool
+/// Whether a divisor may be 0: not if it is a nonzero literal, or a minus sign before one.
+pub fn divisor_can_raise(divisor: &Expression) -> bool
     ensures { result ≡ divisor_can_raise (expression_of divisor.now) }
 {
     match divisor {
@@ -145,7 +147,8 @@ fn is_zero(literal: u32) -> bool
     literal == 0
 }
 
-fn is_division(operator: Operator) -> bool
+/// Whether an operator divides.
+pub fn is_division(operator: Operator) -> bool
     ensures { result ≡ is_division operator }
 {
     matches!(operator, Operator::Divide | Operator::Remainder)

@@ -18,7 +18,9 @@ use Rattle.resolved.specs.declared.statement.Exit.TheVariants.{Normal, Return, B
 use Rattle.resolved.specs.Tree.{Expression, Integer, Logical, Read, Element, Unary, Binary, Short, Statement, Assign, Clear, Store, Receive, Send, Call, If, While, Leave, ReturnWith, Try, Nested, Block, Empty, Then, Handlers, NoMore, Catch}
 use Rattle.resolved.specs.Program.{Program, ProcedureEntry, ResultEntry, ThrownEntry, slot_at, procedure_at}
 use Rattle.resolved.specs.Ends.{same_exit, has_end, one_end, index_can_raise, divisor_can_raise, is_division, raises, thrown_ends, passes, statement_ends, block_ends}
-use Rattle.resolved.specs.Labelled.{Scope, here, result_label, Join, LabelAtom, one, OfLocal, written_or, Target, ToVariable, ToChannel, ToBegin, ToParameter, ToValue, ToEnd, ToThrown, ToLoop, label_of, parameter_label, thrown_label, variable_label, value_label, label_if, any_of, raise_label, raise_labels, ExitLabels, at_ends, own_label, raised_exits, call_exits, loop_exits, statement_rule, block_rule, handlers_rule, Demand, demand, target_demand, argument_demands, statement_demands, block_demands, handlers_demands, as_one_end, end_demands, procedure_demands, demands_from, program_demands, Labelled, Labelling, chosen, label_under, join_under}
+use Rattle.resolved.specs.declared.target.Target.{Target}
+use Rattle.resolved.specs.declared.target.Target.TheVariants.{ToVariable, ToChannel, ToBegin, ToParameter, ToValue, ToEnd, ToThrown, ToLoop}
+use Rattle.resolved.specs.Labelled.{Scope, here, result_label, Join, LabelAtom, one, OfLocal, written_or, label_of, parameter_label, thrown_label, variable_label, value_label, label_if, any_of, raise_label, raise_labels, ExitLabels, at_ends, own_label, raised_exits, call_exits, loop_exits, statement_rule, block_rule, handlers_rule, Demand, demand, target_demand, argument_demands, statement_demands, block_demands, handlers_demands, as_one_end, end_demands, procedure_demands, demands_from, program_demands, Labelled, Labelling, chosen, label_under, join_under}
 use Rattle.resolved.specs.Before as old
 
 module _ (labelling : Labelling) where

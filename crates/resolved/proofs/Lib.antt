@@ -5,4 +5,3 @@ pub mod Parts
 pub mod Growing
 pub mod Faithful
 pub mod Flow
-pub mod Gathering

@@ -6,7 +6,9 @@ use Rattle.principals.specs.ActsFor.{PrincipalHierarchy}
 use Rattle.labels.specs.Label.{ReaderPolicy, Label, Covers, flows}
 use Rattle.labels.specs.Constraints.{Atom, Constraint, IsGathered, Written, Unknown, IsLeast, Occurs, first_unmet, Linked, label_lattice}
 use Rattle.resolved.specs.Program.{Program}
-use Rattle.resolved.specs.Labelled.{Unwritten, Demand, Target, ToVariable, ToChannel, ToBegin, ToParameter, ToValue, ToEnd, ToThrown, ToLoop, program_demands}
+use Rattle.resolved.specs.declared.target.Target.{Target}
+use Rattle.resolved.specs.declared.target.Target.TheVariants.{ToVariable, ToChannel, ToBegin, ToParameter, ToValue, ToEnd, ToThrown, ToLoop}
+use Rattle.resolved.specs.Labelled.{Unwritten, Demand, program_demands}
 
 -- a flow chain of a program: it leads from a policy of a written label to a written right side that does not cover the policy
 pub record IsFlowChain (program : Program) (policy : ReaderPolicy) (chain : List Demand) (last : Demand) : Type 0 where

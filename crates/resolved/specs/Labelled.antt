@@ -14,6 +14,8 @@ use Rattle.resolved.specs.declared.expression.Variable.{Variable}
 use Rattle.resolved.specs.declared.expression.Variable.TheVariants.{Global, Local}
 use Rattle.resolved.specs.declared.statement.Exit.{Exit}
 use Rattle.resolved.specs.declared.statement.Exit.TheVariants.{Normal, Return, Break, Continue, Throw}
+use Rattle.resolved.specs.declared.target.Target.{Target}
+use Rattle.resolved.specs.declared.target.Target.TheVariants.{ToVariable, ToChannel, ToBegin, ToParameter, ToValue, ToEnd, ToThrown, ToLoop}
 use Rattle.resolved.specs.Tree.{Expression, Integer, Logical, Read, Element, Unary, Binary, Short, Statement, Assign, Clear, Store, Receive, Send, Call, If, While, Leave, ReturnWith, Try, Nested, Block, Empty, Then, Handlers, NoMore, Catch}
 use Rattle.resolved.specs.Program.{Program, ProcedureEntry, ResultEntry, ThrownEntry, channel_at, global_at, slot_at, procedure_at}
 use Rattle.resolved.specs.Ends.{same_exit, has_end, one_end, index_can_raise, divisor_can_raise, is_division, raises, thrown_ends, passes, statement_ends, block_ends}
@@ -62,18 +64,7 @@ thrown_label [] exception = []
 thrown_label (entry ∷ rest) exception =
     if exception == entry.exception then entry.label else thrown_label rest exception
 
--- what stands on the right side of a demand, each in a procedure by the number of that
-pub data Target : Type 0 where
-  ToVariable : (procedure : ℕ) → Variable → Target
-  ToChannel : (channel : ℕ) → Target
-  ToBegin : (procedure : ℕ) → Target
-  ToParameter : (procedure i : ℕ) → Target
-  ToValue : (procedure : ℕ) → Target
-  ToEnd : (procedure : ℕ) → Target
-  ToThrown : (procedure exception : ℕ) → Target
-  ToLoop : (procedure loop : ℕ) → Target
-
--- its label
+-- the label of what stands on the right side of a demand
 abbrev pub label_of : Program → Target → LabelAtom
 label_of program (ToVariable f (Global n)) = Written (global_at program n).label
 label_of program (ToVariable f (Local n)) = written_or (slot_at (procedure_at program f) n).written (OfLocal f n)

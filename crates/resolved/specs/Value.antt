@@ -72,7 +72,7 @@ is_zero (negsuc n) = false
 
 -- what a division gives, which raises `Arith` where the divisor is 0
 abbrev pub unless_zero : ℤ → ℤ → Evaluated Value
-unless_zero divisor result = if is_zero divisor then Raises arith_exception else Gives (Number (wrapped result))
+unless_zero divisor result = if is_zero divisor then Raises arith_exception else Gives (Number result)
 
 abbrev pub bool_eq : Bool → Bool → Bool
 bool_eq true b = b
@@ -83,7 +83,7 @@ abbrev pub operator_value : Operator → Value → Value → Evaluated Value
 operator_value Add v w = Gives (Number (wrapped (number_in v +ℤ number_in w)))
 operator_value Subtract v w = Gives (Number (wrapped (number_in v -ℤ number_in w)))
 operator_value Multiply v w = Gives (Number (wrapped (number_in v *ℤ number_in w)))
-operator_value Divide v w = unless_zero (number_in w) (int_div (number_in v) (number_in w))
+operator_value Divide v w = unless_zero (number_in w) (wrapped (int_div (number_in v) (number_in w)))
 operator_value Remainder v w = unless_zero (number_in w) (int_rem (number_in v) (number_in w))
 operator_value LessThan v w = Gives (Truth (int_lt (number_in v) (number_in w)))
 operator_value AtMost v w = Gives (Truth (int_le (number_in v) (number_in w)))

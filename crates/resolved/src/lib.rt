@@ -7,3 +7,4 @@ pub mod lookup;
 pub mod program;
 pub mod statement;
 pub mod tables;
+pub mod target;

@@ -8,6 +8,9 @@ fn laws_of_sources(_rt: HostRuntime) {
     resolved::laws::programs_are_labelled_or_refused();
     resolved::laws::gathered_constraints_decide();
     resolved::laws::precise_programs_are_accepted();
+    gathering::laws::programs_are_gathered();
+    gathering::laws::unknowns_have_numbers_below_their_count();
+    gathering::laws::what_is_gathered_is_in_proportion_to_the_program();
     runs::ends_are_possible();
     runs::calls_give_their_value();
     runs::sent_stays_sent();
@@ -30,6 +33,11 @@ fn laws_of_isolation(_rt: HostRuntime) {
 
 #[test]
 fn laws_of_compiling(_rt: HostRuntime) {
+    names::laws::found_programs_are_well_formed();
+    names::laws::item_names_are_proper_and_different();
+    names::laws::numbers_read_as_names();
+    translation::laws::graphs_keep_meaning();
+    translation::laws::modules_keep_meaning();
     types::laws::numbers_read_as_names();
     types::laws::resolves_to_straight_line();
     types::laws::places_stay();

@@ -325,7 +325,7 @@ leaving_fits program caller callee s (Ended (Throw exception) (Some v) t) state 
 leaving_fits program caller callee s (Stopped stop t) state h =
     record { state = back_fits program caller callee s t state h.state; returned = tt }
 
-calls_keep : (program : Program) → well_formed program ≡ true → (k frames : ℕ) → CallsKeep program (calls_with program k frames)
+pub calls_keep : (program : Program) → well_formed program ≡ true → (k frames : ℕ) → CallsKeep program (calls_with program k frames)
 calls_keep program h k zero caller f callee found values matches s state = record { state = state; returned = tt }
 calls_keep program h k (suc frames) caller f callee found values matches s state =
     let parts : ProcedureParts program callee = procedure_there program h f callee found in

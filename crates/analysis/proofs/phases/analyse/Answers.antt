@@ -1,0 +1,25 @@
+use Rattle.std.proofs.Common.{subst}
+use Rattle.syntax.specs.Tree.{program_tree}
+use Rattle.resolved.specs.CoreOf.{program_of}
+use Rattle.acceptance.specs.Accepted.{IsTreeOf}
+use Rattle.acceptance.specs.Refused.{NoText}
+use Rattle.analysis.specs.Reported.{ReportsFault}
+use Rattle.analysis.proofs.Faults.{named, ended}
+use Rattle.analysis.proofs.phases.analyse.Goals as goal
+
+pub returns-in-Err-clause-first_fault : goal.returns-in-Err-clause-first_fault
+returns-in-Err-clause-first_fault c = NoText c.in-Err.cause 0 c.in-Err.ensures.none
+
+pub returns-in-Err-read-clause-first_fault : goal.returns-in-Err-read-clause-first_fault
+returns-in-Err-read-clause-first_fault c = subst (λ s. ReportsFault c.args.hierarchy.now s c.in-Err-read.fault) c.in-Ok.ensures.same (c.in-Err-read.ensures.first_fault c.args.hierarchy.now)
+
+pub returns-in-Err-resolve-clause-first_fault : goal.returns-in-Err-resolve-clause-first_fault
+returns-in-Err-resolve-clause-first_fault c =
+    rw c.of_name.ensures
+    (named c.args.hierarchy.now c.args.source.now (program_tree c.in-Ok-read.tree) c.in-Err-resolve.fault (subst (λ s. IsTreeOf s (program_tree c.in-Ok-read.tree)) c.in-Ok.ensures.same c.in-Ok-read.ensures.spelled) c.in-Err-resolve.ensures.refused)
+
+pub returns-clause-first_fault : goal.returns-clause-first_fault
+returns-clause-first_fault c =
+    rw c.of_end.ensures
+    (ended c.args.hierarchy.now c.args.source.now (program_of c.in-Ok-resolve.core) c.in-Err-ends.fault
+    (record { tree = program_tree c.in-Ok-read.tree; tree_of = subst (λ s. IsTreeOf s (program_tree c.in-Ok-read.tree)) c.in-Ok.ensures.same c.in-Ok-read.ensures.spelled; resolved = c.in-Ok-resolve.ensures.resolved }) c.in-Err-ends.ensures.first_fault)

@@ -1,0 +1,10 @@
+//! The phases of a check that come before labels, for the whole language: from the bytes of a source to its resolved program with the
+//! possible ends of each statement, or the first fault of its text, tokens, tree, names, types, sizes and ends.
+#![tactic(auto)]
+
+mod causes;
+pub mod fault;
+pub mod phases;
+
+pub use fault::Fault;
+pub use phases::{Analysed, analyse};

@@ -1,0 +1,101 @@
+//! The phases in their order.
+
+ghost use Rattle.acceptance.specs.Accepted.{IsResolvedFrom, IsText, IsTreeOf};
+ghost use Rattle.acceptance.specs.Refused.{IsNoText};
+ghost use Rattle.analysis.specs.Reported.{ReportsFault};
+ghost use Rattle.path_map.specs.Exits.{exits_of};
+ghost use Rattle.path_map.specs.Paths.{program_paths};
+ghost use Rattle.principals.specs.ActsFor.{PrincipalHierarchy};
+ghost use Rattle.resolved.specs.CoreOf.{program_of};
+ghost use Rattle.resolved.specs.EndFaults.{end_faults};
+ghost use Rattle.std.specs.Prelude.{IfErr, IfOk, OnOk, [], map, ◌≡◌};
+ghost use Rattle.syntax.specs.Tree.{program_tree};
+
+use crate::causes::{of_end, of_name, of_tokens, of_tree};
+use crate::fault::Fault;
+use acceptance::Cause;
+use lexer::lex;
+use names::resolve;
+use parser::parse;
+use path_map::{PathMap, ends};
+use principals::Hierarchy;
+use resolved::program::Core;
+use std::alloc::Global;
+
+/// The greatest length of a text in bytes.
+pub const MAX_TEXT: usize = 1_048_576;
+
+/// A source without a fault before its labels: its resolved program, and the possible ends of each statement and block of it.
+#[derive(Drop)]
+pub struct Analysed {
+    pub core: Core,
+    pub ends: PathMap,
+}
+
+/// Analyses a source under a hierarchy, phase by phase: its length, whether it is UTF-8, its tokens, its tree, its names, types and
+/// sizes, and the ends of its statements.
+///
+/// # Errors
+///
+/// The first fault of the source before its labels, with its byte; or out of memory.
+pub fn analyse(alloc: Global, hierarchy: &Hierarchy, source: &[u8]) -> Result<Analysed, Fault>
+    // The program is the one that the source stands for, and has no fault of its ends.
+    ensures resolved { IfOk result (λ found.
+        IsResolvedFrom hierarchy.now source.now (program_of found.core)) }
+    ensures ended { IfOk result (λ found. end_faults (program_of found.core) ≡ []) }
+
+    // The ends of its statements and blocks, in the order of the path map.
+    ensures mapped { IfOk result (λ found. found.ends.entries.items
+        ≡ map exits_of (program_paths (program_of found.core))) }
+
+    // A refusal is the first fault, at its byte.
+    ensures first_fault { IfErr result (ReportsFault hierarchy.now source.now) }
+{
+    let text = match text_of(source) {
+        Ok(text) => text,
+        Err(cause) => return Err(Fault::Refused(cause, 0)),
+    };
+    let tree = match read(alloc, text) {
+        Ok(tree) => tree,
+        Err(fault) => return Err(fault),
+    };
+    let core = match resolve(alloc, hierarchy, &tree) {
+        Ok(core) => core,
+        Err(fault) => return Err(of_name(fault)),
+    };
+    match ends(alloc, &core) {
+        Ok(ends) => Ok(Analysed { core, ends }),
+        Err(fault) => Err(of_end(fault)),
+    }
+}
+
+// The tree that a source spells.
+fn read(alloc: Global, source: &str) -> Result<syntax::Program, Fault>
+    requires text { IsText source.now }
+    ensures spelled { IfOk result (λ tree. IsTreeOf source.now (program_tree tree)) }
+    ensures first_fault { IfErr result (λ fault. (h : PrincipalHierarchy) → ReportsFault h source.now fault) }
+{
+    let tokens = match lex(alloc, source) {
+        Ok(tokens) => tokens,
+        Err(fault) => return Err(of_tokens(fault)),
+    };
+    match parse(alloc, tokens.as_slice()) {
+        Ok(tree) => Ok(tree),
+        Err(fault) => Err(of_tree(fault)),
+    }
+}
+
+// The text of some bytes.
+fn text_of(bytes: &[u8]) -> Result<&str, Cause>
+    ensures same { IfOk result (λ text. text.now ≡ bytes.now) }
+    ensures text { OnOk result (IsText bytes.now) }
+    ensures none { IfErr result (λ cause. IsNoText bytes.now cause 0) }
+{
+    if bytes.len() > MAX_TEXT {
+        return Err(Cause::TextTooLong);
+    }
+    match str::from_utf8(bytes) {
+        Ok(text) => Ok(text),
+        Err(_) => Err(Cause::NotUtf8),
+    }
+}

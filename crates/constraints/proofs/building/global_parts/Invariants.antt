@@ -1,0 +1,11 @@
+use Rattle.std.proofs.Common.{map, take}
+use Rattle.labels.specs.Constraints.{Written}
+use Rattle.constraints.specs.Rows.{Grows, Mean}
+use Rattle.resolved.specs.declared.tables.GlobalVariable.{GlobalVariable}
+use Rattle.constraints.proofs.building.global_parts.Given as goal
+
+abbrev pub invariant-loop-variable : goal.invariant-loop-variable
+invariant-loop-variable l = record {
+  grown : Grows l.fn.written.items l.written.items;
+  meaning : Mean l.written.items l.atoms.items (map (λ (variable : GlobalVariable). Written variable.label) (take l.variable-index l.globals));
+}

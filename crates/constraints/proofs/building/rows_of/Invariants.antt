@@ -1,0 +1,16 @@
+use Rattle.std.proofs.Common.{◌≡◌, List, map, take, ◌++◌}
+use Rattle.std.specs.Prelude.{sum_by}
+use Rattle.labels.specs.Label.{Label}
+use Rattle.resolved.specs.Program.{Program}
+use Rattle.resolved.specs.ProgramOf.{procedure_entry}
+use Rattle.gathering.specs.Names.{own_unknowns}
+use Rattle.constraints.specs.Rows.{Grows, AreRows}
+use Rattle.constraints.proofs.building.rows_of.Given as goal
+
+abbrev pub invariant-loop-procedure : goal.invariant-loop-procedure
+invariant-loop-procedure l = record {
+  grown : Grows l.fn.written.items l.written.items;
+  rows : (program : Program) (more : List Label) →
+      AreRows program (l.written.items ++ more) 0 (map procedure_entry (take l.procedure-index l.procedures)) l.rows.items;
+  count : l.first ≡ sum_by own_unknowns (map procedure_entry (take l.procedure-index l.procedures));
+}

@@ -1,0 +1,9 @@
+use Rattle.constraints.proofs.Tables.{grows-then, slots-next}
+use Rattle.constraints.proofs.building.slot_parts.Goals as goal
+
+pub loop-i-preserved : goal.loop-i-preserved
+loop-i-preserved c = record {
+  grown = grows-then _ _ _ c.loop-i.invariant.grown c.in_ok-slot_part.ensures.grown;
+  meaning = slots-next c.args.slots.now c.loop-i.i c.index-slots-i.result c.args.first _ _ _ _ _ _ c.loop-i-test.true c.index-slots-i.is c.in_ok-plus.ensures
+      c.in_ok-push.ensures.items c.in_ok-slot_part.ensures.grown c.loop-i.invariant.meaning c.in_ok-slot_part.ensures.meaning;
+}

@@ -1,0 +1,18 @@
+use Rattle.std.proofs.Common.{◌≡◌, List, map, take, ◌++◌}
+use Rattle.labels.specs.Constraints.{Written}
+use Rattle.labels.specs.Label.{Label}
+use Rattle.resolved.specs.Ends.{declared_by}
+use Rattle.resolved.specs.Program.{Program, ThrownEntry}
+use Rattle.resolved.specs.ProgramOf.{thrown_entry}
+use Rattle.constraints.specs.Rows.{Grows, thrown_parts}
+use Rattle.constraints.specs.declared.rows.ThrownLabel.{ThrownLabel}
+use Rattle.constraints.proofs.building.thrown_labels.Given as goal
+
+abbrev pub invariant-loop-thrown : goal.invariant-loop-thrown
+invariant-loop-thrown l = record {
+  grown : Grows l.fn.written.items l.written.items;
+  exceptions : map (λ (thrown : ThrownLabel). thrown.exception) l.labels.items
+      ≡ declared_by (map thrown_entry (take l.thrown-index l.throws));
+  meaning : (program : Program) (more : List Label) → thrown_parts program (l.written.items ++ more) l.labels.items
+      ≡ map (λ (entry : ThrownEntry). Written entry.label) (map thrown_entry (take l.thrown-index l.throws));
+}

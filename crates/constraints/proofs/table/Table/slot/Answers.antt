@@ -1,0 +1,10 @@
+use Rattle.resolved.specs.CoreOf.{program_of}
+use Rattle.constraints.proofs.Tables.{slot-named}
+use Rattle.constraints.proofs.table.Table.slot.Goals as goal
+
+pub returns : goal.returns
+returns c =
+    let table = c.args.self.now in
+    let program = program_of table.core.now in
+    slot-named program table.written.items c.args.procedure c.args.slot c.row-row.result.now c.deref.result.now c.in_ok-number.number c.at.result
+    c.row-row.ensures c.deref.ensures.value c.in_ok-number.ensures c.at.ensures

@@ -1,0 +1,200 @@
+//! How the table of a program's labels is built.
+ghost use Rattle.constraints.specs.Rows.{AreRows, Grows, IsRow, Mean, Means, slot_parts, thrown_parts, written_part};
+ghost use Rattle.gathering.specs.Names.{own_unknowns};
+ghost use Rattle.labels.specs.Constraints.{Written};
+ghost use Rattle.labels.specs.Label.{Label};
+ghost use Rattle.resolved.specs.Ends.{declared_by};
+ghost use Rattle.resolved.specs.Labelled.{result_label};
+ghost use Rattle.resolved.specs.Program.{Program, ThrownEntry};
+ghost use Rattle.resolved.specs.ProgramOf.{procedure_entry, result_entry, slot_entry, thrown_entry};
+ghost use Rattle.resolved.specs.declared.tables.Channel.{Channel};
+ghost use Rattle.resolved.specs.declared.tables.GlobalVariable.{GlobalVariable};
+ghost use Rattle.constraints.specs.declared.rows.ThrownLabel.{ThrownLabel};
+ghost use Rattle.std.specs.Prelude.{IfOk, List, OnOk, [], map, sum_by, ℕ, ◌+◌, ◌++◌, ◌∷◌, ◌≡◌};
+
+use crate::rows::{Row, ThrownLabel};
+use labels::Label;
+use resolved::tables::{Channel, GlobalVariable, Procedure, ResultType, Slot, Thrown};
+use solver::Atom;
+use std::alloc::{AllocError, Global};
+
+// A sum of numbers of unknowns.
+pub(crate) fn plus(number: u32, more: usize) -> Result<u32, AllocError>
+    ensures { IfOk result (λ sum. sum ≡ number + more) }
+{
+    let Ok(more) = u32::try_from(more) else {
+        return Err(AllocError);
+    };
+    let Some(sum) = number.checked_add(more) else {
+        return Err(AllocError);
+    };
+    Ok(sum)
+}
+
+// Adds a label to the table, and gives its part.
+pub(crate) fn add(written: &mut Vec<Label>, label: &Label) -> Result<Atom, AllocError>
+    ensures grown { OnOk result (Grows written.old.items written.new.items) }
+    ensures meaning { IfOk result (λ atom. Means written.new.items atom (Written label.now)) }
+{
+    let Ok(number) = u32::try_from(written.len()) else {
+        return Err(AllocError);
+    };
+    written.push(label.clone()?)?;
+    Ok(Atom::Written(number))
+}
+
+// The parts of the labels of channels.
+pub(crate) fn channel_parts(
+    alloc: Global,
+    written: &mut Vec<Label>,
+    channels: &[Channel],
+) -> Result<Vec<Atom>, AllocError>
+    ensures grown { OnOk result (Grows written.old.items written.new.items) }
+    ensures meaning { IfOk result (λ atoms. Mean written.new.items atoms.items
+        (map (λ (channel : Channel). Written channel.label) channels.now)) }
+{
+    let mut atoms = Vec::new(alloc);
+    for channel in channels {
+        atoms.push(add(written, &channel.label)?)?;
+    }
+    Ok(atoms)
+}
+
+// The parts of the labels of globals.
+pub(crate) fn global_parts(
+    alloc: Global,
+    written: &mut Vec<Label>,
+    globals: &[GlobalVariable],
+) -> Result<Vec<Atom>, AllocError>
+    ensures grown { OnOk result (Grows written.old.items written.new.items) }
+    ensures meaning { IfOk result (λ atoms. Mean written.new.items atoms.items
+        (map (λ (variable : GlobalVariable). Written variable.label) globals.now)) }
+{
+    let mut atoms = Vec::new(alloc);
+    for variable in globals {
+        atoms.push(add(written, &variable.label)?)?;
+    }
+    Ok(atoms)
+}
+
+// The part of a slot's label, which is the unknown with this number if it is not written.
+fn slot_part(
+    written: &mut Vec<Label>,
+    label: &Option<Label>,
+    number: u32,
+) -> Result<Atom, AllocError>
+    ensures grown { OnOk result (Grows written.old.items written.new.items) }
+    ensures meaning { IfOk result (λ atom. Means written.new.items atom
+        (written_part label.now number)) }
+{
+    match label {
+        None => Ok(Atom::Unknown(number)),
+        Some(label) => add(written, label),
+    }
+}
+
+// The parts of the labels of slots, of which the first is the unknown with this number if its label is not written.
+fn slot_parts(
+    alloc: Global,
+    written: &mut Vec<Label>,
+    slots: &[Slot],
+    first: u32,
+) -> Result<Vec<Atom>, AllocError>
+    ensures grown { OnOk result (Grows written.old.items written.new.items) }
+    ensures meaning { IfOk result (λ atoms. Mean written.new.items atoms.items
+        (slot_parts first (map slot_entry slots.now))) }
+{
+    let mut atoms = Vec::new(alloc);
+    for (i, slot) in slots.iter().enumerate() {
+        atoms.push(slot_part(written, &slot.written, plus(first, i)?)?)?;
+    }
+    Ok(atoms)
+}
+
+// The parts of the labels of declared exceptions.
+fn thrown_labels(
+    alloc: Global,
+    written: &mut Vec<Label>,
+    throws: &[Thrown],
+) -> Result<Vec<ThrownLabel>, AllocError>
+    ensures grown { OnOk result (Grows written.old.items written.new.items) }
+    ensures exceptions { IfOk result (λ labels.
+        map (λ (thrown : ThrownLabel). thrown.exception) labels.items
+        ≡ declared_by (map thrown_entry throws.now)) }
+    ensures meaning { IfOk result (λ labels. (program : Program) (more : List Label) →
+        thrown_parts program (written.new.items ++ more) labels.items
+        ≡ map (λ (entry : ThrownEntry). Written entry.label) (map thrown_entry throws.now)) }
+{
+    let mut labels = Vec::new(alloc);
+    for thrown in throws {
+        let label = add(written, &thrown.label)?;
+        labels.push(ThrownLabel {
+            exception: thrown.exception,
+            label,
+        })?;
+    }
+    Ok(labels)
+}
+
+// The part of the label of a procedure's value, which is empty for one without a value.
+fn value_part(
+    alloc: Global,
+    written: &mut Vec<Label>,
+    value: &Option<ResultType>,
+) -> Result<Atom, AllocError>
+    ensures grown { OnOk result (Grows written.old.items written.new.items) }
+    ensures meaning { IfOk result (λ atom. Means written.new.items atom
+        (Written (result_label (result_entry value.now)))) }
+{
+    match value {
+        None => add(written, &Label::least(alloc)),
+        Some(value) => add(written, &value.label),
+    }
+}
+
+// The row of a procedure whose first unknown has this number.
+fn row_of(
+    alloc: Global,
+    written: &mut Vec<Label>,
+    procedure: &Procedure,
+    first: u32,
+) -> Result<Row, AllocError>
+    ensures grown { OnOk result (Grows written.old.items written.new.items) }
+    ensures row { IfOk result (λ row. (program : Program) (more : List Label) →
+        IsRow program (written.new.items ++ more) first (procedure_entry procedure.now) row) }
+{
+    Ok(Row {
+        begin: add(written, &procedure.begin_label)?,
+        end: add(written, &procedure.end_label)?,
+        value: value_part(alloc, written, &procedure.result)?,
+        slots: slot_parts(alloc, written, &procedure.slots, first)?,
+        throws: thrown_labels(alloc, written, &procedure.throws)?,
+        first,
+        loops: plus(first, procedure.slots.len())?,
+    })
+}
+
+// The rows of procedures, and how many unknowns they have.
+pub(crate) fn rows_of(
+    alloc: Global,
+    written: &mut Vec<Label>,
+    procedures: &[Procedure],
+) -> Result<(Vec<Row>, u32), AllocError>
+    ensures grown { OnOk result (Grows written.old.items written.new.items) }
+    ensures rows { IfOk result (λ found. (program : Program) (more : List Label) →
+        AreRows program (written.new.items ++ more) 0
+        (map procedure_entry procedures.now) found.0.items) }
+    ensures count { IfOk result (λ found. found.1
+        ≡ sum_by own_unknowns (map procedure_entry procedures.now)) }
+{
+    let mut rows = Vec::new(alloc);
+    let mut first = 0;
+    for procedure in procedures {
+        rows.push(row_of(alloc, written, procedure, first)?)?;
+        first = plus(
+            plus(first, procedure.slots.len())?,
+            procedure.loops as usize,
+        )?;
+    }
+    Ok((rows, first))
+}

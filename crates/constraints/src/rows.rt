@@ -1,0 +1,22 @@
+//! The parts of constraints that stand for the labels of a procedure.
+use solver::Atom;
+
+/// The label of an exception that a procedure declares.
+#[derive(Clone, Copy, Debug, PartialEq, Eq, Drop)]
+pub struct ThrownLabel {
+    pub exception: u32,
+    pub label: Atom,
+}
+
+/// The labels of a procedure. A slot without a written label is an unknown, and so is each loop: those of the slots have the numbers
+/// from `first` on, those of the loops the numbers from `loops` on.
+#[derive(Drop)]
+pub struct Row {
+    pub begin: Atom,
+    pub end: Atom,
+    pub value: Atom,
+    pub slots: Vec<Atom>,
+    pub throws: Vec<ThrownLabel>,
+    pub first: u32,
+    pub loops: u32,
+}

@@ -1,0 +1,181 @@
+//! The parts of constraints that stand for the labels of a program.
+ghost use Rattle.constraints.specs.Parts.{part, part_of};
+ghost use Rattle.constraints.specs.Rows.{IsRow, IsTable, label_among, written_atom};
+ghost use Rattle.gathering.specs.Names.{real_unknowns, unknowns_before};
+ghost use Rattle.labels.specs.Constraints.{Written};
+ghost use Rattle.resolved.specs.CoreOf.{program_of};
+ghost use Rattle.resolved.specs.Labelled.{thrown_label};
+ghost use Rattle.resolved.specs.Program.{channel_at, global_at, procedure_at};
+ghost use Rattle.resolved.specs.declared.expression.Variable.TheVariants.{Local};
+ghost use Rattle.resolved.specs.declared.target.Target.TheVariants.{ToParameter, ToVariable};
+ghost use Rattle.std.specs.Prelude.{IfOk, slice_index_or, ◌≡◌};
+
+use crate::building::{add, channel_parts, global_parts, plus, rows_of};
+use crate::rows::{Row, ThrownLabel};
+use labels::Label;
+use resolved::expression::Variable;
+use resolved::program::Core;
+use resolved::target::Target;
+use solver::Atom;
+use std::alloc::{AllocError, Global};
+
+/// The labels of a program's tables. What is in no table, as no well-formed program asks for it, has an empty label.
+#[derive(Drop)]
+pub struct Table<'a> {
+    pub core: &'a Core,
+    pub written: Vec<Label>,
+    /// How many unknowns stand for labels that are not written.
+    pub unknowns: u32,
+    nothing: Atom,
+    channels: Vec<Atom>,
+    globals: Vec<Atom>,
+    rows: Vec<Row>,
+    outside: Row,
+    ghost are: { IsTable core.now written.items nothing channels.items globals.items rows.items outside },
+    ghost count: { unknowns ≡ real_unknowns (program_of core.now) },
+}
+
+// What stands in a list under a number, or else this.
+fn at(atoms: &[Atom], number: usize, default: Atom) -> Atom
+    ensures { result ≡ slice_index_or atoms.now number default }
+{
+    match atoms.get(number) {
+        None => default,
+        Some(atom) => *atom,
+    }
+}
+
+// A part that is written, or else this.
+fn written_or(atom: Atom, default: Atom) -> Atom
+    ensures { result ≡ written_atom atom default }
+{
+    match atom {
+        Atom::Written(_) => atom,
+        Atom::Unknown(_) => default,
+    }
+}
+
+// The label of an exception among declared ones, or else this.
+fn label_in(throws: &[ThrownLabel], exception: u32, default: Atom) -> Atom
+    ensures { result ≡ label_among throws.now exception default }
+{
+    for thrown in throws {
+        if exception == thrown.exception {
+            return thrown.label;
+        }
+    }
+    default
+}
+
+impl<'a> Table<'a> {
+    /// The labels of this program.
+    pub fn of(alloc: Global, core: &'a Core) -> Result<Table<'a>, AllocError>
+        ensures { IfOk result (λ table. table.core.now ≡ core.now) }
+    {
+        let mut written = Vec::new(alloc);
+        let nothing = add(&mut written, &Label::least(alloc))?;
+        let channels = channel_parts(alloc, &mut written, &core.channels)?;
+        let globals = global_parts(alloc, &mut written, &core.globals)?;
+        let (rows, unknowns) = rows_of(alloc, &mut written, &core.procedures)?;
+        let outside = Row {
+            begin: nothing,
+            end: nothing,
+            value: nothing,
+            slots: Vec::new(alloc),
+            throws: Vec::new(alloc),
+            first: unknowns,
+            loops: unknowns,
+        };
+        Ok(Table {
+            core,
+            written,
+            unknowns,
+            nothing,
+            channels,
+            globals,
+            rows,
+            outside,
+        })
+    }
+
+    // The part of a channel's label.
+    fn channel(&self, channel: u32) -> Atom
+        ensures { part (program_of self.now.core.now) self.now.written.items result
+            ≡ Written (channel_at (program_of self.now.core.now) channel).label }
+    {
+        at(&self.channels, channel as usize, self.nothing)
+    }
+
+    // The part of a global's label.
+    fn global(&self, variable: u32) -> Atom
+        ensures { part (program_of self.now.core.now) self.now.written.items result
+            ≡ Written (global_at (program_of self.now.core.now) variable).label }
+    {
+        at(&self.globals, variable as usize, self.nothing)
+    }
+
+    // The row of a procedure.
+    pub(crate) fn row(&self, procedure: u32) -> &Row
+        ensures { IsRow (program_of self.now.core.now) self.now.written.items
+            (unknowns_before (program_of self.now.core.now) procedure)
+            (procedure_at (program_of self.now.core.now) procedure) result.now }
+    {
+        match self.rows.get(procedure as usize) {
+            None => &self.outside,
+            Some(row) => row,
+        }
+    }
+
+    // The part of the label of a slot.
+    fn slot(&self, procedure: u32, slot: u32) -> Result<Atom, AllocError>
+        ensures { IfOk result (λ atom.
+            part (program_of self.now.core.now) self.now.written.items atom
+            ≡ part_of (program_of self.now.core.now) (ToVariable procedure (Local slot))) }
+    {
+        let row = self.row(procedure);
+        let number = plus(row.first, slot as usize)?;
+        Ok(at(&row.slots, slot as usize, Atom::Unknown(number)))
+    }
+
+    // The part of the label of a parameter.
+    fn parameter(&self, procedure: u32, parameter: usize) -> Atom
+        ensures { part (program_of self.now.core.now) self.now.written.items result
+            ≡ part_of (program_of self.now.core.now) (ToParameter procedure parameter) }
+    {
+        written_or(
+            at(&self.row(procedure).slots, parameter, self.nothing),
+            self.nothing,
+        )
+    }
+
+    // The part of the label of an exception that a procedure declares.
+    fn thrown(&self, procedure: u32, exception: u32) -> Atom
+        ensures { part (program_of self.now.core.now) self.now.written.items result
+            ≡ Written (thrown_label (procedure_at (program_of self.now.core.now) procedure).throws
+            exception) }
+    {
+        label_in(&self.row(procedure).throws, exception, self.nothing)
+    }
+
+    /// The part of the label of what a rule names, or out of memory where the numbers of the unknowns do not suffice.
+    pub fn part(&self, target: Target) -> Result<Atom, AllocError>
+        ensures { IfOk result (λ atom.
+            part (program_of self.now.core.now) self.now.written.items atom
+            ≡ part_of (program_of self.now.core.now) target) }
+    {
+        match target {
+            Target::ToVariable(_, Variable::Global(variable)) => Ok(self.global(variable)),
+            Target::ToVariable(procedure, Variable::Local(slot)) => self.slot(procedure, slot),
+            Target::ToChannel(channel) => Ok(self.channel(channel)),
+            Target::ToBegin(procedure) => Ok(self.row(procedure).begin),
+            Target::ToParameter(procedure, parameter) => Ok(self.parameter(procedure, parameter)),
+            Target::ToValue(procedure) => Ok(self.row(procedure).value),
+            Target::ToEnd(procedure) => Ok(self.row(procedure).end),
+            Target::ToThrown(procedure, exception) => Ok(self.thrown(procedure, exception)),
+            Target::ToLoop(procedure, number) => {
+                let row = self.row(procedure);
+                Ok(Atom::Unknown(plus(row.loops, number as usize)?))
+            }
+        }
+    }
+}

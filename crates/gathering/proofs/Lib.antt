@@ -1,0 +1,15 @@
+pub mod Ends
+pub mod Atoms
+pub mod Reached
+pub mod Closed
+pub mod Fed
+pub mod Stands
+pub mod Meanings
+pub mod Programs
+pub mod Faultless
+pub mod Ranged
+pub mod RangedPrograms
+pub mod Renaming
+pub mod Numbers
+pub mod Small
+pub mod Counted

@@ -1,0 +1,173 @@
+-- There are meanings for the inner unknowns: in their order, what each stands for.
+use Rattle.std.proofs.Common.{◌≡◌, refl, ap, ◌∙◌, subst, ℕ, zero, suc, ◌+◌, length, length-append, Bool, true, false, List, [], ◌∷◌, ◌++◌, ◌||◌, arith}
+use Rattle.std.specs.Prelude.{if◌then◌else◌, ◌==◌}
+use Rattle.resolved.specs.declared.statement.Exit.TheVariants.{Normal, Continue, Throw}
+use Rattle.resolved.specs.declared.target.Target.TheVariants.{ToLoop}
+use Rattle.resolved.specs.Tree.{Statement, Assign, Clear, Store, Receive, Send, Call, If, While, Leave, ReturnWith, Try, Nested, Block, Empty, Then, Handlers, NoMore, Catch}
+use Rattle.resolved.specs.Ends.{handles}
+use Rattle.resolved.specs.Labelled.{Scope, Join, one, label_of, value_label, raise_label, raise_labels, ExitLabels, statement_exits, block_exits}
+use Rattle.gathering.specs.Walk.{handler_count, handler_number, made_by_statement, made_by_block, made_by_handlers}
+use Rattle.gathering.proofs.Reached.{Agrees, AgreesIn, AgreesBy}
+
+abbrev pub handled_at : ExitLabels → Handlers → List Join
+handled_at x NoMore = []
+handled_at x (Catch at handled body rest) = x (Throw handled) ∷ handled_at x rest
+
+abbrev pub nth : List Join → ℕ → Join
+nth [] k = []
+nth (j ∷ js) zero = j
+nth (j ∷ js) (suc k) = nth js k
+
+module _ (m : ℕ → Join) where
+  abbrev pub Starts : ℕ → List Join → Type 0
+  Starts n [] = Unit {0}
+  Starts n (j ∷ js) = (m n ≡ j) × Starts (suc n) js
+
+  pub starts-left : (n : ℕ) (xs ys : List Join) → Starts n (xs ++ ys) → Starts n xs
+  starts-left n [] ys h = tt
+  starts-left n (x ∷ xs) ys h = (h.0, starts-left (suc n) xs ys h.1)
+
+  pub starts-right : (n : ℕ) (xs ys : List Join) → Starts n (xs ++ ys) → Starts (n + length xs) ys
+  starts-right n [] ys h = let e : n ≡ n + 0 = omega arith in subst (λ k. Starts k ys) e h
+  starts-right n (x ∷ xs) ys h =
+      let e : suc n + length xs ≡ n + suc (length xs) = omega arith in subst (λ k. Starts k ys) e (starts-right (suc n) xs ys h.1)
+
+  pub starts-where : (js : List Join) (n : ℕ) → ((i : ℕ) → m (n + i) ≡ nth js i) → Starts n js
+  starts-where [] n each = tt
+  starts-where (j ∷ js) n each =
+      let e : n + 0 ≡ n = omega arith in (
+        subst (λ k. m k ≡ j) e (each 0),
+        starts-where js (suc n) (λ i. let f : n + suc i ≡ suc n + i = omega arith in subst (λ k. m k ≡ nth js i) f (each (suc i))),
+      )
+
+module _ (scope : Scope) where
+  abbrev mutual
+    pub meanings : (pc : Join) → Statement → List Join
+    meanings pc (Assign at x e) = []
+    meanings pc (Clear at slot) = []
+    meanings pc (Store at array length index e) = []
+    meanings pc (Receive at channel target) = []
+    meanings pc (Send at channel e) = []
+    meanings pc (Call at procedure arguments target) = (pc ++ raise_labels scope arguments) ∷ []
+    meanings pc (If at e yes_block no_block) =
+        let branch : Join = (pc ++ raise_label scope e) ++ value_label scope e in
+        branch ∷ (meanings_in branch yes_block ++ meanings_in branch no_block)
+    meanings pc (While at loop e body) =
+        let b : Join = (one (label_of scope.program (ToLoop scope.number loop)) ++ raise_label scope e) ++ value_label scope e in
+        b ∷ ((block_exits scope b body Normal ++ block_exits scope b body Continue) ∷ meanings_in b body)
+    meanings pc (Leave at exit) = []
+    meanings pc (ReturnWith at value) = []
+    meanings pc (Try at block handlers) =
+        let x : ExitLabels = block_exits scope pc block in
+        handled_at x handlers ++ (meanings_in pc block ++ meanings_by x handlers)
+    meanings pc (Nested at block) = meanings_in pc block
+
+    pub meanings_in : (pc : Join) → Block → List Join
+    meanings_in pc Empty = []
+    meanings_in pc (Then statement rest) =
+        statement_exits scope pc statement Normal ∷ (meanings pc statement ++ meanings_in (statement_exits scope pc statement Normal) rest)
+
+    pub meanings_by : ExitLabels → Handlers → List Join
+    meanings_by x NoMore = []
+    meanings_by x (Catch at handled body rest) = meanings_in (x (Throw handled)) body ++ meanings_by x rest
+
+  pub handled-count : (handlers : Handlers) (x : ExitLabels) → length (handled_at x handlers) ≡ handler_count handlers
+  handled-count NoMore x = refl
+  handled-count (Catch at handled body rest) x = ap suc (handled-count rest x)
+
+  mutual
+    pub meanings-made : (s : Statement) (pc : Join) → length (meanings pc s) ≡ made_by_statement s
+    meanings-made (Assign at x e) pc = refl
+    meanings-made (Clear at slot) pc = refl
+    meanings-made (Store at array len index e) pc = refl
+    meanings-made (Receive at channel target) pc = refl
+    meanings-made (Send at channel e) pc = refl
+    meanings-made (Call at procedure arguments target) pc = refl
+    meanings-made (If at e yes_block no_block) pc =
+        let branch : Join = (pc ++ raise_label scope e) ++ value_label scope e in
+        ap suc (length-append (meanings_in branch yes_block) (meanings_in branch no_block)
+        ∙ ap (λ k. k + length (meanings_in branch no_block)) (meanings_in-made yes_block branch) ∙ ap (λ k. made_by_block yes_block + k) (meanings_in-made no_block branch))
+    meanings-made (While at loop e body) pc =
+        ap (λ k. suc (suc k)) (meanings_in-made body ((one (label_of scope.program (ToLoop scope.number loop)) ++ raise_label scope e) ++ value_label scope e))
+    meanings-made (Leave at exit) pc = refl
+    meanings-made (ReturnWith at value) pc = refl
+    meanings-made (Try at block handlers) pc =
+        let x : ExitLabels = block_exits scope pc block in
+        length-append (handled_at x handlers) (meanings_in pc block ++ meanings_by x handlers)
+        ∙ ap (λ k. k + length (meanings_in pc block ++ meanings_by x handlers)) (handled-count handlers x)
+        ∙ ap (λ k. handler_count handlers + k) (length-append (meanings_in pc block) (meanings_by x handlers)
+        ∙ ap (λ k. k + length (meanings_by x handlers)) (meanings_in-made block pc) ∙ ap (λ k. made_by_block block + k) (meanings_by-made handlers x))
+    meanings-made (Nested at block) pc = meanings_in-made block pc
+
+    pub meanings_in-made : (block : Block) (pc : Join) → length (meanings_in pc block) ≡ made_by_block block
+    meanings_in-made Empty pc = refl
+    meanings_in-made (Then s rest) pc =
+        ap suc (length-append (meanings pc s) (meanings_in (statement_exits scope pc s Normal) rest)
+        ∙ ap (λ k. k + length (meanings_in (statement_exits scope pc s Normal) rest)) (meanings-made s pc)
+        ∙ ap (λ k. made_by_statement s + k) (meanings_in-made rest (statement_exits scope pc s Normal)))
+
+    meanings_by-made : (handlers : Handlers) (x : ExitLabels) → length (meanings_by x handlers) ≡ made_by_handlers handlers
+    meanings_by-made NoMore x = refl
+    meanings_by-made (Catch at handled body rest) x =
+        length-append (meanings_in (x (Throw handled)) body) (meanings_by x rest)
+        ∙ ap (λ k. k + length (meanings_by x rest)) (meanings_in-made body (x (Throw handled))) ∙ ap (λ k. made_by_block body + k) (meanings_by-made rest x)
+
+  module _ (m : ℕ → Join) where
+    handled-named : (handlers : Handlers) (x : ExitLabels) (n : ℕ) → Starts m n (handled_at x handlers) → (y : ℕ) → handles handlers y ≡ true → m (handler_number handlers n y) ≡ x (Throw y)
+    handled-named NoMore x n h y is = let i : false ≡ true = is in absurd (cc)
+    handled-named (Catch at handled body rest) x n h y is = go (y == handled) refl is (handled-named rest x (suc n) h.1 y)
+      where
+        go : (b : Bool) → (y == handled) ≡ b → (b || handles rest y) ≡ true → (handles rest y ≡ true → m (handler_number rest (suc n) y) ≡ x (Throw y)) →
+            m (if b then n else handler_number rest (suc n) y) ≡ x (Throw y)
+        go true e k next = let same : handled ≡ y = grind (arith, e) in h.0 ∙ ap (λ z. x (Throw z)) same
+        go false e k next = next k
+
+    mutual
+      agrees-from : (s : Statement) (n : ℕ) (pc : Join) → Starts m n (meanings pc s) → Agrees scope m n pc s
+      agrees-from (Assign at x e) n pc h = tt
+      agrees-from (Clear at slot) n pc h = tt
+      agrees-from (Store at array len index e) n pc h = tt
+      agrees-from (Receive at channel target) n pc h = tt
+      agrees-from (Send at channel e) n pc h = tt
+      agrees-from (Call at procedure arguments target) n pc h = h.0
+      agrees-from (If at e yes_block no_block) n pc h =
+          let branch : Join = (pc ++ raise_label scope e) ++ value_label scope e in (
+            h.0,
+            agrees_in-from yes_block (suc n) branch (starts-left m (suc n) (meanings_in branch yes_block) (meanings_in branch no_block) h.1),
+            agrees_in-from no_block (suc n + made_by_block yes_block) branch (subst (λ k. Starts m (suc n + k) (meanings_in branch no_block)) (meanings_in-made yes_block branch)
+                (starts-right m (suc n) (meanings_in branch yes_block) (meanings_in branch no_block) h.1)),
+          )
+      agrees-from (While at loop e body) n pc h =
+          (h.0, h.1.0, agrees_in-from body (suc (suc n)) ((one (label_of scope.program (ToLoop scope.number loop)) ++ raise_label scope e) ++ value_label scope e) h.1.1)
+      agrees-from (Leave at exit) n pc h = tt
+      agrees-from (ReturnWith at value) n pc h = tt
+      agrees-from (Try at block handlers) n pc h =
+          let x : ExitLabels = block_exits scope pc block in
+          let after : Starts m (n + handler_count handlers) (meanings_in pc block ++ meanings_by x handlers) =
+          subst (λ k. Starts m (n + k) (meanings_in pc block ++ meanings_by x handlers)) (handled-count handlers x)
+          (starts-right m n (handled_at x handlers) (meanings_in pc block ++ meanings_by x handlers) h) in (
+            handled-named handlers x n (starts-left m n (handled_at x handlers) (meanings_in pc block ++ meanings_by x handlers) h),
+            agrees_in-from block (n + handler_count handlers) pc (starts-left m (n + handler_count handlers) (meanings_in pc block) (meanings_by x handlers) after),
+            agrees_by-from handlers ((n + handler_count handlers) + made_by_block block) x (subst (λ k. Starts m ((n + handler_count handlers) + k) (meanings_by x handlers)) (meanings_in-made block pc)
+                (starts-right m (n + handler_count handlers) (meanings_in pc block) (meanings_by x handlers) after)),
+          )
+      agrees-from (Nested at block) n pc h = agrees_in-from block n pc h
+
+      pub agrees_in-from : (block : Block) (n : ℕ) (pc : Join) → Starts m n (meanings_in pc block) → AgreesIn scope m n pc block
+      agrees_in-from Empty n pc h = tt
+      agrees_in-from (Then s rest) n pc h =
+          let after : Join = statement_exits scope pc s Normal in (
+            h.0,
+            agrees-from s (suc n) pc (starts-left m (suc n) (meanings pc s) (meanings_in after rest) h.1),
+            agrees_in-from rest (suc n + made_by_statement s) after (subst (λ k. Starts m (suc n + k) (meanings_in after rest)) (meanings-made s pc)
+                (starts-right m (suc n) (meanings pc s) (meanings_in after rest) h.1)),
+          )
+
+      agrees_by-from : (handlers : Handlers) (n : ℕ) (x : ExitLabels) → Starts m n (meanings_by x handlers) → AgreesBy scope m n x handlers
+      agrees_by-from NoMore n x h = tt
+      agrees_by-from (Catch at handled body rest) n x h =
+          let own : List Join = meanings_in (x (Throw handled)) body in (
+            agrees_in-from body n (x (Throw handled)) (starts-left m n own (meanings_by x rest) h),
+            agrees_by-from rest (n + made_by_block body) x (subst (λ k. Starts m (n + k) (meanings_by x rest)) (meanings_in-made body (x (Throw handled)))
+                (starts-right m n own (meanings_by x rest) h)),
+          )

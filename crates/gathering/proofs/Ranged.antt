@@ -1,0 +1,479 @@
+-- What is gathered of a well-formed program has unknowns that are in range: labels of its locals and loops, and inner unknowns
+-- that were made.
+use Rattle.std.proofs.Common.{◌≡◌, refl, subst, ℕ, zero, suc, ◌+◌, ◌<◌, ◌≤◌, length, Bool, true, false, ◌&&◌, ◌||◌, List, [], ◌∷◌, ◌++◌, ⊎_elim, arith}
+use Rattle.std.specs.Prelude.{Contains, Option, Some, None, if◌then◌else◌, ◌==◌, slice_get}
+use Rattle.std.proofs.lemmas.Bool.{and_parts, or_left, or_right, eq-eqb}
+use Rattle.std.proofs.lemmas.List.Elements.{Contains-append_cases, Contains-append_left, Contains-append_right}
+use Rattle.principals.proofs.Closure.{none_in_nil, Contains-cons_cases, Contains-later, Contains-first}
+use Rattle.labels.specs.Label.{Label}
+use Rattle.labels.specs.Constraints.{Written, Unknown, renamed}
+use Rattle.resolved.specs.declared.expression.Base.{Base}
+use Rattle.resolved.specs.declared.expression.Base.TheVariants.{Int, Boolean}
+use Rattle.resolved.specs.declared.expression.Variable.{Variable}
+use Rattle.resolved.specs.declared.expression.Variable.TheVariants.{Global, Local}
+use Rattle.resolved.specs.declared.statement.Exit.{Exit}
+use Rattle.resolved.specs.declared.statement.Exit.TheVariants.{Normal, Return, Break, Continue, Throw}
+use Rattle.resolved.specs.declared.target.Target.{Target}
+use Rattle.resolved.specs.declared.target.Target.TheVariants.{ToVariable, ToChannel, ToBegin, ToParameter, ToValue, ToEnd, ToThrown, ToLoop}
+use Rattle.resolved.specs.Tree.{Expression, Integer, Logical, Read, Element, Unary, Binary, Short, Statement, Assign, Clear, Store, Receive, Send, Call, If, While, Leave, ReturnWith, Try, Nested, Block, Empty, Then, Handlers, NoMore, Catch}
+use Rattle.resolved.specs.Program.{Program, ProcedureEntry, SlotEntry, ResultEntry, ThrownEntry, procedure_at, slot_at}
+use Rattle.resolved.specs.Value.{end_exception}
+use Rattle.resolved.specs.Ends.{has_end, one_end, index_can_raise, index_raises, handles, raises, thrown_ends, statement_ends, block_ends}
+use Rattle.resolved.specs.Labelled.{OfLocal, OfLoop, Scope, Join, LabelAtom, one, label_of, written_or, variable_label, value_label, label_if, any_of}
+use Rattle.resolved.specs.WellFormed.{VariableType, slot_type, variable_type, scalar_by, array_by, has_base, has_result, target_by, parameters_of, arguments_match, call_matches, is_array, same_base, prefix_base, operand_base, result_base, statement_fits, block_fits, handlers_fit, is_exception, statement_loops, block_loops, handlers_loops}
+use Rattle.gathering.specs.Names.{Real, Inner, NamedAtom, NamedConstraint, named_atoms, IsUnwrittenOf}
+use Rattle.gathering.specs.Walk.{inner_atom, rule_constraint, target_constraint, inner_constraint, Takers, nowhere, with_normal, in_loop, handler_count, handler_number, in_try, at_end, thrown_number, declares, flow, flows, raised_once, raised_flows, single, within_single, by_ends, onward_way, raise_atoms, raise_atoms_all, store_atoms, call_atoms, made_by_statement, made_by_block, made_by_handlers, argument_constraints, call_flows, call_ends, call_constraints, statement_constraints, block_constraints, handlers_constraints}
+use Rattle.gathering.proofs.Atoms.{Sub, raise-value, atoms-below}
+
+-- ---- what is there
+abbrev There : Option VariableType → Type 0
+There None = ⊥
+There (Some type) = Unit {0}
+
+scalar-there : (o : Option VariableType) (test : Base → Bool) → scalar_by o test ≡ true → There o
+scalar-there None test h = let i : false ≡ true = h in absurd (cc)
+scalar-there (Some type) test h = tt
+
+array-there : (o : Option VariableType) (len : ℕ) (test : Base → Bool) → array_by o len test ≡ true → There o
+array-there None len test h = let i : false ≡ true = h in absurd (cc)
+array-there (Some type) len test h = tt
+
+is_array-there : (o : Option VariableType) → is_array o ≡ true → There o
+is_array-there None h = let i : false ≡ true = h in absurd (cc)
+is_array-there (Some type) h = tt
+
+slot-there : (slots : List SlotEntry) (n : ℕ) → There (slot_type (slice_get slots n)) → n < length slots
+slot-there [] n h = absurd h
+slot-there (s ∷ ss) zero h = omega arith
+slot-there (s ∷ ss) (suc n) h = let i : n < length ss = slot-there ss n h in omega (arith, i)
+
+-- a test on the base type of an expression that is given by a test on its target
+scalar-some : (o : Option VariableType) (test : Base → Bool) → scalar_by o test ≡ true → (base : Base) × (test base ≡ true)
+scalar-some None test h = let i : false ≡ true = h in absurd (cc)
+scalar-some (Some type) test h = (type.base, (and_parts _ (test type.base) h).1)
+
+array-some : (o : Option VariableType) (len : ℕ) (test : Base → Bool) → array_by o len test ≡ true → (base : Base) × (test base ≡ true)
+array-some None len test h = let i : false ≡ true = h in absurd (cc)
+array-some (Some type) len test h = (type.base, (and_parts _ (test type.base) h).1)
+
+result-some : (o : Option ResultEntry) (test : Base → Bool) → has_result o test ≡ true → (base : Base) × (test base ≡ true)
+result-some None test h = let i : false ≡ true = h in absurd (cc)
+result-some (Some entry) test h = (entry.base, h)
+
+module _ (program : Program) (bound : ℕ) where
+  abbrev pub InRange : NamedAtom → Type 0
+  InRange (Written v) = Unit {0}
+  InRange (Unknown (Real u)) = IsUnwrittenOf program u
+  InRange (Unknown (Inner k)) = k < bound
+
+  abbrev pub AllInRange : List NamedAtom → Type 0
+  AllInRange xs = (a : NamedAtom) → Contains xs a → InRange a
+
+  abbrev pub Ranged : List NamedConstraint → Type 0
+  Ranged cs = (c : NamedConstraint) → Contains cs c → AllInRange c.left × InRange c.right
+
+  abbrev pub JoinInRange : Join → Type 0
+  JoinInRange j = (a : LabelAtom) → Contains j a → InRange (renamed Real a)
+
+  abbrev pub TakersInRange : Takers → Type 0
+  TakersInRange takers = (e : Exit) (k : ℕ) → takers e ≡ Some k → k < bound
+
+  pub join-nil : JoinInRange []
+  join-nil a h = absurd (none_in_nil a h)
+
+  pub join-one : (a : LabelAtom) → InRange (renamed Real a) → JoinInRange (one a)
+  join-one a ok b h = ⊎_elim (λ same. subst (λ z. InRange (renamed Real z)) same ok) (λ t. absurd (none_in_nil b t)) (Contains-cons_cases a [] b h)
+
+  pub join-append : (x y : Join) → JoinInRange x → JoinInRange y → JoinInRange (x ++ y)
+  join-append x y f g a h = ⊎_elim (λ t. f a t) (λ t. g a t) (Contains-append_cases x y a h)
+
+  pub join-sub : (x y : Join) → JoinInRange y → Sub x y → JoinInRange x
+  join-sub x y f s a h = f a (s a h)
+
+  pub atoms-nil : AllInRange []
+  atoms-nil a h = absurd (none_in_nil a h)
+
+  pub atoms-cons : (p : NamedAtom) (rest : List NamedAtom) → InRange p → AllInRange rest → AllInRange (p ∷ rest)
+  atoms-cons p rest ok f a h = ⊎_elim (λ same. subst InRange same ok) (λ t. f a t) (Contains-cons_cases p rest a h)
+
+  pub atoms-named : (j : Join) → JoinInRange j → AllInRange (named_atoms j)
+  atoms-named [] f = atoms-nil
+  atoms-named (a ∷ rest) f =
+      atoms-cons (renamed Real a) (named_atoms rest) (f a (Contains-first a rest)) (atoms-named rest (λ b h. f b (Contains-later a rest b h)))
+
+  pub way-atoms : (p : NamedAtom) (j : Join) → InRange p → JoinInRange j → AllInRange (p ∷ named_atoms j)
+  way-atoms p j ok f = atoms-cons p (named_atoms j) ok (atoms-named j f)
+
+  pub alone : (p : NamedAtom) → InRange p → AllInRange (p ∷ [])
+  alone p ok = atoms-cons p [] ok atoms-nil
+
+  pub ranged-nil : Ranged []
+  ranged-nil c h = absurd (none_in_nil c h)
+
+  pub ranged-append : (xs ys : List NamedConstraint) → Ranged xs → Ranged ys → Ranged (xs ++ ys)
+  ranged-append xs ys f g c h = ⊎_elim (λ t. f c t) (λ t. g c t) (Contains-append_cases xs ys c h)
+
+  pub ranged-one : (c : NamedConstraint) → AllInRange c.left → InRange c.right → Ranged (c ∷ [])
+  ranged-one c f ok d h =
+      ⊎_elim (λ same. subst (λ (z : NamedConstraint). AllInRange z.left × InRange z.right) same (f, ok)) (λ t. absurd (none_in_nil d t)) (Contains-cons_cases c [] d h)
+
+  pub ranged-inner : (left : List NamedAtom) (k : ℕ) → AllInRange left → k < bound → Ranged (inner_constraint left k)
+  ranged-inner left k f ok = ranged-one _ f ok
+
+  pub ranged-flow : (left : List NamedAtom) (o : Option ℕ) → AllInRange left → ((k : ℕ) → o ≡ Some k → k < bound) → Ranged (flow left o)
+  ranged-flow left None f ok = ranged-nil
+  ranged-flow left (Some k) f ok = ranged-inner left k f (ok k refl)
+
+  pub ranged-flows : (left : List NamedAtom) (takers : Takers) (ends : List Exit) → AllInRange left → TakersInRange takers → Ranged (flows left takers ends)
+  ranged-flows left takers [] f ok = ranged-nil
+  ranged-flows left takers (e ∷ rest) f ok =
+      ranged-append (flow left (takers e)) (flows left takers rest) (ranged-flow left (takers e) f (ok e)) (ranged-flows left takers rest f ok)
+
+  pub ranged-raised : (q : List NamedAtom) (takers : Takers) (raised : List ℕ) → AllInRange q → TakersInRange takers → Ranged (raised_flows q takers raised)
+  ranged-raised q takers raised f ok = ranged-flows q takers (thrown_ends (raised_once raised)) f ok
+
+  pub ranged-own : (q : List NamedAtom) (takers : Takers) (first : Exit) (raised : List ℕ) → AllInRange q → TakersInRange takers → Ranged (flow q (takers first) ++ raised_flows q takers raised)
+  ranged-own q takers first raised f ok =
+      ranged-append (flow q (takers first)) (raised_flows q takers raised) (ranged-flow q (takers first) f (ok first)) (ranged-raised q takers raised f ok)
+
+  pub ranged-single : (b : Bool) (p : NamedAtom) (takers : Takers) (ends : List Exit) → InRange p → TakersInRange takers → Ranged (single b p takers ends)
+  ranged-single false p takers ends ok fit = ranged-nil
+  ranged-single true p takers [] ok fit = ranged-nil
+  ranged-single true p takers (e ∷ rest) ok fit = ranged-flow (p ∷ []) (takers e) (alone p ok) (fit e)
+
+  -- takers
+  pub nowhere-fits : TakersInRange nowhere
+  nowhere-fits e k is = let i : None ≡ Some k = is in absurd (cc)
+
+  pub within-fits : (b : Bool) (takers : Takers) → TakersInRange takers → TakersInRange (within_single b takers)
+  within-fits true takers fit = nowhere-fits
+  within-fits false takers fit = fit
+
+  pub normal-fits : (o : Option ℕ) (takers : Takers) → ((k : ℕ) → o ≡ Some k → k < bound) → TakersInRange takers → TakersInRange (with_normal o takers)
+  normal-fits o takers f fit Normal k is = f k is
+  normal-fits o takers f fit Return k is = fit Return k is
+  normal-fits o takers f fit Break k is = fit Break k is
+  normal-fits o takers f fit Continue k is = fit Continue k is
+  normal-fits o takers f fit (Throw x) k is = fit (Throw x) k is
+
+  pub same-number : (n k : ℕ) → n < bound → Some n ≡ Some k → k < bound
+  same-number n k h is = let same : n ≡ k = cc in subst (λ z. z < bound) same h
+
+  pub loop-fits : (back : ℕ) (takers : Takers) → back < bound → TakersInRange takers → TakersInRange (in_loop back takers)
+  loop-fits back takers h fit Normal k is = same-number back k h is
+  loop-fits back takers h fit Return k is = fit Return k is
+  loop-fits back takers h fit Break k is = fit Normal k is
+  loop-fits back takers h fit Continue k is = same-number back k h is
+  loop-fits back takers h fit (Throw x) k is = fit (Throw x) k is
+
+  pub try-fits : (number : ℕ → ℕ) (handlers : Handlers) (takers : Takers) → ((x : ℕ) → handles handlers x ≡ true → number x < bound) → TakersInRange takers → TakersInRange (in_try number handlers takers)
+  try-fits number handlers takers f fit Normal k is = fit Normal k is
+  try-fits number handlers takers f fit Return k is = fit Return k is
+  try-fits number handlers takers f fit Break k is = fit Break k is
+  try-fits number handlers takers f fit Continue k is = fit Continue k is
+  try-fits number handlers takers f fit (Throw x) k is = go (handles handlers x) refl is
+    where
+      go : (b : Bool) → handles handlers x ≡ b → (if b then Some (number x) else takers (Throw x)) ≡ Some k → k < bound
+      go true h is = same-number (number x) k (f x h) is
+      go false h is = fit (Throw x) k is
+
+  pub handler-number : (handlers : Handlers) (n x : ℕ) → handles handlers x ≡ true → handler_number handlers n x < n + handler_count handlers
+  handler-number NoMore n x h = let i : false ≡ true = h in absurd (cc)
+  handler-number (Catch at handled body rest) n x h = go (x == handled) refl h (handler-number rest (suc n) x)
+    where
+      go : (b : Bool) → (x == handled) ≡ b → (b || handles rest x) ≡ true → (handles rest x ≡ true → handler_number rest (suc n) x < suc n + handler_count rest) →
+          (if b then n else handler_number rest (suc n) x) < n + suc (handler_count rest)
+      go true e k next = omega arith
+      go false e k next = let i : handler_number rest (suc n) x < suc n + handler_count rest = next k in omega (arith, i)
+
+  pub thrown-inside : (throws : List ThrownEntry) (n x : ℕ) → declares throws x ≡ true → thrown_number throws n x < n + length throws
+  thrown-inside [] n x h = let i : false ≡ true = h in absurd (cc)
+  thrown-inside (entry ∷ rest) n x h = go (x == entry.exception) refl h (thrown-inside rest (suc n) x)
+    where
+      go : (b : Bool) → (x == entry.exception) ≡ b → (b || declares rest x) ≡ true → (declares rest x ≡ true → thrown_number rest (suc n) x < suc n + length rest) →
+          (if b then n else thrown_number rest (suc n) x) < n + suc (length rest)
+      go true e k next = omega arith
+      go false e k next = let i : thrown_number rest (suc n) x < suc n + length rest = next k in omega (arith, i)
+
+  pub end-fits : (throws : List ThrownEntry) (n : ℕ) → suc n + length throws ≤ bound → TakersInRange (at_end n throws)
+  end-fits throws n h Normal k is = same-number n k (omega (arith, h)) is
+  end-fits throws n h Return k is = same-number n k (omega (arith, h)) is
+  end-fits throws n h Break k is = let i : None ≡ Some k = is in absurd (cc)
+  end-fits throws n h Continue k is = let i : None ≡ Some k = is in absurd (cc)
+  end-fits throws n h (Throw x) k is = go (declares throws x) refl is
+    where
+      go : (b : Bool) → declares throws x ≡ b → (if b then Some (thrown_number throws (suc n) x) else None) ≡ Some k → k < bound
+      go true e is =
+          let i : thrown_number throws (suc n) x < suc n + length throws = thrown-inside throws (suc n) x e in
+          same-number (thrown_number throws (suc n) x) k (omega (arith, h, i)) is
+      go false e is = let i : None ≡ Some k = is in absurd (cc)
+
+  module _ (f : ℕ) (there : f < length program.procedures) where
+    abbrev pub own_scope : Scope
+    own_scope = record { program = program; number = f }
+
+    abbrev pub own : ProcedureEntry
+    own = procedure_at program f
+
+    pub slot-ok : (o : Option Label) (n : ℕ) → n < length own.slots → InRange (renamed Real (written_or o (OfLocal f n)))
+    slot-ok None n h = (there, h)
+    slot-ok (Some label) n h = tt
+
+    pub variable-ok : (x : Variable) → There (variable_type program own x) → InRange (renamed Real (label_of program (ToVariable f x)))
+    variable-ok (Global n) h = tt
+    variable-ok (Local n) h = slot-ok (slot_at own n).written n (slot-there own.slots n h)
+
+    pub value-ok : (base : Base) (e : Expression) → has_base program own base e ≡ true → JoinInRange (value_label own_scope e)
+    value-ok base (Integer n) h = join-nil
+    value-ok base (Logical b) h = join-nil
+    value-ok base (Read x) h =
+        join-one (label_of program (ToVariable f x)) (variable-ok x (scalar-there (variable_type program own x) (same_base base) h))
+    value-ok base (Element array len index) h =
+        let parts = and_parts (array_by (variable_type program own array) len (same_base base)) (has_base program own Int index) h in
+        join-append (variable_label own_scope array) (value_label own_scope index)
+        (join-one (label_of program (ToVariable f array)) (variable-ok array (array-there (variable_type program own array) len (same_base base) parts.0))) (value-ok Int index parts.1)
+    value-ok base (Unary prefix e) h =
+        value-ok (prefix_base prefix) e (and_parts (same_base (prefix_base prefix) base) (has_base program own (prefix_base prefix) e) h).1
+    value-ok base (Binary operator d e) h =
+        let outer = and_parts (same_base (result_base operator) base && has_base program own (operand_base operator) d) (has_base program own (operand_base operator) e) h in
+        let inner = and_parts (same_base (result_base operator) base) (has_base program own (operand_base operator) d) outer.0 in
+        join-append (value_label own_scope d) (value_label own_scope e) (value-ok (operand_base operator) d inner.1) (value-ok (operand_base operator) e outer.1)
+    value-ok base (Short connective d e) h =
+        let outer = and_parts (same_base Boolean base && has_base program own Boolean d) (has_base program own Boolean e) h in
+        let inner = and_parts (same_base Boolean base) (has_base program own Boolean d) outer.0 in
+        join-append (value_label own_scope d) (value_label own_scope e) (value-ok Boolean d inner.1) (value-ok Boolean e outer.1)
+
+    pub raise-ok : (e : Expression) → JoinInRange (value_label own_scope e) → JoinInRange (raise_atoms own_scope e)
+    raise-ok e ok = join-sub (raise_atoms own_scope e) (value_label own_scope e) ok (λ a h. raise-value own_scope e a (atoms-below own_scope e a h))
+
+    pub if-ok : (b : Bool) (x y : Join) → JoinInRange x → JoinInRange y → JoinInRange (if b then x else y)
+    if-ok true x y h k = h
+    if-ok false x y h k = k
+
+    pub ranged-rule : (at rule : ℕ) (left : List NamedAtom) (target : Target) → AllInRange left → InRange (renamed Real (label_of program target)) → Ranged (rule_constraint own_scope at rule left target)
+    ranged-rule at rule left target h ok = ranged-one _ h ok
+
+    pub ranged-target : (at rule : ℕ) (left : List NamedAtom) (target : Option Variable) (test : Base → Bool) → AllInRange left → target_by program own target test ≡ true → Ranged (target_constraint own_scope at rule left target)
+    ranged-target at rule left None test h fits = ranged-nil
+    ranged-target at rule left (Some x) test h fits = ranged-rule at rule left (ToVariable f x) h (variable-ok x (scalar-there (variable_type program own x) test fits))
+
+    -- a statement with one demand, and its ends
+    pub ranged-demanding : (at rule : ℕ) (p : NamedAtom) (left q : Join) (target : Target) (takers : Takers) (first : Exit) (raised : List ℕ) → InRange p → JoinInRange left → JoinInRange q →
+        InRange (renamed Real (label_of program target)) → TakersInRange takers →
+        Ranged (rule_constraint own_scope at rule (p ∷ named_atoms left) target ++ (flow (p ∷ named_atoms q) (takers first) ++ raised_flows (p ∷ named_atoms q) takers raised))
+    ranged-demanding at rule p left q target takers first raised ok left_ok q_ok target_ok fit =
+        ranged-append (rule_constraint own_scope at rule (p ∷ named_atoms left) target) (flow (p ∷ named_atoms q) (takers first) ++ raised_flows (p ∷ named_atoms q) takers raised)
+        (ranged-rule at rule (p ∷ named_atoms left) target (way-atoms p left ok left_ok) target_ok)
+        (ranged-own (p ∷ named_atoms q) takers first raised (way-atoms p q ok q_ok) fit)
+
+    -- calls
+    pub call_atoms-ok : (callee : ℕ) (e : Exit) → JoinInRange (call_atoms program callee e)
+    call_atoms-ok callee Normal = go (any_of (procedure_at program callee).throws)
+      where
+        go : (b : Bool) → JoinInRange (label_if b (one (label_of program (ToEnd callee))))
+        go true = join-one (label_of program (ToEnd callee)) tt
+        go false = join-nil
+    call_atoms-ok callee Return = join-nil
+    call_atoms-ok callee Break = join-nil
+    call_atoms-ok callee Continue = join-nil
+    call_atoms-ok callee (Throw x) = join-one (label_of program (ToThrown callee x)) tt
+
+    pub ranged-call_flows : (callee n : ℕ) (takers : Takers) (ends : List Exit) → n < bound → TakersInRange takers → Ranged (call_flows program callee n takers ends)
+    ranged-call_flows callee n takers [] h fit = ranged-nil
+    ranged-call_flows callee n takers (e ∷ rest) h fit =
+        let left : List NamedAtom = inner_atom n ∷ named_atoms (call_atoms program callee e) in
+        ranged-append (flow left (takers e)) (call_flows program callee n takers rest)
+        (ranged-flow left (takers e) (way-atoms (inner_atom n) (call_atoms program callee e) h (call_atoms-ok callee e)) (fit e)) (ranged-call_flows callee n takers rest h fit)
+
+    pub ranged-arguments : (at n callee i : ℕ) (parameters : List SlotEntry) (es : List Expression) → n < bound → arguments_match program own parameters es ≡ true →
+        Ranged (argument_constraints own_scope at n callee i es) × JoinInRange (raise_atoms_all own_scope es)
+    ranged-arguments at n callee i parameters [] h fits = (ranged-nil, join-nil)
+    ranged-arguments at n callee i [] (e ∷ rest) h fits = let i : false ≡ true = fits in absurd (cc)
+    ranged-arguments at n callee i (parameter ∷ parameters) (e ∷ rest) h fits =
+        let parts = and_parts (has_base program own parameter.base e) (arguments_match program own parameters rest) fits in
+        let v : JoinInRange (value_label own_scope e) = value-ok parameter.base e parts.0 in
+        let more : Ranged (argument_constraints own_scope at n callee (suc i) rest) × JoinInRange (raise_atoms_all own_scope rest) = ranged-arguments at n callee (suc i) parameters rest h parts.1 in
+        let left : List NamedAtom = inner_atom n ∷ named_atoms (value_label own_scope e) in (
+          ranged-append (rule_constraint own_scope at 6 left (ToParameter callee i)) (argument_constraints own_scope at n callee (suc i) rest)
+              (ranged-rule at 6 left (ToParameter callee i) (way-atoms (inner_atom n) (value_label own_scope e) h v) tt) more.0,
+          join-append (raise_atoms own_scope e) (raise_atoms_all own_scope rest) (raise-ok e v) more.1,
+        )
+
+    pub ranged-call : (o : Option ProcedureEntry) (at callee n : ℕ) (arguments : List Expression) (target : Option Variable) (p : NamedAtom) (takers : Takers) →
+        call_matches program own o arguments target ≡ true → InRange p → TakersInRange takers → n < bound → Ranged (call_constraints own_scope p takers n at callee arguments target)
+    ranged-call None at callee n arguments target p takers fits ok fit h = let i : false ≡ true = fits in absurd (cc)
+    ranged-call (Some entry) at callee n arguments target p takers fits ok fit h =
+        let parts = and_parts (arguments_match program own (parameters_of entry) arguments) (target_by program own target (λ base. has_result entry.result (same_base base))) fits in
+        let passed : Ranged (argument_constraints own_scope at n callee 0 arguments) × JoinInRange (raise_atoms_all own_scope arguments) = ranged-arguments at n callee 0 (parameters_of entry) arguments h parts.0 in
+        let x : Join = call_atoms program callee Normal in
+        let v : Join = one (label_of program (ToValue callee)) in
+        let way : NamedAtom = inner_atom n in
+        let entered : List NamedConstraint = inner_constraint (p ∷ named_atoms (raise_atoms_all own_scope arguments)) n in
+        let first : List NamedConstraint = rule_constraint own_scope at 6 (way ∷ []) (ToBegin callee) in
+        let second : List NamedConstraint = argument_constraints own_scope at n callee 0 arguments in
+        let third : List NamedConstraint = target_constraint own_scope at 6 (way ∷ named_atoms (x ++ v)) target in
+        let fourth : List NamedConstraint = call_flows program callee n takers (call_ends program callee arguments) in
+        ranged-append entered (first ++ (second ++ (third ++ fourth)))
+        (ranged-inner (p ∷ named_atoms (raise_atoms_all own_scope arguments)) n (way-atoms p (raise_atoms_all own_scope arguments) ok passed.1) h)
+        (ranged-append first (second ++ (third ++ fourth)) (ranged-rule at 6 (way ∷ []) (ToBegin callee) (alone way h) tt)
+        (ranged-append second (third ++ fourth) passed.0
+        (ranged-append third fourth
+        (ranged-target at 6 (way ∷ named_atoms (x ++ v)) target (λ base. has_result entry.result (same_base base))
+        (way-atoms way (x ++ v) h (join-append x v (call_atoms-ok callee Normal) (join-one (label_of program (ToValue callee)) tt))) parts.1)
+        (ranged-call_flows callee n takers (call_ends program callee arguments) h fit))))
+
+    -- a block of its own
+    pub ranged-by_ends : (ends : List Exit) (p : NamedAtom) (takers : Takers) (walked : Takers → List NamedConstraint) → InRange p → TakersInRange takers →
+        ((t : Takers) → TakersInRange t → Ranged (walked t)) → Ranged (by_ends ends p takers walked)
+    ranged-by_ends ends p takers walked ok fit each =
+        ranged-append (single (one_end ends) p takers ends) (walked (within_single (one_end ends) takers))
+        (ranged-single (one_end ends) p takers ends ok fit) (each (within_single (one_end ends) takers) (within-fits (one_end ends) takers fit))
+
+    abbrev pub LoopsFit : List ℕ → Type 0
+    LoopsFit xs = (l : ℕ) → Contains xs l → l < own.loops
+
+    pub loops-left : (xs ys : List ℕ) → LoopsFit (xs ++ ys) → LoopsFit xs
+    loops-left xs ys h l i = h l (Contains-append_left xs ys l i)
+
+    pub loops-right : (xs ys : List ℕ) → LoopsFit (xs ++ ys) → LoopsFit ys
+    loops-right xs ys h l i = h l (Contains-append_right xs ys l i)
+
+    pub onward-ok : (b : Bool) (p : NamedAtom) (n : ℕ) → InRange p → n < bound → InRange (onward_way b p n)
+    onward-ok true p n ok h = ok
+    onward-ok false p n ok h = h
+
+    mutual
+      pub ranged-statement : (s : Statement) (p : NamedAtom) (takers : Takers) (n : ℕ) → statement_fits program own s ≡ true → LoopsFit (statement_loops s) → InRange p → TakersInRange takers →
+          n + made_by_statement s ≤ bound → Ranged (statement_constraints own_scope p takers n s)
+      ranged-statement (Assign at x e) p takers n fits loops ok fit h =
+          let base = scalar-some (variable_type program own x) (λ base. has_base program own base e) fits in
+          let v : JoinInRange (value_label own_scope e) = value-ok base.0 e base.1 in
+          ranged-demanding at 1 p (value_label own_scope e) (raise_atoms own_scope e) (ToVariable f x) takers Normal (raises e) ok v (raise-ok e v)
+          (variable-ok x (scalar-there (variable_type program own x) (λ base. has_base program own base e) fits)) fit
+      ranged-statement (Clear at slot) p takers n fits loops ok fit h =
+          ranged-append (rule_constraint own_scope at 2 (p ∷ []) (ToVariable f (Local slot))) (flow (p ∷ []) (takers Normal))
+          (ranged-rule at 2 (p ∷ []) (ToVariable f (Local slot)) (alone p ok) (variable-ok (Local slot) (is_array-there (variable_type program own (Local slot)) fits)))
+          (ranged-flow (p ∷ []) (takers Normal) (alone p ok) (fit Normal))
+      ranged-statement (Store at array len index e) p takers n fits loops ok fit h =
+          let parts = and_parts (array_by (variable_type program own array) len (λ base. has_base program own base e)) (has_base program own Int index) fits in
+          let base = array-some (variable_type program own array) len (λ base. has_base program own base e) parts.0 in
+          let v : JoinInRange (value_label own_scope e) = value-ok base.0 e base.1 in
+          let i : JoinInRange (value_label own_scope index) = value-ok Int index parts.1 in
+          ranged-demanding at 3 p (value_label own_scope index ++ value_label own_scope e) (store_atoms own_scope len index e) (ToVariable f array) takers Normal (raises index ++ raises e ++ index_raises index len) ok
+          (join-append (value_label own_scope index) (value_label own_scope e) i v)
+          (join-append (if index_can_raise index len then value_label own_scope index else raise_atoms own_scope index) (raise_atoms own_scope e)
+          (if-ok (index_can_raise index len) (value_label own_scope index) (raise_atoms own_scope index) i (raise-ok index i)) (raise-ok e v))
+          (variable-ok array (array-there (variable_type program own array) len (λ base. has_base program own base e) parts.0)) fit
+      ranged-statement (Receive at channel target) p takers n fits loops ok fit h =
+          let label : Join = one (label_of program (ToChannel channel)) in
+          let q : List NamedAtom = p ∷ named_atoms label in
+          let q_ok : AllInRange q = way-atoms p label ok (join-one (label_of program (ToChannel channel)) tt) in
+          let out : List NamedConstraint = flow q (takers Normal) ++ flow q (takers (Throw end_exception)) in
+          ranged-append (rule_constraint own_scope at 4 (p ∷ []) (ToChannel channel)) (target_constraint own_scope at 4 q target ++ out)
+          (ranged-rule at 4 (p ∷ []) (ToChannel channel) (alone p ok) tt)
+          (ranged-append (target_constraint own_scope at 4 q target) out
+          (ranged-target at 4 q target (same_base Int) q_ok (and_parts _ (target_by program own target (same_base Int)) fits).1)
+          (ranged-append (flow q (takers Normal)) (flow q (takers (Throw end_exception)))
+          (ranged-flow q (takers Normal) q_ok (fit Normal)) (ranged-flow q (takers (Throw end_exception)) q_ok (fit (Throw end_exception)))))
+      ranged-statement (Send at channel e) p takers n fits loops ok fit h =
+          let v : JoinInRange (value_label own_scope e) = value-ok Int e (and_parts _ (has_base program own Int e) fits).1 in
+          ranged-demanding at 5 p (value_label own_scope e) (raise_atoms own_scope e) (ToChannel channel) takers Normal (raises e) ok v (raise-ok e v) tt fit
+      ranged-statement (Call at callee arguments target) p takers n fits loops ok fit h =
+          ranged-call (slice_get program.procedures callee) at callee n arguments target p takers fits ok fit (omega (arith, h))
+      ranged-statement (If at e yes_block no_block) p takers n fits loops ok fit h =
+          let outer = and_parts (has_base program own Boolean e && block_fits program own yes_block) (block_fits program own no_block) fits in
+          let inner = and_parts (has_base program own Boolean e) (block_fits program own yes_block) outer.0 in
+          let v : JoinInRange (value_label own_scope e) = value-ok Boolean e inner.0 in
+          let way : NamedAtom = inner_atom n in
+          let made : n < bound = omega (arith, h) in
+          let first : List NamedConstraint = inner_constraint (p ∷ named_atoms (value_label own_scope e)) n in
+          let second : List NamedConstraint = raised_flows (p ∷ named_atoms (raise_atoms own_scope e)) takers (raises e) in
+          let third : List NamedConstraint = by_ends (block_ends program yes_block) way takers (λ t. block_constraints own_scope true way t (suc n) yes_block) in
+          let fourth : List NamedConstraint = by_ends (block_ends program no_block) way takers (λ t. block_constraints own_scope true way t (suc n + made_by_block yes_block) no_block) in
+          ranged-append first (second ++ (third ++ fourth))
+          (ranged-inner (p ∷ named_atoms (value_label own_scope e)) n (way-atoms p (value_label own_scope e) ok v) made)
+          (ranged-append second (third ++ fourth)
+          (ranged-raised (p ∷ named_atoms (raise_atoms own_scope e)) takers (raises e) (way-atoms p (raise_atoms own_scope e) ok (raise-ok e v)) fit)
+          (ranged-append third fourth
+          (ranged-by_ends (block_ends program yes_block) way takers (λ t. block_constraints own_scope true way t (suc n) yes_block) made fit
+          (λ t k. ranged-block yes_block true way t (suc n) inner.1 (loops-left (block_loops yes_block) (block_loops no_block) loops) made k (omega (arith, h))))
+          (ranged-by_ends (block_ends program no_block) way takers (λ t. block_constraints own_scope true way t (suc n + made_by_block yes_block) no_block) made fit
+          (λ t k. ranged-block no_block true way t (suc n + made_by_block yes_block) outer.1 (loops-right (block_loops yes_block) (block_loops no_block) loops) made k (omega (arith, h))))))
+      ranged-statement (While at loop e body) p takers n fits loops ok fit h =
+          let parts = and_parts (has_base program own Boolean e) (block_fits program own body) fits in
+          let v : JoinInRange (value_label own_scope e) = value-ok Boolean e parts.0 in
+          let turn : NamedAtom = Unknown (Real (OfLoop f loop)) in
+          let turn_ok : InRange turn = (there, loops loop (Contains-first loop (block_loops body))) in
+          let way : NamedAtom = inner_atom n in
+          let made : n < bound = omega (arith, h) in
+          let back : suc n < bound = omega (arith, h) in
+          let first : List NamedConstraint = rule_constraint own_scope at 8 (p ∷ []) (ToLoop f loop) in
+          let entry : List NamedConstraint = inner_constraint (turn ∷ named_atoms (value_label own_scope e)) n in
+          let out : List NamedConstraint = flow (way ∷ []) (takers Normal) in
+          let raising : List NamedConstraint = raised_flows (turn ∷ named_atoms (raise_atoms own_scope e)) takers (raises e) in
+          let third : List NamedConstraint = by_ends (block_ends program body) way (in_loop (suc n) takers) (λ t. block_constraints own_scope true way t (suc (suc n)) body) in
+          let fourth : List NamedConstraint = rule_constraint own_scope at 8 (inner_atom (suc n) ∷ []) (ToLoop f loop) in
+          ranged-append first (entry ++ (out ++ (raising ++ (third ++ fourth)))) (ranged-rule at 8 (p ∷ []) (ToLoop f loop) (alone p ok) turn_ok)
+          (ranged-append entry (out ++ (raising ++ (third ++ fourth)))
+          (ranged-inner (turn ∷ named_atoms (value_label own_scope e)) n (way-atoms turn (value_label own_scope e) turn_ok v) made)
+          (ranged-append out (raising ++ (third ++ fourth)) (ranged-flow (way ∷ []) (takers Normal) (alone way made) (fit Normal))
+          (ranged-append raising (third ++ fourth)
+          (ranged-raised (turn ∷ named_atoms (raise_atoms own_scope e)) takers (raises e) (way-atoms turn (raise_atoms own_scope e) turn_ok (raise-ok e v)) fit)
+          (ranged-append third fourth
+          (ranged-by_ends (block_ends program body) way (in_loop (suc n) takers) (λ t. block_constraints own_scope true way t (suc (suc n)) body) made (loop-fits (suc n) takers back fit)
+          (λ t k. ranged-block body true way t (suc (suc n)) parts.1 (λ l i. loops l (Contains-later loop (block_loops body) l i)) made k (omega (arith, h))))
+          (ranged-rule at 8 (inner_atom (suc n) ∷ []) (ToLoop f loop) (alone (inner_atom (suc n)) back) turn_ok)))))
+      ranged-statement (Leave at exit) p takers n fits loops ok fit h = ranged-flow (p ∷ []) (takers exit) (alone p ok) (fit exit)
+      ranged-statement (ReturnWith at (Some e)) p takers n fits loops ok fit h =
+          let base = result-some own.result (λ base. has_base program own base e) fits in
+          let v : JoinInRange (value_label own_scope e) = value-ok base.0 e base.1 in
+          ranged-demanding at 10 p (value_label own_scope e) (raise_atoms own_scope e) (ToValue f) takers Return (raises e) ok v (raise-ok e v) tt fit
+      ranged-statement (ReturnWith at None) p takers n fits loops ok fit h = ranged-flow (p ∷ []) (takers Return) (alone p ok) (fit Return)
+      ranged-statement (Try at block handlers) p takers n fits loops ok fit h =
+          let parts = and_parts (block_fits program own block) (handlers_fit program own handlers) fits in
+          let number : ℕ → ℕ = λ x. handler_number handlers n x in
+          let numbers : (x : ℕ) → handles handlers x ≡ true → number x < bound =
+          λ x k. let i : handler_number handlers n x < n + handler_count handlers = handler-number handlers n x k in omega (arith, h, i) in
+          let first : List NamedConstraint = by_ends (block_ends program block) p (in_try number handlers takers) (λ t. block_constraints own_scope true p t (n + handler_count handlers) block) in
+          ranged-append first (handlers_constraints own_scope number takers ((n + handler_count handlers) + made_by_block block) handlers)
+          (ranged-by_ends (block_ends program block) p (in_try number handlers takers) (λ t. block_constraints own_scope true p t (n + handler_count handlers) block) ok (try-fits number handlers takers numbers fit)
+          (λ t k. ranged-block block true p t (n + handler_count handlers) parts.0 (loops-left (block_loops block) (handlers_loops handlers) loops) ok k (omega (arith, h))))
+          (ranged-handlers handlers number takers ((n + handler_count handlers) + made_by_block block) parts.1 (loops-right (block_loops block) (handlers_loops handlers) loops) numbers fit (omega (arith, h)))
+      ranged-statement (Nested at block) p takers n fits loops ok fit h =
+          ranged-by_ends (block_ends program block) p takers (λ t. block_constraints own_scope true p t n block) ok fit
+          (λ t k. ranged-block block true p t n fits loops ok k h)
+
+      pub ranged-block : (block : Block) (reached : Bool) (p : NamedAtom) (takers : Takers) (n : ℕ) → block_fits program own block ≡ true → LoopsFit (block_loops block) → InRange p → TakersInRange takers →
+          n + made_by_block block ≤ bound → Ranged (block_constraints own_scope reached p takers n block)
+      ranged-block Empty true p takers n fits loops ok fit h = ranged-flow (p ∷ []) (takers Normal) (alone p ok) (fit Normal)
+      ranged-block Empty false p takers n fits loops ok fit h = ranged-nil
+      ranged-block (Then s rest) reached p takers n fits loops ok fit h =
+          let parts = and_parts (statement_fits program own s) (block_fits program own rest) fits in
+          let ends : List Exit = statement_ends program s in
+          let made : n < bound = omega (arith, h) in
+          let inside : Takers = with_normal (Some n) takers in
+          let first : List NamedConstraint = single (one_end ends) p (with_normal None takers) ends in
+          let second : List NamedConstraint = statement_constraints own_scope p (within_single (one_end ends) inside) (suc n) s in
+          let third : List NamedConstraint = block_constraints own_scope (has_end ends Normal) (onward_way (one_end ends) p n) takers (suc n + made_by_statement s) rest in
+          ranged-append first (second ++ third)
+          (ranged-single (one_end ends) p (with_normal None takers) ends ok (normal-fits None takers (λ k is. let i : None ≡ Some k = is in absurd (cc)) fit))
+          (ranged-append second third
+          (ranged-statement s p (within_single (one_end ends) inside) (suc n) parts.0 (loops-left (statement_loops s) (block_loops rest) loops) ok
+          (within-fits (one_end ends) inside (normal-fits (Some n) takers (λ k is. same-number n k made is) fit)) (omega (arith, h)))
+          (ranged-block rest (has_end ends Normal) (onward_way (one_end ends) p n) takers (suc n + made_by_statement s) parts.1 (loops-right (statement_loops s) (block_loops rest) loops)
+          (onward-ok (one_end ends) p n ok made) fit (omega (arith, h))))
+
+      pub ranged-handlers : (handlers : Handlers) (number : ℕ → ℕ) (takers : Takers) (n : ℕ) → handlers_fit program own handlers ≡ true → LoopsFit (handlers_loops handlers) →
+          ((x : ℕ) → handles handlers x ≡ true → number x < bound) → TakersInRange takers → n + made_by_handlers handlers ≤ bound → Ranged (handlers_constraints own_scope number takers n handlers)
+      ranged-handlers NoMore number takers n fits loops numbers fit h = ranged-nil
+      ranged-handlers (Catch at handled body rest) number takers n fits loops numbers fit h =
+          let outer = and_parts (is_exception program handled && block_fits program own body) (handlers_fit program own rest) fits in
+          let inner = and_parts (is_exception program handled) (block_fits program own body) outer.0 in
+          let p : NamedAtom = inner_atom (number handled) in
+          let ok : number handled < bound = numbers handled (or_left (handled == handled) (handles rest handled) (eq-eqb handled handled refl)) in
+          let first : List NamedConstraint = by_ends (block_ends program body) p takers (λ t. block_constraints own_scope true p t n body) in
+          ranged-append first (handlers_constraints own_scope number takers (n + made_by_block body) rest)
+          (ranged-by_ends (block_ends program body) p takers (λ t. block_constraints own_scope true p t n body) ok fit
+          (λ t k. ranged-block body true p t n inner.1 (loops-left (block_loops body) (handlers_loops rest) loops) ok k (omega (arith, h))))
+          (ranged-handlers rest number takers (n + made_by_block body) outer.1 (loops-right (block_loops body) (handlers_loops rest) loops)
+          (λ x i. numbers x (or_right (x == handled) (handles rest x) i)) fit (omega (arith, h)))

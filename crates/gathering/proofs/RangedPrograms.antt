@@ -1,0 +1,98 @@
+-- What is gathered of a well-formed program has unknowns that are in range.
+use Rattle.std.proofs.Common.{◌≡◌, refl, sym, ◌∙◌, ℕ, suc, ◌+◌, ◌<◌, ◌≤◌, length, Bool, true, false, List, [], ◌∷◌, ◌++◌, ⊎_elim, arith}
+use Rattle.std.specs.Prelude.{Contains, if◌then◌else◌, ◌==◌, IsTrue}
+use Rattle.std.proofs.lemmas.Bool.{and_parts, or_left, or_right, eq-eqb}
+use Rattle.std.proofs.lemmas.Option.{slice_get-get_or}
+use Rattle.principals.proofs.Closure.{none_in_nil, Contains-cons_cases}
+use Rattle.labels.specs.Constraints.{renamed}
+use Rattle.resolved.specs.declared.target.Target.TheVariants.{ToBegin, ToEnd, ToThrown}
+use Rattle.resolved.specs.Program.{Program, ProcedureEntry, ThrownEntry, procedure_at}
+use Rattle.resolved.specs.Ends.{block_ends}
+use Rattle.resolved.specs.Labelled.{Scope, label_of}
+use Rattle.resolved.specs.WellFormed.{counts_from, block_loops, well_formed}
+use Rattle.resolved.proofs.Parts.{ProcedureParts, procedure_there}
+use Rattle.gathering.specs.Names.{Real, NamedAtom, NamedConstraint}
+use Rattle.gathering.specs.Walk.{inner_atom, rule_constraint, nowhere, thrown_number, declares, at_end, ends_one_way, end_takers, inner_block, block_constraints, thrown_constraints, end_constraints, procedure_constraints, made_by_procedure, constraints_from, program_constraints, made_from}
+use Rattle.gathering.proofs.Ranged.{Ranged, TakersInRange, nowhere-fits, end-fits, alone, ranged-nil, ranged-append, thrown-inside, own_scope, own, ranged-rule, ranged-by_ends, ranged-block}
+
+-- numbers that count up from n
+counts-below : (xs : List ℕ) (n : ℕ) → counts_from n xs ≡ true → (l : ℕ) → Contains xs l → l < n + length xs
+counts-below [] n h l there = absurd (none_in_nil l there)
+counts-below (m ∷ rest) n h l there =
+    let parts = and_parts (m == n) (counts_from (suc n) rest) h in
+    let first : m ≡ n = grind (arith, parts.0) in
+    ⊎_elim
+    (λ same. let i : l ≡ n = sym same ∙ first in omega (arith, i))
+    (λ t. let i : l < suc n + length rest = counts-below rest (suc n) parts.1 l t in omega (arith, i))
+    (Contains-cons_cases m rest l there)
+
+loops-fit : (program : Program) (procedure : ProcedureEntry) → ProcedureParts program procedure → (l : ℕ) → Contains (block_loops procedure.body) l → l < procedure.loops
+loops-fit program procedure parts l there =
+    let i : l < 0 + length (block_loops procedure.body) = counts-below (block_loops procedure.body) 0 parts.loops_count_up l there in
+    let same : length (block_loops procedure.body) ≡ procedure.loops = grind (arith, parts.loops_are_all) in
+    omega (arith, i, same)
+
+module _ (program : Program) (bound : ℕ) where
+  module _ (f : ℕ) (there : f < length program.procedures) where
+    ranged-thrown : (number : ℕ → ℕ) (throws : List ThrownEntry) → ((x : ℕ) → declares throws x ≡ true → number x < bound) →
+        Ranged program bound (thrown_constraints (own_scope program bound f there) number throws)
+    ranged-thrown number [] h = ranged-nil program bound
+    ranged-thrown number (entry ∷ rest) h =
+        let x : ℕ = entry.exception in
+        ranged-append program bound (rule_constraint (own_scope program bound f there) (own program bound f there).at 13 (inner_atom (number x) ∷ []) (ToThrown f x)) (thrown_constraints (own_scope program bound f there) number rest)
+        (ranged-rule program bound f there (own program bound f there).at 13 (inner_atom (number x) ∷ []) (ToThrown f x)
+        (alone program bound (inner_atom (number x)) (h x (or_left (x == x) (declares rest x) (eq-eqb x x refl)))) tt)
+        (ranged-thrown number rest (λ y k. h y (or_right (y == x) (declares rest y) k)))
+
+    ranged-ends : (n : ℕ) → suc n + length (own program bound f there).throws ≤ bound → Ranged program bound (end_constraints (own_scope program bound f there) n)
+    ranged-ends n h = go (ends_one_way (own_scope program bound f there))
+      where
+        throws : List ThrownEntry
+        throws = (own program bound f there).throws
+
+        first : List NamedConstraint
+        first = rule_constraint (own_scope program bound f there) (own program bound f there).at 13 (inner_atom n ∷ []) (ToEnd f)
+
+        go : (b : Bool) → Ranged program bound (if b then [] else (first ++ thrown_constraints (own_scope program bound f there) (λ x. thrown_number throws (suc n) x) throws))
+        go true = ranged-nil program bound
+        go false =
+            ranged-append program bound first (thrown_constraints (own_scope program bound f there) (λ x. thrown_number throws (suc n) x) throws)
+            (ranged-rule program bound f there (own program bound f there).at 13 (inner_atom n ∷ []) (ToEnd f) (alone program bound (inner_atom n) (omega (arith, h))) tt)
+            (ranged-thrown (λ x. thrown_number throws (suc n) x) throws
+            (λ x k. let i : thrown_number throws (suc n) x < suc n + length throws = thrown-inside program bound throws (suc n) x k in omega (arith, h, i)))
+
+    end_takers-fit : (n : ℕ) → suc n + length (own program bound f there).throws ≤ bound → TakersInRange program bound (end_takers (own_scope program bound f there) n)
+    end_takers-fit n h = go (ends_one_way (own_scope program bound f there))
+      where
+        go : (b : Bool) → TakersInRange program bound (if b then nowhere else at_end n (own program bound f there).throws)
+        go true = nowhere-fits program bound
+        go false = end-fits program bound (own program bound f there).throws n h
+
+    ranged-procedure : (n : ℕ) → ProcedureParts program (own program bound f there) → n + made_by_procedure (own_scope program bound f there) ≤ bound →
+        Ranged program bound (procedure_constraints (own_scope program bound f there) n)
+    ranged-procedure n parts h =
+        let scope : Scope = own_scope program bound f there in
+        let procedure : ProcedureEntry = own program bound f there in
+        let way : NamedAtom = renamed Real (label_of program (ToBegin f)) in
+        let m : ℕ = suc n + length procedure.throws in
+        let ended : m ≤ bound = omega (arith, h) in
+        ranged-append program bound (inner_block scope way (end_takers scope n) m procedure.body) (end_constraints scope n)
+        (ranged-by_ends program bound f there (block_ends program procedure.body) way (end_takers scope n) (λ t. block_constraints scope true way t m procedure.body) tt (end_takers-fit n ended)
+        (λ t k. ranged-block program bound f there procedure.body true way t m parts.body_fits (loops-fit program procedure parts) tt k (omega (arith, h))))
+        (ranged-ends n ended)
+
+  ranged-from : (ps : List ProcedureEntry) (f n : ℕ) → ((g : ℕ) → g < length program.procedures → ProcedureParts program (procedure_at program g)) → f + length ps ≤ length program.procedures →
+      n + made_from program f ps ≤ bound → Ranged program bound (constraints_from program f n ps)
+  ranged-from [] f n fits inside h = ranged-nil program bound
+  ranged-from (p ∷ ps) f n fits inside h =
+      let there : f < length program.procedures = omega (arith, inside) in
+      let scope : Scope = own_scope program bound f there in
+      ranged-append program bound (procedure_constraints scope n) (constraints_from program (suc f) (n + made_by_procedure scope) ps)
+      (ranged-procedure f there n (fits f there) (omega (arith, h)))
+      (ranged-from ps (suc f) (n + made_by_procedure scope) fits (omega (arith, inside)) (omega (arith, h)))
+
+pub ranged-program : (program : Program) → IsTrue (well_formed program) → Ranged program (made_from program 0 program.procedures) (program_constraints program)
+ranged-program program formed =
+    ranged-from program (made_from program 0 program.procedures) program.procedures 0 0
+    (λ g there. procedure_there program formed g (procedure_at program g) (slice_get-get_or program.procedures g _ there))
+    (omega arith) (omega arith)

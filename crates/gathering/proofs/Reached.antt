@@ -1,0 +1,71 @@
+-- Programs of which each statement is reached, and what the inner unknowns stand for in them.
+use Rattle.std.proofs.Common.{◌≡◌, ℕ, suc, ◌+◌, true, ◌++◌}
+use Rattle.resolved.specs.declared.statement.Exit.TheVariants.{Normal, Continue, Throw}
+use Rattle.resolved.specs.declared.target.Target.TheVariants.{ToLoop}
+use Rattle.resolved.specs.Tree.{Statement, Assign, Clear, Store, Receive, Send, Call, If, While, Leave, ReturnWith, Try, Nested, Block, Empty, Then, Handlers, NoMore, Catch}
+use Rattle.resolved.specs.Program.{Program}
+use Rattle.resolved.specs.Ends.{has_end, handles, statement_ends}
+use Rattle.resolved.specs.Labelled.{Scope, Join, one, label_of, value_label, raise_label, raise_labels, ExitLabels, statement_exits, block_exits}
+use Rattle.gathering.specs.Walk.{handler_count, handler_number, made_by_statement, made_by_block}
+
+-- each statement is reached: the one before it can end normally
+abbrev pub Goes : Program → Statement → Block → Type 0
+Goes program statement Empty = Unit {0}
+Goes program statement (Then next rest) = has_end (statement_ends program statement) Normal ≡ true
+
+abbrev mutual
+  pub Part : Program → Statement → Type 0
+  Part program (Assign at x e) = Unit {0}
+  Part program (Clear at slot) = Unit {0}
+  Part program (Store at array length index e) = Unit {0}
+  Part program (Receive at channel target) = Unit {0}
+  Part program (Send at channel e) = Unit {0}
+  Part program (Call at procedure arguments target) = Unit {0}
+  Part program (If at e yes_block no_block) = PartIn program yes_block × PartIn program no_block
+  Part program (While at loop e body) = PartIn program body
+  Part program (Leave at exit) = Unit {0}
+  Part program (ReturnWith at value) = Unit {0}
+  Part program (Try at block handlers) = PartIn program block × PartBy program handlers
+  Part program (Nested at block) = PartIn program block
+
+  pub PartIn : Program → Block → Type 0
+  PartIn program Empty = Unit {0}
+  PartIn program (Then statement rest) = Part program statement × Goes program statement rest × PartIn program rest
+
+  pub PartBy : Program → Handlers → Type 0
+  PartBy program NoMore = Unit {0}
+  PartBy program (Catch at handled body rest) = PartIn program body × PartBy program rest
+
+-- ---- what an inner unknown stands for, and that the gathering keeps it
+module _ (scope : Scope) (m : ℕ → Join) where
+  abbrev mutual
+    pub Agrees : (n : ℕ) → (pc : Join) → Statement → Type 0
+    Agrees n pc (Assign at x e) = Unit {0}
+    Agrees n pc (Clear at slot) = Unit {0}
+    Agrees n pc (Store at array length index e) = Unit {0}
+    Agrees n pc (Receive at channel target) = Unit {0}
+    Agrees n pc (Send at channel e) = Unit {0}
+    Agrees n pc (Call at procedure arguments target) = m n ≡ (pc ++ raise_labels scope arguments)
+    Agrees n pc (If at e yes_block no_block) =
+        let branch : Join = (pc ++ raise_label scope e) ++ value_label scope e in
+        (m n ≡ branch) × AgreesIn (suc n) branch yes_block × AgreesIn (suc n + made_by_block yes_block) branch no_block
+    Agrees n pc (While at loop e body) =
+        let b : Join = (one (label_of scope.program (ToLoop scope.number loop)) ++ raise_label scope e) ++ value_label scope e in
+        (m n ≡ b) × (m (suc n) ≡ (block_exits scope b body Normal ++ block_exits scope b body Continue)) × AgreesIn (suc (suc n)) b body
+    Agrees n pc (Leave at exit) = Unit {0}
+    Agrees n pc (ReturnWith at value) = Unit {0}
+    Agrees n pc (Try at block handlers) =
+        let x : ExitLabels = block_exits scope pc block in
+        ((y : ℕ) → handles handlers y ≡ true → m (handler_number handlers n y) ≡ x (Throw y))
+        × AgreesIn (n + handler_count handlers) pc block × AgreesBy ((n + handler_count handlers) + made_by_block block) x handlers
+    Agrees n pc (Nested at block) = AgreesIn n pc block
+
+    pub AgreesIn : (n : ℕ) → (pc : Join) → Block → Type 0
+    AgreesIn n pc Empty = Unit {0}
+    AgreesIn n pc (Then statement rest) =
+        (m n ≡ statement_exits scope pc statement Normal) × Agrees (suc n) pc statement
+        × AgreesIn (suc n + made_by_statement statement) (statement_exits scope pc statement Normal) rest
+
+    pub AgreesBy : (n : ℕ) → ExitLabels → Handlers → Type 0
+    AgreesBy n x NoMore = Unit {0}
+    AgreesBy n x (Catch at handled body rest) = AgreesIn n (x (Throw handled)) body × AgreesBy (n + made_by_block body) x rest

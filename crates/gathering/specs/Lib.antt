@@ -1,0 +1,3 @@
+pub mod Names
+pub mod Walk
+pub mod Size

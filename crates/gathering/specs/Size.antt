@@ -1,0 +1,37 @@
+-- How large constraints are, and how many exceptions the callees of a program declare, each as often as it is called.
+-- Source: our own.
+use Rattle.std.specs.Prelude.{ℕ, suc, ◌+◌, List, [], ◌∷◌, length, sum_by}
+use Rattle.labels.specs.Constraints.{Constraint}
+use Rattle.resolved.specs.Tree.{Statement, Assign, Clear, Store, Receive, Send, Call, If, While, Leave, ReturnWith, Try, Nested, Block, Empty, Then, Handlers, NoMore, Catch}
+use Rattle.resolved.specs.Program.{Program, ProcedureEntry, procedure_at}
+
+-- each counts one, and one for each part of its left side
+abbrev pub size_of : {N U V : Type 0} → List (Constraint N U V) → ℕ
+size_of [] = 0
+size_of (c ∷ rest) = suc (length c.left) + size_of rest
+
+abbrev mutual
+  pub declared_at : Program → Statement → ℕ
+  declared_at program (Assign at x e) = 0
+  declared_at program (Clear at slot) = 0
+  declared_at program (Store at array len index e) = 0
+  declared_at program (Receive at channel target) = 0
+  declared_at program (Send at channel e) = 0
+  declared_at program (Call at callee arguments target) = length (procedure_at program callee).throws
+  declared_at program (If at e yes_block no_block) = declared_in program yes_block + declared_in program no_block
+  declared_at program (While at loop e body) = declared_in program body
+  declared_at program (Leave at exit) = 0
+  declared_at program (ReturnWith at value) = 0
+  declared_at program (Try at block handlers) = declared_in program block + declared_under program handlers
+  declared_at program (Nested at block) = declared_in program block
+
+  pub declared_in : Program → Block → ℕ
+  declared_in program Empty = 0
+  declared_in program (Then statement rest) = declared_at program statement + declared_in program rest
+
+  pub declared_under : Program → Handlers → ℕ
+  declared_under program NoMore = 0
+  declared_under program (Catch at handled body rest) = declared_in program body + declared_under program rest
+
+abbrev pub declared_at_calls : Program → ℕ
+declared_at_calls program = sum_by (λ (procedure : ProcedureEntry). declared_in program procedure.body) program.procedures

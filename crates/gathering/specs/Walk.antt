@@ -1,0 +1,344 @@
+-- The gathering of a program's demands by a walk along its tree, in a size in proportion to the tree (and, for a call, to the
+-- exceptions that its callee declares). The way to a statement is one atom: an inner unknown where the way has grown. Each end
+-- that matters has a taker, an inner unknown that was made where the end is caught, and what an end is reached at flows to its
+-- taker. Inner unknowns have numbers from n on, in the order in which the walk comes to what makes them.
+-- Source: our own.
+use Rattle.std.specs.Prelude.{ℕ, suc, ◌+◌, ◌<◌, List, [], ◌∷◌, ◌++◌, Bool, true, false, map, filter, length, ◌==◌, ◌&&◌, ◌||◌, if◌then◌else◌, Option, Some, None, Contains}
+use Rattle.std.specs.List.{list_any}
+use Rattle.labels.specs.Label.{Label}
+use Rattle.labels.specs.Constraints.{Atom, Written, Unknown, renamed}
+use Rattle.resolved.specs.declared.expression.Variable.{Variable}
+use Rattle.resolved.specs.declared.expression.Variable.TheVariants.{Local}
+use Rattle.resolved.specs.declared.statement.Exit.{Exit}
+use Rattle.resolved.specs.declared.statement.Exit.TheVariants.{Normal, Return, Break, Continue, Throw}
+use Rattle.resolved.specs.declared.target.Target.{Target}
+use Rattle.resolved.specs.declared.target.Target.TheVariants.{ToVariable, ToChannel, ToBegin, ToParameter, ToValue, ToEnd, ToThrown, ToLoop}
+use Rattle.resolved.specs.Tree.{Expression, Integer, Logical, Read, Element, Unary, Binary, Short, Statement, Assign, Clear, Store, Receive, Send, Call, If, While, Leave, ReturnWith, Try, Nested, Block, Empty, Then, Handlers, NoMore, Catch}
+use Rattle.resolved.specs.Program.{Program, ProcedureEntry, ThrownEntry, procedure_at}
+use Rattle.resolved.specs.Value.{arith_exception, bounds_exception, end_exception}
+use Rattle.resolved.specs.Ends.{has_end, one_end, index_can_raise, divisor_can_raise, is_division, index_raises, raises, raises_all, thrown_ends, declared_by, handles, statement_ends, block_ends}
+use Rattle.resolved.specs.Labelled.{Scope, here, Join, one, label_of, value_label, label_if, any_of, as_one_end}
+use Rattle.resolved.specs.Flow.{Gathered}
+use Rattle.gathering.specs.Names.{Inner, Real, NamedAtom, NamedConstraint, named_atoms, numbered, real_unknowns}
+
+-- ---- constraints
+abbrev pub inner_atom : ℕ → NamedAtom
+inner_atom k = Unknown (Inner k)
+
+-- one that stands for a demand
+abbrev pub rule_constraint : Scope → (at rule : ℕ) → List NamedAtom → Target → List NamedConstraint
+rule_constraint scope at rule left target =
+    record { at = at; rule = rule; left = left; target = Some target; right = renamed Real (label_of scope.program target) } ∷ []
+
+abbrev pub target_constraint : Scope → (at rule : ℕ) → List NamedAtom → Option Variable → List NamedConstraint
+target_constraint scope at rule left None = []
+target_constraint scope at rule left (Some x) = rule_constraint scope at rule left (ToVariable scope.number x)
+
+-- an inner one
+abbrev pub inner_constraint : List NamedAtom → ℕ → List NamedConstraint
+inner_constraint left k = record { at = 0; rule = 0; left = left; target = None; right = inner_atom k } ∷ []
+
+-- ---- takers: where the label of each end flows, if anywhere
+abbrev pub Takers : Type 0
+Takers = Exit → Option ℕ
+
+abbrev pub nowhere : Takers
+nowhere exit = None
+
+abbrev pub with_normal : Option ℕ → Takers → Takers
+with_normal normal takers Normal = normal
+with_normal normal takers Return = takers Return
+with_normal normal takers Break = takers Break
+with_normal normal takers Continue = takers Continue
+with_normal normal takers (Throw x) = takers (Throw x)
+
+-- in the body of a loop: what goes back to its condition, and what leaves it
+abbrev pub in_loop : (back : ℕ) → Takers → Takers
+in_loop back takers Normal = Some back
+in_loop back takers Return = takers Return
+in_loop back takers Break = takers Normal
+in_loop back takers Continue = Some back
+in_loop back takers (Throw x) = takers (Throw x)
+
+-- handlers take their exceptions, the first that handles one for all that do; they have the numbers from n on
+abbrev pub handler_count : Handlers → ℕ
+handler_count NoMore = 0
+handler_count (Catch at handled body rest) = suc (handler_count rest)
+
+abbrev pub handler_number : Handlers → ℕ → (exception : ℕ) → ℕ
+handler_number NoMore n x = n
+handler_number (Catch at handled body rest) n x = if x == handled then n else handler_number rest (suc n) x
+
+abbrev pub in_try : (number : ℕ → ℕ) → Handlers → Takers → Takers
+in_try number handlers takers Normal = takers Normal
+in_try number handlers takers Return = takers Return
+in_try number handlers takers Break = takers Break
+in_try number handlers takers Continue = takers Continue
+in_try number handlers takers (Throw x) = if handles handlers x then Some (number x) else takers (Throw x)
+
+-- the exceptions that a procedure declares have the numbers from n on, the first that names one for all that do
+abbrev pub thrown_number : List ThrownEntry → ℕ → (exception : ℕ) → ℕ
+thrown_number [] n x = n
+thrown_number (entry ∷ rest) n x = if x == entry.exception then n else thrown_number rest (suc n) x
+
+abbrev pub declares : List ThrownEntry → (exception : ℕ) → Bool
+declares [] x = false
+declares (entry ∷ rest) x = (x == entry.exception) || declares rest x
+
+-- the ends of a procedure with number n, and with its declared exceptions from there on
+abbrev pub at_end : ℕ → List ThrownEntry → Takers
+at_end n throws Normal = Some n
+at_end n throws Return = Some n
+at_end n throws Break = None
+at_end n throws Continue = None
+at_end n throws (Throw x) = if declares throws x then Some (thrown_number throws (suc n) x) else None
+
+-- ---- flows to takers
+abbrev pub flow : List NamedAtom → Option ℕ → List NamedConstraint
+flow left None = []
+flow left (Some k) = inner_constraint left k
+
+abbrev pub flows : List NamedAtom → Takers → List Exit → List NamedConstraint
+flows left takers [] = []
+flows left takers (exit ∷ rest) = flow left (takers exit) ++ flows left takers rest
+
+-- the exceptions of expressions, each once
+abbrev pub raised_once : List ℕ → List ℕ
+raised_once exceptions = filter (λ x. list_any (λ y. x == y) exceptions) (arith_exception ∷ bounds_exception ∷ [])
+
+abbrev pub raised_flows : List NamedAtom → Takers → (raised : List ℕ) → List NamedConstraint
+raised_flows left takers raised = flows left takers (thrown_ends (raised_once raised))
+
+-- where there is one end only, the way itself flows to its taker, and nothing within is asked for
+abbrev pub single : (only : Bool) → NamedAtom → Takers → List Exit → List NamedConstraint
+single false way takers ends = []
+single true way takers [] = []
+single true way takers (exit ∷ rest) = flow (way ∷ []) (takers exit)
+
+abbrev pub within_single : (only : Bool) → Takers → Takers
+within_single only takers = if only then nowhere else takers
+
+-- a statement or block, by its ends and by what is gathered of it for takers
+abbrev pub by_ends : List Exit → (way : NamedAtom) → Takers → (within : Takers → List NamedConstraint) → List NamedConstraint
+by_ends ends way takers within = single (one_end ends) way takers ends ++ within (within_single (one_end ends) takers)
+
+-- the way to what follows
+abbrev pub onward_way : (only : Bool) → NamedAtom → ℕ → NamedAtom
+onward_way only way n = if only then way else inner_atom n
+
+-- ---- left sides
+-- what decides whether an expression raises an exception, each part of it once
+abbrev pub raise_atoms : Scope → Expression → Join
+raise_atoms scope (Integer n) = []
+raise_atoms scope (Logical b) = []
+raise_atoms scope (Read x) = []
+raise_atoms scope (Element array length index) =
+    if index_can_raise index length then value_label scope index else raise_atoms scope index
+raise_atoms scope (Unary prefix e) = raise_atoms scope e
+raise_atoms scope (Binary operator d e) =
+    raise_atoms scope d
+    ++ (if is_division operator && divisor_can_raise e then value_label scope e else raise_atoms scope e)
+raise_atoms scope (Short connective d e) =
+    raise_atoms scope e ++ (if any_of (raises e) then value_label scope d else raise_atoms scope d)
+
+abbrev pub raise_atoms_all : Scope → List Expression → Join
+raise_atoms_all scope [] = []
+raise_atoms_all scope (e ∷ rest) = raise_atoms scope e ++ raise_atoms_all scope rest
+
+-- that of a store: its index, which may be out of range, and its value
+abbrev pub store_atoms : Scope → (length : ℕ) → (index e : Expression) → Join
+store_atoms scope length index e =
+    (if index_can_raise index length then value_label scope index else raise_atoms scope index) ++ raise_atoms scope e
+
+-- what the ends of a call have beside its own label
+abbrev pub call_atoms : Program → (callee : ℕ) → Exit → Join
+call_atoms program callee Normal = label_if (any_of (procedure_at program callee).throws) (one (label_of program (ToEnd callee)))
+call_atoms program callee Return = []
+call_atoms program callee Break = []
+call_atoms program callee Continue = []
+call_atoms program callee (Throw x) = one (label_of program (ToThrown callee x))
+
+-- ---- how many inner unknowns are made
+abbrev mutual
+  pub made_by_statement : Statement → ℕ
+  made_by_statement (Assign at x e) = 0
+  made_by_statement (Clear at slot) = 0
+  made_by_statement (Store at array length index e) = 0
+  made_by_statement (Receive at channel target) = 0
+  made_by_statement (Send at channel e) = 0
+  made_by_statement (Call at procedure arguments target) = 1
+  made_by_statement (If at e yes_block no_block) = suc (made_by_block yes_block + made_by_block no_block)
+  made_by_statement (While at loop e body) = suc (suc (made_by_block body))
+  made_by_statement (Leave at exit) = 0
+  made_by_statement (ReturnWith at value) = 0
+  made_by_statement (Try at block handlers) = handler_count handlers + (made_by_block block + made_by_handlers handlers)
+  made_by_statement (Nested at block) = made_by_block block
+
+  pub made_by_block : Block → ℕ
+  made_by_block Empty = 0
+  made_by_block (Then statement rest) = suc (made_by_statement statement + made_by_block rest)
+
+  pub made_by_handlers : Handlers → ℕ
+  made_by_handlers NoMore = 0
+  made_by_handlers (Catch at handled body rest) = made_by_block body + made_by_handlers rest
+
+abbrev pub made_by_procedure : Scope → ℕ
+made_by_procedure scope = suc (length (here scope).throws + made_by_block (here scope).body)
+
+-- ---- calls: their own label is one inner unknown, so that each of their constraints is short
+abbrev pub argument_constraints : Scope → (at own : ℕ) → (callee i : ℕ) → List Expression → List NamedConstraint
+argument_constraints scope at own callee i [] = []
+argument_constraints scope at own callee i (e ∷ rest) =
+    rule_constraint scope at 6 (inner_atom own ∷ named_atoms (value_label scope e)) (ToParameter callee i)
+    ++ argument_constraints scope at own callee (suc i) rest
+
+abbrev pub call_flows : Program → (callee own : ℕ) → Takers → List Exit → List NamedConstraint
+call_flows program callee own takers [] = []
+call_flows program callee own takers (exit ∷ rest) =
+    flow (inner_atom own ∷ named_atoms (call_atoms program callee exit)) (takers exit) ++ call_flows program callee own takers rest
+
+-- the exceptions of the arguments, each once, then those that the callee declares
+abbrev pub call_ends : Program → (callee : ℕ) → List Expression → List Exit
+call_ends program callee arguments =
+    Normal ∷ thrown_ends (raised_once (raises_all arguments) ++ declared_by (procedure_at program callee).throws)
+
+abbrev pub call_constraints : Scope → (way : NamedAtom) → Takers → ℕ → (at callee : ℕ) → List Expression → Option Variable → List NamedConstraint
+call_constraints scope way takers n at callee arguments target =
+    inner_constraint (way ∷ named_atoms (raise_atoms_all scope arguments)) n
+    ++ (rule_constraint scope at 6 (inner_atom n ∷ []) (ToBegin callee)
+    ++ (argument_constraints scope at n callee 0 arguments
+    ++ (target_constraint scope at 6
+    (inner_atom n ∷ named_atoms (call_atoms scope.program callee Normal ++ one (label_of scope.program (ToValue callee)))) target
+    ++ call_flows scope.program callee n takers (call_ends scope.program callee arguments))))
+
+-- ---- the walk: statements, blocks and handlers that are reached at a way, with inner unknowns from number n on
+abbrev mutual
+  -- a statement by what the rule of its form says of its ends
+  pub statement_constraints : Scope → (way : NamedAtom) → Takers → ℕ → Statement → List NamedConstraint
+  statement_constraints scope way takers n (Assign at x e) =
+      let q : List NamedAtom = way ∷ named_atoms (raise_atoms scope e) in
+      rule_constraint scope at 1 (way ∷ named_atoms (value_label scope e)) (ToVariable scope.number x)
+      ++ (flow q (takers Normal) ++ raised_flows q takers (raises e))
+  statement_constraints scope way takers n (Clear at slot) =
+      rule_constraint scope at 2 (way ∷ []) (ToVariable scope.number (Local slot)) ++ flow (way ∷ []) (takers Normal)
+  statement_constraints scope way takers n (Store at array length index e) =
+      let q : List NamedAtom = way ∷ named_atoms (store_atoms scope length index e) in
+      rule_constraint scope at 3 (way ∷ named_atoms (value_label scope index ++ value_label scope e)) (ToVariable scope.number array)
+      ++ (flow q (takers Normal) ++ raised_flows q takers (raises index ++ raises e ++ index_raises index length))
+  statement_constraints scope way takers n (Receive at channel target) =
+      let q : List NamedAtom = way ∷ named_atoms (one (label_of scope.program (ToChannel channel))) in
+      rule_constraint scope at 4 (way ∷ []) (ToChannel channel)
+      ++ (target_constraint scope at 4 q target ++ (flow q (takers Normal) ++ flow q (takers (Throw end_exception))))
+  statement_constraints scope way takers n (Send at channel e) =
+      let q : List NamedAtom = way ∷ named_atoms (raise_atoms scope e) in
+      rule_constraint scope at 5 (way ∷ named_atoms (value_label scope e)) (ToChannel channel)
+      ++ (flow q (takers Normal) ++ raised_flows q takers (raises e))
+  statement_constraints scope way takers n (Call at procedure arguments target) =
+      call_constraints scope way takers n at procedure arguments target
+  statement_constraints scope way takers n (If at e yes_block no_block) =
+      inner_constraint (way ∷ named_atoms (value_label scope e)) n
+      ++ (raised_flows (way ∷ named_atoms (raise_atoms scope e)) takers (raises e)
+      ++ (by_ends (block_ends scope.program yes_block) (inner_atom n) takers (λ t. block_constraints scope true (inner_atom n) t (suc n) yes_block)
+      ++ by_ends (block_ends scope.program no_block) (inner_atom n) takers (λ t. block_constraints scope true (inner_atom n) t (suc n + made_by_block yes_block) no_block)))
+  statement_constraints scope way takers n (While at loop e body) =
+      let turn : NamedAtom = renamed Real (label_of scope.program (ToLoop scope.number loop)) in
+      rule_constraint scope at 8 (way ∷ []) (ToLoop scope.number loop)
+      ++ (inner_constraint (turn ∷ named_atoms (value_label scope e)) n
+      ++ (flow (inner_atom n ∷ []) (takers Normal)
+      ++ (raised_flows (turn ∷ named_atoms (raise_atoms scope e)) takers (raises e)
+      ++ (by_ends (block_ends scope.program body) (inner_atom n) (in_loop (suc n) takers) (λ t. block_constraints scope true (inner_atom n) t (suc (suc n)) body)
+      ++ rule_constraint scope at 8 (inner_atom (suc n) ∷ []) (ToLoop scope.number loop)))))
+  statement_constraints scope way takers n (Leave at exit) = flow (way ∷ []) (takers exit)
+  statement_constraints scope way takers n (ReturnWith at None) = flow (way ∷ []) (takers Return)
+  statement_constraints scope way takers n (ReturnWith at (Some e)) =
+      let q : List NamedAtom = way ∷ named_atoms (raise_atoms scope e) in
+      rule_constraint scope at 10 (way ∷ named_atoms (value_label scope e)) (ToValue scope.number)
+      ++ (flow q (takers Return) ++ raised_flows q takers (raises e))
+  statement_constraints scope way takers n (Try at block handlers) =
+      let number : ℕ → ℕ = λ x. handler_number handlers n x in
+      by_ends (block_ends scope.program block) way (in_try number handlers takers) (λ t. block_constraints scope true way t (n + handler_count handlers) block)
+      ++ handlers_constraints scope number takers ((n + handler_count handlers) + made_by_block block) handlers
+  statement_constraints scope way takers n (Nested at block) = by_ends (block_ends scope.program block) way takers (λ t. block_constraints scope true way t n block)
+
+  -- the statements of a block that is reached or not, by what the rule of blocks says of its ends
+  pub block_constraints : Scope → (reached : Bool) → (way : NamedAtom) → Takers → ℕ → Block → List NamedConstraint
+  block_constraints scope reached way takers n Empty = if reached then flow (way ∷ []) (takers Normal) else []
+  block_constraints scope reached way takers n (Then statement rest) =
+      let ends : List Exit = statement_ends scope.program statement in
+      single (one_end ends) way (with_normal None takers) ends
+      ++ (statement_constraints scope way (within_single (one_end ends) (with_normal (Some n) takers)) (suc n) statement
+      ++ block_constraints scope (has_end ends Normal) (onward_way (one_end ends) way n) takers (suc n + made_by_statement statement) rest)
+
+  -- handlers, of which each begins at the inner unknown that took its exception
+  pub handlers_constraints : Scope → (number : ℕ → ℕ) → Takers → ℕ → Handlers → List NamedConstraint
+  handlers_constraints scope number takers n NoMore = []
+  handlers_constraints scope number takers n (Catch at handled body rest) =
+      by_ends (block_ends scope.program body) (inner_atom (number handled)) takers (λ t. block_constraints scope true (inner_atom (number handled)) t n body)
+      ++ handlers_constraints scope number takers (n + made_by_block body) rest
+
+-- a block of its own
+abbrev pub inner_block : Scope → (way : NamedAtom) → Takers → ℕ → Block → List NamedConstraint
+inner_block scope way takers n block =
+    by_ends (block_ends scope.program block) way takers (λ t. block_constraints scope true way t n block)
+
+-- ---- procedures and programs
+abbrev pub body_ends : Scope → List Exit
+body_ends scope = block_ends scope.program (here scope).body
+
+-- whether a procedure has one end only, where its normal end and its return are one
+abbrev pub ends_one_way : Scope → Bool
+ends_one_way scope = one_end (map as_one_end (body_ends scope))
+
+abbrev pub end_takers : Scope → ℕ → Takers
+end_takers scope n = if ends_one_way scope then nowhere else at_end n (here scope).throws
+
+-- the demands on the declared exceptions, of which the first has number n
+abbrev pub thrown_constraints : Scope → (number : ℕ → ℕ) → List ThrownEntry → List NamedConstraint
+thrown_constraints scope number [] = []
+thrown_constraints scope number (entry ∷ rest) =
+    rule_constraint scope (here scope).at 13 (inner_atom (number entry.exception) ∷ []) (ToThrown scope.number entry.exception)
+    ++ thrown_constraints scope number rest
+
+abbrev pub end_constraints : Scope → ℕ → List NamedConstraint
+end_constraints scope n =
+    if ends_one_way scope then []
+    else (rule_constraint scope (here scope).at 13 (inner_atom n ∷ []) (ToEnd scope.number)
+    ++ thrown_constraints scope (λ x. thrown_number (here scope).throws (suc n) x) (here scope).throws)
+
+-- a procedure: its end has number n, then come its exceptions, then what its body makes
+abbrev pub procedure_constraints : Scope → ℕ → List NamedConstraint
+procedure_constraints scope n =
+    inner_block scope (renamed Real (label_of scope.program (ToBegin scope.number))) (end_takers scope n)
+    (suc n + length (here scope).throws) (here scope).body
+    ++ end_constraints scope n
+
+abbrev pub constraints_from : Program → (f n : ℕ) → List ProcedureEntry → List NamedConstraint
+constraints_from program f n [] = []
+constraints_from program f n (procedure ∷ rest) =
+    let scope : Scope = record { program = program; number = f } in
+    procedure_constraints scope n ++ constraints_from program (suc f) (n + made_by_procedure scope) rest
+
+abbrev pub program_constraints : Program → List NamedConstraint
+program_constraints program = constraints_from program 0 0 program.procedures
+
+-- how many inner unknowns procedures make
+abbrev pub made_from : Program → (f : ℕ) → List ProcedureEntry → ℕ
+made_from program f [] = 0
+made_from program f (procedure ∷ rest) =
+    made_by_procedure (record { program = program; number = f }) + made_from program (suc f) rest
+
+-- what is gathered, with numbers for the unknowns
+abbrev pub gathered_constraints : Program → List Gathered
+gathered_constraints program = map (numbered program) (program_constraints program)
+
+-- how many unknowns there are, and constraints whose unknowns have numbers below a count
+abbrev pub unknown_count : Program → ℕ
+unknown_count program = real_unknowns program + made_from program 0 program.procedures
+
+abbrev pub IsBelow : (count : ℕ) → Atom ℕ Label → Type 0
+IsBelow count (Written label) = Unit {0}
+IsBelow count (Unknown u) = u < count
+
+abbrev pub AreBelow : (count : ℕ) → List Gathered → Type 0
+AreBelow count cs =
+    (c : Gathered) → Contains cs c → ((atom : Atom ℕ Label) → Contains c.left atom → IsBelow count atom) × IsBelow count c.right

@@ -1,0 +1,36 @@
+//! Laws of the gathering, each the contract of a function that does nothing.
+ghost use Rattle.gathering.specs.Size.{declared_at_calls, size_of};
+ghost use Rattle.gathering.specs.Walk.{AreBelow, gathered_constraints, program_constraints, unknown_count};
+ghost use Rattle.labels.specs.Constraints.{IsGathered};
+ghost use Rattle.resolved.specs.EndFaults.{end_faults};
+ghost use Rattle.resolved.specs.Flow.{AreGathered};
+ghost use Rattle.resolved.specs.Labelled.{program_demands};
+ghost use Rattle.resolved.specs.Program.{Program};
+ghost use Rattle.resolved.specs.WellFormed.{program_nodes, well_formed};
+ghost use Rattle.std.specs.Prelude.{IsTrue, [], ◌*◌, ◌+◌, ◌≡◌, ◌≤◌};
+
+/// What the walk along a well-formed program without a fault of its ends gives is gathered from the program's demands: constraints
+/// with numbers for the unknowns, which stand for the demands one by one and in order. By their names they are where the program
+/// need not be well-formed.
+pub fn programs_are_gathered()
+    ensures numbered { (program : Program) → IsTrue (well_formed program) →
+        end_faults program ≡ [] → AreGathered program (gathered_constraints program) }
+    ensures named { (program : Program) → end_faults program ≡ [] →
+        IsGathered (program_demands program) (program_constraints program) }
+{}
+
+/// The unknowns of what the walk gives for a well-formed program have numbers below their count, which is at most four times the
+/// nodes of the program.
+pub fn unknowns_have_numbers_below_their_count()
+    ensures below { (program : Program) → IsTrue (well_formed program) →
+        AreBelow (unknown_count program) (gathered_constraints program) }
+    ensures count { (program : Program) → IsTrue (well_formed program) →
+        unknown_count program ≤ 4 * program_nodes program }
+{}
+
+/// The size of what the walk gives, where each constraint counts one and one for each part of its left side, is at most twenty times
+/// the nodes of the program, and three for each exception that a callee declares, at each call of it.
+pub fn what_is_gathered_is_in_proportion_to_the_program()
+    ensures { (program : Program) → size_of (gathered_constraints program)
+        ≤ 20 * program_nodes program + 3 * declared_at_calls program }
+{}

@@ -1,0 +1,4 @@
+//! The gathering of a program's label demands as constraints in linear size.
+#![tactic(auto)]
+
+pub mod laws;

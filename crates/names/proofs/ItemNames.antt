@@ -1,0 +1,296 @@
+-- The names of the items of a program are names and all different, and so are those of what it resolves to.
+use Rattle.std.proofs.Common.{◌≡◌, ◌≢◌, refl, sym, ◌∙◌, subst, ap, ℕ, List, [], ◌∷◌, ◌++◌, map, Bool, true, false, cond, append-nil, append_assoc, arith}
+use Rattle.std.specs.Prelude.{All, IfOk, Option, Some, None, bytes_eq, codes, ◌==◌}
+use Rattle.std.proofs.lemmas.Bool.{eq-eqb}
+use Rattle.std.proofs.lemmas.List.{map_push}
+use Rattle.std.proofs.lemmas.List.Elements.{All-nil, All-cons, All-head, All-tail}
+use Rattle.std.proofs.lemmas.List.Kept.{AllPairs-cons}
+use Rattle.principals.specs.ActsFor.{PrincipalHierarchy, AllDifferent}
+use Rattle.syntax.specs.Limits.{longest_name}
+use Rattle.syntax.specs.Tree.{ChannelTree, GlobalTree, ProcedureTree, ItemTree, ChannelItem, ExceptionItem, GlobalItem, ProcedureItem, ProgramTree}
+use Rattle.syntax.specs.Written.{Anywhere, IsWrittenItem, IsWritten}
+use Rattle.resolved.specs.Program.{Program, ChannelEntry, GlobalEntry, ProcedureEntry}
+use Rattle.resolved.proofs.Parts.{both_back}
+use Rattle.names.specs.declared.scope.Meaning.{Meaning}
+use Rattle.names.specs.declared.scope.Meaning.TheVariants.{Exception}
+use Rattle.names.specs.Outcome.{along}
+use Rattle.names.specs.Environment.{Environment, declaring, fresh_outcome}
+use Rattle.names.specs.Labels.{label_outcome, optional_label_outcome}
+use Rattle.names.specs.Laws.{IsProperName, item_names}
+use Rattle.names.specs.Statements.{block_outcome}
+use Rattle.names.specs.Resolution.{TopLevel, built_in, item_name, item_meaning, next_name, top_outcome, channel_outcome, first_outcome, global_outcome, result_outcome, parameters_outcome, throws_outcome, procedure_entry_outcome, Tables, next_item, no_tables, items_outcome, main_outcome, global_cells_outcome, frames_outcome, resolution}
+use Rattle.names.proofs.Passing.{then_finds, any_finds}
+
+-- ---- lists
+
+abbrev EachName : (List ℕ → Type 0) → List (List ℕ) → Type 0
+EachName P [] = Unit {0}
+EachName P (name ∷ names) = P name × EachName P names
+
+each_inserted : (P : List ℕ → Type 0) (before behind : List (List ℕ)) (name : List ℕ) → EachName P (before ++ behind) → P name → EachName P (before ++ name ∷ behind)
+each_inserted P [] behind name all one = (one, all)
+each_inserted P (other ∷ before) behind name all one = (all.0, each_inserted P before behind name all.1 one)
+
+each_mapped : (P Q : List ℕ → Type 0) (names : List (List ℕ)) → ((name : List ℕ) → P name → Q name) → EachName P names → EachName Q names
+each_mapped P Q [] further all = tt
+each_mapped P Q (name ∷ names) further all = (further name all.0, each_mapped P Q names further all.1)
+
+all_of_each : (P : List ℕ → Type 0) (names : List (List ℕ)) → EachName P names → All P names
+all_of_each P [] all = All-nil P
+all_of_each P (name ∷ names) all = All-cons P name names all.0 (all_of_each P names all.1)
+
+abbrev Different : List (List ℕ) → Type 0
+Different [] = Unit {0}
+Different (name ∷ names) = EachName (λ other. name ≢ other) names × Different names
+
+different_inserted : (before behind : List (List ℕ)) (name : List ℕ) → Different (before ++ behind) → EachName (λ other. name ≢ other) (before ++ behind)
+    → Different (before ++ name ∷ behind)
+different_inserted [] behind name all apart = (apart, all)
+different_inserted (other ∷ before) behind name all apart =
+    (each_inserted (λ one. other ≢ one) before behind name all.0 (λ same. apart.0 (sym same)), different_inserted before behind name all.1 apart.1)
+
+all_different : (names : List (List ℕ)) → Different names → AllDifferent names
+all_different [] all = λ i j d first second. absurd (omega (arith, second))
+all_different (name ∷ names) all =
+    AllPairs-cons (λ one other. one ≢ other) name names (all_of_each (λ other. name ≢ other) names all.0) (all_different names all.1)
+
+-- a name that was put somewhere into a list
+record Inserted (names : List (List ℕ)) (name : List ℕ) (longer : List (List ℕ)) : Type 0 where
+  pub before : List (List ℕ)
+  pub behind : List (List ℕ)
+  pub shorter_is : names ≡ before ++ behind
+  pub longer_is : longer ≡ before ++ name ∷ behind
+
+inserted_last : (names rest : List (List ℕ)) (name : List ℕ) → Inserted (names ++ rest) name ((names ++ name ∷ []) ++ rest)
+inserted_last names rest name = record { before = names; behind = rest; shorter_is = refl; longer_is = append_assoc names (name ∷ []) rest }
+
+inserted_behind : (first names : List (List ℕ)) (name : List ℕ) (longer : List (List ℕ)) → Inserted names name longer → Inserted (first ++ names) name (first ++ longer)
+inserted_behind first names name longer is = record {
+  before = first ++ is.before;
+  behind = is.behind;
+  shorter_is = ap (λ one. first ++ one) is.shorter_is ∙ sym (append_assoc first is.before is.behind);
+  longer_is = ap (λ one. first ++ one) is.longer_is ∙ sym (append_assoc first is.before (name ∷ is.behind));
+}
+
+-- ---- names that are declared
+
+abbrev IsDeclared : Environment → List ℕ → Type 0
+IsDeclared names name = (meaning : Meaning) × (names name ≡ Some meaning)
+
+still_declared : (names : Environment) (new : List ℕ) (meaning : Meaning) (name : List ℕ) → IsDeclared names name → IsDeclared (declaring new meaning names) name
+still_declared names new meaning name is = go (bytes_eq new name)
+  where
+    go : (b : Bool) → (found : Meaning) × (◌≡◌ {A = Option Meaning} (cond b (Some meaning) (names name)) (Some found))
+    go true = (meaning, refl)
+    go false = is
+
+bytes_eq-itself : (name : List ℕ) → bytes_eq name name ≡ true
+bytes_eq-itself [] = refl
+bytes_eq-itself (x ∷ name) = both_back (x == x) (bytes_eq name name) (eq-eqb x x refl) (bytes_eq-itself name)
+
+now_declared : (names : Environment) (name : List ℕ) (meaning : Meaning) → IsDeclared (declaring name meaning names) name
+now_declared names name meaning = (meaning, ap (λ b. cond b (Some meaning) (names name)) (bytes_eq-itself name))
+
+abbrev pub built_in_names : List (List ℕ)
+built_in_names = codes "Arith" ∷ codes "Bounds" ∷ codes "End" ∷ []
+
+-- names that are declared and different, as are the built-in ones, and that are names
+record NamesKept (names : Environment) (all : List (List ℕ)) : Type 0 where
+  pub declared : EachName (IsDeclared names) (built_in_names ++ all)
+  pub different : Different (built_in_names ++ all)
+  pub proper : EachName IsProperName all
+
+names_inserted : (names : Environment) (all : List (List ℕ)) (name : List ℕ) (longer : List (List ℕ)) (meaning : Meaning) → NamesKept names all → Inserted all name longer
+    → names name ≡ None → IsProperName name → NamesKept (declaring name meaning names) longer
+names_inserted names all name longer meaning kept is fresh proper =
+    let moved = subst (NamesKept names) is.shorter_is kept in
+    let before = built_in_names ++ is.before in
+    let apart : EachName (λ other. name ≢ other) (before ++ is.behind) =
+    each_mapped (IsDeclared names) (λ other. name ≢ other) (before ++ is.behind)
+    (λ other there same. let (found, e) = there in is_nothing found (sym fresh ∙ ap names same ∙ e)) moved.declared in
+    subst (NamesKept (declaring name meaning names)) (sym is.longer_is) (record {
+      declared =
+          each_inserted (IsDeclared (declaring name meaning names)) before is.behind name
+          (each_mapped (IsDeclared names) (IsDeclared (declaring name meaning names)) (before ++ is.behind)
+          (λ other there. still_declared names name meaning other there) moved.declared)
+          (now_declared names name meaning);
+      different = different_inserted before is.behind name moved.different apart;
+      proper = each_inserted IsProperName is.before is.behind name moved.proper proper;
+    })
+  where
+    is_nothing : (found : Meaning) → ◌≡◌ {A = Option Meaning} None (Some found) → ⊥
+    is_nothing found e = cc
+
+-- ---- the names of the items
+
+pub record ItemNames : Type 0 where
+  pub exceptions : List (List ℕ)
+  pub channels : List (List ℕ)
+  pub globals : List (List ℕ)
+  pub procedures : List (List ℕ)
+
+abbrev all_names : ItemNames → List (List ℕ)
+all_names named = named.exceptions ++ (named.channels ++ (named.globals ++ named.procedures))
+
+abbrev pub names_with : ItemNames → ItemTree → ItemNames
+names_with named (ChannelItem channel) = record named { channels = named.channels ++ channel.name.text ∷ [] }
+names_with named (ExceptionItem at name) = record named { exceptions = named.exceptions ++ name.text ∷ [] }
+names_with named (GlobalItem global) = record named { globals = named.globals ++ global.name.text ∷ [] }
+names_with named (ProcedureItem procedure) = record named { procedures = named.procedures ++ procedure.name.text ∷ [] }
+
+abbrev pub names_all : ItemNames → List ItemTree → ItemNames
+names_all named [] = named
+names_all named (item ∷ items) = names_all (names_with named item) items
+
+abbrev pub no_names : ItemNames
+no_names = record { exceptions = []; channels = []; globals = []; procedures = [] }
+
+item_inserted : (named : ItemNames) (item : ItemTree) → Inserted (all_names named) (item_name item).text (all_names (names_with named item))
+item_inserted named (ExceptionItem at name) = inserted_last named.exceptions (named.channels ++ (named.globals ++ named.procedures)) name.text
+item_inserted named (ChannelItem channel) =
+    inserted_behind named.exceptions (named.channels ++ (named.globals ++ named.procedures)) channel.name.text
+    ((named.channels ++ channel.name.text ∷ []) ++ (named.globals ++ named.procedures))
+    (inserted_last named.channels (named.globals ++ named.procedures) channel.name.text)
+item_inserted named (GlobalItem global) =
+    inserted_behind named.exceptions (named.channels ++ (named.globals ++ named.procedures)) global.name.text
+    (named.channels ++ ((named.globals ++ global.name.text ∷ []) ++ named.procedures))
+    (inserted_behind named.channels (named.globals ++ named.procedures) global.name.text ((named.globals ++ global.name.text ∷ []) ++ named.procedures)
+    (inserted_last named.globals named.procedures global.name.text))
+item_inserted named (ProcedureItem procedure) =
+    inserted_behind named.exceptions (named.channels ++ (named.globals ++ named.procedures)) procedure.name.text
+    (named.channels ++ (named.globals ++ (named.procedures ++ procedure.name.text ∷ [])))
+    (inserted_behind named.channels (named.globals ++ named.procedures) procedure.name.text (named.globals ++ (named.procedures ++ procedure.name.text ∷ []))
+    (inserted_behind named.globals named.procedures procedure.name.text (named.procedures ++ procedure.name.text ∷ [])
+    (record { before = named.procedures; behind = []; shorter_is = sym (append-nil named.procedures); longer_is = refl })))
+
+item_proper : (item : ItemTree) → IsWrittenItem Anywhere longest_name item → IsProperName (item_name item).text
+item_proper (ChannelItem channel) is = (is.2.1, is.2.2)
+item_proper (ExceptionItem at name) is = (is.1.1, is.1.2)
+item_proper (GlobalItem global) is = (is.2.1, is.2.2)
+item_proper (ProcedureItem procedure) is = (is.name.1, is.name.2)
+
+fresh_is : (found : Option Meaning) (at : ℕ) → IfOk (fresh_outcome found at) (λ one. found ≡ None)
+unfolding fresh_outcome
+fresh_is None at = refl
+fresh_is (Some meaning) at = tt
+
+names_kept : (named : ItemNames) (top : TopLevel) (items : List ItemTree) → All (IsWrittenItem Anywhere longest_name) items
+    → NamesKept top.names (all_names named) → IfOk (along next_name top items) (λ after. NamesKept after.names (all_names (names_all named items)))
+unfolding next_name
+names_kept named top [] all kept = kept
+names_kept named top (item ∷ items) all kept =
+    then_finds (next_name top item) (λ next. along next_name next items) (λ next. NamesKept next.names (all_names (names_with named item))) _
+    (then_finds (fresh_outcome (top.names (item_name item).text) (item_name item).at) _ (λ one. top.names (item_name item).text ≡ None) _
+    (fresh_is (top.names (item_name item).text) (item_name item).at) (λ one fresh.
+    names_inserted top.names (all_names named) (item_name item).text (all_names (names_with named item)) (item_meaning top item) kept
+    (item_inserted named item) fresh (item_proper item (All-head (IsWrittenItem Anywhere longest_name) item items all))))
+    (λ next kept_next. names_kept (names_with named item) next items (All-tail (IsWrittenItem Anywhere longest_name) item items all) kept_next)
+
+built_in_kept : NamesKept built_in.names (all_names no_names)
+built_in_kept = record {
+  declared = ((Exception 0, refl), ((Exception 1, refl), ((Exception 2, refl), tt)));
+  different = (((λ e. cc), ((λ e. cc), tt)), (((λ e. cc), tt), (tt, tt)));
+  proper = tt;
+}
+
+-- ---- the tables
+
+abbrev channel_name : ChannelEntry → List ℕ
+channel_name entry = entry.name
+
+abbrev global_name : GlobalEntry → List ℕ
+global_name entry = entry.name
+
+abbrev procedure_name : ProcedureEntry → List ℕ
+procedure_name entry = entry.name
+
+pub record TableNames (named : ItemNames) (tables : Tables) : Type 0 where
+  pub exceptions : tables.exceptions ≡ named.exceptions
+  pub channels : map channel_name tables.channels ≡ named.channels
+  pub globals : map global_name tables.globals ≡ named.globals
+  pub procedures : map procedure_name tables.procedures ≡ named.procedures
+
+channel_named : (h : PrincipalHierarchy) (channel : ChannelTree) → IfOk (channel_outcome h channel) (λ (entry : ChannelEntry). entry.name ≡ channel.name.text)
+unfolding channel_outcome
+channel_named h channel = then_finds (label_outcome h channel.label) _ (λ one. Unit {0}) _ (any_finds (label_outcome h channel.label)) (λ one nothing. refl)
+
+global_named : (h : PrincipalHierarchy) (global : GlobalTree) → IfOk (global_outcome h global) (λ (entry : GlobalEntry). entry.name ≡ global.name.text)
+unfolding global_outcome
+global_named h global =
+    then_finds (label_outcome h global.label) _ (λ one. Unit {0}) _ (any_finds (label_outcome h global.label)) (λ label nothing.
+    then_finds (first_outcome _ global.value) _ (λ one. Unit {0}) _ (any_finds (first_outcome _ global.value)) (λ value nothing. refl))
+
+procedure_named : (h : PrincipalHierarchy) (top : TopLevel) (procedure : ProcedureTree)
+    → IfOk (procedure_entry_outcome h top procedure) (λ (entry : ProcedureEntry). entry.name ≡ procedure.name.text)
+unfolding procedure_entry_outcome
+procedure_named h top procedure =
+    then_finds (result_outcome h procedure.outcome) _ (λ one. Unit {0}) _ (any_finds (result_outcome h procedure.outcome)) (λ result nothing.
+    then_finds (optional_label_outcome h procedure.begin) _ (λ one. Unit {0}) _ (any_finds (optional_label_outcome h procedure.begin)) (λ begin nothing.
+    then_finds (parameters_outcome h top.names procedure.parameters) _ (λ one. Unit {0}) _ (any_finds (parameters_outcome h top.names procedure.parameters)) (λ point nothing.
+    then_finds (optional_label_outcome h procedure.end) _ (λ one. Unit {0}) _ (any_finds (optional_label_outcome h procedure.end)) (λ end nothing.
+    then_finds (throws_outcome h top.names procedure.throws) _ (λ one. Unit {0}) _ (any_finds (throws_outcome h top.names procedure.throws)) (λ throws nothing.
+    then_finds (block_outcome _ point procedure.body) _ (λ one. Unit {0}) _ (any_finds (block_outcome _ point procedure.body)) (λ done nothing. refl))))))
+
+item_named : (h : PrincipalHierarchy) (top : TopLevel) (named : ItemNames) (tables : Tables) (item : ItemTree) → TableNames named tables
+    → IfOk (next_item h top tables item) (TableNames (names_with named item))
+unfolding next_item
+item_named h top named tables (ChannelItem channel) kept =
+    then_finds (channel_outcome h channel) _ (λ (entry : ChannelEntry). entry.name ≡ channel.name.text) _ (channel_named h channel) (λ entry same. record {
+      exceptions = kept.exceptions;
+      channels = map_push channel_name tables.channels entry ∙ (λ i. kept.channels i ++ same i ∷ []);
+      globals = kept.globals;
+      procedures = kept.procedures;
+    })
+item_named h top named tables (ExceptionItem at name) kept = record {
+  exceptions = ap (λ one. one ++ name.text ∷ []) kept.exceptions;
+  channels = kept.channels;
+  globals = kept.globals;
+  procedures = kept.procedures;
+}
+item_named h top named tables (GlobalItem global) kept =
+    then_finds (global_outcome h global) _ (λ (entry : GlobalEntry). entry.name ≡ global.name.text) _ (global_named h global) (λ entry same. record {
+      exceptions = kept.exceptions;
+      channels = kept.channels;
+      globals = map_push global_name tables.globals entry ∙ (λ i. kept.globals i ++ same i ∷ []);
+      procedures = kept.procedures;
+    })
+item_named h top named tables (ProcedureItem procedure) kept =
+    then_finds (procedure_entry_outcome h top procedure) _ (λ (entry : ProcedureEntry). entry.name ≡ procedure.name.text) _ (procedure_named h top procedure)
+    (λ entry same. record {
+      exceptions = kept.exceptions;
+      channels = kept.channels;
+      globals = kept.globals;
+      procedures = map_push procedure_name tables.procedures entry ∙ (λ i. kept.procedures i ++ same i ∷ []);
+    })
+
+pub items_named : (h : PrincipalHierarchy) (top : TopLevel) (named : ItemNames) (tables : Tables) (items : List ItemTree) → TableNames named tables
+    → IfOk (along (next_item h top) tables items) (TableNames (names_all named items))
+items_named h top named tables [] kept = kept
+items_named h top named tables (item ∷ items) kept =
+    then_finds (next_item h top tables item) (λ next. along (next_item h top) next items) (TableNames (names_with named item)) _
+    (item_named h top named tables item kept) (λ next kept_next. items_named h top (names_with named item) next items kept_next)
+
+-- ---- the whole
+
+pub record ProgramNames (program : Program) : Type 0 where
+  pub proper : All IsProperName (item_names program)
+  pub different : AllDifferent (codes "Arith" ∷ codes "Bounds" ∷ codes "End" ∷ item_names program)
+
+pub program_names : (h : PrincipalHierarchy) (written : ProgramTree) → IsWritten Anywhere longest_name written → IfOk (resolution h written) ProgramNames
+unfolding resolution top_outcome items_outcome
+program_names h written is =
+    let named = names_all no_names written.items in
+    then_finds (along next_name built_in written.items) _ (λ after. NamesKept after.names (all_names named)) _
+    (names_kept no_names built_in written.items is built_in_kept) (λ top top_kept.
+    then_finds (along (next_item h top) no_tables written.items) _ (TableNames named) _
+    (items_named h top no_names no_tables written.items (record { exceptions = refl; channels = refl; globals = refl; procedures = refl })) (λ tables kept.
+    then_finds (main_outcome (top.names (codes "main")) tables.procedures) _ (λ one. Unit {0}) _
+    (any_finds (main_outcome (top.names (codes "main")) tables.procedures)) (λ main nothing.
+    then_finds (global_cells_outcome written.items) _ (λ one. Unit {0}) _ (any_finds (global_cells_outcome written.items)) (λ cells nothing.
+    then_finds (frames_outcome tables.procedures) _ (λ one. Unit {0}) _ (any_finds (frames_outcome tables.procedures)) (λ done nothing.
+    let same : all_names named ≡ tables.exceptions ++ (map channel_name tables.channels ++ (map global_name tables.globals ++ map procedure_name tables.procedures)) =
+    λ i. sym kept.exceptions i ++ (sym kept.channels i ++ (sym kept.globals i ++ sym kept.procedures i)) in
+    record {
+      proper = subst (All IsProperName) same (all_of_each IsProperName (all_names named) top_kept.proper);
+      different = subst (λ all. AllDifferent (built_in_names ++ all)) same (all_different (built_in_names ++ all_names named) top_kept.different);
+    })))))

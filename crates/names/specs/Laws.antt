@@ -1,0 +1,78 @@
+-- Laws of the programs that trees stand for.
+-- Source: our own.
+use Rattle.std.specs.Prelude.{◌≡◌, ℕ, ◌≤◌, List, ◌∷◌, ◌++◌, map, length, All, IsTrue, Some, slice_get, codes}
+use Rattle.lexer.specs.Words.{is_name_text}
+use Rattle.principals.specs.ActsFor.{PrincipalHierarchy, IsHierarchy, AllDifferent}
+use Rattle.syntax.specs.Limits.{IsProgram, longest_name}
+use Rattle.syntax.specs.Tree.{ProgramTree}
+use Rattle.resolved.specs.Program.{Program, ChannelEntry, GlobalEntry, ProcedureEntry}
+use Rattle.resolved.specs.WellFormed.{well_formed}
+use Rattle.resolved.specs.declared.expression.Variable.TheVariants.{Global, Local}
+use Rattle.names.specs.declared.scope.Meaning.{Meaning}
+use Rattle.names.specs.declared.scope.Meaning.TheVariants.{Input, Output, Exception, Procedure, Scalar, Array}
+use Rattle.names.specs.Outcome.{give}
+use Rattle.names.specs.Resolution.{TopLevel, top_outcome, resolution}
+
+-- the program that a tree stands for is well formed
+abbrev pub WhatIsFoundIsWellFormed : Type 0
+WhatIsFoundIsWellFormed =
+    (h : PrincipalHierarchy) (tree : ProgramTree) (program : Program) → IsHierarchy h → IsProgram tree
+    → resolution h tree ≡ give program → IsTrue (well_formed program)
+
+-- ---- names
+
+-- the names of declared exceptions, of channels, of globals and of procedures
+abbrev pub channel_names : Program → List (List ℕ)
+channel_names program = map (λ (entry : ChannelEntry). entry.name) program.channels
+
+abbrev pub global_names : Program → List (List ℕ)
+global_names program = map (λ (entry : GlobalEntry). entry.name) program.globals
+
+abbrev pub procedure_names : Program → List (List ℕ)
+procedure_names program = map (λ (entry : ProcedureEntry). entry.name) program.procedures
+
+abbrev pub item_names : Program → List (List ℕ)
+item_names program = program.exceptions ++ (channel_names program ++ (global_names program ++ procedure_names program))
+
+-- a name of the language that is not too long
+abbrev pub IsProperName : List ℕ → Type 0
+IsProperName name = IsTrue (is_name_text name) × (length name ≤ longest_name)
+
+-- the names of the items of the program that a tree stands for are names, and they and those of the built-in exceptions are all
+-- different
+abbrev pub NamesAreProper : Type 0
+NamesAreProper =
+    (h : PrincipalHierarchy) (tree : ProgramTree) (program : Program) → IsProgram tree → resolution h tree ≡ give program
+    → All IsProperName (item_names program)
+
+abbrev pub NamesAreDifferent : Type 0
+NamesAreDifferent =
+    (h : PrincipalHierarchy) (tree : ProgramTree) (program : Program) → IsProgram tree → resolution h tree ≡ give program
+    → AllDifferent (codes "Arith" ∷ codes "Bounds" ∷ codes "End" ∷ item_names program)
+
+-- ---- numbers
+
+-- what a name means stands under its number and has that name
+abbrev pub HasName : Program → Meaning → List ℕ → Type 0
+HasName program (Input number) name = slice_get (channel_names program) number ≡ Some name
+HasName program (Output number) name = slice_get (channel_names program) number ≡ Some name
+HasName program (Exception number) name =
+    slice_get (codes "Arith" ∷ codes "Bounds" ∷ codes "End" ∷ program.exceptions) number ≡ Some name
+HasName program (Procedure number) name = slice_get (procedure_names program) number ≡ Some name
+HasName program (Scalar (Global number) base) name = slice_get (global_names program) number ≡ Some name
+HasName program (Scalar (Local number) base) name = ⊥
+HasName program (Array (Global number) base size) name = slice_get (global_names program) number ≡ Some name
+HasName program (Array (Local number) base size) name = ⊥
+
+-- each name in scope at the top level stands for the entry of that name
+abbrev pub NumbersReadAsNames : Type 0
+NumbersReadAsNames =
+    (h : PrincipalHierarchy) (tree : ProgramTree) (program : Program) → resolution h tree ≡ give program
+    → (top : TopLevel) → top_outcome tree.items ≡ give top
+    → (name : List ℕ) (meaning : Meaning) → top.names name ≡ Some meaning → HasName program meaning name
+
+-- a run begins at the procedure that is called `main`
+abbrev pub RunsBeginAtMain : Type 0
+RunsBeginAtMain =
+    (h : PrincipalHierarchy) (tree : ProgramTree) (program : Program) → resolution h tree ≡ give program
+    → slice_get (procedure_names program) program.main ≡ Some (codes "main")

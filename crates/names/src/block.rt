@@ -1,0 +1,148 @@
+//! Statements, and the blocks and handlers that they hold.
+
+ghost use Rattle.names.specs.Statements.{block_outcome, catches_outcome, statement_outcome, statements_outcome};
+ghost use Rattle.names.specs.Views.{Gives, IsLater, at_point, block_view, handlers_view, point_of, setting_of, taken};
+ghost use Rattle.resolved.specs.TreeOf.{statement_of};
+ghost use Rattle.std.specs.Prelude.{OnOk, map, ◌+◌, ◌<◌, ◌≡◌, ◌≤◌};
+ghost use Rattle.syntax.specs.Limits.{most_nodes};
+ghost use Rattle.syntax.specs.Nodes.{block_nodes, catches_nodes, statement_nodes, statements_nodes};
+ghost use Rattle.syntax.specs.Tree.{block_tree, catch_tree, catches_of, statement_tree, statements_of};
+
+use crate::body::Body;
+use crate::fault::TypeFault;
+use crate::operator::base_of;
+use crate::scope::exception;
+use resolved::expression::Base;
+use resolved::statement::{Exit, Handler, Statement};
+use syntax::{Block, Catch};
+
+impl<'a> Body<'a> {
+    /// A block, whose locals are in scope to its end.
+    #[cycle(block)]
+    #[tactic(auto, unfolding(crate::specs::Statements::block_outcome))]
+    pub fn block(&mut self, written: &Block) -> Result<Vec<Statement>, TypeFault>
+        requires room { taken self.old + block_nodes (block_tree written.now) < most_nodes }
+        ensures made { Gives (at_point self.new block_view) result
+            (block_outcome (setting_of self.old) (point_of self.old) (block_tree written.now)) }
+        ensures later { OnOk result (IsLater self.old self.new) }
+        ensures grows { OnOk result (taken self.new ≤ taken self.old + block_nodes (block_tree written.now)) }
+    {
+        let before = self.locals.len();
+        let made = self.statements(&written.statements)?;
+        self.locals.truncate(before);
+        Ok(made)
+    }
+
+    /// The statements of a block.
+    #[cycle(block)]
+    fn statements(&mut self, written: &[syntax::Statement]) -> Result<Vec<Statement>, TypeFault>
+        requires room { taken self.old + statements_nodes (statements_of (map statement_tree written.now)) < most_nodes }
+        ensures made { Gives (at_point self.new block_view) result (statements_outcome (setting_of self.old) (point_of self.old) (statements_of (map statement_tree written.now))) }
+        ensures later { OnOk result (IsLater self.old self.new) }
+        ensures grows { OnOk result (taken self.new ≤ taken self.old + statements_nodes (statements_of (map statement_tree written.now))) }
+    {
+        let mut made = Vec::new(self.alloc);
+        for statement in written {
+            made.push(self.statement(statement)?)?;
+        }
+        Ok(made)
+    }
+
+    /// The handlers of a `try`.
+    #[cycle(block)]
+    fn catches(&mut self, written: &[Catch]) -> Result<Vec<Handler>, TypeFault>
+        requires room { taken self.old + catches_nodes (catches_of (map catch_tree written.now)) < most_nodes }
+        ensures made { Gives (at_point self.new handlers_view) result (catches_outcome (setting_of self.old) (point_of self.old) (catches_of (map catch_tree written.now))) }
+        ensures later { OnOk result (IsLater self.old self.new) }
+        ensures grows { OnOk result (taken self.new ≤ taken self.old + catches_nodes (catches_of (map catch_tree written.now))) }
+    {
+        let mut handlers = Vec::new(self.alloc);
+        for one in written {
+            let name = &one.exception;
+            let number = exception(self.meaning(name), name.at)?;
+            let body = self.block(&one.body)?;
+            handlers.push(Handler {
+                at: name.at,
+                exception: number,
+                body,
+            })?;
+        }
+        Ok(handlers)
+    }
+
+    /// A statement.
+    #[cycle(block)]
+    #[tactic(auto, unfolding(crate::specs::Statements::statement_outcome))]
+    fn statement(&mut self, written: &syntax::Statement) -> Result<Statement, TypeFault>
+        requires room { taken self.old + statement_nodes (statement_tree written.now) < most_nodes }
+        ensures made { Gives (at_point self.new statement_of) result (statement_outcome (setting_of self.old) (point_of self.old) (statement_tree written.now)) }
+        ensures later { OnOk result (IsLater self.old self.new) }
+        ensures grows { OnOk result (taken self.new ≤ taken self.old + statement_nodes (statement_tree written.now)) }
+    {
+        match written {
+            syntax::Statement::Declare {
+                at,
+                base,
+                label,
+                name,
+                value,
+            } => self.declare_scalar(*at, base_of(*base), label, name, value),
+            syntax::Statement::DeclareArray {
+                at,
+                base,
+                label,
+                name,
+                size,
+            } => self.declare_array(*at, base_of(*base), label, name, *size),
+            syntax::Statement::Assign { target, value } => self.assign(target, value),
+            syntax::Statement::AssignElement {
+                array,
+                index,
+                value,
+            } => self.store(array, index, value),
+            syntax::Statement::Call(call) => self.call_statement(call),
+            syntax::Statement::Receive { at, channel } => self.receive(*at, channel),
+            syntax::Statement::Send { at, channel, value } => self.send(*at, channel, value),
+            syntax::Statement::If {
+                at,
+                condition,
+                accepted,
+                otherwise,
+            } => {
+                let condition = self.typed(Base::Boolean, condition)?;
+                let accepted = self.block(accepted)?;
+                match otherwise {
+                    None => Ok(Statement::If(*at, condition, accepted, Vec::new(self.alloc))),
+                    Some(otherwise) => {
+                        let otherwise = self.block(otherwise)?;
+                        Ok(Statement::If(*at, condition, accepted, otherwise))
+                    }
+                }
+            }
+            syntax::Statement::While {
+                at,
+                condition,
+                body,
+            } => {
+                let condition = self.typed(Base::Boolean, condition)?;
+                let number = self.loops;
+                self.loops += 1;
+                let body = self.block(body)?;
+                Ok(Statement::While(*at, number, condition, body))
+            }
+            syntax::Statement::Break { at } => Ok(Statement::Leave(*at, Exit::Break)),
+            syntax::Statement::Continue { at } => Ok(Statement::Leave(*at, Exit::Continue)),
+            syntax::Statement::Throw { at, exception } => self.throw(*at, exception),
+            syntax::Statement::Return { at, value } => self.return_value(*at, value),
+            syntax::Statement::Try { at, body, catches } => {
+                let body = self.block(body)?;
+                let handlers = self.catches(catches)?;
+                Ok(Statement::Try(*at, body, handlers))
+            }
+            syntax::Statement::Nested(block) => {
+                let body = self.block(block)?;
+                Ok(Statement::Nested(block.at, body))
+            }
+        }
+    }
+}

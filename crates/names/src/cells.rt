@@ -1,0 +1,93 @@
+//! How many cells the globals have, and each frame.
+
+ghost use Rattle.names.specs.Outcome.{demand};
+ghost use Rattle.names.specs.Resolution.{frame_cells, frames_outcome, global_cells, global_cells_outcome, next_global_cells};
+ghost use Rattle.names.specs.Views.{Gives, itself};
+ghost use Rattle.resolved.specs.ProgramOf.{procedure_entry, slot_entry};
+ghost use Rattle.resolved.specs.WellFormed.{cell_count, cell_limit};
+ghost use Rattle.std.specs.Prelude.{IfOk, map, nat_le, ◌≡◌, ◌≤◌};
+ghost use Rattle.syntax.specs.Tree.{global_value_tree, item_tree};
+
+use crate::fault::{Refusal, TypeFault};
+use resolved::tables::{Procedure, Slot};
+use syntax::{GlobalValue, Item};
+
+/// How many cells the globals may have together, and the parameters and locals of a procedure.
+pub const MAX_CELLS: u32 = 1_048_576;
+
+fn cells_of_global(value: &GlobalValue) -> u32
+    ensures { result ≡ global_cells (global_value_tree value.now) }
+{
+    match value {
+        GlobalValue::Scalar(_) => 1,
+        GlobalValue::Array(size) => size.size,
+    }
+}
+
+/// The cells of the globals so far, with those of the next item.
+fn add_global(cells: u32, item: &Item) -> Result<u32, TypeFault>
+    requires { cells ≤ cell_limit }
+    ensures made { Gives itself result (next_global_cells cells (item_tree item.now)) }
+    ensures few { IfOk result (λ all. all ≤ cell_limit) }
+{
+    match item {
+        Item::Channel(_) | Item::Exception { .. } | Item::Procedure(_) => Ok(cells),
+        Item::Global(global) => {
+            let more = cells_of_global(&global.value);
+            if more <= MAX_CELLS - cells {
+                Ok(cells + more)
+            } else {
+                Err(TypeFault::Refused(Refusal::TooManyCells, global.name.at))
+            }
+        }
+    }
+}
+
+/// How many cells the globals of these items have, which are refused where they are too many.
+#[tactic(auto, unfolding(crate::specs::Resolution::global_cells_outcome))]
+pub fn cells_of_globals(items: &[Item]) -> Result<u32, TypeFault>
+    ensures { Gives itself result (global_cells_outcome (map item_tree items.now)) }
+{
+    let mut cells = 0;
+    for item in items {
+        cells = add_global(cells, item)?;
+    }
+    Ok(cells)
+}
+
+fn cells_of_slot(size: Option<u32>) -> u32
+    ensures { result ≡ cell_count size }
+{
+    match size {
+        None => 1,
+        Some(length) => length,
+    }
+}
+
+/// Whether a frame of these slots has few enough cells.
+fn fits(slots: &[Slot]) -> bool
+    ensures { result ≡ nat_le (frame_cells (map slot_entry slots.now)) cell_limit }
+{
+    let mut cells = 0;
+    for slot in slots {
+        let more = cells_of_slot(slot.size);
+        if more > MAX_CELLS - cells {
+            return false;
+        }
+        cells += more;
+    }
+    true
+}
+
+/// Refuses the first procedure whose frame has too many cells.
+#[tactic(auto, unfolding(crate::specs::Resolution::frames_outcome))]
+pub fn limit_frames(procedures: &[Procedure]) -> Result<(), TypeFault>
+    ensures { Gives (λ _. tt) result (frames_outcome (map procedure_entry procedures.now)) }
+{
+    for procedure in procedures {
+        if !fits(procedure.slots.as_slice()) {
+            return Err(TypeFault::Refused(Refusal::TooManyCells, procedure.at));
+        }
+    }
+    Ok(())
+}

@@ -1,0 +1,23 @@
+//! Laws of the definitions, each the contract of a function that does nothing.
+
+ghost use Rattle.names.specs.Laws.{NamesAreDifferent, NamesAreProper, NumbersReadAsNames, RunsBeginAtMain, WhatIsFoundIsWellFormed};
+
+/// The resolved program that a syntax tree stands for under a hierarchy is well formed: each expression has the type that its place
+/// wants, each number is that of an entry of the tables, arguments match parameters, and the limits are kept.
+pub fn found_programs_are_well_formed()
+    ensures { WhatIsFoundIsWellFormed }
+{}
+
+/// The names of exceptions, channels, globals and procedures of the resolved program are names of the language of at most 1 MiB, and
+/// they and the built-in exceptions are all different.
+pub fn item_names_are_proper_and_different()
+    ensures proper { NamesAreProper }
+    ensures different { NamesAreDifferent }
+{}
+
+/// Each name in scope at the top level stands for the entry of that name in its table, under the number by which it is used; and a
+/// run begins at the procedure that is called `main`.
+pub fn numbers_read_as_names()
+    ensures numbers { NumbersReadAsNames }
+    ensures main { RunsBeginAtMain }
+{}

@@ -1,0 +1,161 @@
+-- The code of expressions for a stack machine: code that leaves the value of an expression on the operands, and code of a condition
+-- that goes to a place where the condition has the truth that is asked for, and else goes on behind.
+-- Places are numbers of instructions in the code of a procedure, from 0 on; code is made for the place at which it is to stand.
+-- Source: our own; jumping code for conditions as textbooks give it.
+use Rattle.std.specs.Prelude.{ℕ, ◌+◌, Bool, true, false, not, List, [], ◌∷◌, ◌++◌, if◌then◌else◌}
+use Rattle.resolved.specs.declared.expression.Variable.{Variable}
+use Rattle.resolved.specs.declared.expression.Variable.TheVariants as variable
+use Rattle.resolved.specs.declared.expression.Prefix.{Prefix}
+use Rattle.resolved.specs.declared.expression.Prefix.TheVariants as prefix
+use Rattle.resolved.specs.declared.expression.Operator.{Operator}
+use Rattle.resolved.specs.declared.expression.Operator.TheVariants as operator
+use Rattle.resolved.specs.declared.expression.Connective.{Connective}
+use Rattle.resolved.specs.declared.expression.Connective.TheVariants.{And, Or}
+use Rattle.resolved.specs.Tree.{Expression, Integer, Logical, Read, Element, Unary, Binary, Short}
+use Rattle.resolved.specs.Value.{literal_number, bool_eq}
+use Rattle.bytecode.specs.declared.instruction.Arithmetic.TheVariants.{Add, Subtract, Multiply, Divide, Remainder}
+use Rattle.bytecode.specs.declared.instruction.Comparison.TheVariants.{Less, AtMost, Greater, AtLeast, Equal, NotEqual}
+use Rattle.bytecode.specs.declared.instruction.Instruction.{Instruction}
+use Rattle.bytecode.specs.declared.instruction.Instruction.TheVariants.{Push, PushBoolean, Load, Store, LoadGlobal, StoreGlobal, LoadElement, StoreElement, LoadGlobalElement, StoreGlobalElement, Compute, Negate, Not, Compare, SameBoolean, OtherBoolean, Jump, JumpIfFalse}
+
+-- ---- single instructions
+abbrev pub load_of : Variable → Instruction
+load_of (variable.Global n) = LoadGlobal n
+load_of (variable.Local n) = Load n
+
+abbrev pub store_of : Variable → Instruction
+store_of (variable.Global n) = StoreGlobal n
+store_of (variable.Local n) = Store n
+
+abbrev pub load_element_of : Variable → Instruction
+load_element_of (variable.Global n) = LoadGlobalElement n
+load_element_of (variable.Local n) = LoadElement n
+
+abbrev pub store_element_of : Variable → Instruction
+store_element_of (variable.Global n) = StoreGlobalElement n
+store_element_of (variable.Local n) = StoreElement n
+
+abbrev pub prefix_instruction : Prefix → Instruction
+prefix_instruction prefix.Negate = Negate
+prefix_instruction prefix.Not = Not
+
+abbrev pub operator_instruction : Operator → Instruction
+operator_instruction operator.Add = Compute Add
+operator_instruction operator.Subtract = Compute Subtract
+operator_instruction operator.Multiply = Compute Multiply
+operator_instruction operator.Divide = Compute Divide
+operator_instruction operator.Remainder = Compute Remainder
+operator_instruction operator.LessThan = Compare Less
+operator_instruction operator.AtMost = Compare AtMost
+operator_instruction operator.GreaterThan = Compare Greater
+operator_instruction operator.AtLeast = Compare AtLeast
+operator_instruction operator.Equal = Compare Equal
+operator_instruction operator.Unequal = Compare NotEqual
+operator_instruction operator.Same = SameBoolean
+operator_instruction operator.Different = OtherBoolean
+
+-- ---- values
+-- how many instructions the code of an expression's value has
+abbrev pub value_size : Expression → ℕ
+value_size (Integer n) = 1
+value_size (Logical b) = 1
+value_size (Read x) = 1
+value_size (Element array length index) = value_size index + 1
+value_size (Unary prefix e) = value_size e + 1
+value_size (Binary operator d e) = value_size d + (value_size e + 1)
+value_size (Short connective d e) = value_size d + (1 + (value_size e + 2))
+
+-- behind the left operand of a connective: where it decides, its value is pushed again; else the right operand's is
+abbrev pub rest_of_short : Connective → (at : ℕ) → (right_size : ℕ) → ((at : ℕ) → List Instruction) → List Instruction
+rest_of_short And at right_size right =
+    JumpIfFalse (at + 1 + right_size + 1) ∷ (right (at + 1) ++ Jump (at + 1 + right_size + 1 + 1) ∷ PushBoolean false ∷ [])
+rest_of_short Or at right_size right =
+    JumpIfFalse (at + 1 + 1 + 1) ∷ PushBoolean true ∷ Jump (at + 1 + 1 + 1 + right_size) ∷ right (at + 1 + 1 + 1)
+
+-- code that pushes the value of an expression, left operands first
+abbrev pub value_code : (at : ℕ) → Expression → List Instruction
+value_code at (Integer n) = Push (literal_number n) ∷ []
+value_code at (Logical b) = PushBoolean b ∷ []
+value_code at (Read x) = load_of x ∷ []
+value_code at (Element array length index) = value_code at index ++ load_element_of array ∷ []
+value_code at (Unary prefix e) = value_code at e ++ prefix_instruction prefix ∷ []
+value_code at (Binary operator d e) =
+    value_code at d ++ (value_code (at + value_size d) e ++ operator_instruction operator ∷ [])
+value_code at (Short connective d e) =
+    value_code at d ++ rest_of_short connective (at + value_size d) (value_size e) (λ place. value_code place e)
+
+-- the values of arguments, from the left
+abbrev pub arguments_size : List Expression → ℕ
+arguments_size [] = 0
+arguments_size (e ∷ rest) = value_size e + arguments_size rest
+
+abbrev pub arguments_code : (at : ℕ) → List Expression → List Instruction
+arguments_code at [] = []
+arguments_code at (e ∷ rest) = value_code at e ++ arguments_code (at + value_size e) rest
+
+-- ---- conditions
+-- the comparison that is true exactly where an operator is false; an operator on numbers has none and stays
+abbrev pub turned_operator : Operator → Operator
+turned_operator operator.Add = operator.Add
+turned_operator operator.Subtract = operator.Subtract
+turned_operator operator.Multiply = operator.Multiply
+turned_operator operator.Divide = operator.Divide
+turned_operator operator.Remainder = operator.Remainder
+turned_operator operator.LessThan = operator.AtLeast
+turned_operator operator.AtMost = operator.GreaterThan
+turned_operator operator.GreaterThan = operator.AtMost
+turned_operator operator.AtLeast = operator.LessThan
+turned_operator operator.Equal = operator.Unequal
+turned_operator operator.Unequal = operator.Equal
+turned_operator operator.Same = operator.Different
+turned_operator operator.Different = operator.Same
+
+-- a condition that is true exactly where a condition is false. A connective is negated as a whole here; the code of a condition never
+-- asks for that
+abbrev pub turned : Expression → Expression
+turned (Integer n) = Unary prefix.Not (Integer n)
+turned (Logical b) = Logical (not b)
+turned (Read x) = Unary prefix.Not (Read x)
+turned (Element array length index) = Unary prefix.Not (Element array length index)
+turned (Unary sign e) = Unary prefix.Not (Unary sign e)
+turned (Binary operator d e) = Binary (turned_operator operator) d e
+turned (Short connective d e) = Unary prefix.Not (Short connective d e)
+
+-- a condition as it is tested: code goes to a place where what is tested is false
+abbrev pub tested : (wanted : Bool) → Expression → Expression
+tested false e = e
+tested true e = turned e
+
+-- the truth at which the left operand of a connective decides
+abbrev pub deciding : Connective → Bool
+deciding And = false
+deciding Or = true
+
+abbrev pub branch_size : (wanted : Bool) → Expression → ℕ
+branch_size wanted (Integer n) = value_size (tested wanted (Integer n)) + 1
+branch_size wanted (Logical b) = value_size (tested wanted (Logical b)) + 1
+branch_size wanted (Read x) = value_size (tested wanted (Read x)) + 1
+branch_size wanted (Element array length index) = value_size (tested wanted (Element array length index)) + 1
+branch_size wanted (Unary prefix.Negate e) = value_size (tested wanted (Unary prefix.Negate e)) + 1
+branch_size wanted (Unary prefix.Not e) = branch_size (not wanted) e
+branch_size wanted (Binary operator d e) = value_size (tested wanted (Binary operator d e)) + 1
+branch_size wanted (Short connective d e) = branch_size (deciding connective) d + branch_size wanted e
+
+abbrev pub test_code : (wanted : Bool) → (at target : ℕ) → Expression → List Instruction
+test_code wanted at target e = value_code at (tested wanted e) ++ JumpIfFalse target ∷ []
+
+-- code that goes to a place where the condition has the wanted truth, and else goes on behind. Where the left operand of a connective
+-- decides, the whole condition has that truth
+abbrev pub branch_code : (wanted : Bool) → (at target : ℕ) → Expression → List Instruction
+branch_code wanted at target (Integer n) = test_code wanted at target (Integer n)
+branch_code wanted at target (Logical b) = test_code wanted at target (Logical b)
+branch_code wanted at target (Read x) = test_code wanted at target (Read x)
+branch_code wanted at target (Element array length index) = test_code wanted at target (Element array length index)
+branch_code wanted at target (Unary prefix.Negate e) = test_code wanted at target (Unary prefix.Negate e)
+branch_code wanted at target (Unary prefix.Not e) = branch_code (not wanted) at target e
+branch_code wanted at target (Binary operator d e) = test_code wanted at target (Binary operator d e)
+branch_code wanted at target (Short connective d e) =
+    branch_code (deciding connective) at
+    (if bool_eq wanted (deciding connective) then target
+    else at + branch_size (deciding connective) d + branch_size wanted e) d
+    ++ branch_code wanted (at + branch_size (deciding connective) d) target e

@@ -1,0 +1,65 @@
+-- What a program and its graph show of themselves before any run: the hierarchy, the channels, the exceptions, the globals, and what
+-- each procedure takes and gives.
+-- Source: our own.
+use Rattle.std.specs.Prelude.{ℕ, Option, Some, None}
+use Rattle.principals.specs.ActsFor.{PrincipalHierarchy}
+use Rattle.labels.specs.Sets.{ascending_set}
+use Rattle.resolved.specs.declared.expression.Base.{Base}
+use Rattle.resolved.specs.declared.expression.Base.TheVariants as base
+use Rattle.resolved.specs.declared.expression.Value.{Value}
+use Rattle.resolved.specs.declared.expression.Value.TheVariants.{Number, Truth}
+use Rattle.resolved.specs.declared.tables.Direction.{Direction as ChannelDirection}
+use Rattle.resolved.specs.declared.tables.Direction.TheVariants as channel
+use Rattle.resolved.specs.Program.{ChannelEntry, GlobalEntry, SlotEntry, ResultEntry}
+use Rattle.bytecode.specs.declared.declaration.Direction.{Direction}
+use Rattle.bytecode.specs.declared.declaration.Direction.TheVariants.{Input, Output}
+use Rattle.bytecode.specs.declared.declaration.Slot.{Slot}
+use Rattle.bytecode.specs.declared.declaration.Slot.TheVariants as slot
+use Rattle.bytecode.specs.declared.declaration.Global.{Global}
+use Rattle.bytecode.specs.declared.declaration.Global.TheVariants as global
+use Rattle.bytecode.specs.declared.value.Kind.{Kind}
+use Rattle.bytecode.specs.declared.value.Kind.TheVariants as kind
+use Rattle.bytecode.specs.Contents.{ChannelContents}
+use Rattle.bytecode.specs.Format.{pair_cmp}
+
+-- the same principals, and the written pairs in ascending order, each once
+abbrev pub hierarchy_contents : PrincipalHierarchy → PrincipalHierarchy
+hierarchy_contents h = record { names = h.names; pairs = ascending_set pair_cmp h.pairs }
+
+abbrev pub direction_of : ChannelDirection → Direction
+direction_of channel.Input = Input
+direction_of channel.Output = Output
+
+-- a channel of a program as one of a graph: the same direction, name and label
+abbrev pub channel_contents : ChannelEntry → ChannelContents
+channel_contents entry = record { direction = direction_of entry.direction; name = entry.name; label = entry.label }
+
+-- the kind of the values of a base type
+abbrev pub kind_of_base : Base → Kind
+kind_of_base base.Int = kind.Int
+kind_of_base base.Boolean = kind.Boolean
+
+-- a slot for values of a base type: one, or as many as an array has elements
+abbrev pub declared_slot : Base → (size : Option ℕ) → Slot
+declared_slot type None = slot.Scalar (kind_of_base type)
+declared_slot type (Some count) = slot.Array (kind_of_base type) count
+
+abbrev pub slot_contents : SlotEntry → Slot
+slot_contents entry = declared_slot entry.base entry.size
+
+-- a global that holds a value at first
+abbrev pub scalar_global : Value → Global
+scalar_global (Number z) = global.Int z
+scalar_global (Truth b) = global.Boolean b
+
+abbrev pub declared_global : Base → (size : Option ℕ) → (first : Value) → Global
+declared_global type None first = scalar_global first
+declared_global type (Some count) first = global.Array (kind_of_base type) count
+
+abbrev pub global_contents : GlobalEntry → Global
+global_contents entry = declared_global entry.base entry.size entry.first
+
+-- the kind of value that a procedure gives, if it gives one
+abbrev pub returned_kind : Option ResultEntry → Option Kind
+returned_kind None = None
+returned_kind (Some entry) = Some (kind_of_base entry.base)

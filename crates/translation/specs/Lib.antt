@@ -1,0 +1,6 @@
+pub mod Interface
+pub mod Expressions
+pub mod Code
+pub mod Graphs
+pub mod Kept
+pub mod Added

@@ -1,0 +1,12 @@
+//! From resolved programs of the whole language to graphs of instructions, which do the same.
+#![tactic(auto)]
+
+mod actions;
+mod conditions;
+mod emission;
+mod emitter;
+mod endings;
+mod instructions;
+pub mod laws;
+mod lengths;
+mod operands;
