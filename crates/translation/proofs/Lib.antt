@@ -25,3 +25,4 @@ pub mod Trees
 pub mod Falling
 pub mod Forms
 pub mod Adding
+pub mod Compounds
