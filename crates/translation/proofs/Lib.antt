@@ -26,3 +26,7 @@ pub mod Falling
 pub mod Forms
 pub mod Adding
 pub mod Compounds
+pub mod Lists
+pub mod Hierarchies
+pub mod Room
+pub mod Wholes
