@@ -30,3 +30,6 @@ pub mod Lists
 pub mod Hierarchies
 pub mod Room
 pub mod Wholes
+pub mod Targets
+pub mod Unreached
+pub mod Inside

@@ -7,6 +7,7 @@ use Rattle.resolved.specs.CoreOf.{program_of}
 use Rattle.resolved.specs.ProgramOf.{channel_entry, global_entry}
 use Rattle.translation.specs.Interface.{channel_contents, global_contents}
 use Rattle.translation.specs.Kept.{MeaningKept}
+use Rattle.translation.proofs.Inside.{graphs-positioned}
 use Rattle.translation.proofs.Keeping.{graphs-keep}
 use Rattle.translation.proofs.Wholes.{graph-made}
 use Rattle.translation.proofs.whole.lower.Goals as goal
@@ -20,7 +21,7 @@ new-requires c =
     (c.in_ok-channels.ensures ∙ ap (λ l. map channel_contents (map channel_entry l)) c.deref-2.ensures.value)
     (c.in_ok-globals.ensures ∙ ap (λ l. map global_contents (map global_entry l)) c.deref-3.ensures.value)
     c.in_ok-procedures.ensures))
-    c.requires.graph
+    (record { positions = graphs-positioned (program_of c.args.core.now) c.args.core.now.well_formed c.requires.ends; limits = c.requires.limits })
 
 pub returns-clause-exact : goal.returns-clause-exact
 returns-clause-exact c =
