@@ -17,6 +17,7 @@ use Rattle.resolved.specs.declared.expression.Expression as E
 use Rattle.resolved.specs.TreeOf.{expression_of}
 use Rattle.constraints.proofs.Tables.{next-of}
 use Rattle.constraints.specs.Parts.{IsJoined, scope_of, joined, parts}
+use Rattle.constraints.specs.Added.{IsLeftFrom}
 
 pub joined-append : (program : Program) (a b : Join) → joined program (a ++ b) ≡ joined program a ++ joined program b
 joined-append program [] b = refl
@@ -123,3 +124,10 @@ raise-next core table f xs i x old middle new inside is first second =
     joined-same core table (raise_atoms_all scope (map expression_of (take (i + 1) xs))) (raise_atoms_all scope before ++ raise_atoms scope (expression_of x)) old new
     (ap (raise_atoms_all scope) (next-of expression_of xs i x inside is) ∙ all-append scope before (expression_of x))
     (joined-then core table (raise_atoms_all scope before) (raise_atoms scope (expression_of x)) old middle new first second)
+
+-- a left side that begins with the way
+pub left-from : (core : Core) (table : List Label) (way : Atom) (join : Join) (first left : List Atom)
+    → first ≡ way ∷ [] → IsJoined core table join first left → IsLeftFrom core table way join left
+left-from core table way join first left is joined-is named stands =
+    joined-is ∙ (ap (λ list. parts (program_of core) table list ++ joined (program_of core) join) is
+    ∙ ap (λ p. p ∷ joined (program_of core) join) stands)

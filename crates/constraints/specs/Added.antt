@@ -1,18 +1,20 @@
 -- Stored constraints to which more were added.
 -- Source: our own.
-use Rattle.std.specs.Prelude.{◌≡◌, List, ◌++◌, map, Option}
+use Rattle.std.specs.Prelude.{◌≡◌, ℕ, List, [], ◌∷◌, ◌++◌, map, Bool, Option, if◌then◌else◌}
 use Rattle.labels.specs.Label.{Label}
 use Rattle.labels.specs.Constraints.{label_lattice}
 use Rattle.resolved.specs.declared.program.Core.{Core}
 use Rattle.resolved.specs.declared.target.Target.{Target}
 use Rattle.resolved.specs.CoreOf.{program_of}
 use Rattle.resolved.specs.Flow.{Gathered}
+use Rattle.resolved.specs.Labelled.{Join}
 use Rattle.resolved.specs.Program.{Program}
-use Rattle.gathering.specs.Names.{NamedAtom, NamedConstraint, numbered, numbered_atom}
+use Rattle.gathering.specs.Names.{NamedAtom, NamedConstraint, named_atoms, numbered, numbered_atom}
+use Rattle.gathering.specs.Walk.{flow}
 use Rattle.solver.specs.System.{constraint_of}
 use Rattle.solver.specs.declared.system.Atom.{Atom}
 use Rattle.solver.specs.declared.system.Constraint.{Constraint}
-use Rattle.constraints.specs.Parts.{parts}
+use Rattle.constraints.specs.Parts.{part, parts}
 
 abbrev pub Stored : Type 0
 Stored = Constraint (Option Target)
@@ -25,7 +27,24 @@ stand_for program table constraints = map (constraint_of (label_lattice program.
 abbrev pub IsLeft : Core → (table : List Label) → List NamedAtom → List Atom → Type 0
 IsLeft core table named left = parts (program_of core) table left ≡ map (numbered_atom (program_of core)) named
 
+-- an atom stands for this part; and a left side for what begins with the part of the way and goes on with a join
+abbrev pub IsPart : Core → (table : List Label) → NamedAtom → Atom → Type 0
+IsPart core table named atom = part (program_of core) table atom ≡ numbered_atom (program_of core) named
+
+abbrev pub IsLeftFrom : Core → (table : List Label) → (way : Atom) → Join → List Atom → Type 0
+IsLeftFrom core table way join left =
+    (named : NamedAtom) → IsPart core table named way → IsLeft core table (named ∷ named_atoms join) left
+
 -- constraints were added
 abbrev pub AreAdded : Core → (table : List Label) → (added : List NamedConstraint) → (old new : List Stored) → Type 0
 AreAdded core table added old new =
     stand_for (program_of core) table new ≡ stand_for (program_of core) table old ++ map (numbered (program_of core)) added
+
+-- what is gathered at a way was added
+abbrev pub IsGathered : Core → (table : List Label) → (way : Atom) → (NamedAtom → List NamedConstraint) → (old new : List Stored) → Type 0
+IsGathered core table way gathered old new =
+    (named : NamedAtom) → IsPart core table named way → AreAdded core table (gathered named) old new
+
+-- a flow if a test holds
+abbrev pub flow_if : Bool → List NamedAtom → Option ℕ → List NamedConstraint
+flow_if test left taker = if test then flow left taker else []

@@ -1,3 +1,5 @@
 pub mod Parts
 pub mod Rows
 pub mod Added
+pub mod Takers
+pub mod Walks

@@ -1,6 +1,6 @@
 -- What a stored part of a constraint stands for, by the table of written labels: a label, or an unknown by its number.
 -- Source: our own.
-use Rattle.std.specs.Prelude.{◌≡◌, ℕ, List, ◌++◌, map}
+use Rattle.std.specs.Prelude.{◌≡◌, ℕ, List, ◌++◌, map, if◌then◌else◌}
 use Rattle.labels.specs.Label.{Label}
 use Rattle.labels.specs.Constraints.{renamed, label_lattice}
 use Rattle.labels.specs.Constraints as formal
@@ -8,8 +8,11 @@ use Rattle.resolved.specs.declared.program.Core.{Core}
 use Rattle.resolved.specs.declared.target.Target.{Target}
 use Rattle.resolved.specs.CoreOf.{program_of}
 use Rattle.resolved.specs.Program.{Program}
-use Rattle.resolved.specs.Labelled.{Join, Scope, label_of}
+use Rattle.resolved.specs.Tree.{Expression}
+use Rattle.resolved.specs.Ends.{index_can_raise}
+use Rattle.resolved.specs.Labelled.{Join, Scope, label_of, value_label}
 use Rattle.gathering.specs.Names.{Real, named_atoms, numbered_atom}
+use Rattle.gathering.specs.Walk.{raise_atoms}
 use Rattle.solver.specs.System.{atom_of}
 use Rattle.solver.specs.declared.system.Atom.{Atom}
 
@@ -37,3 +40,7 @@ scope_of core procedure = record { program = program_of core; number = procedure
 abbrev pub IsJoined : Core → (table : List Label) → Join → (old new : List Atom) → Type 0
 IsJoined core table join old new =
     parts (program_of core) table new ≡ parts (program_of core) table old ++ joined (program_of core) join
+
+-- what decides whether the index of an array of this length raises an exception
+abbrev pub index_atoms : Scope → (length : ℕ) → Expression → Join
+index_atoms scope length index = if index_can_raise index length then value_label scope index else raise_atoms scope index

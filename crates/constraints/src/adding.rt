@@ -1,15 +1,24 @@
 //! How a constraint is added: one that stands for a demand, or an inner one.
-ghost use Rattle.constraints.specs.Added.{AreAdded, IsLeft};
+ghost use Rattle.constraints.specs.Added.{AreAdded, IsLeft, IsPart, flow_if};
+ghost use Rattle.constraints.specs.Takers.{takers_of};
+ghost use Rattle.path_map.specs.Sets.{AreRaised};
 ghost use Rattle.constraints.specs.Parts.{scope_of};
 ghost use Rattle.gathering.specs.Names.{NamedAtom};
-ghost use Rattle.gathering.specs.Walk.{flow, inner_constraint, rule_constraint};
-ghost use Rattle.std.specs.Prelude.{List, OnOk, ℕ};
+ghost use Rattle.gathering.specs.Walk.{flow, inner_atom, inner_constraint, raised_flows, rule_constraint};
+ghost use Rattle.std.specs.Prelude.{IfOk, List, OnOk, ℕ, ◌++◌};
 
 use crate::building::plus;
 use crate::table::Table;
+use crate::takers::{Entry, Takers};
+use path_map::Raises;
+use resolved::statement::Exit;
 use resolved::target::Target;
 use solver::{Atom, Constraint};
-use std::alloc::AllocError;
+use std::alloc::{AllocError, Global};
+
+const ARITH: u32 = 0;
+
+const BOUNDS: u32 = 1;
 
 impl<'a> Table<'a> {
     /// Adds the constraint of a rule at this byte, whose right side is the label of the target.
@@ -64,18 +73,95 @@ impl<'a> Table<'a> {
     /// Adds the flow to a taker, where there is one.
     pub fn add_flow(
         &self,
-        left: Vec<Atom>,
+        alloc: Global,
+        left: &[Atom],
         taker: Option<u32>,
         constraints: &mut Vec<Constraint<Option<Target>>>,
     ) -> Result<(), AllocError>
         ensures { OnOk result ((atoms : List NamedAtom) →
-            IsLeft self.now.core.now self.now.written.items atoms left.items →
+            IsLeft self.now.core.now self.now.written.items atoms left.now →
             AreAdded self.now.core.now self.now.written.items (flow atoms taker)
             constraints.old.items constraints.new.items) }
     {
         match taker {
             None => Ok(()),
-            Some(number) => self.add_inner(left, number, constraints),
+            Some(number) => self.add_inner(left.to_vec(alloc)?, number, constraints),
         }
+    }
+
+    // Adds the flow to a taker if a test holds.
+    fn add_flow_if(
+        &self,
+        alloc: Global,
+        test: bool,
+        left: &[Atom],
+        taker: Option<u32>,
+        constraints: &mut Vec<Constraint<Option<Target>>>,
+    ) -> Result<(), AllocError>
+        ensures { OnOk result ((atoms : List NamedAtom) →
+            IsLeft self.now.core.now self.now.written.items atoms left.now →
+            AreAdded self.now.core.now self.now.written.items (flow_if test atoms taker)
+            constraints.old.items constraints.new.items) }
+    {
+        if test {
+            return self.add_flow(alloc, left, taker, constraints);
+        }
+        Ok(())
+    }
+
+    /// Adds the flows of the exceptions that expressions can raise, each once.
+    pub fn add_raised(
+        &self,
+        alloc: Global,
+        left: &[Atom],
+        takers: Takers,
+        thrown: &[Entry],
+        found: Raises,
+        constraints: &mut Vec<Constraint<Option<Target>>>,
+    ) -> Result<(), AllocError>
+        ensures { OnOk result ((atoms : List NamedAtom) (exceptions : List ℕ) →
+            IsLeft self.now.core.now self.now.written.items atoms left.now →
+            AreRaised found exceptions →
+            AreAdded self.now.core.now self.now.written.items
+            (raised_flows atoms (takers_of takers thrown.now) exceptions)
+            constraints.old.items constraints.new.items) }
+    {
+        let arith = takers.at(thrown, Exit::Throw(ARITH));
+        self.add_flow_if(alloc, found.arith, left, arith, constraints)?;
+        let bounds = takers.at(thrown, Exit::Throw(BOUNDS));
+        self.add_flow_if(alloc, found.bounds, left, bounds, constraints)?;
+        Ok(())
+    }
+
+    /// Adds the flows of what goes on at an end or raises one of these exceptions.
+    pub fn add_ends(
+        &self,
+        alloc: Global,
+        left: &[Atom],
+        takers: Takers,
+        thrown: &[Entry],
+        exit: Exit,
+        found: Raises,
+        constraints: &mut Vec<Constraint<Option<Target>>>,
+    ) -> Result<(), AllocError>
+        ensures { OnOk result ((atoms : List NamedAtom) (exceptions : List ℕ) →
+            IsLeft self.now.core.now self.now.written.items atoms left.now →
+            AreRaised found exceptions →
+            AreAdded self.now.core.now self.now.written.items
+            (flow atoms (takers_of takers thrown.now exit)
+            ++ raised_flows atoms (takers_of takers thrown.now) exceptions)
+            constraints.old.items constraints.new.items) }
+    {
+        self.add_flow(alloc, left, takers.at(thrown, exit), constraints)?;
+        self.add_raised(alloc, left, takers, thrown, found, constraints)?;
+        Ok(())
+    }
+
+    /// The part of the inner unknown with this number.
+    pub fn inner(&self, number: u32) -> Result<Atom, AllocError>
+        ensures { IfOk result (λ atom.
+            IsPart self.now.core.now self.now.written.items (inner_atom number) atom) }
+    {
+        Ok(Atom::Unknown(plus(self.unknowns, number as usize)?))
     }
 }

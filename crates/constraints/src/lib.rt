@@ -2,7 +2,12 @@
 #![tactic(auto)]
 
 pub mod adding;
+pub mod branches;
 mod building;
+pub mod calls;
 pub mod expressions;
+pub mod lefts;
 pub mod rows;
+pub mod statements;
 pub mod table;
+pub mod takers;

@@ -38,6 +38,7 @@ fn laws_of_compiling(_rt: HostRuntime) {
     names::laws::numbers_read_as_names();
     translation::laws::graphs_keep_meaning();
     translation::laws::modules_keep_meaning();
+    translation::laws::graphs_have_positions();
     types::laws::numbers_read_as_names();
     types::laws::resolves_to_straight_line();
     types::laws::places_stay();

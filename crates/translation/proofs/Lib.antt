@@ -25,3 +25,11 @@ pub mod Trees
 pub mod Falling
 pub mod Forms
 pub mod Adding
+pub mod Compounds
+pub mod Lists
+pub mod Hierarchies
+pub mod Room
+pub mod Wholes
+pub mod Targets
+pub mod Unreached
+pub mod Inside

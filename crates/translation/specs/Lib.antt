@@ -4,3 +4,4 @@ pub mod Code
 pub mod Graphs
 pub mod Kept
 pub mod Added
+pub mod Positions

@@ -7,6 +7,11 @@ mod emission;
 mod emitter;
 mod endings;
 mod instructions;
+mod interface;
 pub mod laws;
 mod lengths;
 mod operands;
+mod procedures;
+pub mod whole;
+
+pub use whole::lower;

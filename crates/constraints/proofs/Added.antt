@@ -1,0 +1,94 @@
+-- Constraints that were added one after the other.
+use Rattle.std.proofs.Common.{map, ◌≡◌, refl, sym, ap, ◌∙◌, List, [], ◌∷◌, ◌++◌, Bool, true, false, ℕ, append_assoc, append-nil}
+use Rattle.std.specs.Prelude.{Option, if◌then◌else◌}
+use Rattle.std.proofs.lemmas.List.{map-append}
+use Rattle.labels.specs.Label.{Label}
+use Rattle.resolved.specs.CoreOf.{program_of}
+use Rattle.resolved.specs.Ends.{thrown_ends}
+use Rattle.resolved.specs.declared.program.Core.{Core}
+use Rattle.resolved.specs.declared.statement.Exit.TheVariants.{Throw}
+use Rattle.gathering.specs.Names.{NamedAtom, NamedConstraint, numbered}
+use Rattle.gathering.specs.Walk as walk
+use Rattle.gathering.specs.Walk.{flow, flows, raised_flows, raised_once}
+use Rattle.path_map.specs.declared.raises.Raises.{Raises}
+use Rattle.path_map.specs.Joins.{raised_list}
+use Rattle.path_map.specs.Sets.{AreRaised, is_one_of}
+use Rattle.solver.specs.declared.system.Atom.{Atom}
+use Rattle.constraints.specs.Parts.{parts}
+use Rattle.constraints.specs.Added.{AreAdded, IsLeft, IsPart, Stored, flow_if, stand_for}
+
+pub added-none : (core : Core) (table : List Label) (old : List Stored) → AreAdded core table [] old old
+added-none core table old = sym (append-nil (stand_for (program_of core) table old))
+
+pub added-then : (core : Core) (table : List Label) (a b : List NamedConstraint) (old middle new : List Stored)
+    → AreAdded core table a old middle → AreAdded core table b middle new → AreAdded core table (a ++ b) old new
+added-then core table a b old middle new first second =
+    let program = program_of core in
+    second ∙ (ap (λ cs. cs ++ map (numbered program) b) first
+    ∙ (append_assoc (stand_for program table old) (map (numbered program) a) (map (numbered program) b)
+    ∙ ap (λ cs. stand_for program table old ++ cs) (sym (map-append (numbered program) a b))))
+
+pub added-same : (core : Core) (table : List Label) (a b : List NamedConstraint) (old new : List Stored)
+    → a ≡ b → AreAdded core table b old new → AreAdded core table a old new
+added-same core table a b old new same added = added ∙ ap (λ cs. stand_for (program_of core) table old ++ map (numbered (program_of core)) cs) (sym same)
+
+-- exceptions of expressions, each once
+once-list : (a b : Bool) → (if a then (0 ∷ (if b then 1 ∷ [] else [])) else (if b then 1 ∷ [] else [])) ≡ raised_list a b
+once-list true true = refl
+once-list true false = refl
+once-list false true = refl
+once-list false false = refl
+
+zero-raised : (a b : Bool) → is_one_of (raised_list a b) 0 ≡ a
+zero-raised true true = refl
+zero-raised true false = refl
+zero-raised false true = refl
+zero-raised false false = refl
+
+one-raised : (a b : Bool) → is_one_of (raised_list a b) 1 ≡ b
+one-raised true true = refl
+one-raised true false = refl
+one-raised false true = refl
+one-raised false false = refl
+
+pub raised-once : (found : Raises) (exceptions : List ℕ) → AreRaised found exceptions → raised_once exceptions ≡ raised_list found.arith found.bounds
+raised-once found exceptions are =
+    let first : is_one_of exceptions 0 ≡ found.arith = sym (are 0) ∙ zero-raised found.arith found.bounds in
+    let second : is_one_of exceptions 1 ≡ found.bounds = sym (are 1) ∙ one-raised found.arith found.bounds in
+    rw (first, second) (once-list found.arith found.bounds)
+
+flows-list : (atoms : List NamedAtom) (takers : walk.Takers) (a b : Bool)
+    → flows atoms takers (thrown_ends (raised_list a b)) ≡ flow_if a atoms (takers (Throw 0)) ++ flow_if b atoms (takers (Throw 1))
+flows-list atoms takers true true = ap (λ cs. flow atoms (takers (Throw 0)) ++ cs) (append-nil (flow atoms (takers (Throw 1))))
+flows-list atoms takers true false = refl
+flows-list atoms takers false true = append-nil (flow atoms (takers (Throw 1)))
+flows-list atoms takers false false = refl
+
+pub raised-flows : (atoms : List NamedAtom) (takers : walk.Takers) (found : Raises) (exceptions : List ℕ) → AreRaised found exceptions
+    → raised_flows atoms takers exceptions ≡ flow_if found.arith atoms (takers (Throw 0)) ++ flow_if found.bounds atoms (takers (Throw 1))
+raised-flows atoms takers found exceptions are =
+    ap (λ es. flows atoms takers (thrown_ends es)) (raised-once found exceptions are) ∙ flows-list atoms takers found.arith found.bounds
+
+pub left-same : (core : Core) (table : List Label) (atoms : List NamedAtom) (given found : List Atom)
+    → found ≡ given → IsLeft core table atoms given → IsLeft core table atoms found
+left-same core table atoms given found same is = ap (parts (program_of core) table) same ∙ is
+
+pub raised-added : (core : Core) (table : List Label) (atoms : List NamedAtom) (takers : walk.Takers) (found : Raises) (exceptions : List ℕ) (arith bounds : Option ℕ) (old middle new : List Stored)
+    → AreRaised found exceptions → arith ≡ takers (Throw 0) → bounds ≡ takers (Throw 1)
+    → AreAdded core table (flow_if found.arith atoms arith) old middle → AreAdded core table (flow_if found.bounds atoms bounds) middle new
+    → AreAdded core table (raised_flows atoms takers exceptions) old new
+raised-added core table atoms takers found exceptions arith bounds old middle new are is is' first second =
+    added-same core table (raised_flows atoms takers exceptions) (flow_if found.arith atoms arith ++ flow_if found.bounds atoms bounds) old new
+    (raised-flows atoms takers found exceptions are ∙ ap (λ o. flow_if found.arith atoms o ++ flow_if found.bounds atoms (takers (Throw 1))) (sym is)
+    ∙ ap (λ o. flow_if found.arith atoms arith ++ flow_if found.bounds atoms o) (sym is'))
+    (added-then core table (flow_if found.arith atoms arith) (flow_if found.bounds atoms bounds) old middle new first second)
+
+-- a flow to the taker of an end
+pub flow-added : (core : Core) (table : List Label) (atoms : List NamedAtom) (taker wanted : Option ℕ) (old new : List Stored)
+    → taker ≡ wanted → AreAdded core table (flow atoms taker) old new → AreAdded core table (flow atoms wanted) old new
+flow-added core table atoms taker wanted old new is added = added-same core table (flow atoms wanted) (flow atoms taker) old new (ap (flow atoms) (sym is)) added
+
+-- the left side of the way alone
+pub alone-left : (core : Core) (table : List Label) (named : NamedAtom) (way : Atom) (left : List Atom)
+    → left ≡ way ∷ [] → IsPart core table named way → IsLeft core table (named ∷ []) left
+alone-left core table named way left is stands = ap (parts (program_of core) table) is ∙ ap (λ p. p ∷ []) stands

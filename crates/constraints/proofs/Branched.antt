@@ -1,0 +1,27 @@
+-- The pieces of what is gathered of statements with blocks.
+use Rattle.std.proofs.Common.{◌≡◌, refl, List, [], ◌∷◌, Bool, true, false}
+use Rattle.std.specs.Prelude.{Option, Some, None, if◌then◌else◌}
+use Rattle.std.specs.List.{list_all}
+use Rattle.resolved.specs.Ends.{one_end, same_exit}
+use Rattle.resolved.specs.declared.statement.Exit.{Exit}
+use Rattle.gathering.specs.Names.{NamedAtom, NamedConstraint}
+use Rattle.gathering.specs.Walk as walk
+use Rattle.gathering.specs.Walk.{flow, single}
+use Rattle.path_map.specs.Exits.{single_end}
+
+-- the flow to the taker of the one end, if there is one only
+abbrev pub single_flow : (way : NamedAtom) → walk.Takers → Option Exit → List NamedConstraint
+single_flow way takers None = []
+single_flow way takers (Some exit) = flow (way ∷ []) (takers exit)
+
+pub single-is : (ends : List Exit) (way : NamedAtom) (takers : walk.Takers) → single (one_end ends) way takers ends ≡ single_flow way takers (single_end ends)
+single-is [] way takers = none (one_end [])
+  where
+    none : (b : Bool) → single b way takers [] ≡ []
+    none true = refl
+    none false = refl
+single-is (exit ∷ rest) way takers = go (list_all (same_exit exit) rest)
+  where
+    go : (b : Bool) → single b way takers (exit ∷ rest) ≡ single_flow way takers (if b then Some exit else None)
+    go true = refl
+    go false = refl

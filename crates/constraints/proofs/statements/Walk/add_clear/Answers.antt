@@ -1,0 +1,24 @@
+use Rattle.std.proofs.Common.{List, [], ◌∷◌}
+use Rattle.resolved.specs.declared.statement.Exit.TheVariants.{Normal}
+use Rattle.resolved.specs.declared.target.Target.TheVariants.{ToVariable}
+use Rattle.resolved.specs.declared.expression.Variable.TheVariants.{Local}
+use Rattle.gathering.specs.Names.{NamedAtom}
+use Rattle.gathering.specs.Walk.{flow, rule_constraint}
+use Rattle.constraints.specs.Takers.{takers_of}
+use Rattle.constraints.specs.Parts.{scope_of}
+use Rattle.constraints.proofs.Added.{added-then, alone-left, left-same, flow-added}
+use Rattle.constraints.proofs.statements.Walk.add_clear.Goals as goal
+
+pub returns : goal.returns
+returns c = λ n named stands.
+    let core = c.args.self.now.table.now.core.now in
+    let table = c.args.self.now.table.now.written.items in
+    let procedure = c.args.self.now.procedure in
+    let scope = scope_of core procedure in
+    let takers = takers_of c.args.takers c.args.thrown.now in
+    let p : List NamedAtom = named ∷ [] in
+    added-then core table (rule_constraint scope c.args.at 2 p (ToVariable procedure (Local c.args.slot))) (flow p (takers Normal)) _ _ _
+    (c.in_ok-add_rule.ensures procedure p (alone-left core table named c.args.way c.in_ok-alone.field-0.items c.in_ok-alone.ensures stands))
+    (flow-added core table p c.at-taker.result (takers Normal) _ _ c.at-taker.ensures
+    (c.in_ok-add_flow.ensures p (left-same core table p c.in_ok-left.left.items c.deref.result.now c.deref.ensures.value
+    (alone-left core table named c.args.way c.in_ok-left.left.items c.in_ok-left.ensures stands))))

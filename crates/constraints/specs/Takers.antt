@@ -1,0 +1,36 @@
+-- The takers of ends as a table: one of each end that is no exception, and for each exception an entry with its level. An entry
+-- counts where its level is above the barrier, so that raising the barrier takes all of them away at once.
+-- Source: our own.
+use Rattle.std.specs.Prelude.{ℕ, ◌≤◌, ◌==◌, List, [], ◌∷◌, set, Option, Some, None, if◌then◌else◌, nat_lt, slice_index_or}
+use Rattle.resolved.specs.declared.statement.Exit.TheVariants.{Normal, Return, Break, Continue, Throw}
+use Rattle.gathering.specs.Walk as walk
+use Rattle.constraints.specs.declared.takers.Entry.{Entry}
+use Rattle.constraints.specs.declared.takers.Saved.{Saved}
+use Rattle.constraints.specs.declared.takers.Takers.{Takers}
+
+-- an exception without a taker
+abbrev pub no_entry : Entry
+no_entry = record { number = 0; level = 0 }
+
+abbrev pub taker_of : (barrier : ℕ) → Entry → Option ℕ
+taker_of barrier entry = if nat_lt barrier entry.level then Some entry.number else None
+
+abbrev pub takers_of : Takers → (thrown : List Entry) → walk.Takers
+takers_of takers thrown Normal = takers.normal
+takers_of takers thrown Return = takers.returns
+takers_of takers thrown Break = takers.breaks
+takers_of takers thrown Continue = takers.continues
+takers_of takers thrown (Throw x) = taker_of takers.barrier (slice_index_or thrown x no_entry)
+
+-- no level is above this one
+abbrev pub AreWithin : (level : ℕ) → (thrown : List Entry) → Type 0
+AreWithin level thrown = (x : ℕ) → (slice_index_or thrown x no_entry).level ≤ level
+
+-- an entry that takes the place of another one, unless that has its level
+abbrev pub entry_after : (exception : ℕ) → Entry → (x : ℕ) → (old : Entry) → Entry
+entry_after exception entry x old = if x == exception then (if old.level == entry.level then old else entry) else old
+
+-- saved entries put back, the last one first
+abbrev pub undone : List Saved → List Entry → List Entry
+undone [] thrown = thrown
+undone (saved ∷ rest) thrown = set (undone rest thrown) saved.exception saved.entry

@@ -1,0 +1,40 @@
+-- What is gathered of statements.
+-- Source: our own.
+use Rattle.std.specs.Prelude.{ℕ, List, [], ◌∷◌, ◌++◌}
+use Rattle.labels.specs.Label.{Label}
+use Rattle.labels.specs.Constraints.{renamed}
+use Rattle.resolved.specs.declared.program.Core.{Core}
+use Rattle.resolved.specs.declared.statement.Exit.{Exit}
+use Rattle.resolved.specs.declared.statement.Exit.TheVariants.{Normal}
+use Rattle.resolved.specs.declared.target.Target.{Target}
+use Rattle.resolved.specs.declared.target.Target.TheVariants.{ToLoop}
+use Rattle.resolved.specs.Tree.{Expression, Statement}
+use Rattle.resolved.specs.Ends.{raises}
+use Rattle.resolved.specs.Labelled.{Scope, label_of, value_label}
+use Rattle.gathering.specs.Names.{NamedAtom, NamedConstraint, Real, named_atoms}
+use Rattle.gathering.specs.Walk as walk
+use Rattle.gathering.specs.Walk.{flow, inner_atom, inner_constraint, raise_atoms, raised_flows, rule_constraint, statement_constraints}
+use Rattle.solver.specs.declared.system.Atom.{Atom}
+use Rattle.constraints.specs.Added.{IsGathered, Stored}
+use Rattle.constraints.specs.Parts.{scope_of}
+
+-- a statement that works a value out and goes on at an end: what the value flows to, and its ends
+abbrev pub valued_constraints : Scope → (way : NamedAtom) → walk.Takers → (at rule : ℕ) → Expression → Target → Exit → List NamedConstraint
+valued_constraints scope way takers at rule e target exit =
+    let q : List NamedAtom = way ∷ named_atoms (raise_atoms scope e) in
+    rule_constraint scope at rule (way ∷ named_atoms (value_label scope e)) target
+    ++ (flow q (takers exit) ++ raised_flows q takers (raises e))
+
+-- what is gathered of a statement without inner unknowns was added
+abbrev pub IsSimple : Core → (table : List Label) → (procedure : ℕ) → (way : Atom) → walk.Takers → Statement → (old new : List Stored) → Type 0
+IsSimple core table procedure way takers statement old new =
+    (n : ℕ) → IsGathered core table way (λ named. statement_constraints (scope_of core procedure) named takers n statement) old new
+
+-- what is gathered of a loop before its body
+abbrev pub loop_head_constraints : Scope → (way : NamedAtom) → walk.Takers → (inner : ℕ) → (at loop : ℕ) → Expression → List NamedConstraint
+loop_head_constraints scope way takers inner at loop e =
+    let turn : NamedAtom = renamed Real (label_of scope.program (ToLoop scope.number loop)) in
+    rule_constraint scope at 8 (way ∷ []) (ToLoop scope.number loop)
+    ++ (inner_constraint (turn ∷ named_atoms (value_label scope e)) inner
+    ++ (flow (inner_atom inner ∷ []) (takers Normal)
+    ++ raised_flows (turn ∷ named_atoms (raise_atoms scope e)) takers (raises e)))

@@ -1,0 +1,170 @@
+//! The pieces of what is gathered of statements with blocks.
+ghost use Rattle.constraints.specs.Added.{AreAdded, IsGathered};
+ghost use Rattle.constraints.specs.Parts.{scope_of};
+ghost use Rattle.constraints.specs.Takers.{takers_of};
+ghost use Rattle.constraints.specs.Walks.{loop_head_constraints};
+ghost use Rattle.gathering.specs.Names.{NamedAtom, named_atoms};
+ghost use Rattle.gathering.specs.Walk.{inner_atom, inner_constraint, raise_atoms, raised_flows, rule_constraint, single};
+ghost use Rattle.path_map.specs.Exits.{exits_of};
+ghost use Rattle.path_map.specs.declared.exits.Exits.{Exits};
+ghost use Rattle.resolved.specs.Ends.{one_end, raises};
+ghost use Rattle.resolved.specs.Labelled.{value_label};
+ghost use Rattle.resolved.specs.TreeOf.{expression_of};
+ghost use Rattle.resolved.specs.declared.statement.Exit.{Exit};
+ghost use Rattle.resolved.specs.declared.target.Target.TheVariants.{ToLoop};
+ghost use Rattle.std.specs.Prelude.{IfOk, List, OnOk, [], drop, ◌∷◌, ◌≡◌};
+
+use crate::lefts::alone;
+use crate::statements::Walk;
+use crate::takers::{Entry, Takers};
+use path_map::raises::raises_of;
+use path_map::{Exits, Raised};
+use resolved::expression::Expression;
+use resolved::statement::Exit;
+use resolved::target::Target;
+use solver::{Atom, Constraint};
+use std::alloc::AllocError;
+
+impl<'a> Walk<'a> {
+    /// The possible ends that the path map has under this number.
+    pub fn exits_at(&self, number: usize) -> Exits
+        ensures { (exits : Exits) (rest : List Exits) →
+            drop number self.now.map.now.entries.items ≡ exits ∷ rest → result ≡ exits }
+    {
+        match self.map.entries.get(number) {
+            None => Exits {
+                normal: false,
+                returns: false,
+                breaks: false,
+                continues: false,
+                raised: Raised::Nothing,
+            },
+            Some(exits) => *exits,
+        }
+    }
+
+    /// Adds the flow of the way to the taker of the possible end, where there is one only.
+    pub fn add_single(
+        &self,
+        exits: Exits,
+        way: Atom,
+        takers: Takers,
+        thrown: &[Entry],
+        constraints: &mut Vec<Constraint<Option<Target>>>,
+    ) -> Result<(), AllocError>
+        ensures { OnOk result ((ends : List Exit) → exits ≡ exits_of ends →
+            IsGathered self.now.table.now.core.now self.now.table.now.written.items way
+            (λ (named : NamedAtom).
+            single (one_end ends) named (takers_of takers thrown.now) ends)
+            constraints.old.items constraints.new.items) }
+    {
+        match exits.single() {
+            None => Ok(()),
+            Some(exit) => {
+                let left = alone(self.alloc, way)?;
+                let taker = takers.at(thrown, exit);
+                self.table.add_flow(self.alloc, &left, taker, constraints)?;
+                Ok(())
+            }
+        }
+    }
+
+    /// Adds the way into a branch, which is the inner unknown with this number: the way and the value of the condition.
+    pub fn add_branch(
+        &self,
+        condition: &Expression,
+        number: u32,
+        way: Atom,
+        constraints: &mut Vec<Constraint<Option<Target>>>,
+    ) -> Result<(), AllocError>
+        ensures { OnOk result (IsGathered self.now.table.now.core.now
+            self.now.table.now.written.items way
+            (λ (named : NamedAtom). inner_constraint (named ∷ named_atoms (value_label
+            (scope_of self.now.table.now.core.now self.now.procedure)
+            (expression_of condition.now))) number)
+            constraints.old.items constraints.new.items) }
+    {
+        let left = self
+            .table
+            .left_of_value(self.alloc, way, self.procedure, condition)?;
+        self.table.add_inner(left, number, constraints)?;
+        Ok(())
+    }
+
+    /// Adds the flows of the exceptions that a condition can raise.
+    pub fn add_condition(
+        &self,
+        condition: &Expression,
+        way: Atom,
+        takers: Takers,
+        thrown: &[Entry],
+        constraints: &mut Vec<Constraint<Option<Target>>>,
+    ) -> Result<(), AllocError>
+        ensures { OnOk result (IsGathered self.now.table.now.core.now
+            self.now.table.now.written.items way
+            (λ (named : NamedAtom). raised_flows (named ∷ named_atoms (raise_atoms
+            (scope_of self.now.table.now.core.now self.now.procedure)
+            (expression_of condition.now))) (takers_of takers thrown.now)
+            (raises (expression_of condition.now)))
+            constraints.old.items constraints.new.items) }
+    {
+        let left = self
+            .table
+            .left_of_raise(self.alloc, way, self.procedure, condition)?;
+        let found = raises_of(condition);
+        self.table
+            .add_raised(self.alloc, &left, takers, thrown, found, constraints)?;
+        Ok(())
+    }
+
+    /// Adds the demand of a loop on its label: the label of what reaches its condition flows to it.
+    pub fn add_turn(
+        &self,
+        at: usize,
+        number: u32,
+        way: Atom,
+        constraints: &mut Vec<Constraint<Option<Target>>>,
+    ) -> Result<(), AllocError>
+        ensures { OnOk result (IsGathered self.now.table.now.core.now
+            self.now.table.now.written.items way
+            (λ (named : NamedAtom). rule_constraint
+            (scope_of self.now.table.now.core.now self.now.procedure) at 8 (named ∷ [])
+            (ToLoop self.now.procedure number))
+            constraints.old.items constraints.new.items) }
+    {
+        let left = alone(self.alloc, way)?;
+        let target = Target::ToLoop(self.procedure, number);
+        self.table.add_rule(at, 8, left, target, constraints)?;
+        Ok(())
+    }
+
+    /// Adds what is gathered of a loop but for its body, which is reached at the inner unknown with this number.
+    pub fn add_loop_head(
+        &self,
+        at: usize,
+        number: u32,
+        condition: &Expression,
+        inner: u32,
+        way: Atom,
+        takers: Takers,
+        thrown: &[Entry],
+        constraints: &mut Vec<Constraint<Option<Target>>>,
+    ) -> Result<(), AllocError>
+        ensures { OnOk result (IsGathered self.now.table.now.core.now
+            self.now.table.now.written.items way
+            (λ (named : NamedAtom). loop_head_constraints
+            (scope_of self.now.table.now.core.now self.now.procedure) named
+            (takers_of takers thrown.now) inner at number (expression_of condition.now))
+            constraints.old.items constraints.new.items) }
+    {
+        self.add_turn(at, number, way, constraints)?;
+        let turn = self.table.part(Target::ToLoop(self.procedure, number))?;
+        self.add_branch(condition, inner, turn, constraints)?;
+        let body = self.table.inner(inner)?;
+        let left = alone(self.alloc, body)?;
+        let taker = takers.at(thrown, Exit::Normal);
+        self.table.add_flow(self.alloc, &left, taker, constraints)?;
+        self.add_condition(condition, turn, takers, thrown, constraints)?;
+        Ok(())
+    }
+}

@@ -1,0 +1,279 @@
+//! The constraints of calls.
+ghost use Rattle.constraints.specs.Added.{AreAdded, IsGathered, IsLeftFrom, IsPart, flow_if};
+ghost use Rattle.constraints.specs.Parts.{scope_of};
+ghost use Rattle.constraints.specs.Takers.{takers_of};
+ghost use Rattle.constraints.specs.declared.rows.ThrownLabel.{ThrownLabel};
+ghost use Rattle.gathering.specs.Names.{NamedAtom, named_atoms};
+ghost use Rattle.gathering.specs.Walk.{argument_constraints, call_atoms, call_constraints, call_ends, call_flows, flow, inner_atom, raised_once};
+ghost use Rattle.path_map.specs.Sets.{AreRaised};
+ghost use Rattle.resolved.specs.CoreOf.{program_of};
+ghost use Rattle.resolved.specs.Ends.{declared_by, thrown_ends};
+ghost use Rattle.resolved.specs.Labelled.{any_of, label_of, one};
+ghost use Rattle.resolved.specs.Program.{procedure_at};
+ghost use Rattle.resolved.specs.TreeOf.{expression_of};
+ghost use Rattle.resolved.specs.declared.statement.Exit.TheVariants.{Normal, Throw};
+ghost use Rattle.resolved.specs.declared.target.Target.TheVariants.{ToValue};
+ghost use Rattle.std.specs.Prelude.{IfOk, List, OnOk, map, ℕ, ◌++◌, ◌∷◌, ◌≡◌};
+
+use crate::lefts::alone;
+use crate::rows::ThrownLabel;
+use crate::statements::Walk;
+use crate::takers::{Entry, Takers};
+use path_map::raises::{Raises, raises_of_all};
+use resolved::expression::{Expression, Variable};
+use resolved::statement::Exit;
+use resolved::target::Target;
+use solver::{Atom, Constraint};
+use std::alloc::AllocError;
+
+const ARITH: u32 = 0;
+
+const BOUNDS: u32 = 1;
+
+impl<'a> Walk<'a> {
+    // Whether a procedure declares exceptions.
+    fn throws_any(&self, callee: u32) -> bool
+        ensures { result ≡ any_of
+            (procedure_at (program_of self.now.table.now.core.now) callee).throws }
+    {
+        !self.table.row(callee).throws.is_empty()
+    }
+
+    // The label of a call, and what its normal end has beside it.
+    fn left_of_end(&self, own: Atom, callee: u32) -> Result<Vec<Atom>, AllocError>
+        ensures { IfOk result (λ left. IsLeftFrom self.now.table.now.core.now
+            self.now.table.now.written.items own
+            (call_atoms (program_of self.now.table.now.core.now) callee Normal) left.items) }
+    {
+        if self.throws_any(callee) {
+            return self
+                .table
+                .left_of_label(self.alloc, own, Target::ToEnd(callee));
+        }
+        alone(self.alloc, own)
+    }
+
+    // The label of the value of a call.
+    fn left_of_result(&self, own: Atom, callee: u32) -> Result<Vec<Atom>, AllocError>
+        ensures { IfOk result (λ left. IsLeftFrom self.now.table.now.core.now
+            self.now.table.now.written.items own
+            (call_atoms (program_of self.now.table.now.core.now) callee Normal
+            ++ one (label_of (program_of self.now.table.now.core.now) (ToValue callee)))
+            left.items) }
+    {
+        let mut left = self.left_of_end(own, callee)?;
+        self.table.add_label(Target::ToValue(callee), &mut left)?;
+        Ok(left)
+    }
+
+    // Adds the demands on the parameters of a call.
+    fn add_arguments(
+        &self,
+        at: usize,
+        own: Atom,
+        callee: u32,
+        arguments: &[Expression],
+        constraints: &mut Vec<Constraint<Option<Target>>>,
+    ) -> Result<(), AllocError>
+        ensures { OnOk result ((k : ℕ) →
+            IsPart self.now.table.now.core.now self.now.table.now.written.items (inner_atom k) own →
+            AreAdded self.now.table.now.core.now self.now.table.now.written.items
+            (argument_constraints (scope_of self.now.table.now.core.now self.now.procedure)
+            at k callee 0 (map expression_of arguments.now))
+            constraints.old.items constraints.new.items) }
+    {
+        for (parameter, argument) in arguments.iter().enumerate() {
+            let left = self
+                .table
+                .left_of_value(self.alloc, own, self.procedure, argument)?;
+            let target = Target::ToParameter(callee, parameter);
+            self.table.add_rule(at, 6, left, target, constraints)?;
+        }
+        Ok(())
+    }
+
+    // Adds the flow of an exception that a call raises.
+    fn add_thrown(
+        &self,
+        own: Atom,
+        callee: u32,
+        exception: u32,
+        takers: Takers,
+        thrown: &[Entry],
+        constraints: &mut Vec<Constraint<Option<Target>>>,
+    ) -> Result<(), AllocError>
+        ensures { OnOk result (IsGathered self.now.table.now.core.now
+            self.now.table.now.written.items own
+            (λ (named : NamedAtom). flow (named ∷ named_atoms (call_atoms
+            (program_of self.now.table.now.core.now) callee (Throw exception)))
+            (takers_of takers thrown.now (Throw exception)))
+            constraints.old.items constraints.new.items) }
+    {
+        match takers.at(thrown, Exit::Throw(exception)) {
+            None => Ok(()),
+            Some(number) => {
+                let target = Target::ToThrown(callee, exception);
+                let left = self.table.left_of_label(self.alloc, own, target)?;
+                self.table.add_inner(left, number, constraints)?;
+                Ok(())
+            }
+        }
+    }
+
+    // Adds the flows of exceptions with labels.
+    fn add_all_thrown(
+        &self,
+        own: Atom,
+        callee: u32,
+        throws: &[ThrownLabel],
+        takers: Takers,
+        thrown: &[Entry],
+        constraints: &mut Vec<Constraint<Option<Target>>>,
+    ) -> Result<(), AllocError>
+        ensures { OnOk result ((k : ℕ) →
+            IsPart self.now.table.now.core.now self.now.table.now.written.items (inner_atom k) own →
+            AreAdded self.now.table.now.core.now self.now.table.now.written.items
+            (call_flows (program_of self.now.table.now.core.now) callee k
+            (takers_of takers thrown.now)
+            (thrown_ends (map (λ (entry : ThrownLabel). entry.exception) throws.now)))
+            constraints.old.items constraints.new.items) }
+    {
+        for entry in throws {
+            self.add_thrown(own, callee, entry.exception, takers, thrown, constraints)?;
+        }
+        Ok(())
+    }
+
+    // Adds the flows of the exceptions that a procedure declares.
+    fn add_declared(
+        &self,
+        own: Atom,
+        callee: u32,
+        takers: Takers,
+        thrown: &[Entry],
+        constraints: &mut Vec<Constraint<Option<Target>>>,
+    ) -> Result<(), AllocError>
+        ensures { OnOk result ((k : ℕ) →
+            IsPart self.now.table.now.core.now self.now.table.now.written.items (inner_atom k) own →
+            AreAdded self.now.table.now.core.now self.now.table.now.written.items
+            (call_flows (program_of self.now.table.now.core.now) callee k
+            (takers_of takers thrown.now)
+            (thrown_ends (declared_by
+            (procedure_at (program_of self.now.table.now.core.now) callee).throws)))
+            constraints.old.items constraints.new.items) }
+    {
+        let throws = &self.table.row(callee).throws;
+        self.add_all_thrown(own, callee, throws, takers, thrown, constraints)?;
+        Ok(())
+    }
+
+    // Adds the flow of an exception of the arguments, if a test holds.
+    fn add_thrown_if(
+        &self,
+        test: bool,
+        own: Atom,
+        callee: u32,
+        exception: u32,
+        takers: Takers,
+        thrown: &[Entry],
+        constraints: &mut Vec<Constraint<Option<Target>>>,
+    ) -> Result<(), AllocError>
+        ensures { OnOk result (IsGathered self.now.table.now.core.now
+            self.now.table.now.written.items own
+            (λ (named : NamedAtom). flow_if test (named ∷ named_atoms (call_atoms
+            (program_of self.now.table.now.core.now) callee (Throw exception)))
+            (takers_of takers thrown.now (Throw exception)))
+            constraints.old.items constraints.new.items) }
+    {
+        if test {
+            return self.add_thrown(own, callee, exception, takers, thrown, constraints);
+        }
+        Ok(())
+    }
+
+    // Adds the flows of the exceptions that the arguments of a call can raise.
+    fn add_argument_ends(
+        &self,
+        own: Atom,
+        callee: u32,
+        found: Raises,
+        takers: Takers,
+        thrown: &[Entry],
+        constraints: &mut Vec<Constraint<Option<Target>>>,
+    ) -> Result<(), AllocError>
+        ensures { OnOk result ((k : ℕ) (exceptions : List ℕ) →
+            IsPart self.now.table.now.core.now self.now.table.now.written.items (inner_atom k) own →
+            AreRaised found exceptions →
+            AreAdded self.now.table.now.core.now self.now.table.now.written.items
+            (call_flows (program_of self.now.table.now.core.now) callee k
+            (takers_of takers thrown.now) (thrown_ends (raised_once exceptions)))
+            constraints.old.items constraints.new.items) }
+    {
+        let arith = found.arith;
+        self.add_thrown_if(arith, own, callee, ARITH, takers, thrown, constraints)?;
+        let bounds = found.bounds;
+        self.add_thrown_if(bounds, own, callee, BOUNDS, takers, thrown, constraints)?;
+        Ok(())
+    }
+
+    // Adds the flows of all ends of a call.
+    fn add_call_ends(
+        &self,
+        own: Atom,
+        callee: u32,
+        arguments: &[Expression],
+        takers: Takers,
+        thrown: &[Entry],
+        constraints: &mut Vec<Constraint<Option<Target>>>,
+    ) -> Result<(), AllocError>
+        ensures { OnOk result ((k : ℕ) →
+            IsPart self.now.table.now.core.now self.now.table.now.written.items (inner_atom k) own →
+            AreAdded self.now.table.now.core.now self.now.table.now.written.items
+            (call_flows (program_of self.now.table.now.core.now) callee k
+            (takers_of takers thrown.now)
+            (call_ends (program_of self.now.table.now.core.now) callee
+            (map expression_of arguments.now)))
+            constraints.old.items constraints.new.items) }
+    {
+        let left = self.left_of_end(own, callee)?;
+        let normal = takers.at(thrown, Exit::Normal);
+        self.table.add_flow(self.alloc, &left, normal, constraints)?;
+        let found = raises_of_all(arguments);
+        self.add_argument_ends(own, callee, found, takers, thrown, constraints)?;
+        self.add_declared(own, callee, takers, thrown, constraints)?;
+        Ok(())
+    }
+
+    /// Adds what is gathered of a call, whose own label is the inner unknown with this number.
+    pub fn add_call(
+        &self,
+        at: usize,
+        callee: u32,
+        arguments: &[Expression],
+        target: Option<Variable>,
+        number: u32,
+        way: Atom,
+        takers: Takers,
+        thrown: &[Entry],
+        constraints: &mut Vec<Constraint<Option<Target>>>,
+    ) -> Result<(), AllocError>
+        ensures { OnOk result (IsGathered self.now.table.now.core.now
+            self.now.table.now.written.items way
+            (λ (named : NamedAtom). call_constraints
+            (scope_of self.now.table.now.core.now self.now.procedure) named
+            (takers_of takers thrown.now) number at callee (map expression_of arguments.now) target)
+            constraints.old.items constraints.new.items) }
+    {
+        let table = self.table;
+        let raised = table.left_of_arguments(self.alloc, way, self.procedure, arguments)?;
+        table.add_inner(raised, number, constraints)?;
+        let own = table.inner(number)?;
+        let begin = alone(self.alloc, own)?;
+        table.add_rule(at, 6, begin, Target::ToBegin(callee), constraints)?;
+        self.add_arguments(at, own, callee, arguments, constraints)?;
+        let received = self.left_of_result(own, callee)?;
+        self.add_target(at, 6, received, target, constraints)?;
+        self.add_call_ends(own, callee, arguments, takers, thrown, constraints)?;
+        Ok(())
+    }
+}

@@ -1,0 +1,153 @@
+//! Where the label of each end flows.
+ghost use Rattle.constraints.specs.Takers.{AreWithin, entry_after, no_entry, taker_of, takers_of, undone};
+ghost use Rattle.gathering.specs.Walk.{in_loop, with_normal, within_single};
+ghost use Rattle.std.specs.Prelude.{List, OnOk, set, slice_index_or, ℕ, ◌≡◌};
+ghost use Rattle.constraints.specs.declared.takers.Entry.{Entry};
+
+use resolved::statement::Exit;
+use std::alloc::AllocError;
+
+/// The taker of an exception, which counts where its level is above the barrier.
+#[derive(Clone, Copy, Debug, PartialEq, Eq)]
+pub struct Entry {
+    pub number: u32,
+    pub level: u32,
+}
+
+/// The inner unknown to which the label of each end that is no exception flows, if to any, the barrier, and the level of the innermost
+/// `try`. The takers of exceptions stand in a list of entries.
+#[derive(Clone, Copy, Debug, PartialEq, Eq)]
+pub struct Takers {
+    pub normal: Option<u32>,
+    pub returns: Option<u32>,
+    pub breaks: Option<u32>,
+    pub continues: Option<u32>,
+    pub barrier: u32,
+    pub level: u32,
+}
+
+/// An entry that was there before another one took its place.
+#[derive(Clone, Copy, Debug, PartialEq, Eq)]
+pub struct Saved {
+    pub exception: u32,
+    pub entry: Entry,
+}
+
+// The entry of an exception.
+pub(crate) fn entry_in(thrown: &[Entry], exception: u32) -> Entry
+    ensures { result ≡ slice_index_or thrown.now exception no_entry }
+{
+    match thrown.get(exception as usize) {
+        None => Entry {
+            number: 0,
+            level: 0,
+        },
+        Some(entry) => *entry,
+    }
+}
+
+// The taker that an entry gives.
+fn taker_in(barrier: u32, entry: Entry) -> Option<u32>
+    ensures { result ≡ taker_of barrier entry }
+{
+    if barrier < entry.level {
+        return Some(entry.number);
+    }
+    None
+}
+
+/// Sets the taker of an exception, unless there is one of the same level already, and saves the entry that was there. An exception
+/// behind the last entry has no place, and is answered as out of memory.
+pub fn take(
+    exception: u32,
+    entry: Entry,
+    thrown: &mut Vec<Entry>,
+    saved: &mut Vec<Saved>,
+) -> Result<(), AllocError>
+    ensures undone { OnOk result (undone saved.new.items thrown.new.items
+        ≡ undone saved.old.items thrown.old.items) }
+    ensures taken { OnOk result ((x : ℕ) → slice_index_or thrown.new.items x no_entry
+        ≡ entry_after exception entry x (slice_index_or thrown.old.items x no_entry)) }
+{
+    let old = entry_in(thrown, exception);
+    if old.level == entry.level {
+        return Ok(());
+    }
+    let at = exception as usize;
+    if at >= thrown.len() {
+        return Err(AllocError);
+    }
+    saved.push(Saved {
+        exception,
+        entry: old,
+    })?;
+    thrown[at] = entry;
+    Ok(())
+}
+
+/// Puts a saved entry back.
+pub fn put(saved: Saved, thrown: &mut Vec<Entry>)
+    ensures { thrown.new.items ≡ set thrown.old.items saved.exception saved.entry }
+{
+    let at = saved.exception as usize;
+    if at < thrown.len() {
+        thrown[at] = saved.entry;
+    }
+}
+
+impl Takers {
+    /// The taker of an end.
+    pub fn at(self, thrown: &[Entry], exit: Exit) -> Option<u32>
+        ensures { result ≡ takers_of self thrown.now exit }
+    {
+        match exit {
+            Exit::Normal => self.normal,
+            Exit::Return => self.returns,
+            Exit::Break => self.breaks,
+            Exit::Continue => self.continues,
+            Exit::Throw(exception) => taker_in(self.barrier, entry_in(thrown, exception)),
+        }
+    }
+
+    /// The same takers but for that of the normal end.
+    pub fn with_normal(self, normal: Option<u32>) -> Takers
+        ensures level { result.level ≡ self.level }
+        ensures takers { (thrown : List Entry) →
+            takers_of result thrown ≡ with_normal normal (takers_of self thrown) }
+    {
+        Takers { normal, ..self }
+    }
+
+    /// The takers in the body of a loop, whose condition is reached at the inner unknown with this number.
+    pub fn in_loop(self, back: u32) -> Takers
+        ensures level { result.level ≡ self.level }
+        ensures takers { (thrown : List Entry) →
+            takers_of result thrown ≡ in_loop back (takers_of self thrown) }
+    {
+        Takers {
+            normal: Some(back),
+            breaks: self.normal,
+            continues: Some(back),
+            ..self
+        }
+    }
+
+    /// No takers, where there is one end only.
+    pub fn within_single(self, only: bool) -> Takers
+        ensures level { result.level ≡ self.level }
+        ensures takers { (thrown : List Entry) → AreWithin self.level thrown →
+            takers_of result thrown ≡ within_single only (takers_of self thrown) }
+    {
+        if only {
+            return Takers {
+                normal: None,
+                returns: None,
+                breaks: None,
+                continues: None,
+                barrier: self.level,
+                level: self.level,
+            };
+        }
+        self
+    }
+}

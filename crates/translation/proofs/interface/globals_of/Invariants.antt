@@ -1,0 +1,8 @@
+use Rattle.std.proofs.Common.{◌≡◌, map, take}
+use Rattle.resolved.specs.ProgramOf.{global_entry}
+use Rattle.translation.specs.Interface.{global_contents}
+use Rattle.translation.proofs.interface.globals_of.Given as goal
+
+-- the globals so far are the first ones
+abbrev pub invariant-loop-variable : goal.invariant-loop-variable
+invariant-loop-variable l = l.made.items ≡ map global_contents (map global_entry (take l.variable-index l.globals))
