@@ -1,5 +1,6 @@
 pub mod Tree
 pub mod Program
+pub mod Names
 pub mod Value
 pub mod State
 pub mod Meaning

@@ -1,0 +1,28 @@
+-- The names of a program and the form of its channels' labels, beside its being well-formed: what a file that holds them wants.
+-- Source: our own.
+use Rattle.std.specs.Prelude.{ℕ, List, ◌++◌, map, All, codes, [], ◌∷◌}
+use Rattle.principals.specs.ActsFor.{AllDifferent, IsHierarchy}
+use Rattle.principals.specs.Laws.{IsNameWithin}
+use Rattle.labels.specs.Canonical.{IsCanonicalLabel}
+use Rattle.resolved.specs.Program.{Program, ChannelEntry}
+
+-- a name in UTF-8 of at most 1 MiB
+abbrev pub IsShortName : List ℕ → Type 0
+IsShortName name = IsNameWithin 1048576 name
+
+-- the exceptions that every program has
+abbrev pub built_in_names : List (List ℕ)
+built_in_names = codes "Arith" ∷ codes "Bounds" ∷ codes "End" ∷ []
+
+-- the names that a module file keeps: those of declared exceptions, then those of channels
+abbrev pub kept_names : Program → List (List ℕ)
+kept_names program = program.exceptions ++ map (λ (entry : ChannelEntry). entry.name) program.channels
+
+-- the principals have different names, and pairs are of principals that are there; exceptions and channels have different names,
+-- which no built-in exception has; and the labels of channels are in the one form in which labels are kept
+pub record HasNames (program : Program) : Type 0 where
+  pub hierarchy : IsHierarchy program.hierarchy
+  pub principals : All IsShortName program.hierarchy.names
+  pub items : All IsShortName (kept_names program)
+  pub different : AllDifferent (built_in_names ++ kept_names program)
+  pub labels : All (λ (entry : ChannelEntry). IsCanonicalLabel entry.label) program.channels
