@@ -30,7 +30,7 @@ OPCODES = {
 
 def assemble(text):
     """The code of lines with an instruction each, where `NAME:` stands before the place NAME; and the offsets of the places."""
-    lines = [line.split() for line in text.strip().splitlines()]
+    lines = [line.split() for line in text.splitlines() if line.strip()]
     places, offset = {}, 0
     for words in lines:
         if words[0].endswith(":"):
@@ -68,27 +68,33 @@ def module(*procedures, exceptions=()):
 
 NOTHING = module(procedure([], "Push 0\nSend 0\nReturn"))
 
-LOOP = module(procedure([0, 0], """
+def counting(turn, test):
+    """Code that takes a turn for each count in slot 0, from 0 on and while the test of it holds, and then sends slot 1."""
+    return f"""
     Jump test
     body:
-    Load 1
-    Load 0
-    Add
-    Store 1
+    {turn}
     Load 0
     Push 1
     Add
     Store 0
     test:
     Load 0
-    Push 20000000
-    AtMost
+    {test}
     Not
     JumpIfFalse body
     Load 1
     Send 0
     Return
-"""))
+"""
+
+
+LOOP = module(procedure([0, 0], counting("""
+    Load 1
+    Load 0
+    Add
+    Store 1
+""", "Push 20000000\nAtMost")))
 
 # Slots: the round, the candidate, the multiple, how many primes there are, and the sieve: 1 where a number is composite.
 SIEVE = module(procedure([0, 0, 0, 0, 65536], """
@@ -175,9 +181,7 @@ FIB = module(procedure([], "Push 30\nCall 1\nSend 0\nReturn"), procedure([0], ""
     ReturnValue
 """, gives=1, parameters=1))
 
-THROWS = module(procedure([0, 0], """
-    Jump test
-    body:
+THROWS = module(procedure([0, 0], counting("""
     Throw 3
     behind:
     catch:
@@ -185,20 +189,7 @@ THROWS = module(procedure([0, 0], """
     Push 1
     Add
     Store 1
-    Load 0
-    Push 1
-    Add
-    Store 0
-    test:
-    Load 0
-    Push 2000000
-    Less
-    Not
-    JumpIfFalse body
-    Load 1
-    Send 0
-    Return
-""", handlers=[("body", "behind", 3, "catch")]), exceptions=[b"Oops"])
+""", "Push 2000000\nLess"), handlers=[("body", "behind", 3, "catch")]), exceptions=[b"Oops"])
 
 PROGRAMS = {
     "nothing": (NOTHING, "print(0)"),
