@@ -1,2 +1,4 @@
 pub mod Demands
+pub mod KeptNames
 pub mod Phases
+pub mod TreeNames

@@ -171,7 +171,7 @@ module _ (h : PrincipalHierarchy) (source : List ℕ) where
       (refl, ap (λ (d : Demand). d.at) (same_flow program other policy other_policy chain others last again (same_program program other from from_too) unmet unmet_too))
 
   -- an accepted source is not refused
-  accepted_refused : (program : Program) (cause : Cause) (at : ℕ) → IsAccepted h source program → IsSourceRefused h source cause at → ⊥
+  pub accepted_refused : (program : Program) (cause : Cause) (at : ℕ) → IsAccepted h source program → IsSourceRefused h source cause at → ⊥
   accepted_refused program cause at accepted (NoText _ _ no_text) = text_or_none source cause at no_text accepted.resolved.tree_of.text
   accepted_refused program cause at accepted (NoTokens _ _ _ fault refused named) = lexed_later fault refused accepted.resolved.tree accepted.resolved.tree_of
   accepted_refused program cause at accepted (NoTree _ _ _ tokens cut fault refused named) = tree_refused source accepted.resolved.tree tokens fault accepted.resolved.tree_of cut refused

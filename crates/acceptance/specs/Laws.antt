@@ -1,8 +1,11 @@
--- The law of verdicts: two texts stand for one program, or one of them is refused for one cause at one byte, and not both.
+-- The law of verdicts: two texts stand for one program, or one of them is refused for one cause at one byte, and not both. And laws
+-- of the programs that sources are resolved to.
 -- Source: our own.
 use Rattle.std.specs.Prelude.{◌≡◌, ℕ, List}
+use Rattle.principals.specs.ActsFor.{PrincipalHierarchy}
+use Rattle.resolved.specs.Names.{HasNames}
 use Rattle.resolved.specs.Program.{Program}
-use Rattle.acceptance.specs.Accepted.{StandFor}
+use Rattle.acceptance.specs.Accepted.{HasHierarchy, IsResolvedFrom, StandFor}
 use Rattle.acceptance.specs.Refused.{IsRefusedAt}
 use Rattle.acceptance.specs.declared.cause.Cause.{Cause}
 use Rattle.acceptance.specs.declared.cause.Text.{Text}
@@ -23,3 +26,16 @@ abbrev pub HasOneVerdict : Type 0
 HasOneVerdict =
     (hierarchy source : List ℕ) (verdict other : Verdict) → IsVerdict hierarchy source verdict → IsVerdict hierarchy source other
     → verdict ≡ other
+
+-- ---- the programs that sources are resolved to
+
+-- a source is resolved to a program of the hierarchy under which it is
+abbrev pub KeepsHierarchy : Type 0
+KeepsHierarchy =
+    (source : List ℕ) (h : PrincipalHierarchy) (program : Program) → IsResolvedFrom h source program → program.hierarchy ≡ h
+
+-- under the hierarchy of a text that program has the names, and the labels of channels, that a file wants
+abbrev pub GivesNames : Type 0
+GivesNames =
+    (hierarchy source : List ℕ) (h : PrincipalHierarchy) (program : Program) → HasHierarchy hierarchy h
+    → IsResolvedFrom h source program → HasNames program

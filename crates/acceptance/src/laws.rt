@@ -1,7 +1,7 @@
 //! What a check has to decide, and what an accepted program promises, for all texts of the whole language.
 
 ghost use Rattle.acceptance.specs.Accepted.{StandFor};
-ghost use Rattle.acceptance.specs.Laws.{HasOneVerdict, HasVerdict};
+ghost use Rattle.acceptance.specs.Laws.{GivesNames, HasOneVerdict, HasVerdict, KeepsHierarchy};
 ghost use Rattle.resolved.specs.Isolated.{Isolated};
 ghost use Rattle.resolved.specs.Program.{Program};
 ghost use Rattle.std.specs.Prelude.{List, ℕ};
@@ -13,6 +13,19 @@ pub fn one_verdict()
     ensures one { HasOneVerdict }
 {
     principals::laws::one_reading();
+}
+
+/// A program that a source is resolved to under the hierarchy of a text has that hierarchy, whose principals have different names in
+/// UTF-8 of at most 1 MiB; so have its exceptions and channels, which are none of the built-in exceptions; and the labels of its
+/// channels are canonical.
+pub fn resolved_programs_have_names()
+    ensures hierarchy { KeepsHierarchy }
+    ensures names { GivesNames }
+{
+    principals::laws::names_are_names();
+    names::laws::item_names_are_proper_and_different();
+    names::laws::item_names_are_utf8();
+    names::laws::hierarchies_and_channel_labels_are_kept();
 }
 
 /// A program that two texts stand for is isolated: for every principal, all worlds that agree for it and any two bounds on the turns

@@ -11,7 +11,6 @@ pub mod Code
 pub mod Format
 pub mod Reading
 pub mod Machine
-pub mod StraightLine
 pub mod Decoded
 pub mod Writing
 pub mod Isolated

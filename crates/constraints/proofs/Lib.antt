@@ -4,3 +4,11 @@ pub mod Added
 pub mod Called
 pub mod Branched
 pub mod Undone
+pub mod Taken
+pub mod Passed
+pub mod Formed
+pub mod Along
+pub mod Begun
+pub mod Measured
+pub mod Declared
+pub mod Bodies

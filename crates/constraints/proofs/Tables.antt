@@ -1,7 +1,7 @@
 -- Tables of labels that grow, and what stands in them.
 use Rattle.std.proofs.Common.{◌≡◌, refl, sym, ap, ◌∙◌, subst, ℕ, suc, zero, ◌+◌, ◌<◌, ◌≤◌, List, [], ◌∷◌, ◌++◌, map, take, length, get_or, arith, append_assoc, append-nil}
 use Rattle.std.specs.Prelude.{Option, Some, None, Bool, true, false, sum_by, if◌then◌else◌, ◌==◌}
-use Rattle.std.proofs.lemmas.List.{map-append, map_more, length-map, length-take-le}
+use Rattle.std.proofs.lemmas.List.{get_or_append_left, map-append, map_more, length-map, length-take-le}
 use Rattle.std.proofs.lemmas.List.Sums.{sum_by-append, sum_by-cons}
 use Rattle.labels.specs.Label.{Label}
 use Rattle.labels.specs.Constraints.{Written, Unknown, renamed}
@@ -44,6 +44,12 @@ behind old new more grown = ap (λ t. t ++ more) grown.is ∙ append_assoc old g
 pub means-more : (old new : List Label) (atom : Atom) (m : Part) → Grows old new → Means old atom m → Means new atom m
 means-more old new atom m grown means = λ program more.
     ap (λ t. part program t atom) (behind old new more grown) ∙ means program (grown.added ++ more)
+
+-- a label that stands in a table
+pub means-listed : (table : List Label) (n : ℕ) (label : Label) → n < length table → ((none : Label) → get_or table n none ≡ label)
+    → Means table (stored.Written n) (Written label)
+means-listed table n label inside listed = λ program more.
+    ap (λ l. Written l) (get_or_append_left table more [] n inside ∙ listed [])
 
 pub mean-more : (old new : List Label) (atoms : List Atom) (ms : List Part) → Grows old new → Mean old atoms ms → Mean new atoms ms
 mean-more old new atoms ms grown mean = λ program more.

@@ -3,3 +3,5 @@ pub mod Rows
 pub mod Added
 pub mod Takers
 pub mod Walks
+pub mod Walked
+pub mod Procedures

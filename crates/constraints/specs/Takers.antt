@@ -1,8 +1,9 @@
 -- The takers of ends as a table: one of each end that is no exception, and for each exception an entry with its level. An entry
 -- counts where its level is above the barrier, so that raising the barrier takes all of them away at once.
 -- Source: our own.
-use Rattle.std.specs.Prelude.{ℕ, ◌≤◌, ◌==◌, List, [], ◌∷◌, set, Option, Some, None, if◌then◌else◌, nat_lt, slice_index_or}
+use Rattle.std.specs.Prelude.{ℕ, suc, ◌≤◌, ◌==◌, List, [], ◌∷◌, set, Option, Some, None, if◌then◌else◌, nat_lt, slice_index_or}
 use Rattle.resolved.specs.declared.statement.Exit.TheVariants.{Normal, Return, Break, Continue, Throw}
+use Rattle.resolved.specs.Tree.{Handlers, NoMore, Catch}
 use Rattle.gathering.specs.Walk as walk
 use Rattle.constraints.specs.declared.takers.Entry.{Entry}
 use Rattle.constraints.specs.declared.takers.Saved.{Saved}
@@ -29,6 +30,17 @@ AreWithin level thrown = (x : ℕ) → (slice_index_or thrown x no_entry).level 
 -- an entry that takes the place of another one, unless that has its level
 abbrev pub entry_after : (exception : ℕ) → Entry → (x : ℕ) → (old : Entry) → Entry
 entry_after exception entry x old = if x == exception then (if old.level == entry.level then old else entry) else old
+
+-- the entry of an exception after handlers, with the numbers from n on, have taken theirs one after the other
+abbrev pub entry_in_try : Handlers → (n level : ℕ) → (x : ℕ) → (old : Entry) → Entry
+entry_in_try NoMore n level x old = old
+entry_in_try (Catch at handled body rest) n level x old =
+    entry_in_try rest (suc n) level x (entry_after handled (record { number = n; level = level }) x old)
+
+-- takers whose level neither their barrier nor an entry is above
+pub record AreLevelled (takers : Takers) (thrown : List Entry) : Type 0 where
+  pub barrier_is_within : takers.barrier ≤ takers.level
+  pub entries_are_within : AreWithin takers.level thrown
 
 -- saved entries put back, the last one first
 abbrev pub undone : List Saved → List Entry → List Entry

@@ -13,6 +13,7 @@ ghost use Rattle.constraints.specs.declared.rows.ThrownLabel.{ThrownLabel};
 ghost use Rattle.std.specs.Prelude.{IfOk, List, OnOk, [], map, sum_by, ℕ, ◌+◌, ◌++◌, ◌∷◌, ◌≡◌};
 
 use crate::rows::{Row, ThrownLabel};
+use crate::written::{Labels, add};
 use labels::Label;
 use resolved::tables::{Channel, GlobalVariable, Procedure, ResultType, Slot, Thrown};
 use solver::Atom;
@@ -31,26 +32,14 @@ pub(crate) fn plus(number: u32, more: usize) -> Result<u32, AllocError>
     Ok(sum)
 }
 
-// Adds a label to the table, and gives its part.
-pub(crate) fn add(written: &mut Vec<Label>, label: &Label) -> Result<Atom, AllocError>
-    ensures grown { OnOk result (Grows written.old.items written.new.items) }
-    ensures meaning { IfOk result (λ atom. Means written.new.items atom (Written label.now)) }
-{
-    let Ok(number) = u32::try_from(written.len()) else {
-        return Err(AllocError);
-    };
-    written.push(label.clone()?)?;
-    Ok(Atom::Written(number))
-}
-
 // The parts of the labels of channels.
 pub(crate) fn channel_parts(
     alloc: Global,
-    written: &mut Vec<Label>,
+    written: &mut Labels,
     channels: &[Channel],
 ) -> Result<Vec<Atom>, AllocError>
-    ensures grown { OnOk result (Grows written.old.items written.new.items) }
-    ensures meaning { IfOk result (λ atoms. Mean written.new.items atoms.items
+    ensures grown { OnOk result (Grows written.old.list.items written.new.list.items) }
+    ensures meaning { IfOk result (λ atoms. Mean written.new.list.items atoms.items
         (map (λ (channel : Channel). Written channel.label) channels.now)) }
 {
     let mut atoms = Vec::new(alloc);
@@ -63,11 +52,11 @@ pub(crate) fn channel_parts(
 // The parts of the labels of globals.
 pub(crate) fn global_parts(
     alloc: Global,
-    written: &mut Vec<Label>,
+    written: &mut Labels,
     globals: &[GlobalVariable],
 ) -> Result<Vec<Atom>, AllocError>
-    ensures grown { OnOk result (Grows written.old.items written.new.items) }
-    ensures meaning { IfOk result (λ atoms. Mean written.new.items atoms.items
+    ensures grown { OnOk result (Grows written.old.list.items written.new.list.items) }
+    ensures meaning { IfOk result (λ atoms. Mean written.new.list.items atoms.items
         (map (λ (variable : GlobalVariable). Written variable.label) globals.now)) }
 {
     let mut atoms = Vec::new(alloc);
@@ -78,13 +67,9 @@ pub(crate) fn global_parts(
 }
 
 // The part of a slot's label, which is the unknown with this number if it is not written.
-fn slot_part(
-    written: &mut Vec<Label>,
-    label: &Option<Label>,
-    number: u32,
-) -> Result<Atom, AllocError>
-    ensures grown { OnOk result (Grows written.old.items written.new.items) }
-    ensures meaning { IfOk result (λ atom. Means written.new.items atom
+fn slot_part(written: &mut Labels, label: &Option<Label>, number: u32) -> Result<Atom, AllocError>
+    ensures grown { OnOk result (Grows written.old.list.items written.new.list.items) }
+    ensures meaning { IfOk result (λ atom. Means written.new.list.items atom
         (written_part label.now number)) }
 {
     match label {
@@ -96,12 +81,12 @@ fn slot_part(
 // The parts of the labels of slots, of which the first is the unknown with this number if its label is not written.
 fn slot_parts(
     alloc: Global,
-    written: &mut Vec<Label>,
+    written: &mut Labels,
     slots: &[Slot],
     first: u32,
 ) -> Result<Vec<Atom>, AllocError>
-    ensures grown { OnOk result (Grows written.old.items written.new.items) }
-    ensures meaning { IfOk result (λ atoms. Mean written.new.items atoms.items
+    ensures grown { OnOk result (Grows written.old.list.items written.new.list.items) }
+    ensures meaning { IfOk result (λ atoms. Mean written.new.list.items atoms.items
         (slot_parts first (map slot_entry slots.now))) }
 {
     let mut atoms = Vec::new(alloc);
@@ -114,15 +99,15 @@ fn slot_parts(
 // The parts of the labels of declared exceptions.
 fn thrown_labels(
     alloc: Global,
-    written: &mut Vec<Label>,
+    written: &mut Labels,
     throws: &[Thrown],
 ) -> Result<Vec<ThrownLabel>, AllocError>
-    ensures grown { OnOk result (Grows written.old.items written.new.items) }
+    ensures grown { OnOk result (Grows written.old.list.items written.new.list.items) }
     ensures exceptions { IfOk result (λ labels.
         map (λ (thrown : ThrownLabel). thrown.exception) labels.items
         ≡ declared_by (map thrown_entry throws.now)) }
     ensures meaning { IfOk result (λ labels. (program : Program) (more : List Label) →
-        thrown_parts program (written.new.items ++ more) labels.items
+        thrown_parts program (written.new.list.items ++ more) labels.items
         ≡ map (λ (entry : ThrownEntry). Written entry.label) (map thrown_entry throws.now)) }
 {
     let mut labels = Vec::new(alloc);
@@ -139,11 +124,11 @@ fn thrown_labels(
 // The part of the label of a procedure's value, which is empty for one without a value.
 fn value_part(
     alloc: Global,
-    written: &mut Vec<Label>,
+    written: &mut Labels,
     value: &Option<ResultType>,
 ) -> Result<Atom, AllocError>
-    ensures grown { OnOk result (Grows written.old.items written.new.items) }
-    ensures meaning { IfOk result (λ atom. Means written.new.items atom
+    ensures grown { OnOk result (Grows written.old.list.items written.new.list.items) }
+    ensures meaning { IfOk result (λ atom. Means written.new.list.items atom
         (Written (result_label (result_entry value.now)))) }
 {
     match value {
@@ -155,13 +140,13 @@ fn value_part(
 // The row of a procedure whose first unknown has this number.
 fn row_of(
     alloc: Global,
-    written: &mut Vec<Label>,
+    written: &mut Labels,
     procedure: &Procedure,
     first: u32,
 ) -> Result<Row, AllocError>
-    ensures grown { OnOk result (Grows written.old.items written.new.items) }
+    ensures grown { OnOk result (Grows written.old.list.items written.new.list.items) }
     ensures row { IfOk result (λ row. (program : Program) (more : List Label) →
-        IsRow program (written.new.items ++ more) first (procedure_entry procedure.now) row) }
+        IsRow program (written.new.list.items ++ more) first (procedure_entry procedure.now) row) }
 {
     Ok(Row {
         begin: add(written, &procedure.begin_label)?,
@@ -177,12 +162,12 @@ fn row_of(
 // The rows of procedures, and how many unknowns they have.
 pub(crate) fn rows_of(
     alloc: Global,
-    written: &mut Vec<Label>,
+    written: &mut Labels,
     procedures: &[Procedure],
 ) -> Result<(Vec<Row>, u32), AllocError>
-    ensures grown { OnOk result (Grows written.old.items written.new.items) }
+    ensures grown { OnOk result (Grows written.old.list.items written.new.list.items) }
     ensures rows { IfOk result (λ found. (program : Program) (more : List Label) →
-        AreRows program (written.new.items ++ more) 0
+        AreRows program (written.new.list.items ++ more) 0
         (map procedure_entry procedures.now) found.0.items) }
     ensures count { IfOk result (λ found. found.1
         ≡ sum_by own_unknowns (map procedure_entry procedures.now)) }

@@ -7,7 +7,16 @@ mod building;
 pub mod calls;
 pub mod expressions;
 pub mod lefts;
+mod pieces;
+mod procedures;
+mod program;
+pub mod progress;
+mod range;
 pub mod rows;
 pub mod statements;
 pub mod table;
 pub mod takers;
+pub mod walking;
+mod written;
+
+pub use program::gather;

@@ -10,8 +10,9 @@ ghost use Rattle.resolved.specs.declared.expression.Variable.TheVariants.{Local}
 ghost use Rattle.resolved.specs.declared.target.Target.TheVariants.{ToParameter, ToVariable};
 ghost use Rattle.std.specs.Prelude.{IfOk, slice_index_or, ◌≡◌};
 
-use crate::building::{add, channel_parts, global_parts, plus, rows_of};
+use crate::building::{channel_parts, global_parts, plus, rows_of};
 use crate::rows::{Row, ThrownLabel};
+use crate::written::{Labels, add};
 use labels::Label;
 use resolved::expression::Variable;
 use resolved::program::Core;
@@ -72,7 +73,7 @@ impl<'a> Table<'a> {
     pub fn of(alloc: Global, core: &'a Core) -> Result<Table<'a>, AllocError>
         ensures { IfOk result (λ table. table.core.now ≡ core.now) }
     {
-        let mut written = Vec::new(alloc);
+        let mut written = Labels::new(alloc);
         let nothing = add(&mut written, &Label::least(alloc))?;
         let channels = channel_parts(alloc, &mut written, &core.channels)?;
         let globals = global_parts(alloc, &mut written, &core.globals)?;
@@ -88,7 +89,7 @@ impl<'a> Table<'a> {
         };
         Ok(Table {
             core,
-            written,
+            written: written.list,
             unknowns,
             nothing,
             channels,

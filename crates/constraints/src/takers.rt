@@ -1,11 +1,14 @@
 //! Where the label of each end flows.
-ghost use Rattle.constraints.specs.Takers.{AreWithin, entry_after, no_entry, taker_of, takers_of, undone};
+ghost use Rattle.constraints.specs.Takers.{AreLevelled, AreWithin, entry_after, entry_in_try, no_entry, taker_of, takers_of, undone};
 ghost use Rattle.gathering.specs.Walk.{in_loop, with_normal, within_single};
-ghost use Rattle.std.specs.Prelude.{List, OnOk, set, slice_index_or, ℕ, ◌≡◌};
+ghost use Rattle.resolved.specs.TreeOf.{handlers_of};
+ghost use Rattle.resolved.specs.declared.statement.Handler.{Handler};
+ghost use Rattle.std.specs.Prelude.{IfOk, List, OnOk, map, set, slice_index_or, ℕ, ◌+◌, ◌≡◌};
 ghost use Rattle.constraints.specs.declared.takers.Entry.{Entry};
 
-use resolved::statement::Exit;
-use std::alloc::AllocError;
+use crate::building::plus;
+use resolved::statement::{Exit, Handler};
+use std::alloc::{AllocError, Global};
 
 /// The taker of an exception, which counts where its level is above the barrier.
 #[derive(Clone, Copy, Debug, PartialEq, Eq)]
@@ -95,6 +98,53 @@ pub fn put(saved: Saved, thrown: &mut Vec<Entry>)
     }
 }
 
+/// Puts saved entries back, the last one first.
+pub fn put_back(saved: Vec<Saved>, thrown: &mut Vec<Entry>)
+    ensures { thrown.new.items ≡ undone saved.items thrown.old.items }
+{
+    let mut saved = saved;
+    while let Some(last) = saved.pop() {
+        put(last, thrown);
+    }
+}
+
+/// Has handlers take their exceptions one after the other, with the inner unknowns from this number on.
+pub(crate) fn take_handled(
+    handlers: &[Handler],
+    first: u32,
+    level: u32,
+    thrown: &mut Vec<Entry>,
+    saved: &mut Vec<Saved>,
+) -> Result<(), AllocError>
+    ensures undone { OnOk result (undone saved.new.items thrown.new.items
+        ≡ undone saved.old.items thrown.old.items) }
+    ensures taken { OnOk result ((x : ℕ) → slice_index_or thrown.new.items x no_entry
+        ≡ entry_in_try (handlers_of handlers.now) first level x
+        (slice_index_or thrown.old.items x no_entry)) }
+{
+    for (i, handler) in handlers.iter().enumerate() {
+        let number = plus(first, i)?;
+        take(handler.exception, Entry { number, level }, thrown, saved)?;
+    }
+    Ok(())
+}
+
+/// The number of the taker of each handler's exception.
+pub(crate) fn numbers_of(
+    alloc: Global,
+    handlers: &[Handler],
+    thrown: &[Entry],
+) -> Result<Vec<u32>, AllocError>
+    ensures { IfOk result (λ numbers. numbers.items ≡ map (λ (handler : Handler).
+        (slice_index_or thrown.now handler.exception no_entry).number) handlers.now) }
+{
+    let mut numbers = Vec::new(alloc);
+    for handler in handlers {
+        numbers.push(entry_in(thrown, handler.exception).number)?;
+    }
+    Ok(numbers)
+}
+
 impl Takers {
     /// The taker of an end.
     pub fn at(self, thrown: &[Entry], exit: Exit) -> Option<u32>
@@ -111,7 +161,8 @@ impl Takers {
 
     /// The same takers but for that of the normal end.
     pub fn with_normal(self, normal: Option<u32>) -> Takers
-        ensures level { result.level ≡ self.level }
+        ensures levelled { (thrown : List Entry) →
+            AreLevelled self thrown → AreLevelled result thrown }
         ensures takers { (thrown : List Entry) →
             takers_of result thrown ≡ with_normal normal (takers_of self thrown) }
     {
@@ -120,7 +171,8 @@ impl Takers {
 
     /// The takers in the body of a loop, whose condition is reached at the inner unknown with this number.
     pub fn in_loop(self, back: u32) -> Takers
-        ensures level { result.level ≡ self.level }
+        ensures levelled { (thrown : List Entry) →
+            AreLevelled self thrown → AreLevelled result thrown }
         ensures takers { (thrown : List Entry) →
             takers_of result thrown ≡ in_loop back (takers_of self thrown) }
     {
@@ -132,9 +184,20 @@ impl Takers {
         }
     }
 
+    /// The takers in the block of a `try`, whose handlers have entries of the next level.
+    pub(crate) fn in_try(self) -> Result<Takers, AllocError>
+        ensures { IfOk result (λ inner. inner ≡ record self { level = self.level + 1 }) }
+    {
+        Ok(Takers {
+            level: plus(self.level, 1)?,
+            ..self
+        })
+    }
+
     /// No takers, where there is one end only.
     pub fn within_single(self, only: bool) -> Takers
-        ensures level { result.level ≡ self.level }
+        ensures levelled { (thrown : List Entry) →
+            AreLevelled self thrown → AreLevelled result thrown }
         ensures takers { (thrown : List Entry) → AreWithin self.level thrown →
             takers_of result thrown ≡ within_single only (takers_of self thrown) }
     {

@@ -1,6 +1,6 @@
 -- What the status of a check or a build says of the texts.
 use Rattle.std.proofs.Common.{◌≡◌, ◌∙◌, sym, subst, arith, refl, ℕ, List, Result, Ok, Err, OnOk, IfOk, IfErr, MatchResult}
-use Rattle.compiler.specs.Built.{IsAccepted}
+use Rattle.flowc.specs.Compiled.{AreAccepted}
 use Rattle.flowc.specs.Task.{status_of_fault}
 use Rattle.flowc.specs.declared.fault.PerformFault.{PerformFault}
 use Rattle.flowc.specs.declared.fault.PerformFault.TheVariants.{Refused, CannotWrite, NoMemory}
@@ -25,6 +25,6 @@ ok_is_zero (Ok x) = refl
 ok_is_zero (Err fault) = tt
 
 -- the same of the texts under other names
-pub accepted_along : (h s h' s' : List ℕ) → h ≡ h' → s ≡ s' → IsAccepted h s → IsAccepted h' s'
+pub accepted_along : (h s h' s' : List ℕ) → h ≡ h' → s ≡ s' → AreAccepted h s → AreAccepted h' s'
 accepted_along h s h' s' eh es accepted =
-    subst (λ (source : List ℕ). IsAccepted h' source) es (subst (λ (hierarchy : List ℕ). IsAccepted hierarchy s) eh accepted)
+    subst (λ (source : List ℕ). AreAccepted h' source) es (subst (λ (hierarchy : List ℕ). AreAccepted hierarchy s) eh accepted)

@@ -4,7 +4,9 @@ use Rattle.std.specs.Prelude.{ℕ, List, [], slice_get}
 use Rattle.std.specs.Option.{option_map_or}
 use Rattle.std.specs.declared.alloc.Global.{Global}
 use Rattle.std.specs.declared.vec.Vec.{Vec}
-use Rattle.compiler.specs.Built.{IsAccepted, IsCompiled}
+use Rattle.resolved.specs.Program.{Program}
+use Rattle.acceptance.specs.Accepted.{StandFor}
+use Rattle.compiling.specs.Compiled.{IsCompiled}
 
 -- the bytes of one of the files that were read
 abbrev pub bytes_at : List (Vec ℕ Global) → ℕ → List ℕ
@@ -14,5 +16,9 @@ bytes_at files index = option_map_or (λ (file : Vec ℕ Global). file.items) (s
 abbrev pub IsBuilt : List (Vec ℕ Global) → List ℕ → Type 0
 IsBuilt files code = IsCompiled (bytes_at files 0) (bytes_at files 1) code
 
+-- two texts are accepted: they stand for a program
+abbrev pub AreAccepted : (hierarchy source : List ℕ) → Type 0
+AreAccepted hierarchy source = (program : Program) × StandFor hierarchy source program
+
 abbrev pub HoldsProgram : List (Vec ℕ Global) → Type 0
-HoldsProgram files = IsAccepted (bytes_at files 0) (bytes_at files 1)
+HoldsProgram files = AreAccepted (bytes_at files 0) (bytes_at files 1)

@@ -17,11 +17,10 @@ use Rattle.channels.specs.Sink.{AppendsPrefix}
 use Rattle.channels.specs.World.{input_names}
 use Rattle.channels.specs.WorldText.{IsFirstDefect, IsWorldText, lines_of}
 use Rattle.channels.specs.declared.defect.WorldDefect.{WorldDefect}
-use Rattle.compiler.specs.Built.{TellsFault}
-use Rattle.compiler.specs.declared.fault.Cause.{Cause}
-use Rattle.compiler.specs.declared.fault.Fault.TheVariants.{Refused}
-use Rattle.compiler.specs.declared.fault.Text.{Text}
-use Rattle.compiler.specs.declared.fault.Text.TheVariants.{Hierarchy, Source}
+use Rattle.acceptance.specs.declared.cause.Cause.{Cause}
+use Rattle.acceptance.specs.declared.cause.Text.{Text}
+use Rattle.acceptance.specs.declared.cause.Text.TheVariants.{Hierarchy, Source}
+use Rattle.compiling.specs.Reported.{IsFirstFault}
 use Rattle.machine.specs.Run.{IsTold}
 use Rattle.machine.specs.declared.status.Status.{Status}
 use Rattle.verifier.specs.Faults as faults
@@ -50,7 +49,7 @@ pub record IsTextsLine (hierarchy_path source_path hierarchy source line : List 
   pub text : Text
   pub cause : Cause
   pub at : Place
-  pub first : TellsFault hierarchy source (Refused text cause at)
+  pub first : IsFirstFault hierarchy source text cause at
   pub says : line ≡ cause_line (path_of hierarchy_path source_path text) cause at
 
 -- the line reports the first refusal of the bytes of a module, or a fault of its code

@@ -18,8 +18,8 @@ use Rattle.bytecode.specs.Machine.{Ending, sent_after}
 use Rattle.channels.specs.World.{InputNumbers, input_names, numbers_of_channel}
 use Rattle.verifier.specs.Safety.{IsNeverStuck}
 use Rattle.machine.specs.Run.{names_of}
-use Rattle.lowering.specs.Kept.{ending_of}
-use Rattle.compiler.specs.Built.{IsCompiled}
+use Rattle.translation.specs.Kept.{ending_of}
+use Rattle.compiling.specs.Compiled.{IsCompiled}
 use Rattle.host.specs.Laws as sessions
 use Rattle.host.specs.Meaning.{CanOpen}
 use Rattle.command_line.specs.declared.request.Task.TheVariants.{Run}
@@ -37,7 +37,7 @@ abbrev pub program_in : {hierarchy source code : List ℕ} → IsCompiled hierar
 program_in compiled = compiled.program
 
 abbrev pub module_in : {hierarchy source code : List ℕ} → IsCompiled hierarchy source code → ModuleContents
-module_in compiled = compiled.code_of.whole
+module_in compiled = compiled.code_of.contents
 
 -- ---- sessions
 

@@ -4,9 +4,10 @@ ghost use Rattle.flowc.specs.Lines as lines;
 ghost use Rattle.std.specs.Prelude.{◌≡◌, IfOk};
 ghost use Rattle.std.specs.String.{string_bytes};
 
+use acceptance::Cause;
 use bytecode::Refusal;
 use channels::WorldDefect;
-use compiler::Cause;
+use compiling::{number, words};
 use lexer::Place;
 use std::alloc::{AllocError, Global};
 use verifier::Fault;
@@ -54,8 +55,8 @@ pub fn encoding_line(alloc: Global, path: &str) -> Result<String, AllocError>
 {
     let line = 1u32;
     let cause = Cause::NotUtf8;
-    let number = cause.number();
-    format!(in alloc; "{path}:{line}: {number} {cause}\n")
+    let (number, words) = (number(cause), words(cause));
+    format!(in alloc; "{path}:{line}: {number} {words}\n")
 }
 
 /// The line that reports what is wrong with a text, at a line and a column.
@@ -63,8 +64,8 @@ pub fn cause_line(alloc: Global, path: &str, cause: Cause, at: Place) -> Result<
     ensures { IfOk result (λ text. string_bytes text ≡ lines.cause_line path.now cause at) }
 {
     let Place { line, column } = at;
-    let number = cause.number();
-    format!(in alloc; "{path}:{line}:{column}: {number} {cause}\n")
+    let (number, words) = (number(cause), words(cause));
+    format!(in alloc; "{path}:{line}:{column}: {number} {words}\n")
 }
 
 /// The line that says that no principal of a module has the name of an observer.
@@ -72,6 +73,6 @@ pub fn observer_line(alloc: Global, name: &str) -> Result<String, AllocError>
     ensures { IfOk result (λ line. string_bytes line ≡ lines.observer_line name.now) }
 {
     let cause = Cause::UnknownPrincipal;
-    let number = cause.number();
-    format!(in alloc; "{name}: {number} {cause}\n")
+    let (number, words) = (number(cause), words(cause));
+    format!(in alloc; "{name}: {number} {words}\n")
 }

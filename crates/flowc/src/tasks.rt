@@ -1,6 +1,6 @@
 ghost use Rattle.channels.specs.Sink.{AppendsPrefix};
-ghost use Rattle.compiler.specs.Built.{IsAccepted, IsCompiled};
-ghost use Rattle.flowc.specs.Compiled.{HoldsProgram, IsBuilt, bytes_at};
+ghost use Rattle.compiling.specs.Compiled.{IsCompiled};
+ghost use Rattle.flowc.specs.Compiled.{AreAccepted, HoldsProgram, IsBuilt, bytes_at};
 ghost use Rattle.flowc.specs.Lines.{IsPerformFault, line_of_fault};
 ghost use Rattle.flowc.specs.Stdout.{Shows};
 ghost use Rattle.flowc.specs.Task.{files_of, makes_file, may_end, reads_source, status_of_fault};
@@ -12,9 +12,10 @@ ghost use Rattle.std.specs.String.{string_bytes};
 use crate::fault::PerformFault;
 use crate::messages::cause_line;
 use crate::running::{Ended, File, run};
+use acceptance::Text;
 use channels::{Sink, write_all};
 use command_line::Task;
-use compiler::{Fault, Text, compile};
+use compiling::{Fault, compile};
 use std::alloc::Global;
 
 /// What the program leaves to do: its exit status, and the bytes for the output file if it makes one.
@@ -105,8 +106,8 @@ fn check<O: Sink>(
     source: File<'_>,
     out: &mut O,
 ) -> Result<Ended, PerformFault>
-    ensures accepted { OnOk result (IsAccepted hierarchy.entry.bytes.now source.entry.bytes.now) }
-    ensures refused { IfErr result (λ fault. status_of_fault fault ≡ 1 → ¬ IsAccepted hierarchy.entry.bytes.now source.entry.bytes.now) }
+    ensures accepted { OnOk result (AreAccepted hierarchy.entry.bytes.now source.entry.bytes.now) }
+    ensures refused { IfErr result (λ fault. status_of_fault fault ≡ 1 → ¬ AreAccepted hierarchy.entry.bytes.now source.entry.bytes.now) }
     ensures status { IfOk result (λ ended. ended.status ≡ 0) }
     ensures shown { OnOk result (Appends (O.taken out.old) (O.taken out.new) (codes "ok\n")) }
     ensures quiet { IfErr result (λ fault. status_of_fault fault ≡ 1 → O.taken out.old ≡ O.taken out.new) }
@@ -124,9 +125,9 @@ fn check<O: Sink>(
 
 // The bytes of the module that a source under a hierarchy is compiled to.
 fn build(alloc: Global, hierarchy: File<'_>, source: File<'_>) -> Result<Vec<u8>, PerformFault>
-    ensures accepted { OnOk result (IsAccepted hierarchy.entry.bytes.now source.entry.bytes.now) }
+    ensures accepted { OnOk result (AreAccepted hierarchy.entry.bytes.now source.entry.bytes.now) }
     ensures compiled { IfOk result (λ code. IsCompiled hierarchy.entry.bytes.now source.entry.bytes.now code.items) }
-    ensures refused { IfErr result (λ fault. status_of_fault fault ≡ 1 → ¬ IsAccepted hierarchy.entry.bytes.now source.entry.bytes.now) }
+    ensures refused { IfErr result (λ fault. status_of_fault fault ≡ 1 → ¬ AreAccepted hierarchy.entry.bytes.now source.entry.bytes.now) }
     ensures message { IfErr result (IsPerformFault (IsTextsLine hierarchy.entry.path.now source.entry.path.now hierarchy.entry.bytes.now source.entry.bytes.now) false) }
 {
     match compile(alloc, hierarchy.bytes, source.bytes) {

@@ -17,7 +17,7 @@ use Rattle.gathering.proofs.Programs.{gathered_by}
 use Rattle.gathering.proofs.Faultless.{faultless-gathers}
 use Rattle.gathering.proofs.Ranged.{InRange, Ranged}
 use Rattle.gathering.proofs.RangedPrograms.{ranged-program}
-use Rattle.gathering.proofs.Renaming.{Stands, map-only, renamed-gathered}
+use Rattle.gathering.proofs.Renaming.{Stands, map-only, renamed-gathered, renamed-number}
 
 -- ---- back from a number
 abbrev name_in : ProcedureEntry → (f k : ℕ) → Unwritten
@@ -124,6 +124,17 @@ numbered-gathered program formed none =
     renamed-gathered (program_demands program) (program_constraints program) (gathered_by program (faultless-gathers program none)) (unknown_number program) (name_of program) (λ k. nat_le (real_unknowns program) k)
     (λ a there. kept program bound a (in-range program bound (program_constraints program) ranged a there))
     (λ a there. returns program bound a (in-range program bound (program_constraints program) ranged a there))
+
+-- in which a local and a loop have their own numbers
+pub numbered-numbers : (program : Program) (formed : IsTrue (well_formed program)) (none : end_faults program ≡ []) (u : Unwritten) →
+    (numbered-gathered program formed none).number u ≡ unwritten_number program u
+unfolding numbered-gathered
+numbered-numbers program formed none u =
+    let bound : ℕ = made_from program 0 program.procedures in
+    let ranged : Ranged program bound (program_constraints program) = ranged-program program formed in
+    renamed-number (program_demands program) (program_constraints program) (gathered_by program (faultless-gathers program none)) (unknown_number program) (name_of program) (λ k. nat_le (real_unknowns program) k)
+    (λ a there. kept program bound a (in-range program bound (program_constraints program) ranged a there))
+    (λ a there. returns program bound a (in-range program bound (program_constraints program) ranged a there)) u
 
 -- and its unknowns have numbers below their count
 number-below : (program : Program) (a : NamedAtom) → InRange program (made_from program 0 program.procedures) a → IsBelow (unknown_count program) (numbered_atom program a)

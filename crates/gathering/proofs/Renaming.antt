@@ -120,3 +120,8 @@ module _ {N U W X V : Type 0} (ds : List (Constraint N U V)) (cs : List (Constra
         untargeted c' (c, h, is) e =
             sym (ap (λ (z : Constraint (Option N) X V). z.target) is)
             ∙ gathered.no_target c h (sym (kept c.right (c, h, inr refl)) ∙ ap (λ (z : Constraint (Option N) X V). is_inner inner z.right) is ∙ e)
+
+    -- the number of an unknown is the new name of its old one
+    pub renamed-number : (u : U) → renamed-gathered.number u ≡ count u
+    unfolding renamed-gathered
+    renamed-number u = refl

@@ -270,7 +270,40 @@ items_named h top named tables (item ∷ items) kept =
     then_finds (next_item h top tables item) (λ next. along (next_item h top) next items) (TableNames (names_with named item)) _
     (item_named h top named tables item kept) (λ next kept_next. items_named h top (names_with named item) next items kept_next)
 
+abbrev table_names : Tables → List (List ℕ)
+table_names tables = tables.exceptions ++ (map channel_name tables.channels ++ (map global_name tables.globals ++ map procedure_name tables.procedures))
+
+same_names : (named : ItemNames) (tables : Tables) → TableNames named tables → all_names named ≡ table_names tables
+same_names named tables kept i = sym kept.exceptions i ++ (sym kept.channels i ++ (sym kept.globals i ++ sym kept.procedures i))
+
+-- ---- what holds of the name of each item
+
+each_item_name : (P : List ℕ → Type 0) (named : ItemNames) (items : List ItemTree) → All (λ (item : ItemTree). P (item_name item).text) items
+    → EachName P (all_names named) → EachName P (all_names (names_all named items))
+each_item_name P named [] all each = each
+each_item_name P named (item ∷ items) all each =
+    let is = item_inserted named item in
+    each_item_name P (names_with named item) items (All-tail (λ (item : ItemTree). P (item_name item).text) item items all)
+    (subst (EachName P) (sym is.longer_is)
+    (each_inserted P is.before is.behind (item_name item).text (subst (EachName P) is.shorter_is each)
+    (All-head (λ (item : ItemTree). P (item_name item).text) item items all)))
+
 -- ---- the whole
+
+-- what holds of the name of each item of a tree holds of the names of the program
+pub names_hold : (P : List ℕ → Type 0) (h : PrincipalHierarchy) (written : ProgramTree) → All (λ (item : ItemTree). P (item_name item).text) written.items
+    → IfOk (resolution h written) (λ (program : Program). All P (item_names program))
+unfolding resolution items_outcome
+names_hold P h written all =
+    let named = names_all no_names written.items in
+    then_finds (top_outcome written.items) _ (λ one. Unit {0}) _ (any_finds (top_outcome written.items)) (λ top nothing.
+    then_finds (along (next_item h top) no_tables written.items) _ (TableNames named) _
+    (items_named h top no_names no_tables written.items (record { exceptions = refl; channels = refl; globals = refl; procedures = refl })) (λ tables kept.
+    then_finds (main_outcome (top.names (codes "main")) tables.procedures) _ (λ one. Unit {0}) _
+    (any_finds (main_outcome (top.names (codes "main")) tables.procedures)) (λ main nothing.
+    then_finds (global_cells_outcome written.items) _ (λ one. Unit {0}) _ (any_finds (global_cells_outcome written.items)) (λ cells nothing.
+    then_finds (frames_outcome tables.procedures) _ (λ one. Unit {0}) _ (any_finds (frames_outcome tables.procedures)) (λ done nothing.
+    subst (All P) (same_names named tables kept) (all_of_each P (all_names named) (each_item_name P no_names written.items all tt)))))))
 
 pub record ProgramNames (program : Program) : Type 0 where
   pub proper : All IsProperName (item_names program)
@@ -288,8 +321,7 @@ program_names h written is =
     (any_finds (main_outcome (top.names (codes "main")) tables.procedures)) (λ main nothing.
     then_finds (global_cells_outcome written.items) _ (λ one. Unit {0}) _ (any_finds (global_cells_outcome written.items)) (λ cells nothing.
     then_finds (frames_outcome tables.procedures) _ (λ one. Unit {0}) _ (any_finds (frames_outcome tables.procedures)) (λ done nothing.
-    let same : all_names named ≡ tables.exceptions ++ (map channel_name tables.channels ++ (map global_name tables.globals ++ map procedure_name tables.procedures)) =
-    λ i. sym kept.exceptions i ++ (sym kept.channels i ++ (sym kept.globals i ++ sym kept.procedures i)) in
+    let same = same_names named tables kept in
     record {
       proper = subst (All IsProperName) same (all_of_each IsProperName (all_names named) top_kept.proper);
       different = subst (λ all. AllDifferent (built_in_names ++ all)) same (all_different (built_in_names ++ all_names named) top_kept.different);

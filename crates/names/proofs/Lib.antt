@@ -1,4 +1,5 @@
 mod Along
+mod ChannelLabels
 mod Declarations
 mod Frames
 mod Holding

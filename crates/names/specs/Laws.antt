@@ -1,17 +1,18 @@
 -- Laws of the programs that trees stand for.
 -- Source: our own.
-use Rattle.std.specs.Prelude.{◌≡◌, ℕ, ◌≤◌, List, ◌∷◌, ◌++◌, map, length, All, IsTrue, Some, slice_get, codes}
+use Rattle.std.specs.Prelude.{◌≡◌, ℕ, ◌≤◌, List, ◌∷◌, ◌++◌, map, length, All, IsTrue, Some, slice_get, codes, IsUtf8}
 use Rattle.lexer.specs.Words.{is_name_text}
 use Rattle.principals.specs.ActsFor.{PrincipalHierarchy, IsHierarchy, AllDifferent}
+use Rattle.labels.specs.Canonical.{IsCanonicalLabel}
 use Rattle.syntax.specs.Limits.{IsProgram, longest_name}
-use Rattle.syntax.specs.Tree.{ProgramTree}
+use Rattle.syntax.specs.Tree.{ItemTree, ProgramTree}
 use Rattle.resolved.specs.Program.{Program, ChannelEntry, GlobalEntry, ProcedureEntry}
 use Rattle.resolved.specs.WellFormed.{well_formed}
 use Rattle.resolved.specs.declared.expression.Variable.TheVariants.{Global, Local}
 use Rattle.names.specs.declared.scope.Meaning.{Meaning}
 use Rattle.names.specs.declared.scope.Meaning.TheVariants.{Input, Output, Exception, Procedure, Scalar, Array}
 use Rattle.names.specs.Outcome.{give}
-use Rattle.names.specs.Resolution.{TopLevel, top_outcome, resolution}
+use Rattle.names.specs.Resolution.{TopLevel, item_name, top_outcome, resolution}
 
 -- the program that a tree stands for is well formed
 abbrev pub WhatIsFoundIsWellFormed : Type 0
@@ -49,6 +50,27 @@ abbrev pub NamesAreDifferent : Type 0
 NamesAreDifferent =
     (h : PrincipalHierarchy) (tree : ProgramTree) (program : Program) → IsProgram tree → resolution h tree ≡ give program
     → AllDifferent (codes "Arith" ∷ codes "Bounds" ∷ codes "End" ∷ item_names program)
+
+-- where the names of the items of a tree are UTF-8, those of the program that it stands for are too
+abbrev pub HasUtf8Names : ProgramTree → Type 0
+HasUtf8Names tree = All (λ (item : ItemTree). IsUtf8 (item_name item).text) tree.items
+
+abbrev pub NamesAreUtf8 : Type 0
+NamesAreUtf8 =
+    (h : PrincipalHierarchy) (tree : ProgramTree) (program : Program) → HasUtf8Names tree → resolution h tree ≡ give program
+    → All IsUtf8 (item_names program)
+
+-- ---- the hierarchy, and the labels of channels
+
+-- the program that a tree stands for is one of the hierarchy under which it is resolved
+abbrev pub HierarchyIsKept : Type 0
+HierarchyIsKept = (h : PrincipalHierarchy) (tree : ProgramTree) (program : Program) → resolution h tree ≡ give program → program.hierarchy ≡ h
+
+-- the labels of its channels are in the one form in which labels are kept
+abbrev pub ChannelLabelsAreCanonical : Type 0
+ChannelLabelsAreCanonical =
+    (h : PrincipalHierarchy) (tree : ProgramTree) (program : Program) → resolution h tree ≡ give program
+    → All (λ (entry : ChannelEntry). IsCanonicalLabel entry.label) program.channels
 
 -- ---- numbers
 

@@ -25,7 +25,8 @@ impl<'a> Body<'a> {
         ensures made { Gives (at_point self.new block_view) result
             (block_outcome (setting_of self.old) (point_of self.old) (block_tree written.now)) }
         ensures later { OnOk result (IsLater self.old self.new) }
-        ensures grows { OnOk result (taken self.new ≤ taken self.old + block_nodes (block_tree written.now)) }
+        ensures grows { OnOk result (taken self.new ≤
+            taken self.old + block_nodes (block_tree written.now)) }
     {
         let before = self.locals.len();
         let made = self.statements(&written.statements)?;
@@ -36,10 +37,14 @@ impl<'a> Body<'a> {
     /// The statements of a block.
     #[cycle(block)]
     fn statements(&mut self, written: &[syntax::Statement]) -> Result<Vec<Statement>, TypeFault>
-        requires room { taken self.old + statements_nodes (statements_of (map statement_tree written.now)) < most_nodes }
-        ensures made { Gives (at_point self.new block_view) result (statements_outcome (setting_of self.old) (point_of self.old) (statements_of (map statement_tree written.now))) }
+        requires room { taken self.old +
+            statements_nodes (statements_of (map statement_tree written.now)) < most_nodes }
+        ensures made { Gives (at_point self.new block_view) result
+            (statements_outcome (setting_of self.old) (point_of self.old)
+            (statements_of (map statement_tree written.now))) }
         ensures later { OnOk result (IsLater self.old self.new) }
-        ensures grows { OnOk result (taken self.new ≤ taken self.old + statements_nodes (statements_of (map statement_tree written.now))) }
+        ensures grows { OnOk result (taken self.new ≤
+            taken self.old + statements_nodes (statements_of (map statement_tree written.now))) }
     {
         let mut made = Vec::new(self.alloc);
         for statement in written {
@@ -51,10 +56,14 @@ impl<'a> Body<'a> {
     /// The handlers of a `try`.
     #[cycle(block)]
     fn catches(&mut self, written: &[Catch]) -> Result<Vec<Handler>, TypeFault>
-        requires room { taken self.old + catches_nodes (catches_of (map catch_tree written.now)) < most_nodes }
-        ensures made { Gives (at_point self.new handlers_view) result (catches_outcome (setting_of self.old) (point_of self.old) (catches_of (map catch_tree written.now))) }
+        requires room { taken self.old + catches_nodes (catches_of (map catch_tree written.now)) <
+            most_nodes }
+        ensures made { Gives (at_point self.new handlers_view) result
+            (catches_outcome (setting_of self.old) (point_of self.old)
+            (catches_of (map catch_tree written.now))) }
         ensures later { OnOk result (IsLater self.old self.new) }
-        ensures grows { OnOk result (taken self.new ≤ taken self.old + catches_nodes (catches_of (map catch_tree written.now))) }
+        ensures grows { OnOk result (taken self.new ≤
+            taken self.old + catches_nodes (catches_of (map catch_tree written.now))) }
     {
         let mut handlers = Vec::new(self.alloc);
         for one in written {
@@ -75,9 +84,12 @@ impl<'a> Body<'a> {
     #[tactic(auto, unfolding(crate::specs::Statements::statement_outcome))]
     fn statement(&mut self, written: &syntax::Statement) -> Result<Statement, TypeFault>
         requires room { taken self.old + statement_nodes (statement_tree written.now) < most_nodes }
-        ensures made { Gives (at_point self.new statement_of) result (statement_outcome (setting_of self.old) (point_of self.old) (statement_tree written.now)) }
+        ensures made { Gives (at_point self.new statement_of) result
+            (statement_outcome (setting_of self.old) (point_of self.old)
+            (statement_tree written.now)) }
         ensures later { OnOk result (IsLater self.old self.new) }
-        ensures grows { OnOk result (taken self.new ≤ taken self.old + statement_nodes (statement_tree written.now)) }
+        ensures grows { OnOk result (taken self.new ≤
+            taken self.old + statement_nodes (statement_tree written.now)) }
     {
         match written {
             syntax::Statement::Declare {

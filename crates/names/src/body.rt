@@ -38,8 +38,14 @@ impl<'a> Body<'a> {
         top: &'a TopNames,
         value: Option<Base>,
     ) -> Body<'a>
-        ensures setting { setting_of result ≡ record { hierarchy = hierarchy.now; signatures = map signature_view top.now.signatures.items; result = value } }
-        ensures point { point_of result ≡ record { names = found_in top.now.names; slots = []; loops = 0 } }
+        ensures setting { setting_of result ≡
+            record {
+              hierarchy = hierarchy.now;
+              signatures = map signature_view top.now.signatures.items;
+              result = value;
+            } }
+        ensures point { point_of result ≡
+            record { names = found_in top.now.names; slots = []; loops = 0 } }
         ensures none { taken result ≡ 0 }
     {
         Body {
@@ -66,7 +72,8 @@ impl<'a> Body<'a> {
     /// Declares a parameter or local, which takes the next slot.
     pub fn declare(&mut self, slot: Slot, meaning: Meaning) -> Result<(), TypeFault>
         requires fresh { names_of self.old (slot_entry slot).name ≡ None }
-        ensures made { Gives (λ _. point_of self.new) result (give (with_local (point_of self.old) (slot_entry slot) meaning)) }
+        ensures made { Gives (λ _. point_of self.new) result
+            (give (with_local (point_of self.old) (slot_entry slot) meaning)) }
         ensures later { OnOk result (IsLater self.old self.new) }
         ensures grows { OnOk result (taken self.new ≡ taken self.old + 1) }
     {

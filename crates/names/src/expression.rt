@@ -23,7 +23,8 @@ pub struct TypedExpression {
 
 impl TypedExpression {
     fn new(expression: Expression, base: Base) -> TypedExpression
-        ensures { typed_view result ≡ record { expression = expression_of expression; base = base } }
+        ensures { typed_view result ≡
+            record { expression = expression_of expression; base = base } }
     {
         TypedExpression { expression, base }
     }
@@ -45,7 +46,8 @@ impl<'a> Body<'a> {
     /// An expression, and the type of its values.
     #[tactic(auto, unfolding(crate::specs::Expressions::expression_outcome))]
     pub fn expression(&self, written: &syntax::Expression) -> Result<TypedExpression, TypeFault>
-        ensures { Gives typed_view result (expression_outcome (names_of self.now) (expression_tree written.now)) }
+        ensures { Gives typed_view result
+            (expression_outcome (names_of self.now) (expression_tree written.now)) }
     {
         match written {
             syntax::Expression::Integer { value, .. } => {
@@ -97,7 +99,8 @@ impl<'a> Body<'a> {
     /// An expression at a place that wants a type.
     #[tactic(auto, unfolding(crate::specs::Expressions::typed_outcome))]
     pub fn typed(&self, base: Base, written: &syntax::Expression) -> Result<Expression, TypeFault>
-        ensures { Gives expression_of result (typed_outcome (names_of self.now) base (expression_tree written.now)) }
+        ensures { Gives expression_of result
+            (typed_outcome (names_of self.now) base (expression_tree written.now)) }
     {
         self.expression(written)?.of_base(base, written.place())
     }

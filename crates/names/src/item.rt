@@ -26,7 +26,8 @@ pub fn channel(
     hierarchy: &Hierarchy,
     written: &syntax::Channel,
 ) -> Result<Channel, TypeFault>
-    ensures { Gives channel_entry result (channel_outcome hierarchy.now (channel_tree written.now)) }
+    ensures { Gives channel_entry result
+        (channel_outcome hierarchy.now (channel_tree written.now)) }
 {
     let label = label(alloc, hierarchy, &written.label)?;
     Ok(Channel {
@@ -105,7 +106,8 @@ pub fn global(
     hierarchy: &Hierarchy,
     written: &syntax::GlobalVariable,
 ) -> Result<GlobalVariable, TypeFault>
-    requires small { IsWrittenGlobalValue Anywhere longest_name (global_value_tree written.now.value) }
+    requires small { IsWrittenGlobalValue Anywhere longest_name
+        (global_value_tree written.now.value) }
     ensures { Gives global_entry result (global_outcome hierarchy.now (global_tree written.now)) }
 {
     let label = label(alloc, hierarchy, &written.label)?;

@@ -25,7 +25,8 @@ fn principal(hierarchy: &Hierarchy, name: &Name) -> Result<u32, TypeFault>
 
 /// The numbers of readers.
 fn readers(alloc: Global, hierarchy: &Hierarchy, names: &[Name]) -> Result<Vec<u32>, TypeFault>
-    ensures { Gives (λ numbers. numbers.items) result (readers_outcome hierarchy.now (map name_tree names.now)) }
+    ensures { Gives (λ numbers. numbers.items) result
+        (readers_outcome hierarchy.now (map name_tree names.now)) }
 {
     let mut numbers = Vec::new(alloc);
     for name in names {
@@ -55,7 +56,8 @@ fn policies(
     hierarchy: &Hierarchy,
     written: &[WrittenPolicy],
 ) -> Result<Vec<Policy>, TypeFault>
-    ensures made { Gives (λ policies. policies.items) result (policies_outcome hierarchy.now (map policy_tree written.now)) }
+    ensures made { Gives (λ policies. policies.items) result
+        (policies_outcome hierarchy.now (map policy_tree written.now)) }
     ensures canonical { IfOk result (λ policies. All IsCanonicalPolicy policies.items) }
 {
     let mut policies = Vec::new(alloc);
@@ -85,7 +87,8 @@ pub fn optional_label(
     hierarchy: &Hierarchy,
     written: &Option<WrittenLabel>,
 ) -> Result<Option<Label>, TypeFault>
-    ensures { Gives itself result (optional_label_outcome hierarchy.now (optional_label_tree written.now)) }
+    ensures { Gives itself result
+        (optional_label_outcome hierarchy.now (optional_label_tree written.now)) }
 {
     match written {
         None => Ok(None),

@@ -1,6 +1,6 @@
 //! Laws of the definitions, each the contract of a function that does nothing.
 
-ghost use Rattle.names.specs.Laws.{NamesAreDifferent, NamesAreProper, NumbersReadAsNames, RunsBeginAtMain, WhatIsFoundIsWellFormed};
+ghost use Rattle.names.specs.Laws.{ChannelLabelsAreCanonical, HierarchyIsKept, NamesAreDifferent, NamesAreProper, NamesAreUtf8, NumbersReadAsNames, RunsBeginAtMain, WhatIsFoundIsWellFormed};
 
 /// The resolved program that a syntax tree stands for under a hierarchy is well formed: each expression has the type that its place
 /// wants, each number is that of an entry of the tables, arguments match parameters, and the limits are kept.
@@ -13,6 +13,18 @@ pub fn found_programs_are_well_formed()
 pub fn item_names_are_proper_and_different()
     ensures proper { NamesAreProper }
     ensures different { NamesAreDifferent }
+{}
+
+/// The names of these items are UTF-8 where those of the tree are.
+pub fn item_names_are_utf8()
+    ensures { NamesAreUtf8 }
+{}
+
+/// The program that a tree stands for keeps the hierarchy under which it is resolved, and the labels of its channels are canonical:
+/// policies and readers ascend, each once, and no owner is among the readers of its policy.
+pub fn hierarchies_and_channel_labels_are_kept()
+    ensures hierarchy { HierarchyIsKept }
+    ensures labels { ChannelLabelsAreCanonical }
 {}
 
 /// Each name in scope at the top level stands for the entry of that name in its table, under the number by which it is used; and a

@@ -131,7 +131,8 @@ pub fn combine(
     left: Expression,
     right: Expression,
 ) -> Result<Expression, AllocError>
-    ensures { IfOk result (λ made. expression_of made ≡ spec.combined used base (expression_of left) (expression_of right)) }
+    ensures { IfOk result (λ made. expression_of made ≡
+        spec.combined used base (expression_of left) (expression_of right)) }
 {
     let left = Box::new(alloc, left)?;
     let right = Box::new(alloc, right)?;

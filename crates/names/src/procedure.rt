@@ -53,7 +53,9 @@ impl<'a> Body<'a> {
     /// Declares the next parameter.
     fn parameter(&mut self, written: &Parameter) -> Result<(), TypeFault>
         requires room { taken self.old < most_nodes }
-        ensures made { Gives (λ _. point_of self.new) result (next_parameter self.old.hierarchy.now (point_of self.old) (parameter_tree written.now)) }
+        ensures made { Gives (λ _. point_of self.new) result
+            (next_parameter self.old.hierarchy.now (point_of self.old)
+            (parameter_tree written.now)) }
         ensures later { OnOk result (IsLater self.old self.new) }
         ensures grows { OnOk result (taken self.new ≡ taken self.old + 1) }
     {
@@ -69,7 +71,9 @@ impl<'a> Body<'a> {
     /// Declares parameters.
     fn parameters(&mut self, written: &[Parameter]) -> Result<(), TypeFault>
         requires room { taken self.old + length written.now < most_nodes }
-        ensures made { Gives (λ _. point_of self.new) result (along (next_parameter self.old.hierarchy.now) (point_of self.old) (map parameter_tree written.now)) }
+        ensures made { Gives (λ _. point_of self.new) result
+            (along (next_parameter self.old.hierarchy.now) (point_of self.old)
+            (map parameter_tree written.now)) }
         ensures later { OnOk result (IsLater self.old self.new) }
         ensures grows { OnOk result (taken self.new ≡ taken self.old + length written.now) }
     {
@@ -89,9 +93,13 @@ fn add_thrown(
     throws: &mut Vec<Thrown>,
     written: &syntax::Thrown,
 ) -> Result<(), TypeFault>
-    requires same { (number : ℕ) → contains nat_eq seen.old number ≡ is_thrown (throws_view throws.old) number }
-    ensures made { Gives (λ _. throws_view throws.new) result (next_thrown hierarchy.now (found_in top.now.names) (throws_view throws.old) (thrown_tree written.now)) }
-    ensures same { OnOk result ((number : ℕ) → contains nat_eq seen.new number ≡ is_thrown (throws_view throws.new) number) }
+    requires same { (number : ℕ) → contains nat_eq seen.old number ≡
+        is_thrown (throws_view throws.old) number }
+    ensures made { Gives (λ _. throws_view throws.new) result
+        (next_thrown hierarchy.now (found_in top.now.names) (throws_view throws.old)
+        (thrown_tree written.now)) }
+    ensures same { OnOk result ((number : ℕ) → contains nat_eq seen.new number ≡
+        is_thrown (throws_view throws.new) number) }
 {
     let name = &written.name;
     let number = exception(find(&top.names, name.text.as_str()), name.at)?;
@@ -114,7 +122,8 @@ fn throws(
     top: &TopNames,
     written: &[syntax::Thrown],
 ) -> Result<Vec<Thrown>, TypeFault>
-    ensures { Gives throws_view result (throws_outcome hierarchy.now (found_in top.now.names) (map thrown_tree written.now)) }
+    ensures { Gives throws_view result
+        (throws_outcome hierarchy.now (found_in top.now.names) (map thrown_tree written.now)) }
 {
     let mut seen = IndexSet::new(alloc);
     let mut throws = Vec::new(alloc);
@@ -167,7 +176,8 @@ fn end_label(
     begin: &Label,
     throws: &[Thrown],
 ) -> Result<Label, AllocError>
-    ensures { IfOk result (λ label. label ≡ end_label_of written begin.now (map thrown_entry throws.now)) }
+    ensures { IfOk result (λ label. label ≡
+        end_label_of written begin.now (map thrown_entry throws.now)) }
 {
     match written {
         Some(label) => Ok(label),

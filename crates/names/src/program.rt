@@ -55,7 +55,9 @@ impl ItemTables {
     ) -> Result<(), TypeFault>
         requires written { IsWrittenItem Anywhere longest_name (item_tree item.now) }
         requires room { item_nodes (item_tree item.now) < most_nodes }
-        ensures { Gives (λ _. tables_view self.new) result (next_item hierarchy.now (top_view top.now) (tables_view self.old) (item_tree item.now)) }
+        ensures { Gives (λ _. tables_view self.new) result
+            (next_item hierarchy.now (top_view top.now) (tables_view self.old)
+            (item_tree item.now)) }
     {
         match item {
             Item::Channel(one) => self.channels.push(channel(alloc, hierarchy, one)?)?,
@@ -82,7 +84,8 @@ impl ItemTables {
     ) -> Result<ItemTables, TypeFault>
         requires written { All (IsWrittenItem Anywhere longest_name) (map item_tree items.now) }
         requires room { sum_by item_nodes (map item_tree items.now) < most_nodes }
-        ensures { Gives tables_view result (items_outcome hierarchy.now (top_view top.now) (map item_tree items.now)) }
+        ensures { Gives tables_view result
+            (items_outcome hierarchy.now (top_view top.now) (map item_tree items.now)) }
     {
         let mut tables = ItemTables::empty(alloc);
         for item in items {

@@ -54,8 +54,10 @@ pub fn insert(
     meaning: Meaning,
 ) -> Result<(), TypeFault>
     requires fresh { found_in table.old name.now ≡ None }
-    ensures made { Gives (λ _. λ (other : List ℕ). found_in table.new other) result (give (declaring name.now meaning (found_in table.old))) }
-    ensures behind { OnOk result (take (length table.old.entries) table.new.entries ≡ table.old.entries) }
+    ensures made { Gives (λ _. λ (other : List ℕ). found_in table.new other) result
+        (give (declaring name.now meaning (found_in table.old))) }
+    ensures behind { OnOk result (take (length table.old.entries) table.new.entries ≡
+        table.old.entries) }
 {
     table.insert(String::from_str(alloc, name)?, meaning)?;
     Ok(())

@@ -52,7 +52,9 @@ impl<'a> Body<'a> {
         parameters: &[Base],
         written: &[syntax::Expression],
     ) -> Result<Vec<Expression>, TypeFault>
-        ensures { Gives expressions_of result (arguments_outcome (names_of self.now) parameters.now (map expression_tree written.now)) }
+        ensures { Gives expressions_of result
+            (arguments_outcome (names_of self.now) parameters.now
+            (map expression_tree written.now)) }
     {
         let mut arguments = Vec::new(self.alloc);
         for argument in written {
@@ -68,7 +70,8 @@ impl<'a> Body<'a> {
     /// A call.
     #[tactic(auto, unfolding(crate::specs::Statements::call_outcome, crate::specs::Statements::applied_outcome))]
     fn call(&self, written: &Call) -> Result<UsedCall, TypeFault>
-        ensures { Gives call_use result (call_outcome (signatures_of self.now) (names_of self.now) (call_tree written.now)) }
+        ensures { Gives call_use result
+            (call_outcome (signatures_of self.now) (names_of self.now) (call_tree written.now)) }
     {
         let name = &written.procedure;
         let number = procedure(self.meaning(name), name.at)?;
@@ -93,7 +96,9 @@ impl<'a> Body<'a> {
         base: Base,
         value: &RightSide,
     ) -> Result<Statement, TypeFault>
-        ensures { Gives statement_of result (assigned_outcome (signatures_of self.now) (names_of self.now) at target base (right_tree value.now)) }
+        ensures { Gives statement_of result
+            (assigned_outcome (signatures_of self.now) (names_of self.now) at target base
+            (right_tree value.now)) }
     {
         match value {
             RightSide::Receive {
@@ -126,7 +131,14 @@ impl<'a> Body<'a> {
         written: Option<Label>,
         name: &Name,
     ) -> Result<Slot, AllocError>
-        ensures { IfOk result (λ slot. slot_entry slot ≡ record { base = base; size = size; written = written; at = at; name = (name_tree name.now).text }) }
+        ensures { IfOk result (λ slot. slot_entry slot ≡
+            record {
+              base = base;
+              size = size;
+              written = written;
+              at = at;
+              name = (name_tree name.now).text;
+            }) }
     {
         Ok(Slot {
             base,
@@ -148,7 +160,9 @@ impl<'a> Body<'a> {
         value: &RightSide,
     ) -> Result<Statement, TypeFault>
         requires room { taken self.old < most_nodes }
-        ensures made { Gives (at_point self.new statement_of) result (declare_outcome (setting_of self.old) (point_of self.old) at base (optional_label_tree label.now) (name_tree name.now) (right_tree value.now)) }
+        ensures made { Gives (at_point self.new statement_of) result
+            (declare_outcome (setting_of self.old) (point_of self.old) at base
+            (optional_label_tree label.now) (name_tree name.now) (right_tree value.now)) }
         ensures later { OnOk result (IsLater self.old self.new) }
         ensures grows { OnOk result (taken self.new ≡ taken self.old + 1) }
     {
@@ -172,7 +186,9 @@ impl<'a> Body<'a> {
         size: Size,
     ) -> Result<Statement, TypeFault>
         requires room { taken self.old < most_nodes }
-        ensures made { Gives (at_point self.new statement_of) result (declare_array_outcome (setting_of self.old) (point_of self.old) at base (optional_label_tree written.now) (name_tree name.now) (size_tree size)) }
+        ensures made { Gives (at_point self.new statement_of) result
+            (declare_array_outcome (setting_of self.old) (point_of self.old) at base
+            (optional_label_tree written.now) (name_tree name.now) (size_tree size)) }
         ensures later { OnOk result (IsLater self.old self.new) }
         ensures grows { OnOk result (taken self.new ≡ taken self.old + 1) }
     {
@@ -187,7 +203,9 @@ impl<'a> Body<'a> {
 
     #[tactic(auto, unfolding(crate::specs::Statements::assign_outcome))]
     pub fn assign(&self, target: &Name, value: &RightSide) -> Result<Statement, TypeFault>
-        ensures { Gives statement_of result (assign_outcome (signatures_of self.now) (names_of self.now) (name_tree target.now) (right_tree value.now)) }
+        ensures { Gives statement_of result
+            (assign_outcome (signatures_of self.now) (names_of self.now) (name_tree target.now)
+            (right_tree value.now)) }
     {
         let found = scalar(self.meaning(target), target.at)?;
         self.assigned(target.at, found.variable, found.base, value)
@@ -200,7 +218,9 @@ impl<'a> Body<'a> {
         index: &syntax::Expression,
         value: &syntax::Expression,
     ) -> Result<Statement, TypeFault>
-        ensures { Gives statement_of result (store_outcome (names_of self.now) (name_tree name.now) (expression_tree index.now) (expression_tree value.now)) }
+        ensures { Gives statement_of result
+            (store_outcome (names_of self.now) (name_tree name.now) (expression_tree index.now)
+            (expression_tree value.now)) }
     {
         let found = array(self.meaning(name), name.at)?;
         let index = self.typed(Base::Int, index)?;
@@ -210,7 +230,9 @@ impl<'a> Body<'a> {
 
     #[tactic(auto, unfolding(crate::specs::Statements::call_statement_outcome))]
     pub fn call_statement(&self, call: &Call) -> Result<Statement, TypeFault>
-        ensures { Gives statement_of result (call_statement_outcome (signatures_of self.now) (names_of self.now) (call_tree call.now)) }
+        ensures { Gives statement_of result
+            (call_statement_outcome (signatures_of self.now) (names_of self.now)
+            (call_tree call.now)) }
     {
         let made = self.call(call)?;
         Ok(Statement::Call(call.procedure.at, made.procedure, made.arguments, None))
@@ -218,7 +240,8 @@ impl<'a> Body<'a> {
 
     #[tactic(auto, unfolding(crate::specs::Statements::receive_outcome))]
     pub fn receive(&self, at: usize, channel: &Name) -> Result<Statement, TypeFault>
-        ensures { Gives statement_of result (receive_outcome (names_of self.now) at (name_tree channel.now)) }
+        ensures { Gives statement_of result
+            (receive_outcome (names_of self.now) at (name_tree channel.now)) }
     {
         let number = input(self.meaning(channel), channel.at)?;
         Ok(Statement::Receive(at, number, None))
@@ -231,7 +254,9 @@ impl<'a> Body<'a> {
         channel: &Name,
         value: &syntax::Expression,
     ) -> Result<Statement, TypeFault>
-        ensures { Gives statement_of result (send_outcome (names_of self.now) at (name_tree channel.now) (expression_tree value.now)) }
+        ensures { Gives statement_of result
+            (send_outcome (names_of self.now) at (name_tree channel.now)
+            (expression_tree value.now)) }
     {
         let number = output(self.meaning(channel), channel.at)?;
         Ok(Statement::Send(at, number, self.typed(Base::Int, value)?))
@@ -239,7 +264,8 @@ impl<'a> Body<'a> {
 
     #[tactic(auto, unfolding(crate::specs::Statements::throw_outcome))]
     pub fn throw(&self, at: usize, name: &Name) -> Result<Statement, TypeFault>
-        ensures { Gives statement_of result (throw_outcome (names_of self.now) at (name_tree name.now)) }
+        ensures { Gives statement_of result
+            (throw_outcome (names_of self.now) at (name_tree name.now)) }
     {
         let number = exception(self.meaning(name), name.at)?;
         Ok(Statement::Leave(at, Exit::Throw(number)))
@@ -251,7 +277,9 @@ impl<'a> Body<'a> {
         at: usize,
         value: &Option<syntax::Expression>,
     ) -> Result<Statement, TypeFault>
-        ensures { Gives statement_of result (return_outcome self.now.result (names_of self.now) at (optional_expression_tree value.now)) }
+        ensures { Gives statement_of result
+            (return_outcome self.now.result (names_of self.now) at
+            (optional_expression_tree value.now)) }
     {
         match value {
             None => match self.result {

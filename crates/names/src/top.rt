@@ -63,7 +63,8 @@ pub fn result_of(outcome: &Outcome) -> Option<Base>
 }
 
 fn signature(alloc: Global, procedure: &Procedure) -> Result<CodeSignature, AllocError>
-    ensures { IfOk result (λ signature. signature_view signature ≡ signature_of (procedure_tree procedure.now)) }
+    ensures { IfOk result (λ signature. signature_view signature ≡
+        signature_of (procedure_tree procedure.now)) }
 {
     let mut parameters = Vec::new(alloc);
     for parameter in &procedure.parameters {
@@ -90,8 +91,11 @@ fn name_of(item: &Item) -> &Name
 impl TopNames {
     /// The types of the parameters of a procedure, and the type of its value, if it gives one.
     pub fn signature(&self, procedure: u32) -> (&[Base], Option<Base>)
-        ensures parameters { result.0.now ≡ (spec.signature_at (map signature_view self.now.signatures.items) procedure).parameters }
-        ensures value { result.1 ≡ (spec.signature_at (map signature_view self.now.signatures.items) procedure).result }
+        ensures parameters { result.0.now ≡
+            (spec.signature_at (map signature_view self.now.signatures.items)
+            procedure).parameters }
+        ensures value { result.1 ≡
+            (spec.signature_at (map signature_view self.now.signatures.items) procedure).result }
     {
         match self.signatures.get(procedure as usize) {
             Some(signature) => (signature.parameters.as_slice(), signature.result),
@@ -134,9 +138,15 @@ impl TopNames {
     /// Declares the name of the next item.
     #[tactic(auto, unfolding(crate::specs::Resolution::next_name))]
     fn add(&mut self, alloc: Global, item: &Item) -> Result<(), TypeFault>
-        requires room { self.old.channels + self.old.exceptions + self.old.globals + length self.old.signatures.items < most_nodes + 3 }
-        ensures made { Gives (λ _. top_view self.new) result (next_name (top_view self.old) (item_tree item.now)) }
-        ensures grows { OnOk result (self.new.channels + self.new.exceptions + self.new.globals + length self.new.signatures.items ≡ self.old.channels + self.old.exceptions + self.old.globals + length self.old.signatures.items + 1) }
+        requires room { self.old.channels + self.old.exceptions + self.old.globals +
+            length self.old.signatures.items < most_nodes + 3 }
+        ensures made { Gives (λ _. top_view self.new) result
+            (next_name (top_view self.old) (item_tree item.now)) }
+        ensures grows { OnOk result
+            (self.new.channels + self.new.exceptions + self.new.globals +
+            length self.new.signatures.items ≡
+            self.old.channels + self.old.exceptions + self.old.globals +
+            length self.old.signatures.items + 1) }
     {
         let name = name_of(item);
         let meaning = self.meaning_of(item);

@@ -8,5 +8,5 @@ mod Automaton
 mod Building
 mod Uniqueness
 mod Spots
-mod Total
+pub mod Total
 pub mod Called

@@ -3,5 +3,4 @@ pub mod Views
 pub mod Sound
 pub mod Parts
 pub mod Growing
-pub mod Faithful
 pub mod Flow

@@ -12,8 +12,6 @@ pub mod TreeOf
 pub mod ProgramOf
 pub mod CoreOf
 pub mod WellFormed
-pub mod StraightLine
 pub mod Kinds
-pub mod Before
 pub mod Precise
 pub mod Flow

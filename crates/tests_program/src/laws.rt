@@ -28,6 +28,7 @@ fn laws_of_isolation(_rt: HostRuntime) {
     examples::a_label_decides();
     examples::lists_may_differ_in_length();
     acceptance::laws::one_verdict();
+    acceptance::laws::resolved_programs_have_names();
     acceptance::laws::accepted_programs_are_isolated();
 }
 
@@ -39,13 +40,11 @@ fn laws_of_compiling(_rt: HostRuntime) {
     translation::laws::graphs_keep_meaning();
     translation::laws::modules_keep_meaning();
     translation::laws::graphs_have_positions();
-    types::laws::numbers_read_as_names();
-    types::laws::resolves_to_straight_line();
-    types::laws::places_stay();
+    translation::laws::graphs_fit_the_file();
+    translation::laws::modules_have_no_fault();
+    translation::laws::modules_are_never_stuck();
     parser::spelling_laws();
     parser::one_reading();
-    straight_line::covered_programs_are_straight_lines();
-    lowering::laws::meaning_is_kept();
 }
 
 #[test]

@@ -1,8 +1,8 @@
-//! Tests of `resolved`, `isolation`, `lowering`, `types`, `compiler` and `flowc`: what no row of the program `rows` reaches.
+//! Tests of `resolved`, `isolation`, `names`, `translation`, `compiling` and `flowc`: what no row of the program `rows` reaches.
 #![tactic(auto)]
 
 #[cfg(test)]
-mod compiling;
+mod compilation;
 #[cfg(test)]
 mod laws;
 #[cfg(test)]

@@ -1,6 +1,6 @@
 -- Code of a condition goes to its target where the condition has the wanted truth, and else on behind.
 use Rattle.std.proofs.Common.{◌≡◌, ℕ, ◌+◌, Bool, true, false, not, ℤ, pos, negsuc, List, [], ◌∷◌, refl, sym, ap, subst, arith}
-use Rattle.std.specs.Prelude.{Option, if◌then◌else◌, int_le, int_lt, ◌&&◌}
+use Rattle.std.specs.Prelude.{Option, if◌then◌else◌, int_le, int_lt}
 use Rattle.std.proofs.lemmas.Bool.Decides.{nat_tests}
 use Rattle.resolved.specs.declared.expression.Value.{Value}
 use Rattle.resolved.specs.declared.expression.Value.TheVariants.{Number, Truth}
@@ -14,14 +14,15 @@ use Rattle.resolved.specs.Tree.{Expression, Integer, Logical, Read, Element, Una
 use Rattle.resolved.specs.State as source
 use Rattle.resolved.specs.State.{value_of}
 use Rattle.resolved.specs.Value.{Evaluated, Gives, Raises, then_with, prefix_value, operator_value, decides, bool_eq, truth_in, number_in}
-use Rattle.resolved.specs.WellFormed.{has_base, same_base, operand_base, result_base}
+use Rattle.resolved.specs.WellFormed.{has_base, result_base}
 use Rattle.resolved.specs.Kinds.{StateFits, GivesBase}
-use Rattle.resolved.proofs.Sound.Values.{both, same_base_is, value_fits}
+use Rattle.resolved.proofs.Sound.Values.{both, value_fits}
 use Rattle.bytecode.specs.declared.value.Cell.TheVariants as cell
 use Rattle.bytecode.specs.declared.instruction.Instruction.{Instruction}
 use Rattle.bytecode.specs.declared.instruction.Instruction.TheVariants.{JumpIfFalse}
 use Rattle.bytecode.specs.Machine.{Machine}
 use Rattle.translation.specs.Expressions.{value_size, value_code, turned, turned_operator, tested, deciding, branch_size, branch_code, test_code}
+use Rattle.translation.proofs.Turned.{operands-fit, turned-fits}
 use Rattle.translation.proofs.Places.{Stands, stands-front, stands-back}
 use Rattle.translation.proofs.Sizes.{value-sized, branch-sized}
 use Rattle.translation.proofs.Steps.{Leads, Strides, leads-through, strides-through, strides-leads}
@@ -73,17 +74,6 @@ turned-operator operator.Same v w e = refl
 turned-operator operator.Different v w e = turned_truth _ _ (twice _)
 turned-operator _ v w e = absurd (let no : base.Int ≡ base.Boolean = e in cc)
 
-turned_bases : (op : Operator) → result_base op ≡ base.Boolean → (result_base (turned_operator op) ≡ base.Boolean) × (operand_base (turned_operator op) ≡ operand_base op)
-turned_bases operator.LessThan e = (refl, refl)
-turned_bases operator.AtMost e = (refl, refl)
-turned_bases operator.GreaterThan e = (refl, refl)
-turned_bases operator.AtLeast e = (refl, refl)
-turned_bases operator.Equal e = (refl, refl)
-turned_bases operator.Unequal e = (refl, refl)
-turned_bases operator.Same e = (refl, refl)
-turned_bases operator.Different e = (refl, refl)
-turned_bases _ e = absurd (let no : base.Int ≡ base.Boolean = e in cc)
-
 turned_pair : (op : Operator) (first second : Evaluated Value) → result_base op ≡ base.Boolean
     → then_with first (λ v. then_with second (λ w. operator_value (turned_operator op) v w))
     ≡ then_with (then_with first (λ v. then_with second (λ w. operator_value op v w))) (λ x. Gives (prefix_value prefix.Not x))
@@ -92,14 +82,6 @@ turned_pair op (Gives v) (Raises exception) e = refl
 turned_pair op (Raises exception) second e = refl
 
 module _ (g : Setting) (h : ℕ → Option ℕ) (s : source.State) (fit : StateFits g.program g.procedure s) where
-  operator_boolean : (op : Operator) (d e : Expression) → has_base g.program g.procedure base.Boolean (Binary op d e) ≡ true
-      → (result_base op ≡ base.Boolean) × (has_base g.program g.procedure (operand_base op) d ≡ true) × (has_base g.program g.procedure (operand_base op) e ≡ true)
-  operator_boolean op d e typed =
-      let outer : (same_base (result_base op) base.Boolean && has_base g.program g.procedure (operand_base op) d ≡ true) × (has_base g.program g.procedure (operand_base op) e ≡ true) =
-      both (same_base (result_base op) base.Boolean && has_base g.program g.procedure (operand_base op) d) _ typed in
-      let inner : (same_base (result_base op) base.Boolean ≡ true) × (has_base g.program g.procedure (operand_base op) d ≡ true) = both (same_base (result_base op) base.Boolean) _ outer.0 in
-      (same_base_is (result_base op) base.Boolean inner.0, inner.1, outer.1)
-
   turned-value : (e : Expression) → has_base g.program g.procedure base.Boolean e ≡ true
       → value_of s (turned e) ≡ then_with (value_of s e) (λ x. Gives (prefix_value prefix.Not x))
   turned-value (Integer n) typed = refl
@@ -107,20 +89,8 @@ module _ (g : Setting) (h : ℕ → Option ℕ) (s : source.State) (fit : StateF
   turned-value (Read x) typed = refl
   turned-value (Element array count index) typed = refl
   turned-value (Unary sign e) typed = refl
-  turned-value (Binary op d e) typed = turned_pair op (value_of s d) (value_of s e) (operator_boolean op d e typed).0
+  turned-value (Binary op d e) typed = turned_pair op (value_of s d) (value_of s e) (operands-fit g.program g.procedure base.Boolean op d e typed).result
   turned-value (Short connective d e) typed = refl
-
-  turned-fits : (e : Expression) → has_base g.program g.procedure base.Boolean e ≡ true → has_base g.program g.procedure base.Boolean (turned e) ≡ true
-  turned-fits (Integer n) typed = typed
-  turned-fits (Logical b) typed = typed
-  turned-fits (Read x) typed = typed
-  turned-fits (Element array count index) typed = typed
-  turned-fits (Unary sign e) typed = typed
-  turned-fits (Binary op d e) typed =
-      let parts = operator_boolean op d e typed in
-      let bases = turned_bases op parts.0 in
-      rw (bases.0, bases.1, parts.1, parts.2) refl
-  turned-fits (Short connective d e) typed = typed
 
   -- ---- putting pieces together
 
@@ -171,7 +141,7 @@ module _ (g : Setting) (h : ℕ → Option ℕ) (s : source.State) (fit : StateF
       (stands-back g.code (value_code at e) (JumpIfFalse target ∷ []) at (value_size e) (value-sized e at) stands))
   test-runs true e at target typed stands finds =
       let mid = at + value_size (turned e) in
-      let fits : has_base g.program g.procedure base.Boolean (turned e) ≡ true = turned-fits e typed in
+      let fits : has_base g.program g.procedure base.Boolean (turned e) ≡ true = turned-fits g.program g.procedure e typed in
       turned-branch target (at + (value_size (turned e) + 1)) (place g at [] s) (value_of s e)
       (subst (λ (o : Evaluated Value). BranchRuns g h false target (place g at [] s) (at + (value_size (turned e) + 1)) s o) (turned-value e typed)
       (branch-at false target (place g at [] s) (mid + 1) (at + (value_size (turned e) + 1)) (value_of s (turned e)) (omega arith)

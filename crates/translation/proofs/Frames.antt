@@ -107,7 +107,7 @@ found-there program f entry there i e = ap (λ (o : Option ProcedureContents). h
 
 -- ---- arguments
 
-reverse_more : {A : Type 0} (x : A) (xs more : List A) → reverse (x ∷ xs) ++ more ≡ reverse xs ++ x ∷ more
+pub reverse_more : {A : Type 0} (x : A) (xs more : List A) → reverse (x ∷ xs) ++ more ≡ reverse xs ++ x ∷ more
 reverse_more x xs more = ap (λ l. l ++ more) (reverse-append (x ∷ []) xs) ∙ append_assoc (reverse xs) (x ∷ []) more
 
 -- values of these kinds, as many

@@ -19,7 +19,7 @@ use Rattle.labels.proofs.Written.{dedup-sorted}
 use Rattle.bytecode.specs.Format.{pair_cmp}
 use Rattle.translation.specs.Interface.{hierarchy_contents}
 
-pair_cmp-total : IsTotalOrder pair_cmp
+pub pair_cmp-total : IsTotalOrder pair_cmp
 pair_cmp-total = then_total (on_total (λ pair. pair.0) nat_cmp_total) (on_total (λ pair. pair.1) nat_cmp_total)
 
 both_tie : (a b : _) → ordering_then a b ≡ Equal → (a ≡ Equal) × (b ≡ Equal)
@@ -27,7 +27,7 @@ both_tie Less b e = absurd (cc)
 both_tie Equal b e = (refl, e)
 both_tie Greater b e = absurd (cc)
 
-pair_cmp-exact : CmpEqualImpliesEq pair_cmp
+pub pair_cmp-exact : CmpEqualImpliesEq pair_cmp
 pair_cmp-exact p q e =
     let ties = both_tie (nat_cmp p.0 q.0) (nat_cmp p.1 q.1) e in
     let left : p.0 ≡ q.0 = exact_unsigned p.0 q.0 ties.0 in

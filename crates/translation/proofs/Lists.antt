@@ -2,7 +2,7 @@
 use Rattle.std.proofs.Common.{◌≡◌, ℕ, ◌+◌, ◌<◌, List, [], ◌∷◌, ◌++◌, All, length, map, take, get_or, sym, ap, subst, ◌∙◌}
 use Rattle.std.proofs.Math.ListN.{get_or-map}
 use Rattle.std.proofs.lemmas.List.{take_more, map-append, length-map}
-use Rattle.std.proofs.lemmas.List.Elements.{All-get_or}
+use Rattle.std.proofs.lemmas.List.Elements.{All-get_or, All-push}
 
 -- one element more of what a function makes of the first ones
 mapped_more : {X Y : Type 0} (f : X → Y) (xs : List X) (i : ℕ) (x : X) → i < length xs → x ≡ get_or xs i x → map f (take (i + 1) xs) ≡ map f (take i xs) ++ f x ∷ []
@@ -25,3 +25,8 @@ made_more f g xs made new i x z below is pushed before same =
 pub mapped_holds : {X Y : Type 0} (f : X → Y) (P : Y → Type 0) (xs : List X) (i : ℕ) (x : X) → i < length xs → x ≡ get_or xs i x → All P (map f xs) → P (f x)
 mapped_holds f P xs i x below is all =
     subst P (get_or-map f xs i x ∙ ap f (sym is)) (All-get_or P (map f xs) i (f x) (subst (λ (n : ℕ). i < n) (sym (length-map xs f)) below) all)
+
+-- what holds of what it makes of the first elements, with one more
+pub held_more : {X Y : Type 0} (f : X → Y) (P : Y → Type 0) (xs : List X) (i : ℕ) (x : X) → i < length xs → x ≡ get_or xs i x → All P (map f (take i xs)) → P (f x) → All P (map f (take (i + 1) xs))
+held_more f P xs i x below is before here =
+    subst (All P) (sym (mapped_more f xs i x below is)) (All-push P (map f (take i xs)) (f x) before here)

@@ -71,7 +71,7 @@ mutual
       omega (arith, block-room program block, jump-room (jumps_behind block handlers), handlers-room program handlers)
   statement-room program (Nested at block) = omega (arith, block-room program block)
 
-  block-room : (program : Program) (block : Block) → block_size program block ≤ 4 * block_nodes block
+  pub block-room : (program : Program) (block : Block) → block_size program block ≤ 4 * block_nodes block
   block-room program Empty = omega arith
   block-room program (Then statement rest) = omega (arith, statement-room program statement, block-room program rest)
 

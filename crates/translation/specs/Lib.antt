@@ -5,3 +5,5 @@ pub mod Graphs
 pub mod Kept
 pub mod Added
 pub mod Positions
+pub mod Fitting
+pub mod Verified

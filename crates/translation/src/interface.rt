@@ -1,7 +1,8 @@
 //! What a graph shows before any run: the hierarchy, the exceptions, the channels and the globals.
 ghost use Rattle.resolved.specs.ProgramOf.{channel_entry, global_entry};
 ghost use Rattle.translation.specs.Interface.{channel_contents, declared_global, direction_of, global_contents, hierarchy_contents, kind_of_base, scalar_global};
-ghost use Rattle.std.specs.Prelude.{IfOk, map, ◌≡◌};
+ghost use Rattle.translation.specs.Fitting.{IsShortValue};
+ghost use Rattle.std.specs.Prelude.{All, IfOk, map, ◌≡◌};
 ghost use Rattle.std.specs.String.{string_bytes};
 
 use bytecode::{Channel, Direction, Kind};
@@ -75,7 +76,8 @@ pub(crate) fn kind_of_base(base: Base) -> Kind
 
 /// The global that holds a value at first.
 fn scalar_global(value: Value) -> bytecode::Global
-    ensures { result ≡ scalar_global value }
+    ensures exact { result ≡ scalar_global value }
+    ensures short { IsShortValue value }
 {
     match value {
         Value::Number(number) => bytecode::Global::Int(number),
@@ -85,7 +87,8 @@ fn scalar_global(value: Value) -> bytecode::Global
 
 /// A scalar global that holds a value at first, or an array of so many elements.
 fn declared_global(base: Base, size: Option<u32>, first: Value) -> bytecode::Global
-    ensures { result ≡ declared_global base size first }
+    ensures exact { result ≡ declared_global base size first }
+    ensures short { IsShortValue first }
 {
     match size {
         None => scalar_global(first),
@@ -93,13 +96,15 @@ fn declared_global(base: Base, size: Option<u32>, first: Value) -> bytecode::Glo
     }
 }
 
-/// The globals, in their order.
+/// The globals, in their order; what they hold at first is of 32 bits.
 pub(crate) fn globals_of(
     alloc: Global,
     globals: &[tables::GlobalVariable],
 ) -> Result<Vec<bytecode::Global>, AllocError>
-    ensures { IfOk result (λ made.
+    ensures exact { IfOk result (λ made.
         made.items ≡ map global_contents (map global_entry globals.now)) }
+    ensures short { IfOk result (λ _. All (λ entry. IsShortValue entry.first)
+        (map global_entry globals.now)) }
 {
     let mut made = Vec::new(alloc);
     for variable in globals {

@@ -1,6 +1,8 @@
 //! Laws of the definitions, each the contract of a function that does nothing.
+ghost use Rattle.translation.specs.Fitting.{GraphsFitTheFile};
 ghost use Rattle.translation.specs.Kept.{GraphsKeepMeaning, ModulesKeepMeaning};
 ghost use Rattle.translation.specs.Positions.{GraphsHavePositions};
+ghost use Rattle.translation.specs.Verified.{ModulesAreNeverStuck, ModulesHaveNoFault};
 
 /// The graph of every well-formed program without a fault of its ends keeps its meaning: on every world both send the same and
 /// end the same way.
@@ -16,4 +18,20 @@ pub fn modules_keep_meaning()
 /// Each target of a jump or a handler of such a graph is a position of its procedure's code.
 pub fn graphs_have_positions()
     ensures { GraphsHavePositions }
+{}
+
+/// Such a graph is within the limits of the module file, where the program's names are as a file keeps them and its globals hold
+/// values of 32 bits at first.
+pub fn graphs_fit_the_file()
+    ensures { GraphsFitTheFile }
+{}
+
+/// The module of every well-formed program without a fault of its ends has no fault: the verifier does not refuse it.
+pub fn modules_have_no_fault()
+    ensures { ModulesHaveNoFault }
+{}
+
+/// So no run of such a module is ever stuck, whatever the world gives, where the program's graph fits the module file.
+pub fn modules_are_never_stuck()
+    ensures { ModulesAreNeverStuck }
 {}

@@ -1,9 +1,8 @@
 //! Whole graphs.
-ghost use Rattle.bytecode.specs.Form.{Fits};
-ghost use Rattle.bytecode.specs.Format.{module_file};
 ghost use Rattle.layout.specs.Runs.{graph_after_steps};
 ghost use Rattle.resolved.specs.CoreOf.{program_of};
 ghost use Rattle.resolved.specs.EndFaults.{end_faults};
+ghost use Rattle.resolved.specs.Names.{HasNames};
 ghost use Rattle.translation.specs.Graphs.{graph_of};
 ghost use Rattle.translation.specs.Kept.{MeaningKept};
 ghost use Rattle.std.specs.Prelude.{IfOk, [], ◌≡◌};
@@ -16,15 +15,14 @@ use std::alloc::{AllocError, Global};
 
 /// The graph of a program, which on every world sends what the program sends and ends as it does.
 ///
-/// Precondition: no statement of the program ends where it must not, and the numbers, names and lists of its graph are within
-/// the limits of the module file.
+/// Precondition: no statement of the program ends where it must not, and its names are as a module file keeps them.
 ///
 /// # Errors
 ///
 /// Memory ran out.
 pub fn lower(alloc: Global, core: &Core) -> Result<Graph, AllocError>
     requires ends { end_faults (program_of core.now) ≡ [] }
-    requires limits { Fits module_file (graph_of (program_of core.now)) }
+    requires names { HasNames (program_of core.now) }
     ensures exact { IfOk result (λ made. made ≡ graph_of (program_of core.now)) }
     ensures kept { IfOk result (λ made. MeaningKept (program_of core.now) (graph_after_steps made)) }
 {

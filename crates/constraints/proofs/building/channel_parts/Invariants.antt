@@ -6,6 +6,6 @@ use Rattle.constraints.proofs.building.channel_parts.Given as goal
 
 abbrev pub invariant-loop-channel : goal.invariant-loop-channel
 invariant-loop-channel l = record {
-  grown : Grows l.fn.written.items l.written.items;
-  meaning : Mean l.written.items l.atoms.items (map (λ (channel : Channel). Written channel.label) (take l.channel-index l.channels));
+  grown : Grows l.fn.written.list.items l.written.list.items;
+  meaning : Mean l.written.list.items l.atoms.items (map (λ (channel : Channel). Written channel.label) (take l.channel-index l.channels));
 }

@@ -6,6 +6,6 @@ use Rattle.constraints.proofs.building.global_parts.Given as goal
 
 abbrev pub invariant-loop-variable : goal.invariant-loop-variable
 invariant-loop-variable l = record {
-  grown : Grows l.fn.written.items l.written.items;
-  meaning : Mean l.written.items l.atoms.items (map (λ (variable : GlobalVariable). Written variable.label) (take l.variable-index l.globals));
+  grown : Grows l.fn.written.list.items l.written.list.items;
+  meaning : Mean l.written.list.items l.atoms.items (map (λ (variable : GlobalVariable). Written variable.label) (take l.variable-index l.globals));
 }

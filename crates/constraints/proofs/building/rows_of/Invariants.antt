@@ -9,8 +9,8 @@ use Rattle.constraints.proofs.building.rows_of.Given as goal
 
 abbrev pub invariant-loop-procedure : goal.invariant-loop-procedure
 invariant-loop-procedure l = record {
-  grown : Grows l.fn.written.items l.written.items;
+  grown : Grows l.fn.written.list.items l.written.list.items;
   rows : (program : Program) (more : List Label) →
-      AreRows program (l.written.items ++ more) 0 (map procedure_entry (take l.procedure-index l.procedures)) l.rows.items;
+      AreRows program (l.written.list.items ++ more) 0 (map procedure_entry (take l.procedure-index l.procedures)) l.rows.items;
   count : l.first ≡ sum_by own_unknowns (map procedure_entry (take l.procedure-index l.procedures));
 }

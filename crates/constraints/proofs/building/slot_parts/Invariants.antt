@@ -6,6 +6,6 @@ use Rattle.constraints.proofs.building.slot_parts.Given as goal
 
 abbrev pub invariant-loop-i : goal.invariant-loop-i
 invariant-loop-i l = record {
-  grown : Grows l.fn.written.items l.written.items;
-  meaning : Mean l.written.items l.atoms.items (slot_parts l.first (map slot_entry (take l.i l.slots)));
+  grown : Grows l.fn.written.list.items l.written.list.items;
+  meaning : Mean l.written.list.items l.atoms.items (slot_parts l.first (map slot_entry (take l.i l.slots)));
 }

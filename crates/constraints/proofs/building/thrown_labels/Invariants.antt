@@ -10,9 +10,9 @@ use Rattle.constraints.proofs.building.thrown_labels.Given as goal
 
 abbrev pub invariant-loop-thrown : goal.invariant-loop-thrown
 invariant-loop-thrown l = record {
-  grown : Grows l.fn.written.items l.written.items;
+  grown : Grows l.fn.written.list.items l.written.list.items;
   exceptions : map (λ (thrown : ThrownLabel). thrown.exception) l.labels.items
       ≡ declared_by (map thrown_entry (take l.thrown-index l.throws));
-  meaning : (program : Program) (more : List Label) → thrown_parts program (l.written.items ++ more) l.labels.items
+  meaning : (program : Program) (more : List Label) → thrown_parts program (l.written.list.items ++ more) l.labels.items
       ≡ map (λ (entry : ThrownEntry). Written entry.label) (map thrown_entry (take l.thrown-index l.throws));
 }

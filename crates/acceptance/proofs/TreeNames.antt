@@ -1,0 +1,92 @@
+-- The names of the items of a tree that tokens spell are texts of tokens.
+use Rattle.std.proofs.Common.{ℕ, List, [], ◌∷◌, sym, subst, inl, inr}
+use Rattle.std.specs.Prelude.{All, IsUtf8}
+use Rattle.std.proofs.lemmas.List.Elements.{All-nil, All-cons}
+use Rattle.lexer.specs.declared.token.Kind.{Kind}
+use Rattle.lexer.specs.declared.token.Kind.TheVariants as kinds
+use Rattle.lexer.specs.Terminal.{Terminal}
+use Rattle.syntax.specs.Form.{Form, many, ◌·◌}
+use Rattle.syntax.specs.Grammar.{Spells, at, ◌◂◌, base, name, label, optional_label, direction, channel, exception, global_value, global, outcome, parameters, procedure, item, program}
+use Rattle.syntax.specs.Tree.{NameTree, ItemTree, ProgramTree}
+use Rattle.parser.proofs.Holds.{Each, Held, Holds, spelled_taken}
+use Rattle.names.specs.Laws.{HasUtf8Names}
+use Rattle.names.specs.Resolution.{item_name}
+
+abbrev IsText : Terminal → Type 0
+IsText token = IsUtf8 token.text
+
+-- nothing is said of the trees of symbols
+abbrev Nothing : Held
+Nothing symbol room tree k = Unit {0}
+
+abbrev IsNamed : ItemTree → Type 0
+IsNamed item = IsUtf8 (item_name item).text
+
+module _ (room : ℕ) where
+  abbrev Having : {A : Type 0} → Form A → A → ℕ → Type 0
+  Having F tree k = Holds IsText Nothing room F tree k
+
+  before : {A : Type 0} (F : Form A) (kind : Kind) (tree : A) (k : ℕ) → Having (F ◂ kind) tree k → (i : ℕ) × Having F tree i
+  before F kind tree k h = let both = h.1 in (both.0, subst (λ t. Having F t both.0) (sym h.2) both.2)
+
+  name_text : (tree : NameTree) (k : ℕ) → Having name tree k → IsUtf8 tree.text
+  unfolding name
+  name_text tree k h = subst (λ (t : NameTree). IsUtf8 t.text) (sym h.2) h.1.0
+
+  channel_named : (tree : ItemTree) (k : ℕ) → Having channel tree k → IsNamed tree
+  unfolding channel
+  channel_named tree k h =
+      let line = before (direction · label · name) kinds.Semicolon h.0 k h.1 in
+      let both = line.1 in
+      subst IsNamed (sym h.2) (name_text h.0.1 both.1 both.3)
+
+  exception_named : (tree : ItemTree) (k : ℕ) → Having exception tree k → IsNamed tree
+  unfolding exception
+  exception_named tree k h =
+      let line = before (at kinds.Exception · name) kinds.Semicolon h.0 k h.1 in
+      let both = line.1 in
+      subst IsNamed (sym h.2) (name_text h.0.1 both.1 both.3)
+
+  global_named : (tree : ItemTree) (k : ℕ) → Having global tree k → IsNamed tree
+  unfolding global
+  global_named tree k h =
+      let line = before (at kinds.Global · base · label · name · global_value) kinds.Semicolon h.0 k h.1 in
+      let both = line.1 in
+      let front = both.2 in
+      subst IsNamed (sym h.2) (name_text h.0.0.1 front.1 front.3)
+
+  procedure_named : (tree : ItemTree) (k : ℕ) → Having procedure tree k → IsNamed tree
+  unfolding procedure
+  procedure_named tree k h =
+      let throwing = h.1.2 in
+      let ending = throwing.2 in
+      let close = before (outcome · name · optional_label ◂ kinds.OpenParenthesis · parameters) kinds.CloseParenthesis h.0.0.0.0 ending.0 ending.2 in
+      let taking = close.1 in
+      let front = before (outcome · name · optional_label) kinds.OpenParenthesis h.0.0.0.0.0 taking.0 taking.2 in
+      let named = front.1.2 in
+      subst IsNamed (sym h.2) (name_text h.0.0.0.0.0.0.1 named.1 named.3)
+
+  item_named : (tree : ItemTree) (k : ℕ) → Having item tree k → IsNamed tree
+  unfolding item
+  item_named tree k h = elim h [
+    | inl one ↦ channel_named tree k one
+    | inr h ↦ elim h [
+      | inl one ↦ exception_named tree k one
+      | inr h ↦ elim h [ inl one ↦ global_named tree k one | inr one ↦ procedure_named tree k one ]
+    ]
+  ]
+
+  items_named : (trees : List ItemTree) (k : ℕ) → Each (Having item) trees k → All IsNamed trees
+  items_named [] k h = All-nil IsNamed
+  items_named (tree ∷ trees) k h = All-cons IsNamed tree trees (item_named tree h.0 h.2) (items_named trees h.1 h.3)
+
+  program_named : (tree : ProgramTree) (k : ℕ) → Having program tree k → HasUtf8Names tree
+  unfolding program
+  program_named tree k h =
+      let inner = before (many item) kinds.End h.0 k h.1 in
+      subst HasUtf8Names (sym h.2) (items_named h.0 inner.0 inner.1)
+
+pub spelled_named : (tokens : List Terminal) (tree : ProgramTree) → Spells tokens tree → All IsText tokens → HasUtf8Names tree
+spelled_named tokens tree spelled all =
+    let taken = spelled_taken IsText Nothing (λ symbol room tree k h. tt) program 64 tokens tree [] spelled all in
+    program_named 64 tree taken.count taken.holds

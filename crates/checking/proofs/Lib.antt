@@ -1,0 +1,4 @@
+pub mod Refusals
+pub mod Labels
+pub mod Unknowns
+pub mod Verdicts

@@ -1,0 +1,12 @@
+//! Checking a source of the whole language: from its bytes under a hierarchy to an accepted program with the least labels of its
+//! locals, or the first fault.
+#![tactic(auto)]
+
+pub mod checked;
+pub mod fault;
+mod flow;
+pub mod phases;
+
+pub use checked::Checked;
+pub use fault::{Fault, RefusedFlow, Step};
+pub use phases::check;

@@ -1,3 +1,0 @@
-pub mod Built
-pub mod Causes
-pub mod Compiled

@@ -1,0 +1,5 @@
+mod Lines
+mod Refusals
+pub mod Readers
+mod Isolating
+mod Coding

@@ -1,0 +1,4 @@
+pub mod Position
+pub mod Causes
+pub mod Reported
+pub mod Compiled

@@ -1,0 +1,30 @@
+-- The line and the column of a byte of a text, whether or not a character begins there.
+-- Source: our own; a line ends with a line feed, U+000A, and a column is one character, which begins in UTF-8 with each byte but those
+-- from 128 to 191.
+use Rattle.std.specs.Prelude.{◌≡◌, ℕ, ◌+◌, ◌==◌, ◌||◌, Bool, not, nat_lt, nat_le, List, count_by, take, reverse}
+use Rattle.std.specs.List.{take_while}
+use Rattle.lexer.specs.declared.token.Place.{Place}
+
+-- a character begins with this byte
+abbrev pub begins_character : ℕ → Bool
+begins_character byte = nat_lt byte 128 || nat_le 192 byte
+
+abbrev pub is_line_feed : ℕ → Bool
+is_line_feed byte = byte == 10
+
+-- one more than the line feeds before the byte
+abbrev pub line_of : List ℕ → (at : ℕ) → ℕ
+line_of text at = count_by is_line_feed (take at text) + 1
+
+-- the bytes before it and behind the last line feed before it, the nearest first
+abbrev pub bytes_of_line : List ℕ → (at : ℕ) → List ℕ
+bytes_of_line text at = take_while (λ byte. not (is_line_feed byte)) (reverse (take at text))
+
+-- one more than the characters that begin with these
+abbrev pub column_of : List ℕ → (at : ℕ) → ℕ
+column_of text at = count_by begins_character (bytes_of_line text at) + 1
+
+-- the place of a byte of a text
+pub record IsPlaceOf (text : List ℕ) (at : ℕ) (place : Place) : Type 0 where
+  pub line : place.line ≡ line_of text at
+  pub column : place.column ≡ column_of text at

@@ -1,0 +1,121 @@
+-- The pieces of a walk that go into no block.
+use Rattle.std.proofs.Common.{◌≡◌, refl, sym, ap, ◌∙◌, subst, ℕ, suc, ◌+◌, ◌<◌, List, [], ◌∷◌, map, drop, get_or, length, arith, Bool, true, false}
+use Rattle.std.proofs.Math.Seq.{drop-cons}
+use Rattle.std.proofs.Math.Numerals.{add-one}
+use Rattle.labels.specs.Label.{Label}
+use Rattle.resolved.specs.declared.program.Core.{Core}
+use Rattle.resolved.specs.declared.statement.Exit.{Exit}
+use Rattle.resolved.specs.declared.statement.Handler.{Handler}
+use Rattle.resolved.specs.Ends.{one_end}
+use Rattle.resolved.specs.Tree.{Empty}
+use Rattle.resolved.specs.TreeOf.{handlers_of}
+use Rattle.path_map.specs.declared.exits.Exits.{Exits}
+use Rattle.path_map.specs.Exits.{exits_of}
+use Rattle.gathering.specs.Names.{NamedAtom, NamedConstraint}
+use Rattle.gathering.specs.Walk.{block_constraints, flow, handler_count, single}
+use Rattle.solver.specs.declared.system.Atom.{Atom}
+use Rattle.constraints.specs.Added.{IsGathered}
+use Rattle.constraints.specs.Parts.{scope_of}
+use Rattle.constraints.specs.Takers.{AreLevelled, entry_in_try, no_entry, takers_of, undone}
+use Rattle.constraints.specs.Walked.{IsTried, IsWalked}
+use Rattle.constraints.specs.declared.pieces.Tried.{Tried}
+use Rattle.constraints.specs.declared.progress.Progress.{Progress}
+use Rattle.constraints.specs.declared.takers.Entry.{Entry}
+use Rattle.constraints.specs.declared.takers.Takers.{Takers}
+use Rattle.constraints.proofs.Added.{added-none, added-same}
+use Rattle.constraints.proofs.Passed.{alone-passed, alone-walked, passed-same}
+use Rattle.constraints.proofs.Taken.{numbers-same, try-levels, try-takers}
+
+-- the next entry of a list
+pub entry-next : {A : Type 0} (xs : List A) (i : ℕ) (x : A) → i < length xs → x ≡ get_or xs i x → drop i xs ≡ x ∷ drop (i + 1) xs
+entry-next xs i x inside is = drop-cons xs i x inside ∙ (ap (λ y. y ∷ drop (suc i) xs) (sym is) ∙ ap (λ n. x ∷ drop n xs) (sym (add-one i)))
+
+pub heads : {A : Type 0} (x y : A) (xs ys : List A) → x ∷ xs ≡ y ∷ ys → x ≡ y
+heads x y xs ys same = ap (λ list. get_or list 0 x) same
+
+pub tails : {A : Type 0} (x y : A) (xs ys : List A) → x ∷ xs ≡ y ∷ ys → xs ≡ ys
+tails x y xs ys same = ap (λ list. drop 1 list) same
+
+module _ (core : Core) (table : List Label) (entries : List Exits) where
+  -- the entry of a block or statement, and the flow of its way
+  pub begun : (way : Atom) (takers : Takers) (exits : Exits) (thrown : List Entry) (ends : List Exit) (old middle new : Progress)
+      → drop old.index entries ≡ exits ∷ drop middle.index entries → middle ≡ record old { index = middle.index } → thrown ≡ middle.thrown.items
+      → new.index ≡ middle.index → new.number ≡ middle.number → new.thrown.items ≡ middle.thrown.items
+      → (exits ≡ exits_of ends → IsGathered core table way (λ named. single (one_end ends) named (takers_of takers thrown) ends) middle.constraints.items new.constraints.items)
+      → IsWalked core table entries way takers (ends ∷ []) (λ named. single (one_end ends) named (takers_of takers old.thrown.items) ends) 0 old new
+  begun way takers exits thrown ends old middle new found others lent index number thrown_is added = λ left before levelled.
+      let both : exits ∷ drop middle.index entries ≡ exits_of ends ∷ left = sym found ∙ before in
+      let from : IsGathered core table way (λ named. single (one_end ends) named (takers_of takers thrown) ends) old.constraints.items new.constraints.items =
+      subst (λ cs. IsGathered core table way (λ named. single (one_end ends) named (takers_of takers thrown) ends) cs new.constraints.items)
+      (ap (λ (p : Progress). p.constraints.items) others) (added (heads exits (exits_of ends) (drop middle.index entries) left both)) in
+      passed-same core table entries way (λ named. single (one_end ends) named (takers_of takers old.thrown.items) ends) (λ named. single (one_end ends) named (takers_of takers thrown) ends) 0 0 left old new
+      (λ named. ap (λ t. single (one_end ends) named (takers_of takers t) ends) (sym (lent ∙ ap (λ (p : Progress). p.thrown.items) others))) refl
+      (record {
+        added = from;
+        entries_left = ap (λ i. drop i entries) index ∙ tails exits (exits_of ends) (drop middle.index entries) left both;
+        number_is = number ∙ (ap (λ (p : Progress). p.number) others ∙ omega arith);
+        thrown_is = thrown_is ∙ ap (λ (p : Progress). p.thrown.items) others;
+      })
+
+  -- what is gathered with inner unknowns that are made for it
+  pub made-walked : (way : Atom) (takers : Takers) (thrown : List Entry) (k first : ℕ) (gathered : List Entry → ℕ → NamedAtom → List NamedConstraint) (old middle new : Progress)
+      → middle ≡ record old { number = old.number + k } → first ≡ old.number → thrown ≡ middle.thrown.items
+      → new.index ≡ middle.index → new.number ≡ middle.number → new.thrown.items ≡ middle.thrown.items
+      → IsGathered core table way (gathered thrown first) middle.constraints.items new.constraints.items
+      → IsWalked core table entries way takers [] (gathered old.thrown.items old.number) k old new
+  made-walked way takers thrown k first gathered old middle new made first_is lent index number thrown_is added = λ left before levelled.
+      passed-same core table entries way (gathered old.thrown.items old.number) (gathered thrown first) k k left old new
+      (λ named. ap (λ t. gathered t old.number named) (sym (lent ∙ ap (λ (p : Progress). p.thrown.items) made)) ∙ ap (λ n. gathered thrown n named) (sym first_is)) refl
+      (alone-passed core table entries way (gathered thrown first) k left old new before
+      (index ∙ ap (λ (p : Progress). p.index) made) (number ∙ ap (λ (p : Progress). p.number) made) (thrown_is ∙ ap (λ (p : Progress). p.thrown.items) made)
+      (subst (λ cs. IsGathered core table way (gathered thrown first) cs new.constraints.items) (ap (λ (p : Progress). p.constraints.items) made) added))
+
+  -- the end of a block that is not reached
+  pub unreached : (procedure : ℕ) (reached : Bool) (way : Atom) (takers : Takers) (n : ℕ) (old : Progress) → reached ≡ false
+      → IsWalked core table entries way takers [] (λ named. block_constraints (scope_of core procedure) reached named (takers_of takers old.thrown.items) n Empty) 0 old old
+  unreached procedure reached way takers n old is =
+      alone-walked core table entries way takers (λ named. block_constraints (scope_of core procedure) reached named (takers_of takers old.thrown.items) n Empty) 0 old old refl (omega arith) refl
+      (λ named stands. added-same core table (block_constraints (scope_of core procedure) reached named (takers_of takers old.thrown.items) n Empty) [] old.constraints.items old.constraints.items
+      (ap (λ b. block_constraints (scope_of core procedure) b named (takers_of takers old.thrown.items) n Empty) is) (added-none core table old.constraints.items))
+
+  -- the end of one that is
+  pub reached-walked : (procedure : ℕ) (reached : Bool) (way : Atom) (takers : Takers) (n : ℕ) (old new : Progress) → reached ≡ true
+      → new.index ≡ old.index → new.number ≡ old.number → new.thrown.items ≡ old.thrown.items
+      → IsGathered core table way (λ named. flow (named ∷ []) takers.normal) old.constraints.items new.constraints.items
+      → IsWalked core table entries way takers [] (λ named. block_constraints (scope_of core procedure) reached named (takers_of takers old.thrown.items) n Empty) 0 old new
+  reached-walked procedure reached way takers n old new is index number thrown added =
+      alone-walked core table entries way takers (λ named. block_constraints (scope_of core procedure) reached named (takers_of takers old.thrown.items) n Empty) 0 old new index (omega (arith, number)) thrown
+      (λ named stands. added-same core table (block_constraints (scope_of core procedure) reached named (takers_of takers old.thrown.items) n Empty) (flow (named ∷ []) takers.normal) old.constraints.items new.constraints.items
+      (ap (λ b. block_constraints (scope_of core procedure) b named (takers_of takers old.thrown.items) n Empty) is) (added named stands))
+
+count-of : (handlers : List Handler) → length handlers ≡ handler_count (handlers_of handlers)
+count-of [] = refl
+count-of (handler ∷ rest) = ap suc (count-of rest)
+
+-- handlers that took their exceptions
+pub try-begun : (takers : Takers) (handlers : List Handler) (thrown : List Entry) (first level : ℕ) (old middle new : Progress) (tried : Tried)
+    → middle ≡ record old { number = old.number + length handlers } → first ≡ old.number
+    → tried.takers ≡ record takers { level = takers.level + 1 } → level ≡ takers.level + 1
+    → undone tried.saved.items new.thrown.items ≡ middle.thrown.items
+    → ((x : ℕ) → get_or new.thrown.items x no_entry ≡ entry_in_try (handlers_of handlers) first level x (get_or middle.thrown.items x no_entry))
+    → tried.numbers.items ≡ map (λ (handler : Handler). (get_or thrown handler.exception no_entry).number) handlers → thrown ≡ new.thrown.items
+    → new.index ≡ middle.index → new.constraints ≡ middle.constraints → new.number ≡ middle.number
+    → IsTried takers handlers old new tried
+try-begun takers handlers thrown first level old middle new tried made first_is inner_is level_is undone_is taken numbers_are lent index constraints number =
+    let thrown_same : middle.thrown.items ≡ old.thrown.items = ap (λ (p : Progress). p.thrown.items) made in
+    let from : (x : ℕ) → get_or new.thrown.items x no_entry ≡ entry_in_try (handlers_of handlers) old.number (takers.level + 1) x (get_or old.thrown.items x no_entry) =
+    λ x. taken x ∙ (ap (λ n. entry_in_try (handlers_of handlers) n level x (get_or middle.thrown.items x no_entry)) first_is
+    ∙ (ap (λ l. entry_in_try (handlers_of handlers) old.number l x (get_or middle.thrown.items x no_entry)) level_is
+    ∙ ap (λ list. entry_in_try (handlers_of handlers) old.number (takers.level + 1) x (get_or list x no_entry)) thrown_same)) in
+    record {
+      taken = λ levelled. record {
+        takers_are = ap (λ t. takers_of t new.thrown.items) inner_is ∙ try-takers takers (handlers_of handlers) old.number old.thrown.items new.thrown.items levelled from;
+        levels_are = subst (λ t. AreLevelled t new.thrown.items) (sym inner_is) (try-levels takers (handlers_of handlers) old.number old.thrown.items new.thrown.items levelled from);
+      };
+      numbers_are = λ levelled. numbers_are ∙ (ap (λ list. map (λ (handler : Handler). (get_or list handler.exception no_entry).number) handlers) lent
+          ∙ numbers-same takers handlers old.number old.thrown.items new.thrown.items levelled from handlers (λ x has. has));
+      saved_is = undone_is ∙ thrown_same;
+      index_is = index ∙ ap (λ (p : Progress). p.index) made;
+      constraints_are = constraints ∙ ap (λ (p : Progress). p.constraints) made;
+      number_is = number ∙ (ap (λ (p : Progress). p.number) made ∙ ap (λ n. old.number + n) (count-of handlers));
+    }

@@ -1,0 +1,259 @@
+-- Walks past procedures, one after the other.
+use Rattle.std.proofs.Common.{◌≡◌, refl, sym, ap, ◌∙◌, subst, ℕ, zero, suc, ◌+◌, ◌<◌, ◌≤◌, List, [], ◌∷◌, ◌++◌, map, take, drop, length, get_or, replicate, flat_map, Bool, true, false, arith, append_assoc, append-nil, add-one}
+use Rattle.std.specs.Prelude.{if◌then◌else◌}
+use Rattle.std.proofs.lemmas.List.{get_or-map, length-map, length-take-le, map-append, take_all}
+use Rattle.labels.specs.Label.{Label}
+use Rattle.labels.specs.Constraints.{renamed}
+use Rattle.resolved.specs.CoreOf.{program_of}
+use Rattle.resolved.specs.Labelled.{Scope, here, label_of}
+use Rattle.resolved.specs.Program.{ProcedureEntry, Program, ThrownEntry}
+use Rattle.resolved.specs.ProgramOf.{procedure_entry, thrown_entry}
+use Rattle.resolved.specs.Tree.{Block}
+use Rattle.resolved.specs.TreeOf.{block_of}
+use Rattle.resolved.specs.declared.program.Core.{Core}
+use Rattle.resolved.specs.declared.statement.Exit.{Exit}
+use Rattle.resolved.specs.declared.statement.Statement as S
+use Rattle.resolved.specs.declared.tables.Procedure.{Procedure}
+use Rattle.resolved.specs.declared.tables.Thrown.{Thrown}
+use Rattle.resolved.specs.declared.target.Target.TheVariants.{ToBegin, ToEnd}
+use Rattle.path_map.specs.Exits.{exits_of}
+use Rattle.path_map.specs.Paths.{block_paths, program_paths}
+use Rattle.path_map.specs.declared.exits.Exits.{Exits}
+use Rattle.path_map.proofs.Procedures.{next-procedure}
+use Rattle.gathering.specs.Names.{NamedAtom, NamedConstraint, Real}
+use Rattle.gathering.specs.Walk.{at_end, constraints_from, end_constraints, end_takers, ends_one_way, inner_atom, inner_block, made_by_block, made_by_procedure, made_from, nowhere, procedure_constraints, program_constraints, rule_constraint, thrown_constraints, thrown_number}
+use Rattle.solver.specs.declared.system.Atom.{Atom}
+use Rattle.constraints.specs.Added.{AreAdded, IsPart, Stored}
+use Rattle.constraints.specs.Parts.{scope_of}
+use Rattle.constraints.specs.Procedures.{AreDeclared, HasPassedProcedure, IsKept, IsOf, IsProcedureWalked, end_takers_of, number_in}
+use Rattle.constraints.specs.Takers.{AreLevelled, AreWithin, no_entry, takers_of}
+use Rattle.constraints.specs.Walked.{HasPassed, IsBlockWalked}
+use Rattle.constraints.specs.declared.progress.Progress.{Progress}
+use Rattle.constraints.specs.declared.takers.Entry.{Entry}
+use Rattle.constraints.specs.declared.takers.Takers.{Takers}
+use Rattle.constraints.proofs.Added.{added-none, added-same, added-then}
+use Rattle.constraints.proofs.Declared.{taken-within, takers-at-end, thrown-numbers}
+use Rattle.constraints.proofs.Tables.{next-of}
+
+-- ---- a procedure
+levelled : (n barrier : ℕ) (only : Bool) (thrown : List Entry) → AreWithin (suc barrier) thrown
+    → AreLevelled (end_takers_of n barrier (suc barrier) only) thrown
+levelled n barrier true thrown within = record { barrier_is_within = omega arith; entries_are_within = within }
+levelled n barrier false thrown within = record { barrier_is_within = omega arith; entries_are_within = within }
+
+-- its ends
+abbrev own_end_constraints : Scope → (n : ℕ) → (number : ℕ → ℕ) → List NamedConstraint
+own_end_constraints scope n number =
+    rule_constraint scope (here scope).at 13 (inner_atom n ∷ []) (ToEnd scope.number) ++ thrown_constraints scope number (here scope).throws
+
+pub ends-none : (core : Core) (table : List Label) (f n : ℕ) (only : Bool) (constraints : List Stored)
+    → only ≡ ends_one_way (scope_of core f) → only ≡ true → AreAdded core table (end_constraints (scope_of core f) n) constraints constraints
+ends-none core table f n only constraints is one =
+    let scope : Scope = scope_of core f in
+    added-same core table (end_constraints scope n) [] constraints constraints
+    (ap (λ b. if b then [] else own_end_constraints scope n (λ x. thrown_number (here scope).throws (suc n) x)) (sym is ∙ one))
+    (added-none core table constraints)
+
+pub ends-added : (core : Core) (table : List Label) (f n level : ℕ) (only : Bool) (procedure : Procedure) (throws : List Thrown) (had taken given : List Entry) (old middle new : List Stored)
+    → IsOf core f procedure → only ≡ ends_one_way (scope_of core f) → only ≡ false
+    → AreDeclared (here (scope_of core f)).throws (suc n) level had taken → throws ≡ procedure.throws.items → given ≡ taken
+    → AreAdded core table (rule_constraint (scope_of core f) procedure.at 13 (inner_atom n ∷ []) (ToEnd f)) old middle
+    → (procedure.at ≡ (here (scope_of core f)).at → AreAdded core table (thrown_constraints (scope_of core f) (number_in given) (map thrown_entry throws)) middle new)
+    → AreAdded core table (end_constraints (scope_of core f) n) old new
+ends-added core table f n level only procedure throws had taken given old middle new is one several are throws_are given_are first second =
+    let scope : Scope = scope_of core f in
+    let declared : List ThrownEntry = (here scope).throws in
+    let number : ℕ → ℕ = λ x. thrown_number declared (suc n) x in
+    let at_is : procedure.at ≡ (here scope).at = ap (λ (p : ProcedureEntry). p.at) (sym is) in
+    let end : ℕ → List NamedConstraint = λ at. rule_constraint scope at 13 (inner_atom n ∷ []) (ToEnd f) in
+    let declared_is : map thrown_entry throws ≡ declared = ap (map thrown_entry) throws_are ∙ ap (λ (p : ProcedureEntry). p.throws) (sym is) in
+    added-same core table (end_constraints scope n) (end procedure.at ++ thrown_constraints scope (number_in given) (map thrown_entry throws)) old new
+    (ap (λ b. if b then [] else own_end_constraints scope n number) (sym one ∙ several)
+    ∙ (ap (λ cs. end (here scope).at ++ cs) (sym (thrown-numbers scope declared (suc n) level had taken are))
+    ∙ (ap (λ thrown. end (here scope).at ++ thrown_constraints scope (number_in thrown) declared) (sym given_are)
+    ∙ (ap (λ list. end (here scope).at ++ thrown_constraints scope (number_in given) list) (sym declared_is)
+    ∙ ap (λ at. end at ++ thrown_constraints scope (number_in given) (map thrown_entry throws)) (sym at_is)))))
+    (added-then core table (end procedure.at) (thrown_constraints scope (number_in given) (map thrown_entry throws)) old middle new first (second at_is))
+
+pub procedure-passed : (core : Core) (table : List Label) (entries : List Exits) (f barrier level start count : ℕ) (procedure : Procedure) (throws : List Thrown) (block : List S.Statement) (way : Atom) (takers : Takers) (only : Bool) (left : List Exits) (old middle walked new : Progress)
+    → IsOf core f procedure
+    → drop old.index entries ≡ map exits_of (block_paths (program_of core) (here (scope_of core f)).body) ++ left
+    → AreWithin barrier old.thrown.items
+    → level ≡ barrier + 1 → start ≡ old.number + 1 → count ≡ length procedure.throws.items
+    → throws ≡ procedure.throws.items → block ≡ procedure.body.items
+    → only ≡ ends_one_way (scope_of core f)
+    → takers ≡ end_takers_of old.number barrier level only
+    → IsPart core table (renamed Real (label_of (program_of core) (ToBegin f))) way
+    → middle.index ≡ old.index → middle.number ≡ start + count → middle.constraints.items ≡ old.constraints.items
+    → ((b : ℕ) → b < level → AreWithin b old.thrown.items → AreDeclared (map thrown_entry throws) start level old.thrown.items middle.thrown.items)
+    → IsBlockWalked core table entries f way takers (block_of block) middle walked
+    → IsKept walked new
+    → ((l : ℕ) (had : List Entry) → IsOf core f procedure → only ≡ ends_one_way (scope_of core f)
+    → AreDeclared (here (scope_of core f)).throws (suc old.number) l had walked.thrown.items
+    → AreAdded core table (end_constraints (scope_of core f) old.number) walked.constraints.items new.constraints.items)
+    → HasPassedProcedure core table entries f (suc barrier) left old new
+procedure-passed core table entries f barrier level start count procedure throws block way takers only left old middle walked new is goes within level_is start_is count_is throws_are block_is one takers_are stands index_is number_is constraints_are takes walks kept ended =
+    let program : Program = program_of core in
+    let scope : Scope = scope_of core f in
+    let declared : List ThrownEntry = (here scope).throws in
+    let n : ℕ = old.number in
+    let begin : NamedAtom = renamed Real (label_of program (ToBegin f)) in
+    let body : Block = block_of block in
+    let body_is : body ≡ (here scope).body = ap block_of block_is ∙ ap (λ (p : ProcedureEntry). p.body) (sym is) in
+    let declared_is : map thrown_entry throws ≡ declared = ap (map thrown_entry) throws_are ∙ ap (λ (p : ProcedureEntry). p.throws) (sym is) in
+    let start_suc : start ≡ suc n = omega (arith, start_is) in
+    let level_suc : level ≡ suc barrier = omega (arith, level_is) in
+    let below : barrier < level = omega (arith, level_is) in
+    let below_suc : barrier < suc barrier = omega arith in
+    let upto : barrier ≤ suc barrier = omega arith in
+    let taken : AreDeclared declared (suc n) (suc barrier) old.thrown.items middle.thrown.items =
+    subst (λ list. AreDeclared list (suc n) (suc barrier) old.thrown.items middle.thrown.items) declared_is
+    (subst (λ k. AreDeclared (map thrown_entry throws) k (suc barrier) old.thrown.items middle.thrown.items) start_suc
+    (subst (λ l. AreDeclared (map thrown_entry throws) start l old.thrown.items middle.thrown.items) level_suc (takes barrier below within))) in
+    let inside : AreWithin (suc barrier) middle.thrown.items = taken-within declared (suc n) barrier (suc barrier) old.thrown.items middle.thrown.items upto within taken in
+    let takers_suc : takers ≡ end_takers_of n barrier (suc barrier) only = takers_are ∙ ap (λ l. end_takers_of n barrier l only) level_suc in
+    let passed : HasPassed core table entries way (λ named. inner_block scope named (takers_of takers middle.thrown.items) middle.number body) (made_by_block body) left middle walked =
+    walks left (ap (λ k. drop k entries) index_is ∙ (goes ∙ ap (λ b. map exits_of (block_paths program b) ++ left) (sym body_is)))
+    (subst (λ t. AreLevelled t middle.thrown.items) (sym takers_suc) (levelled n barrier only middle.thrown.items inside)) in
+    let same : takers_of takers middle.thrown.items ≡ end_takers scope n =
+    ap (λ t. takers_of t middle.thrown.items) takers_suc
+    ∙ (takers-at-end declared n barrier (suc barrier) only old.thrown.items middle.thrown.items below_suc within inside taken
+    ∙ ap (λ b. if b then nowhere else at_end n declared) one) in
+    let counted : count ≡ length declared = count_is ∙ (sym (length-map procedure.throws.items thrown_entry) ∙ ap (λ (p : ProcedureEntry). length p.throws) (sym is)) in
+    let number_suc : middle.number ≡ suc n + length declared = omega (arith, number_is, start_is, counted) in
+    let first : AreAdded core table (inner_block scope begin (end_takers scope n) (suc n + length declared) (here scope).body) middle.constraints.items walked.constraints.items =
+    added-same core table (inner_block scope begin (end_takers scope n) (suc n + length declared) (here scope).body)
+    (inner_block scope begin (takers_of takers middle.thrown.items) middle.number body) middle.constraints.items walked.constraints.items
+    (ap (λ t. inner_block scope begin t (suc n + length declared) (here scope).body) (sym same)
+    ∙ (ap (λ k. inner_block scope begin (takers_of takers middle.thrown.items) k (here scope).body) (sym number_suc)
+    ∙ ap (inner_block scope begin (takers_of takers middle.thrown.items) middle.number) (sym body_is)))
+    (passed.added begin stands) in
+    let made : made_by_block body ≡ made_by_block (here scope).body = ap made_by_block body_is in
+    let walked_number : walked.number ≡ middle.number + made_by_block body = passed.number_is in
+    let kept_number : new.number ≡ walked.number = kept.number_is in
+    let taken_is : new.thrown.items ≡ middle.thrown.items = kept.thrown_is ∙ passed.thrown_is in
+    let own : made_by_procedure scope ≡ suc (length declared + made_by_block (here scope).body) = refl in
+    record {
+      added = added-then core table (inner_block scope begin (end_takers scope n) (suc n + length declared) (here scope).body) (end_constraints scope n)
+          old.constraints.items walked.constraints.items new.constraints.items
+          (subst (λ cs. AreAdded core table (inner_block scope begin (end_takers scope n) (suc n + length declared) (here scope).body) cs walked.constraints.items) constraints_are first)
+          (ended (suc barrier) old.thrown.items is one (subst (AreDeclared declared (suc n) (suc barrier) old.thrown.items) (sym passed.thrown_is) taken));
+      entries_left = ap (λ k. drop k entries) kept.index_is ∙ passed.entries_left;
+      number_is = omega (arith, number_suc, made, walked_number, kept_number, own);
+      within = subst (AreWithin (suc barrier)) (sym taken_is) inside;
+    }
+
+-- ---- procedures
+from-append : (program : Program) (f n : ℕ) (xs : List ProcedureEntry) (x : ProcedureEntry)
+    → constraints_from program f n (xs ++ x ∷ [])
+    ≡ constraints_from program f n xs ++ procedure_constraints (record { program = program; number = f + length xs }) (n + made_from program f xs)
+from-append program f n [] x =
+    let first : f ≡ f + 0 = omega arith in
+    let second : n ≡ n + 0 = omega arith in
+    append-nil (procedure_constraints (record { program = program; number = f }) n)
+    ∙ (ap (λ g. procedure_constraints (record { program = program; number = g }) n) first
+    ∙ ap (procedure_constraints (record { program = program; number = f + 0 })) second)
+from-append program f n (y ∷ xs) x =
+    let scope : Scope = record { program = program; number = f } in
+    let m : ℕ = made_by_procedure scope in
+    let first : suc f + length xs ≡ f + suc (length xs) = omega arith in
+    let second : (n + m) + made_from program (suc f) xs ≡ n + (m + made_from program (suc f) xs) = omega arith in
+    ap (λ cs. procedure_constraints scope n ++ cs)
+    (from-append program (suc f) (n + m) xs x
+    ∙ (ap (λ g. constraints_from program (suc f) (n + m) xs ++ procedure_constraints (record { program = program; number = g }) ((n + m) + made_from program (suc f) xs)) first
+    ∙ ap (λ k. constraints_from program (suc f) (n + m) xs ++ procedure_constraints (record { program = program; number = f + suc (length xs) }) k) second))
+    ∙ sym (append_assoc (procedure_constraints scope n) (constraints_from program (suc f) (n + m) xs)
+    (procedure_constraints (record { program = program; number = f + suc (length xs) }) (n + (m + made_from program (suc f) xs))))
+
+made-append : (program : Program) (f : ℕ) (xs : List ProcedureEntry) (x : ProcedureEntry)
+    → made_from program f (xs ++ x ∷ []) ≡ made_from program f xs + made_by_procedure (record { program = program; number = f + length xs })
+made-append program f [] x =
+    let first : f ≡ f + 0 = omega arith in
+    let m : ℕ = made_by_procedure (record { program = program; number = f }) in
+    let sum : m + 0 ≡ 0 + m = omega arith in
+    sum ∙ ap (λ g. 0 + made_by_procedure (record { program = program; number = g })) first
+made-append program f (y ∷ xs) x =
+    let m : ℕ = made_by_procedure (record { program = program; number = f }) in
+    let first : suc f + length xs ≡ f + suc (length xs) = omega arith in
+    let rest : ℕ = made_from program (suc f) xs in
+    let last : ℕ = made_by_procedure (record { program = program; number = f + suc (length xs) }) in
+    let sum : m + (rest + last) ≡ (m + rest) + last = omega arith in
+    ap (λ k. m + k) (made-append program (suc f) xs x ∙ ap (λ g. rest + made_by_procedure (record { program = program; number = g })) first) ∙ sum
+
+-- the paths of procedures
+abbrev pub paths_of : Program → List ProcedureEntry → List (List Exit)
+paths_of program procedures = flat_map (λ (procedure : ProcedureEntry). block_paths program procedure.body) procedures
+
+-- the first procedures were walked past
+pub record ArePassed (core : Core) (table : List Label) (entries : List Exits) (i : ℕ) (progress : Progress) : Type 0 where
+  pub added : AreAdded core table (constraints_from (program_of core) 0 0 (map procedure_entry (take i core.procedures.items))) [] progress.constraints.items
+  pub entries_left : drop progress.index entries ≡ map exits_of (paths_of (program_of core) (map procedure_entry (drop i core.procedures.items)))
+  pub number_is : progress.number ≡ made_from (program_of core) 0 (map procedure_entry (take i core.procedures.items))
+  pub within : AreWithin i progress.thrown.items
+
+-- no procedure yet, and all of them
+replicate-read : (n x : ℕ) → get_or (replicate n no_entry) x no_entry ≡ no_entry
+replicate-read zero x = refl
+replicate-read (suc n) zero = refl
+replicate-read (suc n) (suc x) = replicate-read n x
+
+pub passed-none : (core : Core) (table : List Label) (entries : List Exits) (n : ℕ) (progress : Progress)
+    → entries ≡ map exits_of (program_paths (program_of core)) → progress.index ≡ 0 → progress.number ≡ 0 → progress.constraints.items ≡ []
+    → progress.thrown.items ≡ replicate n no_entry → ArePassed core table entries 0 progress
+passed-none core table entries n progress mapped index number constraints thrown = record {
+  added = subst (AreAdded core table [] []) (sym constraints) (added-none core table []);
+  entries_left = ap (λ k. drop k entries) index ∙ mapped;
+  number_is = number;
+  within = λ x. subst (λ (e : Entry). e.level ≤ 0) (sym (ap (λ list. get_or list x no_entry) thrown ∙ replicate-read n x)) (omega arith);
+}
+
+pub passed-added : (core : Core) (table : List Label) (entries : List Exits) (i : ℕ) (progress : Progress) → length core.procedures.items ≤ i
+    → ArePassed core table entries i progress → AreAdded core table (program_constraints (program_of core)) [] progress.constraints.items
+passed-added core table entries i progress all passed =
+    subst (λ list. AreAdded core table (constraints_from (program_of core) 0 0 (map procedure_entry list)) [] progress.constraints.items)
+    (take_all i core.procedures.items all) passed.added
+
+pub passed-number : (core : Core) (table : List Label) (entries : List Exits) (i : ℕ) (progress : Progress) → length core.procedures.items ≤ i
+    → ArePassed core table entries i progress → progress.number ≡ made_from (program_of core) 0 (program_of core).procedures
+passed-number core table entries i progress all passed =
+    passed.number_is ∙ ap (λ list. made_from (program_of core) 0 (map procedure_entry list)) (take_all i core.procedures.items all)
+
+pub passed-next : (core : Core) (table : List Label) (entries : List Exits) (i : ℕ) (procedure : Procedure) (old new : Progress)
+    → i < length core.procedures.items → procedure ≡ get_or core.procedures.items i procedure
+    → (IsOf core i procedure → IsProcedureWalked core table entries i i old new)
+    → ArePassed core table entries i old → ArePassed core table entries (i + 1) new
+passed-next core table entries i procedure old new inside is walks had =
+    let program : Program = program_of core in
+    let scope : Scope = scope_of core i in
+    let procedures : List Procedure = core.procedures.items in
+    let before : List ProcedureEntry = map procedure_entry (take i procedures) in
+    let after : List ProcedureEntry = map procedure_entry (drop (i + 1) procedures) in
+    let within : i ≤ length procedures = omega (arith, inside) in
+    let count : length before ≡ i = length-map (take i procedures) procedure_entry ∙ length-take-le i procedures within in
+    let count' : 0 + length before ≡ i = omega (arith, count) in
+    let own : here scope ≡ procedure_entry procedure = get_or-map procedure_entry procedures i procedure _ inside ∙ ap procedure_entry (sym is) in
+    let left : List Exits = map exits_of (paths_of program after) in
+    let goes : drop old.index entries ≡ map exits_of (block_paths program (here scope).body) ++ left =
+    had.entries_left
+    ∙ (ap (λ ps. map exits_of (paths_of program ps)) (next-procedure procedures i procedure inside is)
+    ∙ (map-append exits_of (block_paths program (procedure_entry procedure).body) (paths_of program after)
+    ∙ ap (λ (p : ProcedureEntry). map exits_of (block_paths program p.body) ++ left) (sym own))) in
+    let passed = walks own left goes had.within in
+    let next : map procedure_entry (take (i + 1) procedures) ≡ before ++ procedure_entry procedure ∷ [] = next-of procedure_entry procedures i procedure inside is in
+    let made : made_from program 0 (map procedure_entry (take (i + 1) procedures)) ≡ made_from program 0 before + made_by_procedure scope =
+    ap (made_from program 0) next ∙ (made-append program 0 before (procedure_entry procedure) ∙ ap (λ g. made_from program 0 before + made_by_procedure (record { program = program; number = g })) count') in
+    let old_number : old.number ≡ made_from program 0 before = had.number_is in
+    let new_number : new.number ≡ old.number + made_by_procedure scope = passed.number_is in
+    let start : 0 + made_from program 0 before ≡ old.number = omega (arith, old_number) in
+    record {
+      added = added-same core table (constraints_from program 0 0 (map procedure_entry (take (i + 1) procedures)))
+          (constraints_from program 0 0 before ++ procedure_constraints scope old.number) [] new.constraints.items
+          (ap (constraints_from program 0 0) next
+          ∙ (from-append program 0 0 before (procedure_entry procedure)
+          ∙ (ap (λ g. constraints_from program 0 0 before ++ procedure_constraints (record { program = program; number = g }) (0 + made_from program 0 before)) count'
+          ∙ ap (λ k. constraints_from program 0 0 before ++ procedure_constraints scope k) start)))
+          (added-then core table (constraints_from program 0 0 before) (procedure_constraints scope old.number) [] old.constraints.items new.constraints.items had.added passed.added);
+      entries_left = passed.entries_left;
+      number_is = omega (arith, made, old_number, new_number);
+      within = subst (λ level. AreWithin level new.thrown.items) (sym (add-one i)) passed.within;
+    }

@@ -1,0 +1,253 @@
+-- A walk past each form of statement with blocks, from walks past its pieces.
+use Rattle.std.proofs.Common.{◌≡◌, refl, sym, ap, ◌∙◌, subst, ℕ, suc, ◌+◌, List, [], ◌∷◌, ◌++◌, map, drop, arith, append_assoc, Bool, true}
+use Rattle.std.specs.Prelude.{Some, None}
+use Rattle.labels.specs.Label.{Label}
+use Rattle.labels.specs.Constraints.{renamed}
+use Rattle.resolved.specs.CoreOf.{program_of}
+use Rattle.resolved.specs.declared.program.Core.{Core}
+use Rattle.resolved.specs.declared.statement.Exit.{Exit}
+use Rattle.resolved.specs.declared.statement.Statement as S
+use Rattle.resolved.specs.declared.statement.Handler.{Handler}
+use Rattle.resolved.specs.declared.statement.Exit.TheVariants.{Normal}
+use Rattle.resolved.specs.declared.target.Target.TheVariants.{ToLoop}
+use Rattle.resolved.specs.Program.{Program}
+use Rattle.resolved.specs.Labelled.{Scope, label_of, value_label}
+use Rattle.resolved.specs.Tree.{Expression, Statement, If, While, Try, Block, Handlers}
+use Rattle.resolved.specs.TreeOf.{handlers_of, statement_of}
+use Rattle.resolved.specs.Ends.{block_ends, one_end, raises, statement_ends}
+use Rattle.path_map.specs.declared.exits.Exits.{Exits}
+use Rattle.path_map.specs.Exits.{exits_of}
+use Rattle.path_map.specs.Paths.{block_paths, handlers_paths, inner_paths, rest_paths}
+use Rattle.gathering.specs.Names.{NamedAtom, NamedConstraint, Real, named_atoms}
+use Rattle.gathering.specs.Walk as walk
+use Rattle.gathering.specs.Walk.{block_constraints, flow, handler_count, handler_number, handlers_constraints, in_loop, in_try, inner_atom, inner_block, inner_constraint, made_by_block, made_by_handlers, made_by_statement, raise_atoms, raised_flows, rule_constraint, single, statement_constraints, with_normal, within_single}
+use Rattle.solver.specs.declared.system.Atom.{Atom}
+use Rattle.constraints.specs.Added.{IsGathered, IsPart}
+use Rattle.constraints.specs.Parts.{scope_of}
+use Rattle.constraints.specs.Takers.{AreLevelled, AreWithin, takers_of, undone}
+use Rattle.constraints.specs.Walks.{IsSimple, loop_head_constraints}
+use Rattle.constraints.specs.Walked.{AreHandlersWalked, AreStatementsWalked, HasPassed, IsBlockWalked, IsFormWalked, IsStatementWalked, IsTried, IsWalked, branch_constraints, step_constraints}
+use Rattle.constraints.specs.declared.pieces.Tried.{Tried}
+use Rattle.constraints.specs.declared.progress.Progress.{Progress}
+use Rattle.constraints.specs.declared.takers.Entry.{Entry}
+use Rattle.constraints.specs.declared.takers.Takers.{Takers}
+use Rattle.constraints.proofs.Passed.{alone-passed, levels-same, passed-at, passed-same, passed-then, paths-then, walked-on}
+
+append-four : {A : Type 0} (a b c d e : List A) → (a ++ (b ++ (c ++ d))) ++ e ≡ a ++ (b ++ (c ++ (d ++ e)))
+append-four a b c d e =
+    append_assoc a (b ++ (c ++ d)) e
+    ∙ ap (λ xs. a ++ xs) (append_assoc b (c ++ d) e ∙ ap (λ xs. b ++ xs) (append_assoc c d e))
+
+module _ (core : Core) (table : List Label) (entries : List Exits) (procedure : ℕ) where
+  -- a block that is reached at a way of its own, or at this one
+  pub block-at : (way own : Atom) (named : NamedAtom) (takers : Takers) (meant : walk.Takers) (block : Block) (left : List Exits) (old new : Progress) (thrown : List Entry) (number : ℕ)
+      → IsPart core table named own → old.thrown.items ≡ thrown → old.number ≡ number → AreLevelled takers thrown → takers_of takers thrown ≡ meant
+      → drop old.index entries ≡ map exits_of (block_paths (program_of core) block) ++ left
+      → IsBlockWalked core table entries procedure own takers block old new
+      → HasPassed core table entries way (λ other. inner_block (scope_of core procedure) named meant number block) (made_by_block block) left old new
+  block-at way own named takers meant block left old new thrown number stands thrown_is number_is levelled meant_is before walked =
+      passed-same core table entries way (λ other. inner_block (scope_of core procedure) named meant number block)
+      (λ other. inner_block (scope_of core procedure) named (takers_of takers thrown) number block) (made_by_block block) (made_by_block block) left old new
+      (λ other. ap (λ t. inner_block (scope_of core procedure) named t number block) (sym meant_is)) refl
+      (passed-at core table entries way own named (λ other. inner_block (scope_of core procedure) other (takers_of takers thrown) number block) (made_by_block block) left old new stands
+      (walked-on core table entries own takers (block_paths (program_of core) block)
+      (λ t k other. inner_block (scope_of core procedure) other (takers_of takers t) k block) (made_by_block block) left old new thrown number thrown_is number_is levelled before walked))
+
+  pub block-on : (way : Atom) (takers : Takers) (meant : walk.Takers) (block : Block) (left : List Exits) (old new : Progress) (thrown : List Entry) (number : ℕ)
+      → old.thrown.items ≡ thrown → old.number ≡ number → AreLevelled takers thrown → takers_of takers thrown ≡ meant
+      → drop old.index entries ≡ map exits_of (block_paths (program_of core) block) ++ left
+      → IsBlockWalked core table entries procedure way takers block old new
+      → HasPassed core table entries way (λ named. inner_block (scope_of core procedure) named meant number block) (made_by_block block) left old new
+  block-on way takers meant block left old new thrown number thrown_is number_is levelled meant_is before walked =
+      passed-same core table entries way (λ named. inner_block (scope_of core procedure) named meant number block)
+      (λ named. inner_block (scope_of core procedure) named (takers_of takers thrown) number block) (made_by_block block) (made_by_block block) left old new
+      (λ named. ap (λ t. inner_block (scope_of core procedure) named t number block) (sym meant_is)) refl
+      (walked-on core table entries way takers (block_paths (program_of core) block)
+      (λ t k named. inner_block (scope_of core procedure) named (takers_of takers t) k block) (made_by_block block) left old new thrown number thrown_is number_is levelled before walked)
+
+  pub if-walked : (at : ℕ) (e : Expression) (yes_block no_block : Block) (way inner : Atom) (takers : Takers) (number : ℕ) (old begun middle new : Progress)
+      → number ≡ old.number → IsPart core table (inner_atom number) inner
+      → IsWalked core table entries way takers [] (λ named. branch_constraints (scope_of core procedure) named (takers_of takers old.thrown.items) old.number e) 1 old begun
+      → IsBlockWalked core table entries procedure inner takers yes_block begun middle
+      → IsBlockWalked core table entries procedure inner takers no_block middle new
+      → IsFormWalked core table entries procedure way takers (If at e yes_block no_block) old new
+  if-walked at e yes_block no_block way inner takers number old begun middle new number_is stands head chosen other = λ left before levelled.
+      let program : Program = program_of core in
+      let scope : Scope = scope_of core procedure in
+      let t : walk.Takers = takers_of takers old.thrown.items in
+      let n : ℕ = old.number in
+      let part : IsPart core table (inner_atom n) inner = subst (λ k. IsPart core table (inner_atom k) inner) number_is stands in
+      let branch : NamedAtom → List NamedConstraint = λ named. branch_constraints scope named t n e in
+      let first : List NamedConstraint = inner_block scope (inner_atom n) t (suc n) yes_block in
+      let second : List NamedConstraint = inner_block scope (inner_atom n) t (suc n + made_by_block yes_block) no_block in
+      let rest : List Exits = map exits_of (block_paths program no_block) ++ left in
+      let one : HasPassed core table entries way branch 1 (map exits_of (block_paths program yes_block) ++ rest) old begun =
+      head (map exits_of (block_paths program yes_block) ++ rest)
+      (paths-then (block_paths program yes_block) (block_paths program no_block) (drop old.index entries) left before) levelled in
+      let two : HasPassed core table entries way (λ named. first) (made_by_block yes_block) rest begun middle =
+      block-at way inner (inner_atom n) takers t yes_block rest begun middle old.thrown.items (suc n) part one.thrown_is (omega (arith, one.number_is)) levelled refl one.entries_left chosen in
+      let three : HasPassed core table entries way (λ named. second) (made_by_block no_block) left middle new =
+      block-at way inner (inner_atom n) takers t no_block left middle new old.thrown.items (suc n + made_by_block yes_block) part (two.thrown_is ∙ one.thrown_is)
+      (omega (arith, one.number_is, two.number_is)) levelled refl two.entries_left other in
+      passed-same core table entries way (λ named. statement_constraints scope named t n (If at e yes_block no_block)) (λ named. branch named ++ (first ++ second))
+      (suc (made_by_block yes_block + made_by_block no_block)) (1 + (made_by_block yes_block + made_by_block no_block)) left old new
+      (λ named. sym (append_assoc (inner_constraint (named ∷ named_atoms (value_label scope e)) n)
+      (raised_flows (named ∷ named_atoms (raise_atoms scope e)) t (raises e)) (first ++ second))) (omega arith)
+      (passed-then core table entries way branch (λ named. first ++ second) 1 (made_by_block yes_block + made_by_block no_block) (map exits_of (block_paths program yes_block) ++ rest) left old begun new one
+      (passed-then core table entries way (λ named. first) (λ named. second) (made_by_block yes_block) (made_by_block no_block) rest left begun middle new two three))
+
+  pub while-walked : (at loop : ℕ) (e : Expression) (body : Block) (way inside : Atom) (takers inner : Takers) (number back : ℕ) (old begun middle new : Progress)
+      → number ≡ old.number → back ≡ old.number + 1 → IsPart core table (inner_atom number) inside
+      → ((thrown : List Entry) → takers_of inner thrown ≡ in_loop back (takers_of takers thrown))
+      → ((thrown : List Entry) → AreLevelled takers thrown → AreLevelled inner thrown)
+      → IsWalked core table entries way takers [] (λ named. loop_head_constraints (scope_of core procedure) named (takers_of takers old.thrown.items) old.number at loop e) 2 old begun
+      → IsBlockWalked core table entries procedure inside inner body begun middle
+      → ((other : Atom) (any : Takers) → IsWalked core table entries other any [] (λ named. rule_constraint (scope_of core procedure) at 8 (inner_atom back ∷ []) (ToLoop procedure loop)) 0 middle new)
+      → IsFormWalked core table entries procedure way takers (While at loop e body) old new
+  while-walked at loop e body way inside takers inner number back old begun middle new number_is back_is stands takers_are levels_are head walked turn = λ left before levelled.
+      let program : Program = program_of core in
+      let scope : Scope = scope_of core procedure in
+      let t : walk.Takers = takers_of takers old.thrown.items in
+      let n : ℕ = old.number in
+      let turn_atom : NamedAtom = renamed Real (label_of program (ToLoop procedure loop)) in
+      let back_number : back ≡ suc n = omega (arith, back_is) in
+      let part : IsPart core table (inner_atom n) inside = subst (λ k. IsPart core table (inner_atom k) inside) number_is stands in
+      let meant : takers_of inner old.thrown.items ≡ in_loop (suc n) t = takers_are old.thrown.items ∙ ap (λ k. in_loop k t) back_number in
+      let opening : NamedAtom → List NamedConstraint = λ named. loop_head_constraints scope named t n at loop e in
+      let inside_it : List NamedConstraint = inner_block scope (inner_atom n) (in_loop (suc n) t) (suc (suc n)) body in
+      let turning : ℕ → List NamedConstraint = λ k. rule_constraint scope at 8 (inner_atom k ∷ []) (ToLoop procedure loop) in
+      let one : HasPassed core table entries way opening 2 (map exits_of (block_paths program body) ++ left) old begun =
+      head (map exits_of (block_paths program body) ++ left) before levelled in
+      let two : HasPassed core table entries way (λ named. inside_it) (made_by_block body) left begun middle =
+      block-at way inside (inner_atom n) inner (in_loop (suc n) t) body left begun middle old.thrown.items (suc (suc n)) part one.thrown_is (omega (arith, one.number_is))
+      (levels_are old.thrown.items levelled) meant one.entries_left walked in
+      let three : HasPassed core table entries way (λ named. turning (suc n)) 0 left middle new =
+      passed-same core table entries way (λ named. turning (suc n)) (λ named. turning back) 0 0 left middle new (λ named. ap turning (sym back_number)) refl
+      (turn way takers left two.entries_left (levels-same takers old.thrown.items middle.thrown.items (two.thrown_is ∙ one.thrown_is) levelled)) in
+      passed-same core table entries way (λ named. statement_constraints scope named t n (While at loop e body)) (λ named. opening named ++ (inside_it ++ turning (suc n)))
+      (suc (suc (made_by_block body))) (2 + (made_by_block body + 0)) left old new
+      (λ named. sym (append-four (rule_constraint scope at 8 (named ∷ []) (ToLoop procedure loop))
+      (inner_constraint (turn_atom ∷ named_atoms (value_label scope e)) n) (flow (inner_atom n ∷ []) (t Normal))
+      (raised_flows (turn_atom ∷ named_atoms (raise_atoms scope e)) t (raises e)) (inside_it ++ turning (suc n)))) (omega arith)
+      (passed-then core table entries way opening (λ named. inside_it ++ turning (suc n)) 2 (made_by_block body + 0) (map exits_of (block_paths program body) ++ left) left old begun new one
+      (passed-then core table entries way (λ named. inside_it) (λ named. turning (suc n)) (made_by_block body) 0 left left begun middle new two three))
+
+  pub try-walked : (at : ℕ) (block : Block) (handlers : List Handler) (way : Atom) (takers : Takers) (tried : Tried) (old begun middle after new : Progress)
+      → IsTried takers handlers old begun tried
+      → IsBlockWalked core table entries procedure way tried.takers block begun middle
+      → after.index ≡ middle.index → after.number ≡ middle.number → after.constraints.items ≡ middle.constraints.items
+      → after.thrown.items ≡ undone tried.saved.items middle.thrown.items
+      → ((number : ℕ → ℕ) (other : Atom) → tried.numbers.items ≡ map (λ (handler : Handler). number handler.exception) handlers
+      → AreHandlersWalked core table entries procedure other takers number (handlers_of handlers) after new)
+      → IsFormWalked core table entries procedure way takers (Try at block (handlers_of handlers)) old new
+  try-walked at block list way takers tried old begun middle after new begins walked index_is number_is constraints_are thrown_is handled = λ left before levelled.
+      let program : Program = program_of core in
+      let scope : Scope = scope_of core procedure in
+      let t : walk.Takers = takers_of takers old.thrown.items in
+      let n : ℕ = old.number in
+      let handlers : Handlers = handlers_of list in
+      let number : ℕ → ℕ = handler_number handlers n in
+      let count : ℕ = handler_count handlers in
+      let rest : List Exits = map exits_of (handlers_paths program handlers) ++ left in
+      let trying : NamedAtom → List NamedConstraint = λ named. inner_block scope named (in_try number handlers t) (n + count) block in
+      let handling : List NamedConstraint = handlers_constraints scope number t ((n + count) + made_by_block block) handlers in
+      let inner : HasPassed core table entries way trying (made_by_block block) rest begun middle =
+      block-on way tried.takers (in_try number handlers t) block rest begun middle begun.thrown.items (n + count) refl begins.number_is
+      (begins.taken levelled).levels_are (begins.taken levelled).takers_are
+      (ap (λ i. drop i entries) begins.index_is ∙ paths-then (block_paths program block) (handlers_paths program handlers) (drop old.index entries) left before) walked in
+      let one : HasPassed core table entries way trying (count + made_by_block block) rest old after = record {
+        added = subst (λ cs. IsGathered core table way trying cs after.constraints.items) (ap (λ (v : _). v.items) begins.constraints_are)
+            (subst (λ cs. IsGathered core table way trying begun.constraints.items cs) (sym constraints_are) inner.added);
+        entries_left = ap (λ i. drop i entries) index_is ∙ inner.entries_left;
+        number_is = omega (arith, number_is, inner.number_is, begins.number_is);
+        thrown_is = thrown_is ∙ (ap (undone tried.saved.items) inner.thrown_is ∙ begins.saved_is);
+      } in
+      let two : HasPassed core table entries way (λ named. handling) (made_by_handlers handlers) left after new =
+      walked-on core table entries way takers (handlers_paths program handlers) (λ thrown k named. handlers_constraints scope number (takers_of takers thrown) k handlers)
+      (made_by_handlers handlers) left after new old.thrown.items ((n + count) + made_by_block block) one.thrown_is (omega (arith, one.number_is)) levelled one.entries_left
+      (handled number way (begins.numbers_are levelled)) in
+      passed-same core table entries way (λ named. statement_constraints scope named t n (Try at block handlers)) (λ named. trying named ++ handling)
+      (count + (made_by_block block + made_by_handlers handlers)) ((count + made_by_block block) + made_by_handlers handlers) left old new
+      (λ named. refl) (omega arith)
+      (passed-then core table entries way trying (λ named. handling) (count + made_by_block block) (made_by_handlers handlers) rest left old after new one two)
+
+  -- a statement without inner unknowns, which takes no entry of the path map but its own
+  pub simple-at : (s : S.Statement) (tree : Statement) (way : Atom) (takers : Takers) (thrown : List Entry) (old new : Progress)
+      → statement_of s ≡ tree → inner_paths (program_of core) tree ≡ [] → made_by_statement tree ≡ 0 → thrown ≡ old.thrown.items
+      → new.index ≡ old.index → new.number ≡ old.number → new.thrown.items ≡ old.thrown.items
+      → IsSimple core table procedure way (takers_of takers thrown) tree old.constraints.items new.constraints.items
+      → IsFormWalked core table entries procedure way takers (statement_of s) old new
+  simple-at s tree way takers thrown old new is none made_none same index number thrown_is simple =
+      subst (λ tree'. IsFormWalked core table entries procedure way takers tree' old new) (sym is) (λ left before levelled.
+      passed-same core table entries way (λ named. statement_constraints (scope_of core procedure) named (takers_of takers old.thrown.items) old.number tree)
+      (λ named. statement_constraints (scope_of core procedure) named (takers_of takers thrown) old.number tree) (made_by_statement tree) 0 left old new
+      (λ named. ap (λ t. statement_constraints (scope_of core procedure) named (takers_of takers t) old.number tree) (sym same)) made_none
+      (alone-passed core table entries way (λ named. statement_constraints (scope_of core procedure) named (takers_of takers thrown) old.number tree) 0 left old new
+      (before ∙ ap (λ (paths : List (List Exit)). map exits_of paths ++ left) none) index (omega (arith, number)) thrown_is (simple old.number)))
+
+  pub form-at : (s : S.Statement) (tree : Statement) (way : Atom) (takers : Takers) (old new : Progress) → statement_of s ≡ tree
+      → IsFormWalked core table entries procedure way takers tree old new → IsFormWalked core table entries procedure way takers (statement_of s) old new
+  form-at s tree way takers old new is walked = subst (λ tree'. IsFormWalked core table entries procedure way takers tree' old new) (sym is) walked
+
+  -- a block, from its entry and its statements
+  pub block-walked : (block : Block) (way : Atom) (takers inner : Takers) (exits : Exits) (only : Bool) (old begun new : Progress)
+      → ((first : Exits) (left : List Exits) → drop old.index entries ≡ first ∷ left → exits ≡ first)
+      → ((ends : List Exit) → IsWalked core table entries way takers (ends ∷ []) (λ named. single (one_end ends) named (takers_of takers old.thrown.items) ends) 0 old begun)
+      → ((ends : List Exit) → exits ≡ exits_of ends → only ≡ one_end ends)
+      → ((thrown : List Entry) → AreLevelled takers thrown → AreLevelled inner thrown)
+      → ((thrown : List Entry) → AreWithin takers.level thrown → takers_of inner thrown ≡ within_single only (takers_of takers thrown))
+      → AreStatementsWalked core table entries procedure way inner block begun new
+      → IsBlockWalked core table entries procedure way takers block old new
+  block-walked block way takers inner exits only old begun new exits_are begins only_is levels_are takers_are walked = λ left before levelled.
+      let program : Program = program_of core in
+      let scope : Scope = scope_of core procedure in
+      let ends : List Exit = block_ends program block in
+      let behind : List Exits = map exits_of (rest_paths program block) ++ left in
+      let t : walk.Takers = takers_of takers old.thrown.items in
+      let meant : takers_of inner old.thrown.items ≡ within_single (one_end ends) t =
+      takers_are old.thrown.items levelled.entries_are_within ∙ ap (λ b. within_single b t) (only_is ends (exits_are (exits_of ends) behind before)) in
+      let one : HasPassed core table entries way (λ named. single (one_end ends) named t ends) 0 behind old begun = begins ends behind before levelled in
+      let two : HasPassed core table entries way (λ named. block_constraints scope true named (takers_of inner old.thrown.items) old.number block) (made_by_block block) left begun new =
+      walked-on core table entries way inner (rest_paths program block) (λ thrown k named. block_constraints scope true named (takers_of inner thrown) k block)
+      (made_by_block block) left begun new old.thrown.items old.number one.thrown_is (omega (arith, one.number_is)) (levels_are old.thrown.items levelled) one.entries_left walked in
+      passed-same core table entries way (λ named. inner_block scope named t old.number block)
+      (λ named. single (one_end ends) named t ends ++ block_constraints scope true named (takers_of inner old.thrown.items) old.number block) (made_by_block block) (0 + made_by_block block) left old new
+      (λ named. ap (λ t'. single (one_end ends) named t ends ++ block_constraints scope true named t' old.number block) (sym meant)) (omega arith)
+      (passed-then core table entries way (λ named. single (one_end ends) named t ends) (λ named. block_constraints scope true named (takers_of inner old.thrown.items) old.number block)
+      0 (made_by_block block) behind left old begun new one two)
+
+  -- a statement of a block, from its entry and its form
+  pub statement-walked : (tree : Statement) (way : Atom) (takers none some inner : Takers) (exits : Exits) (only : Bool) (number : ℕ) (old begun new : Progress)
+      → ((first : Exits) (left : List Exits) → drop old.index entries ≡ first ∷ left → exits ≡ first)
+      → ((ends : List Exit) → IsWalked core table entries way none (ends ∷ []) (λ named. single (one_end ends) named (takers_of none old.thrown.items) ends) 0 old begun)
+      → ((ends : List Exit) → exits ≡ exits_of ends → only ≡ one_end ends)
+      → ((thrown : List Entry) → AreLevelled takers thrown → AreLevelled none thrown)
+      → ((thrown : List Entry) → takers_of none thrown ≡ with_normal None (takers_of takers thrown))
+      → ((thrown : List Entry) → AreLevelled takers thrown → AreLevelled some thrown)
+      → ((thrown : List Entry) → takers_of some thrown ≡ with_normal (Some number) (takers_of takers thrown))
+      → ((thrown : List Entry) → AreLevelled some thrown → AreLevelled inner thrown)
+      → ((thrown : List Entry) → AreWithin some.level thrown → takers_of inner thrown ≡ within_single only (takers_of some thrown))
+      → IsFormWalked core table entries procedure way inner tree begun new
+      → IsStatementWalked core table entries procedure way takers number tree old new
+  statement-walked tree way takers none some inner exits only number old begun new exits_are begins only_is none_levels none_is some_levels some_is levels_are takers_are walked = λ left before levelled.
+      let program : Program = program_of core in
+      let scope : Scope = scope_of core procedure in
+      let ends : List Exit = statement_ends program tree in
+      let behind : List Exits = map exits_of (inner_paths program tree) ++ left in
+      let start : List Entry = old.thrown.items in
+      let t : walk.Takers = takers_of takers start in
+      let some_levelled : AreLevelled some start = some_levels start levelled in
+      let meant : takers_of inner start ≡ within_single (one_end ends) (with_normal (Some number) t) =
+      takers_are start some_levelled.entries_are_within ∙ (ap (λ b. within_single b (takers_of some start)) (only_is ends (exits_are (exits_of ends) behind before))
+      ∙ ap (within_single (one_end ends)) (some_is start)) in
+      let first : walk.Takers → NamedAtom → List NamedConstraint = λ t' named. single (one_end ends) named t' ends in
+      let second : walk.Takers → NamedAtom → List NamedConstraint = λ t' named. statement_constraints scope named t' old.number tree in
+      let one : HasPassed core table entries way (first (takers_of none start)) 0 behind old begun = begins ends behind before (none_levels start levelled) in
+      let two : HasPassed core table entries way (second (takers_of inner start)) (made_by_statement tree) left begun new =
+      walked-on core table entries way inner (inner_paths program tree) (λ thrown k named. statement_constraints scope named (takers_of inner thrown) k tree)
+      (made_by_statement tree) left begun new start old.number one.thrown_is (omega (arith, one.number_is)) (levels_are start some_levelled) one.entries_left walked in
+      passed-same core table entries way (λ named. step_constraints scope named t number old.number tree)
+      (λ named. first (takers_of none start) named ++ second (takers_of inner start) named) (made_by_statement tree) (0 + made_by_statement tree) left old new
+      (λ named. ap (λ t'. first t' named ++ second (within_single (one_end ends) (with_normal (Some number) t)) named) (sym (none_is start))
+      ∙ ap (λ t'. first (takers_of none start) named ++ second t' named) (sym meant)) (omega arith)
+      (passed-then core table entries way (first (takers_of none start)) (second (takers_of inner start)) 0 (made_by_statement tree) behind left old begun new one two)

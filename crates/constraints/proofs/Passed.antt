@@ -1,0 +1,102 @@
+-- Walks one after the other.
+use Rattle.std.proofs.Common.{◌≡◌, refl, sym, ap, ◌∙◌, subst, ℕ, ◌+◌, List, [], ◌++◌, map, drop, arith, append_assoc}
+use Rattle.std.proofs.lemmas.List.{map-append}
+use Rattle.labels.specs.Label.{Label}
+use Rattle.resolved.specs.declared.program.Core.{Core}
+use Rattle.resolved.specs.declared.statement.Exit.{Exit}
+use Rattle.path_map.specs.declared.exits.Exits.{Exits}
+use Rattle.path_map.specs.Exits.{exits_of}
+use Rattle.gathering.specs.Names.{NamedAtom, NamedConstraint}
+use Rattle.solver.specs.declared.system.Atom.{Atom}
+use Rattle.constraints.specs.Added.{IsGathered, IsPart}
+use Rattle.constraints.specs.Takers.{AreLevelled}
+use Rattle.constraints.specs.Walked.{HasPassed, IsWalked}
+use Rattle.constraints.specs.declared.progress.Progress.{Progress}
+use Rattle.constraints.specs.declared.takers.Entry.{Entry}
+use Rattle.constraints.specs.declared.takers.Takers.{Takers}
+use Rattle.constraints.proofs.Added.{added-same, added-then}
+
+-- the ends of two pieces, one after the other
+pub paths-then : (first second : List (List Exit)) (found left : List Exits) → found ≡ map exits_of (first ++ second) ++ left
+    → found ≡ map exits_of first ++ (map exits_of second ++ left)
+paths-then first second found left is =
+    is ∙ ap (λ list. list ++ left) (map-append exits_of first second) ∙ append_assoc (map exits_of first) (map exits_of second) left
+
+pub levels-same : (takers : Takers) (old new : List Entry) → new ≡ old → AreLevelled takers old → AreLevelled takers new
+levels-same takers old new same levelled = subst (AreLevelled takers) (sym same) levelled
+
+module _ (core : Core) (table : List Label) (entries : List Exits) where
+  -- a piece that takes no entry of the path map
+  pub alone-passed : (way : Atom) (gathered : NamedAtom → List NamedConstraint) (made : ℕ) (left : List Exits) (old new : Progress)
+      → drop old.index entries ≡ left → new.index ≡ old.index → new.number ≡ old.number + made → new.thrown.items ≡ old.thrown.items
+      → IsGathered core table way gathered old.constraints.items new.constraints.items
+      → HasPassed core table entries way gathered made left old new
+  alone-passed way gathered made left old new before index number thrown added = record {
+    added = added;
+    entries_left = ap (λ i. drop i entries) index ∙ before;
+    number_is = number;
+    thrown_is = thrown;
+  }
+
+  pub alone-walked : (way : Atom) (takers : Takers) (gathered : NamedAtom → List NamedConstraint) (made : ℕ) (old new : Progress)
+      → new.index ≡ old.index → new.number ≡ old.number + made → new.thrown.items ≡ old.thrown.items
+      → IsGathered core table way gathered old.constraints.items new.constraints.items
+      → IsWalked core table entries way takers [] gathered made old new
+  alone-walked way takers gathered made old new index number thrown added =
+      λ left before levelled. alone-passed way gathered made left old new before index number thrown added
+
+  pub passed-then : (way : Atom) (first second : NamedAtom → List NamedConstraint) (m k : ℕ) (between left : List Exits) (old middle new : Progress)
+      → HasPassed core table entries way first m between old middle → HasPassed core table entries way second k left middle new
+      → HasPassed core table entries way (λ named. first named ++ second named) (m + k) left old new
+  passed-then way first second m k between left old middle new one two = record {
+    added = λ named stands. added-then core table (first named) (second named) old.constraints.items middle.constraints.items new.constraints.items
+        (one.added named stands) (two.added named stands);
+    entries_left = two.entries_left;
+    number_is = omega (arith, one.number_is, two.number_is);
+    thrown_is = two.thrown_is ∙ one.thrown_is;
+  }
+
+  pub passed-same : (way : Atom) (wanted gathered : NamedAtom → List NamedConstraint) (k m : ℕ) (left : List Exits) (old new : Progress)
+      → ((named : NamedAtom) → wanted named ≡ gathered named) → k ≡ m
+      → HasPassed core table entries way gathered m left old new → HasPassed core table entries way wanted k left old new
+  passed-same way wanted gathered k m left old new same count passed = record {
+    added = λ named stands. added-same core table (wanted named) (gathered named) old.constraints.items new.constraints.items (same named) (passed.added named stands);
+    entries_left = passed.entries_left;
+    number_is = passed.number_is ∙ ap (λ n. old.number + n) (sym count);
+    thrown_is = passed.thrown_is;
+  }
+
+  -- a piece that is reached at a way of its own
+  pub passed-at : (way own : Atom) (named : NamedAtom) (gathered : NamedAtom → List NamedConstraint) (m : ℕ) (left : List Exits) (old new : Progress)
+      → IsPart core table named own → HasPassed core table entries own gathered m left old new
+      → HasPassed core table entries way (λ other. gathered named) m left old new
+  passed-at way own named gathered m left old new stands passed = record {
+    added = λ other is. passed.added named stands;
+    entries_left = passed.entries_left;
+    number_is = passed.number_is;
+    thrown_is = passed.thrown_is;
+  }
+
+  -- a piece whose takers and numbers are known
+  pub walked-on : (own : Atom) (takers : Takers) (paths : List (List Exit)) (gathered : List Entry → ℕ → NamedAtom → List NamedConstraint) (m : ℕ) (left : List Exits)
+      (old new : Progress) (thrown : List Entry) (number : ℕ)
+      → old.thrown.items ≡ thrown → old.number ≡ number → AreLevelled takers thrown → drop old.index entries ≡ map exits_of paths ++ left
+      → IsWalked core table entries own takers paths (gathered old.thrown.items old.number) m old new
+      → HasPassed core table entries own (gathered thrown number) m left old new
+  walked-on own takers paths gathered m left old new thrown number thrown_is number_is levelled before walked =
+      passed-same own (gathered thrown number) (gathered old.thrown.items old.number) m m left old new
+      (λ named. ap (λ t. gathered t number named) (sym thrown_is) ∙ ap (λ k. gathered old.thrown.items k named) (sym number_is)) refl
+      (walked left before (levels-same takers thrown old.thrown.items thrown_is levelled))
+
+  -- inner unknowns that were made before
+  pub passed-from : (way : Atom) (gathered : NamedAtom → List NamedConstraint) (k m : ℕ) (left : List Exits) (old middle new : Progress)
+      → middle ≡ record old { number = old.number + k }
+      → HasPassed core table entries way gathered m left middle new → HasPassed core table entries way gathered (k + m) left old new
+  passed-from way gathered k m left old middle new made passed =
+      let same : HasPassed core table entries way gathered m left (record old { number = old.number + k }) new = subst (λ p. HasPassed core table entries way gathered m left p new) made passed in
+      record {
+        added = same.added;
+        entries_left = same.entries_left;
+        number_is = same.number_is ∙ omega arith;
+        thrown_is = same.thrown_is;
+      }

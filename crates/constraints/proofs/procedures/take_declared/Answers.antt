@@ -1,0 +1,22 @@
+use Rattle.std.proofs.Common.{get_or, map, subst, arith}
+use Rattle.std.proofs.lemmas.List.{take_all}
+use Rattle.resolved.specs.ProgramOf.{thrown_entry}
+use Rattle.resolved.specs.declared.tables.Thrown.{Thrown}
+use Rattle.constraints.specs.Procedures.{AreDeclared}
+use Rattle.constraints.specs.Takers.{no_entry}
+use Rattle.constraints.proofs.Declared.{declared-next, level-free}
+use Rattle.constraints.proofs.procedures.take_declared.Goals as goal
+
+pub loop-i-preserved : goal.loop-i-preserved
+loop-i-preserved c = λ barrier below within e.
+    let i = c.loop-i.i in
+    let x : Thrown = c.index-throws-i.result in
+    let old = get_or c.args.thrown.now.items e no_entry in
+    declared-next c.args.throws.now i x c.args.number c.in_ok-plus.field-0 c.args.level e _ _ old
+    c.loop-i-test.true c.index-throws-i.is c.in_ok-plus.ensures (level-free barrier c.args.level old below (within e))
+    (c.loop-i.invariant barrier below within e) (c.in_ok-take.ensures.taken e)
+
+pub returns : goal.returns
+returns c = λ barrier below within.
+    subst (λ list. AreDeclared (map thrown_entry list) c.args.number c.args.level c.args.thrown.now.items c.loop-i.thrown.items)
+    (take_all c.loop-i.i c.args.throws.now (omega (arith, c.loop-i-test.false))) (c.loop-i.invariant barrier below within)

@@ -1,0 +1,32 @@
+use Rattle.std.proofs.Common.{[], ◌∷◌, map, subst, arith}
+use Rattle.std.proofs.lemmas.List.{take_all}
+use Rattle.resolved.specs.ProgramOf.{thrown_entry}
+use Rattle.resolved.specs.declared.tables.Thrown.{Thrown}
+use Rattle.gathering.specs.Walk.{inner_atom, thrown_constraints}
+use Rattle.constraints.specs.Added.{AreAdded, IsPart}
+use Rattle.constraints.specs.Parts.{scope_of}
+use Rattle.constraints.specs.Procedures.{number_in}
+use Rattle.constraints.specs.declared.takers.Entry.{Entry}
+use Rattle.constraints.proofs.Added.{alone-left}
+use Rattle.constraints.proofs.Declared.{demands-next}
+use Rattle.constraints.proofs.statements.Walk.add_declared_demands.Goals as goal
+
+pub loop-declared-preserved : goal.loop-declared-preserved
+loop-declared-preserved c = λ at_is.
+    let core = c.args.self.now.table.now.core.now in
+    let table = c.args.self.now.table.now.written.items in
+    let i = c.loop-declared.declared-index in
+    let x : Thrown = c.declared-item.result in
+    let k = number_in c.args.thrown.now x.exception in
+    demands-next core table c.args.self.now.procedure c.args.at (number_in c.args.thrown.now) c.args.throws.now i x _ _ _
+    c.loop-declared-test.true c.declared-item.is at_is (c.loop-declared.invariant at_is)
+    (c.in_ok-add_rule.ensures c.args.self.now.procedure (inner_atom k ∷ [])
+    (alone-left core table (inner_atom k) c.in_ok-taker.taker c.in_ok-left.left.items c.in_ok-left.ensures
+    (subst (λ (entry : Entry). IsPart core table (inner_atom entry.number) c.in_ok-taker.taker) c.entry_in.ensures c.in_ok-taker.ensures)))
+
+pub returns : goal.returns
+returns c = λ at_is.
+    let core = c.args.self.now.table.now.core.now in
+    let table = c.args.self.now.table.now.written.items in
+    subst (λ list. AreAdded core table (thrown_constraints (scope_of core c.args.self.now.procedure) (number_in c.args.thrown.now) (map thrown_entry list)) c.args.constraints.now.items c.loop-declared.constraints.items)
+    (take_all c.loop-declared.declared-index c.args.throws.now (omega (arith, c.loop-declared-test.false))) (c.loop-declared.invariant at_is)

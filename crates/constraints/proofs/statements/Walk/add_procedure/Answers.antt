@@ -1,0 +1,22 @@
+use Rattle.std.proofs.Common.{◌++◌, map, ◌∙◌, refl}
+use Rattle.resolved.specs.CoreOf.{program_of}
+use Rattle.resolved.specs.Ends.{block_ends}
+use Rattle.resolved.specs.Labelled.{here}
+use Rattle.path_map.specs.Exits.{exits_of}
+use Rattle.path_map.specs.Paths.{rest_paths}
+use Rattle.constraints.specs.Parts.{scope_of}
+use Rattle.constraints.proofs.Bodies.{procedure-passed}
+use Rattle.constraints.proofs.statements.Walk.add_procedure.Goals as goal
+
+pub returns : goal.returns
+returns c = λ is left goes within.
+    let walk = c.args.self.now in
+    let core = walk.table.now.core.now in
+    let program = program_of core in
+    let body = (here (scope_of core walk.procedure)).body in
+    procedure-passed core walk.table.now.written.items walk.map.now.entries.items walk.procedure c.args.barrier c.in_ok-level.level c.in_ok-first.first c.len.result
+    c.args.procedure.now c.deref.result.now c.deref-2.result.now c.in_ok-begin.begin c.end_takers-takers.result c.is_single_of_procedure-only.result left c.args.progress.now _ c.walk_block.new.progress c.add_end_demands.new.progress
+    is goes within c.in_ok-level.ensures c.in_ok-first.ensures (c.len.ensures ∙ c.args.procedure.now.throws.ok.0) c.deref.ensures.value c.deref-2.ensures.value
+    (c.is_single_of_procedure-only.ensures (block_ends program body) (c.exits_at.ensures (exits_of (block_ends program body)) (map exits_of (rest_paths program body) ++ left) goes))
+    c.end_takers-takers.ensures c.in_ok-begin.ensures refl c.in_ok-progress.ensures refl c.in_ok-take_declared.ensures c.in_ok-walk_block.ensures
+    c.in_ok-add_end_demands.ensures.kept c.in_ok-add_end_demands.ensures.added

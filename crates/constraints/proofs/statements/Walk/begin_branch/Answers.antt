@@ -1,0 +1,27 @@
+use Rattle.std.proofs.Common.{refl, ◌∷◌}
+use Rattle.resolved.specs.Ends.{raises}
+use Rattle.resolved.specs.Labelled.{value_label}
+use Rattle.resolved.specs.TreeOf.{expression_of}
+use Rattle.gathering.specs.Names.{named_atoms}
+use Rattle.gathering.specs.Walk.{inner_constraint, raise_atoms, raised_flows}
+use Rattle.constraints.specs.Parts.{scope_of}
+use Rattle.constraints.specs.Takers.{takers_of}
+use Rattle.constraints.specs.Walked.{branch_constraints}
+use Rattle.constraints.proofs.Added.{added-then}
+use Rattle.constraints.proofs.Begun.{made-walked}
+use Rattle.constraints.proofs.statements.Walk.begin_branch.Goals as goal
+
+pub returns-clause-added : goal.returns-clause-added
+returns-clause-added c =
+    let core = c.args.self.now.table.now.core.now in
+    let table = c.args.self.now.table.now.written.items in
+    let scope = scope_of core c.args.self.now.procedure in
+    let e = expression_of c.args.condition.now in
+    let number = c.in_ok-number.number in
+    let thrown = c.deref.result.now in
+    made-walked c.args.self.now.table.now.core.now c.args.self.now.table.now.written.items c.args.self.now.map.now.entries.items
+    c.args.way c.args.takers thrown 1 number (λ t n named. branch_constraints scope named (takers_of c.args.takers t) n e) c.args.progress.now c.make.new.self _
+    c.in_ok-number.ensures.made c.in_ok-number.ensures.first c.deref.ensures.value refl refl refl
+    (λ named stands. added-then core table (inner_constraint (named ∷ named_atoms (value_label scope e)) number)
+    (raised_flows (named ∷ named_atoms (raise_atoms scope e)) (takers_of c.args.takers thrown) (raises e)) _ _ _
+    (c.in_ok-add_branch.ensures named stands) (c.in_ok-add_condition.ensures named stands))

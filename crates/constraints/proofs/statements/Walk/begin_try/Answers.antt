@@ -1,0 +1,14 @@
+use Rattle.std.proofs.Common.{refl, ap, ◌∙◌}
+use Rattle.constraints.specs.Takers.{undone}
+use Rattle.constraints.specs.declared.takers.Takers.{Takers}
+use Rattle.constraints.proofs.Begun.{try-begun}
+use Rattle.constraints.proofs.statements.Walk.begin_try.Goals as goal
+
+pub returns : goal.returns
+returns c =
+    try-begun c.args.takers c.args.handlers.now c.deref.result.now c.in_ok-first.first c.in_ok-inner.inner.level c.args.progress.now c.make.new.self
+    (record c.make.new.self { thrown = c.take_handled.new.thrown })
+    (record { takers = c.in_ok-inner.inner; numbers = c.in_ok-numbers.numbers; saved = c.take_handled.new.saved })
+    c.in_ok-first.ensures.made c.in_ok-first.ensures.first c.in_ok-inner.ensures (ap (λ (t : Takers). t.level) c.in_ok-inner.ensures)
+    (c.in_ok-take_handled.ensures.undone ∙ ap (λ list. undone list c.make.new.self.thrown.items) c.new-saved.ensures.items)
+    c.in_ok-take_handled.ensures.taken c.in_ok-numbers.ensures c.deref.ensures.value refl refl refl

@@ -1,0 +1,64 @@
+-- The takers of a procedure's ends as a table, and a walk past a procedure.
+-- Source: our own.
+use Rattle.std.specs.Prelude.{◌≡◌, ℕ, suc, ◌+◌, ◌==◌, List, [], ◌∷◌, ◌++◌, drop, map, if◌then◌else◌, Some, None, Bool, true, false, slice_index_or}
+use Rattle.labels.specs.Label.{Label}
+use Rattle.resolved.specs.declared.program.Core.{Core}
+use Rattle.resolved.specs.declared.tables.Procedure.{Procedure}
+use Rattle.resolved.specs.CoreOf.{program_of}
+use Rattle.resolved.specs.Labelled.{here}
+use Rattle.resolved.specs.Program.{ThrownEntry}
+use Rattle.resolved.specs.ProgramOf.{procedure_entry}
+use Rattle.path_map.specs.declared.exits.Exits.{Exits}
+use Rattle.path_map.specs.Exits.{exits_of}
+use Rattle.path_map.specs.Paths.{block_paths}
+use Rattle.gathering.specs.Walk.{made_by_procedure, procedure_constraints}
+use Rattle.constraints.specs.Added.{AreAdded}
+use Rattle.constraints.specs.Parts.{scope_of}
+use Rattle.constraints.specs.Takers.{AreWithin, no_entry}
+use Rattle.constraints.specs.declared.progress.Progress.{Progress}
+use Rattle.constraints.specs.declared.takers.Entry.{Entry}
+use Rattle.constraints.specs.declared.takers.Takers.{Takers}
+
+-- the entry of an exception, after declared exceptions were given the numbers from n on, the first of each exception counting
+abbrev pub declared_entry : List ThrownEntry → (n level : ℕ) → (exception : ℕ) → (old : Entry) → Entry
+declared_entry [] n level x old = old
+declared_entry (entry ∷ rest) n level x old =
+    if x == entry.exception then (record { number = n; level = level }) else declared_entry rest (suc n) level x old
+
+abbrev pub AreDeclared : List ThrownEntry → (n level : ℕ) → (old new : List Entry) → Type 0
+AreDeclared throws n level old new =
+    (x : ℕ) → slice_index_or new x no_entry ≡ declared_entry throws n level x (slice_index_or old x no_entry)
+
+-- the number of the taker of an exception
+abbrev pub number_in : List Entry → (exception : ℕ) → ℕ
+number_in thrown x = (slice_index_or thrown x no_entry).number
+
+-- the takers of a procedure's ends, where its end has number n; none where there is one end only
+abbrev pub end_takers_of : (n barrier level : ℕ) → (only : Bool) → Takers
+end_takers_of n barrier level true =
+    record { normal = None; returns = None; breaks = None; continues = None; barrier = level; level = level }
+end_takers_of n barrier level false =
+    record { normal = Some n; returns = Some n; breaks = None; continues = None; barrier = barrier; level = level }
+
+-- a walk that stays where it is, and keeps its takers
+pub record IsKept (old new : Progress) : Type 0 where
+  pub index_is : new.index ≡ old.index
+  pub number_is : new.number ≡ old.number
+  pub thrown_is : new.thrown.items ≡ old.thrown.items
+
+-- this is the procedure of a program with this number
+abbrev pub IsOf : Core → (f : ℕ) → Procedure → Type 0
+IsOf core f procedure = here (scope_of core f) ≡ procedure_entry procedure
+
+-- a walk that came past a procedure, with these entries of the path map left, and takers up to a level
+pub record HasPassedProcedure (core : Core) (table : List Label) (entries : List Exits) (f level : ℕ) (left : List Exits) (old new : Progress) : Type 0 where
+  pub added : AreAdded core table (procedure_constraints (scope_of core f) old.number) old.constraints.items new.constraints.items
+  pub entries_left : drop new.index entries ≡ left
+  pub number_is : new.number ≡ old.number + made_by_procedure (scope_of core f)
+  pub within : AreWithin level new.thrown.items
+
+-- a walk past a procedure, where the path map goes on with its paths, and no taker's level is above a barrier
+abbrev pub IsProcedureWalked : Core → (table : List Label) → (entries : List Exits) → (f barrier : ℕ) → (old new : Progress) → Type 0
+IsProcedureWalked core table entries f barrier old new =
+    (left : List Exits) → drop old.index entries ≡ map exits_of (block_paths (program_of core) (here (scope_of core f)).body) ++ left →
+    AreWithin barrier old.thrown.items → HasPassedProcedure core table entries f (suc barrier) left old new

@@ -1,0 +1,100 @@
+-- What a walk along blocks, statements and handlers does, where the path map has their ends from an entry on.
+-- Source: our own.
+use Rattle.std.specs.Prelude.{◌≡◌, ℕ, ◌+◌, List, ◌∷◌, ◌++◌, drop, map, true, Some, None}
+use Rattle.labels.specs.Label.{Label}
+use Rattle.resolved.specs.declared.program.Core.{Core}
+use Rattle.resolved.specs.declared.statement.Exit.{Exit}
+use Rattle.resolved.specs.declared.statement.Handler.{Handler}
+use Rattle.resolved.specs.CoreOf.{program_of}
+use Rattle.resolved.specs.Ends.{one_end, raises, statement_ends}
+use Rattle.resolved.specs.Labelled.{Scope, value_label}
+use Rattle.resolved.specs.Tree.{Expression, Statement, Block, Handlers}
+use Rattle.resolved.specs.TreeOf.{handlers_of}
+use Rattle.path_map.specs.declared.exits.Exits.{Exits}
+use Rattle.path_map.specs.Exits.{exits_of}
+use Rattle.path_map.specs.Paths.{block_paths, handlers_paths, inner_paths, rest_paths, statement_paths}
+use Rattle.gathering.specs.Names.{NamedAtom, NamedConstraint, named_atoms}
+use Rattle.gathering.specs.Walk as walk
+use Rattle.gathering.specs.Walk.{block_constraints, handler_count, handler_number, handlers_constraints, in_try, inner_block, inner_constraint, made_by_block, made_by_handlers, made_by_statement, raise_atoms, raised_flows, single, statement_constraints, with_normal, within_single}
+use Rattle.solver.specs.declared.system.Atom.{Atom}
+use Rattle.constraints.specs.Added.{IsGathered}
+use Rattle.constraints.specs.Parts.{scope_of}
+use Rattle.constraints.specs.Takers.{AreLevelled, takers_of, undone}
+use Rattle.constraints.specs.declared.pieces.Tried.{Tried}
+use Rattle.constraints.specs.declared.progress.Progress.{Progress}
+use Rattle.constraints.specs.declared.takers.Takers.{Takers}
+
+-- a walk that came past what is gathered thus and makes so many inner unknowns, with these entries of the path map left
+pub record HasPassed (core : Core) (table : List Label) (entries : List Exits) (way : Atom) (gathered : NamedAtom → List NamedConstraint) (made : ℕ) (left : List Exits) (old new : Progress) : Type 0 where
+  pub added : IsGathered core table way gathered old.constraints.items new.constraints.items
+  pub entries_left : drop new.index entries ≡ left
+  pub number_is : new.number ≡ old.number + made
+  pub thrown_is : new.thrown.items ≡ old.thrown.items
+
+-- a walk past what has these paths, where the path map goes on with them
+abbrev pub IsWalked : Core → (table : List Label) → (entries : List Exits) → (way : Atom) → Takers → (paths : List (List Exit)) → (gathered : NamedAtom → List NamedConstraint) → (made : ℕ) → (old new : Progress) → Type 0
+IsWalked core table entries way takers paths gathered made old new =
+    (left : List Exits) → drop old.index entries ≡ map exits_of paths ++ left → AreLevelled takers old.thrown.items →
+    HasPassed core table entries way gathered made left old new
+
+-- past a block of its own, and past its statements
+abbrev pub IsBlockWalked : Core → (table : List Label) → (entries : List Exits) → (procedure : ℕ) → (way : Atom) → Takers → Block → (old new : Progress) → Type 0
+IsBlockWalked core table entries procedure way takers block old new =
+    IsWalked core table entries way takers (block_paths (program_of core) block)
+    (λ named. inner_block (scope_of core procedure) named (takers_of takers old.thrown.items) old.number block)
+    (made_by_block block) old new
+
+abbrev pub AreStatementsWalked : Core → (table : List Label) → (entries : List Exits) → (procedure : ℕ) → (way : Atom) → Takers → Block → (old new : Progress) → Type 0
+AreStatementsWalked core table entries procedure way takers block old new =
+    IsWalked core table entries way takers (rest_paths (program_of core) block)
+    (λ named. block_constraints (scope_of core procedure) true named (takers_of takers old.thrown.items) old.number block)
+    (made_by_block block) old new
+
+-- a statement of a block, whose normal end has the taker with this number: the flow of its way where it has one end only, and what
+-- the rule of its form says
+abbrev pub step_constraints : Scope → (way : NamedAtom) → walk.Takers → (normal inner : ℕ) → Statement → List NamedConstraint
+step_constraints scope way takers normal inner statement =
+    let ends : List Exit = statement_ends scope.program statement in
+    single (one_end ends) way (with_normal None takers) ends
+    ++ statement_constraints scope way (within_single (one_end ends) (with_normal (Some normal) takers)) inner statement
+
+-- past a statement of a block, and past one by the rule of its form
+abbrev pub IsStatementWalked : Core → (table : List Label) → (entries : List Exits) → (procedure : ℕ) → (way : Atom) → Takers → (normal : ℕ) → Statement → (old new : Progress) → Type 0
+IsStatementWalked core table entries procedure way takers normal statement old new =
+    IsWalked core table entries way takers (statement_paths (program_of core) statement)
+    (λ named. step_constraints (scope_of core procedure) named (takers_of takers old.thrown.items) normal old.number statement)
+    (made_by_statement statement) old new
+
+abbrev pub IsFormWalked : Core → (table : List Label) → (entries : List Exits) → (procedure : ℕ) → (way : Atom) → Takers → Statement → (old new : Progress) → Type 0
+IsFormWalked core table entries procedure way takers statement old new =
+    IsWalked core table entries way takers (inner_paths (program_of core) statement)
+    (λ named. statement_constraints (scope_of core procedure) named (takers_of takers old.thrown.items) old.number statement)
+    (made_by_statement statement) old new
+
+-- past the bodies of handlers, which are reached at the inner unknowns with these numbers
+abbrev pub AreHandlersWalked : Core → (table : List Label) → (entries : List Exits) → (procedure : ℕ) → (way : Atom) → Takers → (number : ℕ → ℕ) → Handlers → (old new : Progress) → Type 0
+AreHandlersWalked core table entries procedure way takers number handlers old new =
+    IsWalked core table entries way takers (handlers_paths (program_of core) handlers)
+    (λ named. handlers_constraints (scope_of core procedure) number (takers_of takers old.thrown.items) old.number handlers)
+    (made_by_handlers handlers) old new
+
+-- what is gathered of a branch before its blocks
+abbrev pub branch_constraints : Scope → (way : NamedAtom) → walk.Takers → (inner : ℕ) → Expression → List NamedConstraint
+branch_constraints scope way takers inner e =
+    inner_constraint (way ∷ named_atoms (value_label scope e)) inner
+    ++ raised_flows (way ∷ named_atoms (raise_atoms scope e)) takers (raises e)
+
+-- handlers that took their exceptions, with the inner unknowns that they made
+pub record AreTaken (takers : Takers) (handlers : Handlers) (old new : Progress) (tried : Tried) : Type 0 where
+  pub takers_are : takers_of tried.takers new.thrown.items
+      ≡ in_try (handler_number handlers old.number) handlers (takers_of takers old.thrown.items)
+  pub levels_are : AreLevelled tried.takers new.thrown.items
+
+pub record IsTried (takers : Takers) (handlers : List Handler) (old new : Progress) (tried : Tried) : Type 0 where
+  pub taken : AreLevelled takers old.thrown.items → AreTaken takers (handlers_of handlers) old new tried
+  pub numbers_are : AreLevelled takers old.thrown.items → tried.numbers.items
+      ≡ map (λ (handler : Handler). handler_number (handlers_of handlers) old.number handler.exception) handlers
+  pub saved_is : undone tried.saved.items new.thrown.items ≡ old.thrown.items
+  pub index_is : new.index ≡ old.index
+  pub constraints_are : new.constraints ≡ old.constraints
+  pub number_is : new.number ≡ old.number + handler_count (handlers_of handlers)

@@ -1,0 +1,269 @@
+//! The pieces of a walk along blocks, statements and handlers that go into no block.
+ghost use Rattle.constraints.specs.Added.{IsPart};
+ghost use Rattle.constraints.specs.Parts.{scope_of};
+ghost use Rattle.constraints.specs.Takers.{AreLevelled, no_entry, takers_of, undone};
+ghost use Rattle.constraints.specs.Walked.{IsTried, IsWalked, branch_constraints};
+ghost use Rattle.constraints.specs.Walks.{loop_head_constraints};
+ghost use Rattle.gathering.specs.Names.{NamedAtom};
+ghost use Rattle.gathering.specs.Walk.{block_constraints, call_constraints, inner_atom, onward_way, rule_constraint, single};
+ghost use Rattle.path_map.specs.Exits.{exits_of};
+ghost use Rattle.path_map.specs.declared.exits.Exits.{Exits};
+ghost use Rattle.resolved.specs.Ends.{one_end};
+ghost use Rattle.resolved.specs.Tree.{Empty};
+ghost use Rattle.resolved.specs.TreeOf.{expression_of, handlers_of};
+ghost use Rattle.resolved.specs.declared.statement.Exit.{Exit};
+ghost use Rattle.resolved.specs.declared.target.Target.TheVariants.{ToLoop};
+ghost use Rattle.std.specs.Prelude.{IfOk, List, OnOk, [], drop, map, ℕ, ◌+◌, ◌∷◌, ◌≡◌};
+
+use crate::building::plus;
+use crate::lefts::alone;
+use crate::progress::Progress;
+use crate::statements::Walk;
+use crate::takers::{Saved, Takers, numbers_of, take_handled};
+use path_map::Exits;
+use resolved::expression::{Expression, Variable};
+use resolved::statement::{Exit, Handler};
+use solver::Atom;
+use std::alloc::AllocError;
+
+/// What a `try` has in its block: its takers, the numbers of its handlers' ways, and the entries to be put back.
+#[derive(Drop)]
+pub(crate) struct Tried {
+    pub takers: Takers,
+    pub numbers: Vec<u32>,
+    pub saved: Vec<Saved>,
+}
+
+impl<'a> Walk<'a> {
+    // The possible ends of the next block or statement, or out of memory where the path map has none.
+    fn next_exits(&self, progress: &mut Progress) -> Result<Exits, AllocError>
+        ensures found { IfOk result (λ exits. drop progress.old.index self.now.map.now.entries.items
+            ≡ exits ∷ drop progress.new.index self.now.map.now.entries.items) }
+        ensures others { OnOk result (progress.new
+            ≡ record progress.old { index = progress.new.index }) }
+    {
+        match self.map.entries.get(progress.index) {
+            None => Err(AllocError),
+            Some(exits) => {
+                progress.index += 1;
+                Ok(*exits)
+            }
+        }
+    }
+
+    // Comes to a block or statement: gives its possible ends, and adds the flow of the way where there is one only.
+    pub(crate) fn begin(
+        &self,
+        way: Atom,
+        takers: Takers,
+        progress: &mut Progress,
+    ) -> Result<Exits, AllocError>
+        ensures exits { IfOk result (λ exits. (first : Exits) (left : List Exits) →
+            drop progress.old.index self.now.map.now.entries.items ≡ first ∷ left →
+            exits ≡ first) }
+        ensures added { OnOk result ((ends : List Exit) →
+            IsWalked self.now.table.now.core.now self.now.table.now.written.items
+            self.now.map.now.entries.items way takers (ends ∷ [])
+            (λ (named : NamedAtom).
+            single (one_end ends) named (takers_of takers progress.old.thrown.items) ends) 0
+            progress.old progress.new) }
+    {
+        let exits = self.next_exits(progress)?;
+        self.add_single(
+            exits,
+            way,
+            takers,
+            &progress.thrown,
+            &mut progress.constraints,
+        )?;
+        Ok(exits)
+    }
+
+    // The way to what follows a statement with these ends, whose normal end has the taker with this number.
+    pub(crate) fn onward(&self, exits: Exits, way: Atom, number: u32) -> Result<Atom, AllocError>
+        ensures { IfOk result (λ atom. (ends : List Exit) (named : NamedAtom) →
+            exits ≡ exits_of ends →
+            IsPart self.now.table.now.core.now self.now.table.now.written.items named way →
+            IsPart self.now.table.now.core.now self.now.table.now.written.items
+            (onward_way (one_end ends) named number) atom) }
+    {
+        if exits.is_single() {
+            return Ok(way);
+        }
+        self.table.inner(number)
+    }
+
+    // Comes to the end of a block that is reached or not.
+    pub(crate) fn end_block(
+        &self,
+        reached: bool,
+        way: Atom,
+        takers: Takers,
+        progress: &mut Progress,
+    ) -> Result<(), AllocError>
+        ensures { OnOk result ((n : ℕ) →
+            IsWalked self.now.table.now.core.now self.now.table.now.written.items
+            self.now.map.now.entries.items way takers []
+            (λ (named : NamedAtom). block_constraints
+            (scope_of self.now.table.now.core.now self.now.procedure) reached named
+            (takers_of takers progress.old.thrown.items) n Empty) 0
+            progress.old progress.new) }
+    {
+        if !reached {
+            return Ok(());
+        }
+        let left = alone(self.alloc, way)?;
+        let taker = takers.at(&progress.thrown, Exit::Normal);
+        self.table
+            .add_flow(self.alloc, &left, taker, &mut progress.constraints)?;
+        Ok(())
+    }
+
+    // Adds what is gathered of a branch but for its blocks, and gives the number of the way into them.
+    pub(crate) fn begin_branch(
+        &self,
+        condition: &Expression,
+        way: Atom,
+        takers: Takers,
+        progress: &mut Progress,
+    ) -> Result<u32, AllocError>
+        ensures number { IfOk result (λ number. number ≡ progress.old.number) }
+        ensures added { OnOk result (
+            IsWalked self.now.table.now.core.now self.now.table.now.written.items
+            self.now.map.now.entries.items way takers []
+            (λ (named : NamedAtom). branch_constraints
+            (scope_of self.now.table.now.core.now self.now.procedure) named
+            (takers_of takers progress.old.thrown.items) progress.old.number
+            (expression_of condition.now)) 1 progress.old progress.new) }
+    {
+        let number = progress.make(1)?;
+        self.add_branch(condition, number, way, &mut progress.constraints)?;
+        self.add_condition(
+            condition,
+            way,
+            takers,
+            &progress.thrown,
+            &mut progress.constraints,
+        )?;
+        Ok(number)
+    }
+
+    // Adds what is gathered of a loop before its body, and gives the number of the way into it. The next number is that of the way
+    // back.
+    pub(crate) fn begin_loop(
+        &self,
+        at: usize,
+        number: u32,
+        condition: &Expression,
+        way: Atom,
+        takers: Takers,
+        progress: &mut Progress,
+    ) -> Result<(u32, u32), AllocError>
+        ensures inner { IfOk result (λ ways. ways.0 ≡ progress.old.number) }
+        ensures back { IfOk result (λ ways. ways.1 ≡ progress.old.number + 1) }
+        ensures added { OnOk result (
+            IsWalked self.now.table.now.core.now self.now.table.now.written.items
+            self.now.map.now.entries.items way takers []
+            (λ (named : NamedAtom). loop_head_constraints
+            (scope_of self.now.table.now.core.now self.now.procedure) named
+            (takers_of takers progress.old.thrown.items) progress.old.number at number
+            (expression_of condition.now)) 2 progress.old progress.new) }
+    {
+        let inner = progress.make(2)?;
+        let back = plus(inner, 1)?;
+        self.add_loop_head(
+            at,
+            number,
+            condition,
+            inner,
+            way,
+            takers,
+            &progress.thrown,
+            &mut progress.constraints,
+        )?;
+        Ok((inner, back))
+    }
+
+    // Adds the flow back to the label of a loop.
+    pub(crate) fn end_loop(
+        &self,
+        at: usize,
+        number: u32,
+        back: u32,
+        progress: &mut Progress,
+    ) -> Result<(), AllocError>
+        ensures { OnOk result ((way : Atom) (takers : Takers) →
+            IsWalked self.now.table.now.core.now self.now.table.now.written.items
+            self.now.map.now.entries.items way takers []
+            (λ (named : NamedAtom). rule_constraint
+            (scope_of self.now.table.now.core.now self.now.procedure) at 8
+            (inner_atom back ∷ []) (ToLoop self.now.procedure number)) 0
+            progress.old progress.new) }
+    {
+        let way = self.table.inner(back)?;
+        self.add_turn(at, number, way, &mut progress.constraints)?;
+        Ok(())
+    }
+
+    // Has the handlers of a `try` take their exceptions.
+    pub(crate) fn begin_try(
+        &self,
+        handlers: &[Handler],
+        takers: Takers,
+        progress: &mut Progress,
+    ) -> Result<Tried, AllocError>
+        ensures { IfOk result (λ tried. IsTried takers handlers.now
+            progress.old progress.new tried) }
+    {
+        let first = progress.make(handlers.len())?;
+        let inner = takers.in_try()?;
+        let mut saved = Vec::new(self.alloc);
+        take_handled(
+            handlers,
+            first,
+            inner.level,
+            &mut progress.thrown,
+            &mut saved,
+        )?;
+        let numbers = numbers_of(self.alloc, handlers, &progress.thrown)?;
+        Ok(Tried {
+            takers: inner,
+            numbers,
+            saved,
+        })
+    }
+
+    // Walks past a call.
+    pub(crate) fn walk_call(
+        &self,
+        at: usize,
+        callee: u32,
+        arguments: &[Expression],
+        target: Option<Variable>,
+        way: Atom,
+        takers: Takers,
+        progress: &mut Progress,
+    ) -> Result<(), AllocError>
+        ensures { OnOk result (
+            IsWalked self.now.table.now.core.now self.now.table.now.written.items
+            self.now.map.now.entries.items way takers []
+            (λ (named : NamedAtom). call_constraints
+            (scope_of self.now.table.now.core.now self.now.procedure) named
+            (takers_of takers progress.old.thrown.items) progress.old.number at callee
+            (map expression_of arguments.now) target) 1 progress.old progress.new) }
+    {
+        let number = progress.make(1)?;
+        self.add_call(
+            at,
+            callee,
+            arguments,
+            target,
+            number,
+            way,
+            takers,
+            &progress.thrown,
+            &mut progress.constraints,
+        )?;
+        Ok(())
+    }
+}

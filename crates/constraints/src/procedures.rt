@@ -1,0 +1,207 @@
+//! The constraints of procedures.
+ghost use Rattle.constraints.specs.Added.{AreAdded};
+ghost use Rattle.constraints.specs.Parts.{scope_of};
+ghost use Rattle.constraints.specs.Procedures.{AreDeclared, IsKept, IsOf, IsProcedureWalked, end_takers_of, number_in};
+ghost use Rattle.constraints.specs.Takers.{AreWithin};
+ghost use Rattle.gathering.specs.Walk.{end_constraints, ends_one_way, made_from, program_constraints, thrown_constraints};
+ghost use Rattle.path_map.specs.Exits.{exits_of};
+ghost use Rattle.path_map.specs.Paths.{program_paths};
+ghost use Rattle.resolved.specs.CoreOf.{program_of};
+ghost use Rattle.resolved.specs.ProgramOf.{thrown_entry};
+ghost use Rattle.resolved.specs.Labelled.{here};
+ghost use Rattle.std.specs.Prelude.{IfOk, List, OnOk, [], map, suc, ℕ, ◌<◌, ◌≡◌};
+ghost use Rattle.constraints.specs.declared.takers.Entry.{Entry};
+
+use crate::building::plus;
+use crate::lefts::alone;
+use crate::progress::Progress;
+use crate::statements::Walk;
+use crate::table::Table;
+use crate::takers::{Entry, Takers, entry_in, take};
+use crate::walking::walk_block;
+use path_map::PathMap;
+use resolved::tables::{Procedure, Thrown};
+use resolved::target::Target;
+use solver::Constraint;
+use std::alloc::{AllocError, Global};
+
+// Gives takers to declared exceptions, which have the numbers from this on, at a level that no entry has.
+fn take_declared(
+    alloc: Global,
+    throws: &[Thrown],
+    number: u32,
+    level: u32,
+    thrown: &mut Vec<Entry>,
+) -> Result<(), AllocError>
+    ensures { OnOk result ((barrier : ℕ) → barrier < level → AreWithin barrier thrown.old.items →
+        AreDeclared (map thrown_entry throws.now) number level thrown.old.items thrown.new.items) }
+{
+    // What was there is not put back: its level is not above the barrier of this procedure.
+    let mut saved = Vec::new(alloc);
+    for (i, declared) in throws.iter().enumerate() {
+        let entry = Entry {
+            number: plus(number, i)?,
+            level,
+        };
+        take(declared.exception, entry, thrown, &mut saved)?;
+    }
+    Ok(())
+}
+
+impl<'a> Walk<'a> {
+    // Adds the demands on the labels of declared exceptions.
+    fn add_declared_demands(
+        &self,
+        at: usize,
+        throws: &[Thrown],
+        thrown: &[Entry],
+        constraints: &mut Vec<Constraint<Option<Target>>>,
+    ) -> Result<(), AllocError>
+        ensures { OnOk result (
+            at ≡ (here (scope_of self.now.table.now.core.now self.now.procedure)).at →
+            AreAdded self.now.table.now.core.now self.now.table.now.written.items
+            (thrown_constraints (scope_of self.now.table.now.core.now self.now.procedure)
+            (number_in thrown.now) (map thrown_entry throws.now))
+            constraints.old.items constraints.new.items) }
+    {
+        for declared in throws {
+            let exception = declared.exception;
+            let taker = self.table.inner(entry_in(thrown, exception).number)?;
+            let left = alone(self.alloc, taker)?;
+            let target = Target::ToThrown(self.procedure, exception);
+            self.table.add_rule(at, 13, left, target, constraints)?;
+        }
+        Ok(())
+    }
+
+    // Adds the demands on the ends of a procedure, of which the first has this number, where it has more than one end.
+    fn add_end_demands(
+        &self,
+        procedure: &Procedure,
+        number: u32,
+        only: bool,
+        progress: &mut Progress,
+    ) -> Result<(), AllocError>
+        ensures kept { OnOk result (IsKept progress.old progress.new) }
+        ensures added { OnOk result ((level : ℕ) (had : List Entry) →
+            IsOf self.now.table.now.core.now self.now.procedure procedure.now →
+            only ≡ ends_one_way (scope_of self.now.table.now.core.now self.now.procedure) →
+            AreDeclared (here (scope_of self.now.table.now.core.now self.now.procedure)).throws
+            (suc number) level had progress.old.thrown.items →
+            AreAdded self.now.table.now.core.now self.now.table.now.written.items
+            (end_constraints (scope_of self.now.table.now.core.now self.now.procedure) number)
+            progress.old.constraints.items progress.new.constraints.items) }
+    {
+        if only {
+            return Ok(());
+        }
+        let taker = self.table.inner(number)?;
+        let left = alone(self.alloc, taker)?;
+        let target = Target::ToEnd(self.procedure);
+        self.table
+            .add_rule(procedure.at, 13, left, target, &mut progress.constraints)?;
+        self.add_declared_demands(
+            procedure.at,
+            &procedure.throws,
+            &progress.thrown,
+            &mut progress.constraints,
+        )?;
+        Ok(())
+    }
+
+    // Adds what is gathered of a procedure. No taker has a level above the barrier.
+    fn add_procedure(
+        &self,
+        procedure: &Procedure,
+        barrier: u32,
+        progress: &mut Progress,
+    ) -> Result<(), AllocError>
+        ensures { OnOk result (IsOf self.now.table.now.core.now self.now.procedure procedure.now →
+            IsProcedureWalked self.now.table.now.core.now self.now.table.now.written.items
+            self.now.map.now.entries.items self.now.procedure barrier progress.old progress.new) }
+    {
+        let number = progress.number;
+        let level = plus(barrier, 1)?;
+        let first = plus(number, 1)?;
+        progress.number = plus(first, procedure.throws.len())?;
+        take_declared(
+            self.alloc,
+            &procedure.throws,
+            first,
+            level,
+            &mut progress.thrown,
+        )?;
+        let only = self.exits_at(progress.index).is_single_of_procedure();
+        let takers = end_takers(number, barrier, level, only);
+        let begin = self.table.part(Target::ToBegin(self.procedure))?;
+        walk_block(self, &procedure.body, begin, takers, progress)?;
+        self.add_end_demands(procedure, number, only, progress)?;
+        Ok(())
+    }
+}
+
+// The takers of the ends of a procedure whose end has this number; none where it has one end only.
+fn end_takers(number: u32, barrier: u32, level: u32, only: bool) -> Takers
+    ensures { result ≡ end_takers_of number barrier level only }
+{
+    if only {
+        return Takers {
+            normal: None,
+            returns: None,
+            breaks: None,
+            continues: None,
+            barrier: level,
+            level,
+        };
+    }
+    Takers {
+        normal: Some(number),
+        returns: Some(number),
+        breaks: None,
+        continues: None,
+        barrier,
+        level,
+    }
+}
+
+/// What is gathered of all procedures.
+pub(crate) fn walk_procedures(
+    alloc: Global,
+    table: &Table,
+    ends: &PathMap,
+) -> Result<Progress, AllocError>
+    requires mapped { ends.now.entries.items
+        ≡ map exits_of (program_paths (program_of table.now.core.now)) }
+    ensures added { IfOk result (λ progress. AreAdded table.now.core.now table.now.written.items
+        (program_constraints (program_of table.now.core.now)) [] progress.constraints.items) }
+    ensures number { IfOk result (λ progress. progress.number
+        ≡ made_from (program_of table.now.core.now) 0 (program_of table.now.core.now).procedures) }
+{
+    // The exceptions that are declared come after three others.
+    let none = Entry {
+        number: 0,
+        level: 0,
+    };
+    let Some(exceptions) = table.core.exceptions.len().checked_add(3) else {
+        return Err(AllocError);
+    };
+    let mut progress = Progress {
+        index: 0,
+        number: 0,
+        constraints: Vec::new(alloc),
+        thrown: vec![in alloc; none; exceptions]?,
+    };
+    for (i, procedure) in table.core.procedures.iter().enumerate() {
+        let Ok(number) = u32::try_from(i) else {
+            return Err(AllocError);
+        };
+        let walk = Walk {
+            alloc,
+            table,
+            map: ends,
+            procedure: number,
+        };
+        walk.add_procedure(procedure, number, &mut progress)?;
+    }
+    Ok(progress)
+}

@@ -1,0 +1,31 @@
+//! How far a walk along a program has come.
+ghost use Rattle.std.specs.Prelude.{IfOk, OnOk, ◌+◌, ◌≡◌};
+
+use crate::building::plus;
+use crate::takers::Entry;
+use resolved::target::Target;
+use solver::Constraint;
+use std::alloc::AllocError;
+
+/// How far a walk along a program has come: the number of the next entry of the path map, that of the next inner unknown, the
+/// constraints so far, and the takers of exceptions.
+#[derive(Drop)]
+pub struct Progress {
+    pub index: usize,
+    pub number: u32,
+    pub constraints: Vec<Constraint<Option<Target>>>,
+    pub thrown: Vec<Entry>,
+}
+
+impl Progress {
+    // Makes so many inner unknowns, and gives the number of the first.
+    pub(crate) fn make(&mut self, count: usize) -> Result<u32, AllocError>
+        ensures first { IfOk result (λ first. first ≡ self.old.number) }
+        ensures made { OnOk result (self.new
+            ≡ record self.old { number = self.old.number + count }) }
+    {
+        let first = self.number;
+        self.number = plus(first, count)?;
+        Ok(first)
+    }
+}

@@ -1,0 +1,288 @@
+//! The walk along blocks, statements and handlers that adds what is gathered of them.
+ghost use Rattle.constraints.specs.Walked.{AreHandlersWalked, AreStatementsWalked, IsBlockWalked, IsStatementWalked, IsFormWalked};
+ghost use Rattle.path_map.specs.declared.exits.Exits.{Exits};
+ghost use Rattle.resolved.specs.Tree.{If, Try, While};
+ghost use Rattle.resolved.specs.TreeOf.{block_of, expression_of, handlers_of, statement_of};
+ghost use Rattle.resolved.specs.declared.statement.Handler.{Handler};
+ghost use Rattle.std.specs.Prelude.{IfOk, List, OnOk, drop, map, ℕ, ◌∷◌, ◌≡◌};
+
+use crate::progress::Progress;
+use crate::statements::Walk;
+use crate::takers::{Takers, put_back};
+use path_map::Exits;
+use resolved::expression::Expression;
+use resolved::statement::{Handler, Statement};
+use solver::Atom;
+use std::alloc::AllocError;
+
+/// Adds what is gathered of a block of its own that is reached at this way, or answers out of memory, also where the path map has
+/// no entry for it or the numbers do not suffice. It takes the block's entries of the path map and its inner unknowns from the
+/// progress on, and leaves the takers of exceptions as they are.
+#[cycle(walk)]
+pub fn walk_block(
+    walk: &Walk,
+    block: &[Statement],
+    way: Atom,
+    takers: Takers,
+    progress: &mut Progress,
+) -> Result<(), AllocError>
+    ensures { OnOk result (IsBlockWalked walk.now.table.now.core.now
+        walk.now.table.now.written.items walk.now.map.now.entries.items walk.now.procedure
+        way takers (block_of block.now) progress.old progress.new) }
+{
+    let exits = walk.begin(way, takers, progress)?;
+    let inner = takers.within_single(exits.is_single());
+    walk_statements(walk, block, way, inner, progress)?;
+    Ok(())
+}
+
+// Walks along the statements of a block.
+#[cycle(walk)]
+fn walk_statements(
+    walk: &Walk,
+    block: &[Statement],
+    way: Atom,
+    takers: Takers,
+    progress: &mut Progress,
+) -> Result<(), AllocError>
+    ensures { OnOk result (AreStatementsWalked walk.now.table.now.core.now
+        walk.now.table.now.written.items walk.now.map.now.entries.items walk.now.procedure
+        way takers (block_of block.now) progress.old progress.new) }
+{
+    let mut reached = true;
+    let mut onward = way;
+    for statement in block {
+        let number = progress.make(1)?;
+        let exits = walk_statement(walk, statement, number, onward, takers, progress)?;
+        reached = exits.normal;
+        onward = walk.onward(exits, onward, number)?;
+    }
+    walk.end_block(reached, onward, takers, progress)?;
+    Ok(())
+}
+
+// Walks past a statement, and gives its possible ends. Its normal end has the taker with this number.
+#[cycle(walk)]
+fn walk_statement(
+    walk: &Walk,
+    statement: &Statement,
+    number: u32,
+    way: Atom,
+    takers: Takers,
+    progress: &mut Progress,
+) -> Result<Exits, AllocError>
+    ensures exits { IfOk result (λ exits. (first : Exits) (left : List Exits) →
+        drop progress.old.index walk.now.map.now.entries.items ≡ first ∷ left → exits ≡ first) }
+    ensures added { OnOk result (IsStatementWalked walk.now.table.now.core.now
+        walk.now.table.now.written.items walk.now.map.now.entries.items walk.now.procedure
+        way takers number (statement_of statement.now)
+        progress.old progress.new) }
+{
+    let exits = walk.begin(way, takers.with_normal(None), progress)?;
+    let inner = takers
+        .with_normal(Some(number))
+        .within_single(exits.is_single());
+    walk_form(walk, statement, way, inner, progress)?;
+    Ok(exits)
+}
+
+// Walks past a statement, by its form.
+#[cycle(walk)]
+fn walk_form(
+    walk: &Walk,
+    statement: &Statement,
+    way: Atom,
+    takers: Takers,
+    progress: &mut Progress,
+) -> Result<(), AllocError>
+    ensures { OnOk result (IsFormWalked walk.now.table.now.core.now
+        walk.now.table.now.written.items walk.now.map.now.entries.items walk.now.procedure
+        way takers (statement_of statement.now) progress.old progress.new) }
+{
+    match statement {
+        Statement::Assign(at, variable, value) => {
+            walk.add_assign(
+                *at,
+                *variable,
+                value,
+                way,
+                takers,
+                &progress.thrown,
+                &mut progress.constraints,
+            )
+        }
+        Statement::Clear(at, slot) => {
+            walk.add_clear(
+                *at,
+                *slot,
+                way,
+                takers,
+                &progress.thrown,
+                &mut progress.constraints,
+            )
+        }
+        Statement::Store(at, array, length, index, value) => walk.add_store(
+            *at,
+            *array,
+            *length,
+            index,
+            value,
+            way,
+            takers,
+            &progress.thrown,
+            &mut progress.constraints,
+        ),
+        Statement::Receive(at, channel, target) => {
+            walk.add_receive(
+                *at,
+                *channel,
+                *target,
+                way,
+                takers,
+                &progress.thrown,
+                &mut progress.constraints,
+            )
+        }
+        Statement::Send(at, channel, value) => {
+            walk.add_send(
+                *at,
+                *channel,
+                value,
+                way,
+                takers,
+                &progress.thrown,
+                &mut progress.constraints,
+            )
+        }
+        Statement::Call(at, callee, arguments, target) => {
+            walk.walk_call(*at, *callee, arguments, *target, way, takers, progress)
+        }
+        Statement::If(_, condition, yes_block, no_block) => {
+            walk_if(walk, condition, yes_block, no_block, way, takers, progress)
+        }
+        Statement::While(at, number, condition, body) => {
+            walk_while(walk, *at, *number, condition, body, way, takers, progress)
+        }
+        Statement::Leave(at, exit) => {
+            walk.add_leave(
+                *at,
+                *exit,
+                way,
+                takers,
+                &progress.thrown,
+                &mut progress.constraints,
+            )
+        }
+        Statement::Return(at, value) => {
+            walk.add_return(
+                *at,
+                value,
+                way,
+                takers,
+                &progress.thrown,
+                &mut progress.constraints,
+            )
+        }
+        Statement::Try(_, block, handlers) => {
+            walk_try(walk, block, handlers, way, takers, progress)
+        }
+        Statement::Nested(_, block) => walk_block(walk, block, way, takers, progress),
+    }
+}
+
+// Walks past a branch.
+#[cycle(walk)]
+fn walk_if(
+    walk: &Walk,
+    condition: &Expression,
+    yes_block: &[Statement],
+    no_block: &[Statement],
+    way: Atom,
+    takers: Takers,
+    progress: &mut Progress,
+) -> Result<(), AllocError>
+    ensures { OnOk result ((at : ℕ) →
+        IsFormWalked walk.now.table.now.core.now
+        walk.now.table.now.written.items walk.now.map.now.entries.items walk.now.procedure
+        way takers
+        (If at (expression_of condition.now) (block_of yes_block.now) (block_of no_block.now))
+        progress.old progress.new) }
+{
+    let number = walk.begin_branch(condition, way, takers, progress)?;
+    let inner = walk.table.inner(number)?;
+    walk_block(walk, yes_block, inner, takers, progress)?;
+    walk_block(walk, no_block, inner, takers, progress)?;
+    Ok(())
+}
+
+// Walks past a loop with this number.
+#[cycle(walk)]
+fn walk_while(
+    walk: &Walk,
+    at: usize,
+    number: u32,
+    condition: &Expression,
+    body: &[Statement],
+    way: Atom,
+    takers: Takers,
+    progress: &mut Progress,
+) -> Result<(), AllocError>
+    ensures { OnOk result (IsFormWalked walk.now.table.now.core.now
+        walk.now.table.now.written.items walk.now.map.now.entries.items walk.now.procedure
+        way takers (While at number (expression_of condition.now) (block_of body.now))
+        progress.old progress.new) }
+{
+    let (inner, back) = walk.begin_loop(at, number, condition, way, takers, progress)?;
+    let inside = walk.table.inner(inner)?;
+    walk_block(walk, body, inside, takers.in_loop(back), progress)?;
+    walk.end_loop(at, number, back, progress)?;
+    Ok(())
+}
+
+// Walks past a `try`.
+#[cycle(walk)]
+fn walk_try(
+    walk: &Walk,
+    block: &[Statement],
+    handlers: &[Handler],
+    way: Atom,
+    takers: Takers,
+    progress: &mut Progress,
+) -> Result<(), AllocError>
+    ensures { OnOk result ((at : ℕ) →
+        IsFormWalked walk.now.table.now.core.now
+        walk.now.table.now.written.items walk.now.map.now.entries.items walk.now.procedure
+        way takers (Try at (block_of block.now) (handlers_of handlers.now))
+        progress.old progress.new) }
+{
+    let tried = walk.begin_try(handlers, takers, progress)?;
+    walk_block(walk, block, way, tried.takers, progress)?;
+    put_back(tried.saved, &mut progress.thrown);
+    walk_handlers(walk, handlers, &tried.numbers, takers, progress)?;
+    Ok(())
+}
+
+// Walks along the bodies of handlers, each of which is reached at the inner unknown with its number.
+#[cycle(walk)]
+fn walk_handlers(
+    walk: &Walk,
+    handlers: &[Handler],
+    numbers: &[u32],
+    takers: Takers,
+    progress: &mut Progress,
+) -> Result<(), AllocError>
+    ensures { OnOk result ((number : ℕ → ℕ) (way : Atom) →
+        numbers.now ≡ map (λ (handler : Handler). number handler.exception) handlers.now →
+        AreHandlersWalked walk.now.table.now.core.now
+        walk.now.table.now.written.items walk.now.map.now.entries.items walk.now.procedure
+        way takers number (handlers_of handlers.now) progress.old progress.new) }
+{
+    for (i, handler) in handlers.iter().enumerate() {
+        let Some(number) = numbers.get(i) else {
+            return Err(AllocError);
+        };
+        let way = walk.table.inner(*number)?;
+        walk_block(walk, &handler.body, way, takers, progress)?;
+    }
+    Ok(())
+}

@@ -1,4 +1,0 @@
-pub mod Interface
-pub mod StraightCode
-pub mod Kept
-pub mod Names

@@ -1,4 +1,0 @@
-mod Inverse
-pub mod Kept
-mod Loops
-pub mod Places

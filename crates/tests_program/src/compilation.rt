@@ -1,0 +1,62 @@
+//! Causes by number and words, and a compilation whose growths are refused.
+
+use flowc::{Cause, Fault, cause_number, cause_words, compile};
+use std::alloc::Global;
+use std::test::Fail;
+
+#[test]
+fn has_a_number_and_words_for_each_cause(rt: HostRuntime) -> Result<(), Fail> {
+    let causes: [(Cause, u32, &str); 26] = [
+        (Cause::NotUtf8, 100, "not UTF-8"),
+        (Cause::NoToken, 101, "no token"),
+        (Cause::LiteralTooLarge, 102, "literal too large"),
+        (Cause::OpenComment, 103, "open comment"),
+        (Cause::Syntax, 151, "syntax"),
+        (Cause::PrincipalTwice, 152, "declared twice"),
+        (Cause::UnknownPrincipal, 153, "unknown principal"),
+        (Cause::TooManyPrincipals, 154, "too many principals"),
+        (Cause::UnexpectedToken, 201, "unexpected token"),
+        (Cause::TooDeep, 202, "nested too deep"),
+        (Cause::UnknownName, 301, "unknown name"),
+        (Cause::DeclaredTwice, 302, "declared twice"),
+        (Cause::UnknownPrincipalInLabel, 303, "unknown principal"),
+        (Cause::NoProperMain, 304, "no proper main"),
+        (Cause::WrongType, 401, "wrong type"),
+        (Cause::WrongArgumentCount, 402, "wrong argument count"),
+        (Cause::WrongUse, 403, "wrong use"),
+        (Cause::Unreachable, 501, "unreachable"),
+        (Cause::NoValueReturned, 502, "no value returned"),
+        (Cause::ExceptionNotDeclared, 503, "exception not declared"),
+        (Cause::NeverRaised, 504, "never raised"),
+        (Cause::OutsideLoop, 505, "not in a loop"),
+        (Cause::FlowNotAllowed, 601, "flow not allowed"),
+        (Cause::TextTooLong, 701, "text too long"),
+        (Cause::ArraySize, 703, "array size"),
+        (Cause::TooManyCells, 704, "too many cells"),
+    ];
+    for (cause, number, words) in causes {
+        assert!(rt;
+            cause_number(cause) == number && cause_words(cause) == words,
+            "{number}"
+        );
+    }
+    Ok(())
+}
+
+// How many bytes a program is compiled to, or its fault.
+fn size_of(alloc: Global) -> Result<usize, Fault> {
+    let source = b"output{} pub; void main() { send pub, 7; }";
+    Ok(compile(alloc, b"", source)?.len())
+}
+
+// Whichever growth is refused, the answer is that memory ran out or the undisturbed one, and asked again it is that.
+// `tools/refused-memory` refuses each of them in turn.
+#[test]
+fn a_refused_growth_changes_no_answer(rt: HostRuntime) -> Result<(), Fail> {
+    let mut answer = size_of(rt.alloc());
+    if answer.as_ref().err() == Some(&Fault::NoMemory) {
+        answer = size_of(rt.alloc());
+    }
+    assert!(rt; matches!(&answer, Ok(76)));
+    Ok(())
+}
