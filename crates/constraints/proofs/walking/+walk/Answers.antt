@@ -2,7 +2,7 @@ use Rattle.std.proofs.Common.{arith, refl, sym, ap, ◌∙◌, ◌+◌, drop, ma
 use Rattle.std.proofs.lemmas.List.{drop_all}
 use Rattle.std.proofs.lemmas.Result.{on_ok_weaker}
 use Rattle.resolved.specs.Tree as T
-use Rattle.resolved.specs.WellFormed.{block_nodes, handlers_nodes, statement_nodes}
+use Rattle.resolved.specs.WellFormed.{statement_nodes}
 use Rattle.resolved.specs.TreeOf.{expression_of, some_expression_of, statement_of, block_of, handlers_of}
 use Rattle.path_map.proofs.Forms.{tree-if, tree-while, tree-try, tree-nested, next-statement, next-handler}
 use Rattle.constraints.proofs.Along.{Along, Handling, along-start, along-step, along-end, handling-start, handling-step, handling-end}
