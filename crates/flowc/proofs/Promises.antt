@@ -19,10 +19,10 @@ use Rattle.bytecode.specs.Isolated.{Agree, IsIsolated, OneBegins, channel_label,
 use Rattle.bytecode.proofs.Facts.{principals-different}
 use Rattle.bytecode.specs.Machine.{Machine, Ending, after_steps, program_of, sent_after, sent_of}
 use Rattle.channels.specs.World.{InputNumbers, input_names, numbers_of_channel}
-use Rattle.compiling.specs.Compiled.{IsCompiled}
+use Rattle.compiler.specs.Compiled.{IsCompiled}
 use Rattle.channels.specs.WorldText.{IsWorldText, lines_of}
-use Rattle.compiling.proofs.Readers.{seen-module}
-use Rattle.translation.proofs.Sent.{exec-keeps}
+use Rattle.compiler.proofs.Readers.{seen-module}
+use Rattle.lowering.proofs.Sent.{exec-keeps}
 use Rattle.machine.proofs.Told.{exec_more}
 use Rattle.machine.specs.Run.{HasEnded}
 use Rattle.machine.specs.declared.status.Status.{Status}

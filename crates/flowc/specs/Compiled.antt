@@ -6,7 +6,7 @@ use Rattle.std.specs.declared.alloc.Global.{Global}
 use Rattle.std.specs.declared.vec.Vec.{Vec}
 use Rattle.resolved.specs.Program.{Program}
 use Rattle.acceptance.specs.Accepted.{StandFor}
-use Rattle.compiling.specs.Compiled.{IsCompiled}
+use Rattle.compiler.specs.Compiled.{IsCompiled}
 
 -- the bytes of one of the files that were read
 abbrev pub bytes_at : List (Vec ℕ Global) → ℕ → List ℕ

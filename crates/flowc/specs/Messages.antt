@@ -20,7 +20,7 @@ use Rattle.channels.specs.declared.defect.WorldDefect.{WorldDefect}
 use Rattle.acceptance.specs.declared.cause.Cause.{Cause}
 use Rattle.acceptance.specs.declared.cause.Text.{Text}
 use Rattle.acceptance.specs.declared.cause.Text.TheVariants.{Hierarchy, Source}
-use Rattle.compiling.specs.Reported.{IsFirstFault}
+use Rattle.compiler.specs.Reported.{IsFirstFault}
 use Rattle.machine.specs.Run.{IsTold}
 use Rattle.machine.specs.declared.status.Status.{Status}
 use Rattle.verifier.specs.Faults as faults

@@ -18,8 +18,8 @@ use Rattle.bytecode.specs.Machine.{Ending, sent_after}
 use Rattle.channels.specs.World.{InputNumbers, input_names, numbers_of_channel}
 use Rattle.verifier.specs.Safety.{IsNeverStuck}
 use Rattle.machine.specs.Run.{names_of}
-use Rattle.translation.specs.Kept.{ending_of}
-use Rattle.compiling.specs.Compiled.{IsCompiled}
+use Rattle.lowering.specs.Kept.{ending_of}
+use Rattle.compiler.specs.Compiled.{IsCompiled}
 use Rattle.host.specs.Laws as sessions
 use Rattle.host.specs.Meaning.{CanOpen}
 use Rattle.command_line.specs.declared.request.Task.TheVariants.{Run}

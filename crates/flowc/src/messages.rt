@@ -7,7 +7,7 @@ ghost use Rattle.std.specs.String.{string_bytes};
 use acceptance::Cause;
 use bytecode::Refusal;
 use channels::WorldDefect;
-use compiling::{number, words};
+use compiler::{number, words};
 use lexer::Place;
 use std::alloc::{AllocError, Global};
 use verifier::Fault;

@@ -1,5 +1,5 @@
 ghost use Rattle.channels.specs.Sink.{AppendsPrefix};
-ghost use Rattle.compiling.specs.Compiled.{IsCompiled};
+ghost use Rattle.compiler.specs.Compiled.{IsCompiled};
 ghost use Rattle.flowc.specs.Compiled.{AreAccepted, HoldsProgram, IsBuilt, bytes_at};
 ghost use Rattle.flowc.specs.Lines.{IsPerformFault, line_of_fault};
 ghost use Rattle.flowc.specs.Stdout.{Shows};
@@ -15,7 +15,7 @@ use crate::running::{Ended, File, run};
 use acceptance::Text;
 use channels::{Sink, write_all};
 use command_line::Task;
-use compiling::{Fault, compile};
+use compiler::{Fault, compile};
 use std::alloc::Global;
 
 /// What the program leaves to do: its exit status, and the bytes for the output file if it makes one.

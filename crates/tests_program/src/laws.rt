@@ -37,12 +37,12 @@ fn laws_of_compiling(_rt: HostRuntime) {
     names::laws::found_programs_are_well_formed();
     names::laws::item_names_are_proper_and_different();
     names::laws::numbers_read_as_names();
-    translation::laws::graphs_keep_meaning();
-    translation::laws::modules_keep_meaning();
-    translation::laws::graphs_have_positions();
-    translation::laws::graphs_fit_the_file();
-    translation::laws::modules_have_no_fault();
-    translation::laws::modules_are_never_stuck();
+    lowering::laws::graphs_keep_meaning();
+    lowering::laws::modules_keep_meaning();
+    lowering::laws::graphs_have_positions();
+    lowering::laws::graphs_fit_the_file();
+    lowering::laws::modules_have_no_fault();
+    lowering::laws::modules_are_never_stuck();
     parser::spelling_laws();
     parser::one_reading();
 }

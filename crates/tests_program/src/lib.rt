@@ -1,4 +1,4 @@
-//! Tests of `resolved`, `isolation`, `names`, `translation`, `compiling` and `flowc`: what no row of the program `rows` reaches.
+//! Tests of `resolved`, `isolation`, `names`, `lowering`, `compiler` and `flowc`: what no row of the program `rows` reaches.
 #![tactic(auto)]
 
 #[cfg(test)]

@@ -1,5 +1,5 @@
 use Rattle.std.proofs.Common.{subst, sym}
-use Rattle.compiling.specs.Reported.{IsRefusal}
+use Rattle.compiler.specs.Reported.{IsRefusal}
 use Rattle.flowc.proofs.tasks.build.Goals as goal
 
 pub returns-in_ok-cause_line-in-Err-Refused-clause-refused : goal.returns-in_ok-cause_line-in-Err-Refused-clause-refused

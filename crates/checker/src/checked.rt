@@ -1,0 +1,70 @@
+//! An accepted program with its least labels.
+ghost use Rattle.std.specs.Prelude.{IfOk, length, ◌+◌, ◌≡◌, ◌≤◌};
+
+use labels::{Label, LabelLattice};
+use resolved::program::Core;
+use solver::Solution;
+use std::alloc::{AllocError, Global};
+
+/// An accepted program, with the least labels of its locals and loops.
+#[derive(Drop)]
+pub struct Checked {
+    pub core: Core,
+    /// The labels that are written in the program, by their numbers.
+    pub written: Vec<Label>,
+    /// Which of the written labels reach those that are not written.
+    pub solution: Solution,
+    pub ghost rows: { length solution ≤ length written.items },
+}
+
+// A sum of numbers of unknowns, or out of memory where it does not fit.
+fn plus(number: u32, more: usize) -> Result<u32, AllocError>
+    ensures { IfOk result (λ sum. sum ≡ number + more) }
+{
+    let Ok(more) = u32::try_from(more) else {
+        return Err(AllocError);
+    };
+    let Some(sum) = number.checked_add(more) else {
+        return Err(AllocError);
+    };
+    Ok(sum)
+}
+
+impl Checked {
+    ghost use Rattle.checker.specs.Least.{least_label};
+    ghost use Rattle.gathering.specs.Names.{unknowns_before};
+    ghost use Rattle.labels.specs.Constraints.{label_lattice};
+    ghost use Rattle.resolved.specs.CoreOf.{program_of};
+    ghost use Rattle.resolved.specs.Labelled.{OfLocal};
+    ghost use Rattle.solver.specs.System.{AreAlike};
+
+    // The number of the first unknown of a procedure.
+    fn first_unknown(&self, procedure: u32) -> Result<u32, AllocError>
+        ensures { IfOk result (λ first. first
+            ≡ unknowns_before (program_of self.now.core) procedure) }
+    {
+        let mut first = 0;
+        for (number, entry) in self.core.procedures.iter().enumerate() {
+            if number == procedure as usize {
+                return Ok(first);
+            }
+            first = plus(first, entry.slots.len())?;
+            first = plus(first, entry.loops as usize)?;
+        }
+        Ok(first)
+    }
+
+    /// The least label of a local without a written one, by the numbers of its procedure and its own: exact up to flow both ways. It
+    /// fails only where memory ran out, and goes through the solution.
+    pub fn label(&self, alloc: Global, procedure: u32, slot: u32) -> Result<Label, AllocError>
+        ensures { IfOk result (AreAlike (label_lattice (program_of self.now.core).hierarchy)
+            (least_label self.now (OfLocal procedure slot))) }
+    {
+        let number = plus(self.first_unknown(procedure)?, slot as usize)?;
+        let lattice = LabelLattice {
+            hierarchy: &self.core.hierarchy,
+        };
+        self.solution
+            .value(alloc, &lattice, self.written.as_slice(), number)
+    }
+}

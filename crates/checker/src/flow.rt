@@ -1,0 +1,139 @@
+//! What is reported of a program whose constraints the solver refuses: the policy, and the steps of the chain.
+ghost use Rattle.checker.specs.Reported.{RefusesProgram, ReportsFlow, report_at, reported_by, reported_of};
+ghost use Rattle.labels.specs.Constraints.{label_lattice};
+ghost use Rattle.labels.specs.Label.{Covers, flows};
+ghost use Rattle.resolved.specs.CoreOf.{program_of};
+ghost use Rattle.resolved.specs.Flow.{AreGathered, reported_step};
+ghost use Rattle.solver.specs.Links.{InRange};
+ghost use Rattle.solver.specs.System.{IsRefusal, Refuses, constraints_of};
+ghost use Rattle.std.specs.Prelude.{Contains, IfOk, IsFalse, flat_map, length, map, ◌≡◌};
+
+use crate::fault::{Fault, RefusedFlow, Step};
+use labels::{Label, Policy};
+use principals::Hierarchy;
+use resolved::program::Core;
+use resolved::target::Target;
+use solver::{Atom, Constraint, Refusal, SolveFault, System};
+use std::alloc::{AllocError, Global};
+
+/// The fault of a program whose constraints are not solved.
+pub(crate) fn unsolved(
+    alloc: Global,
+    core: Core,
+    system: &System<Label, Option<Target>>,
+    fault: SolveFault,
+) -> Fault
+    requires gathered { AreGathered (program_of core)
+        (constraints_of (label_lattice (program_of core).hierarchy) system.now) }
+    requires in_range { InRange (length system.now.written.items) system.now.unknowns
+        system.now.constraints.items }
+    requires refused { Refuses (label_lattice (program_of core).hierarchy) system.now fault }
+    ensures { RefusesProgram core result }
+{
+    match fault {
+        SolveFault::NoMemory => Fault::NoMemory,
+        SolveFault::Unmet(refusal) => match flow_of(alloc, core, system, &refusal) {
+            Ok(flow) => Fault::FlowNotAllowed(flow),
+            Err(_) => Fault::NoMemory,
+        },
+    }
+}
+
+// The flow for which a program is refused.
+fn flow_of(
+    alloc: Global,
+    core: Core,
+    system: &System<Label, Option<Target>>,
+    refusal: &Refusal,
+) -> Result<RefusedFlow, AllocError>
+    requires gathered { AreGathered (program_of core)
+        (constraints_of (label_lattice (program_of core).hierarchy) system.now) }
+    requires in_range { InRange (length system.now.written.items) system.now.unknowns
+        system.now.constraints.items }
+    requires refused { IsRefusal (label_lattice (program_of core).hierarchy) system.now
+        refusal.now }
+    ensures core { IfOk result (λ flow. flow.core ≡ core) }
+    ensures reported { IfOk result (λ flow. ReportsFlow flow) }
+{
+    let constraints = system.constraints.as_slice();
+    let chain = refusal.chain.as_slice();
+    let last = &constraints[chain[chain.len() - 1]];
+    let Atom::Written(to) = last.right else {
+        unreachable!();
+    };
+    let policy = uncovered(
+        &core.hierarchy,
+        &system.written[refusal.from],
+        &system.written[to as usize],
+    )
+    .clone()?;
+    let steps = steps_of(alloc, constraints, chain)?;
+    Ok(RefusedFlow {
+        core,
+        at: last.at,
+        policy,
+        steps,
+    })
+}
+
+// The first policy of a label that another label, to which it does not flow, does not cover.
+fn uncovered<'a>(hierarchy: &Hierarchy, from: &'a Label, to: &Label) -> &'a Policy
+    requires { IsFalse (flows hierarchy.now from.now to.now) }
+    ensures contained { Contains from.now result.now }
+    ensures uncovered { ¬ Covers hierarchy.now to.now result.now }
+{
+    for policy in from.policies() {
+        if !to.covers(hierarchy, policy) {
+            return policy;
+        }
+    }
+    unreachable!()
+}
+
+// What is reported of the constraints at these indices, in their order.
+fn steps_of(
+    alloc: Global,
+    constraints: &[Constraint<Option<Target>>],
+    chain: &[usize],
+) -> Result<Vec<Step>, AllocError>
+    ensures { IfOk result (λ steps. map reported_by steps.items
+        ≡ flat_map (report_at constraints.now) chain.now) }
+{
+    let mut steps = Vec::new(alloc);
+    for index in chain {
+        if let Some(step) = step_at(constraints, *index) {
+            steps.push(step)?;
+        }
+    }
+    Ok(steps)
+}
+
+// What is reported of the constraint at an index.
+fn step_at(constraints: &[Constraint<Option<Target>>], index: usize) -> Option<Step>
+    ensures { reported_of result ≡ report_at constraints.now index }
+{
+    match constraints.get(index) {
+        None => None,
+        Some(constraint) => match constraint.target {
+            None => None,
+            Some(target) => step_to(constraint.at, constraint.rule, target),
+        },
+    }
+}
+
+// What is reported of a step to a target: nothing of one to the label of a loop, which has no name.
+fn step_to(at: usize, rule: u8, target: Target) -> Option<Step>
+    ensures { reported_of result ≡ reported_step at rule target }
+{
+    let step = Step { at, rule, target };
+    match target {
+        Target::ToVariable(_, _) => Some(step),
+        Target::ToChannel(_) => Some(step),
+        Target::ToBegin(_) => Some(step),
+        Target::ToParameter(_, _) => Some(step),
+        Target::ToValue(_) => Some(step),
+        Target::ToEnd(_) => Some(step),
+        Target::ToThrown(_, _) => Some(step),
+        Target::ToLoop(_, _) => None,
+    }
+}

@@ -1,7 +1,0 @@
-use Rattle.std.proofs.Common.{◌≡◌, map, take}
-use Rattle.std.specs.Prelude.{flat_map}
-use Rattle.checking.specs.Reported.{report_at, reported_by}
-use Rattle.checking.proofs.flow.steps_of.Given as goal
-
-abbrev pub invariant-loop-index : goal.invariant-loop-index
-invariant-loop-index l = map reported_by l.steps.items ≡ flat_map (report_at l.constraints) (take l.index-index l.chain)

@@ -1,0 +1,24 @@
+-- A module that keeps the meaning of an isolated program is isolated.
+use Rattle.std.proofs.Common.{List, sym, subst}
+use Rattle.labels.specs.declared.sent.Pair.{Pair}
+use Rattle.labels.proofs.Begins.{Begins-of-two, seen-begins}
+use Rattle.resolved.specs.Isolated.{Isolated}
+use Rattle.resolved.specs.Meaning.{sent_by}
+use Rattle.resolved.specs.Program.{Program}
+use Rattle.bytecode.specs.Contents.{ModuleContents}
+use Rattle.bytecode.specs.Isolated.{channel_label, seen_of, OneBegins, IsIsolated}
+use Rattle.bytecode.specs.Machine.{after_steps, sent_after}
+use Rattle.lowering.specs.Kept.{MeaningKept}
+use Rattle.compiler.specs.Compiled.{SameInterface}
+use Rattle.compiler.proofs.Readers.{seen-module, agree-module}
+
+pub isolated-module : (program : Program) (m : ModuleContents) → SameInterface program m → MeaningKept program (after_steps m) → Isolated program → IsIsolated m
+isolated-module program m same kept isolated p first second agree i j =
+    let xs : List Pair = sent_by program first i in
+    let ys : List Pair = sent_by program second j in
+    let related : OneBegins (seen_of m p xs) (seen_of m p ys) =
+    subst (λ seen. OneBegins seen (seen_of m p ys)) (sym (seen-module program m same p xs))
+    (subst (OneBegins _) (sym (seen-module program m same p ys)) (isolated p first second (agree-module program m same p first second agree) i j)) in
+    Begins-of-two (seen_of m p (sent_after m first i)) (seen_of m p (sent_after m second j)) (seen_of m p xs) (seen_of m p ys)
+    (seen-begins m.hierarchy (channel_label m) p (sent_after m first i) xs (kept.no_more first i))
+    (seen-begins m.hierarchy (channel_label m) p (sent_after m second j) ys (kept.no_more second j)) related

@@ -1,0 +1,166 @@
+//! The compiler: from a hierarchy text and a source to the bytes of a module.
+
+ghost use Rattle.acceptance.specs.Accepted.{HasHierarchy, IsAccepted, IsText, StandFor};
+ghost use Rattle.acceptance.specs.Refused.{IsNoText};
+ghost use Rattle.compiler.specs.Compiled.{IsCodeOf, IsCompiled};
+ghost use Rattle.compiler.specs.Position.{column_of, line_of};
+ghost use Rattle.compiler.specs.Reported.{IsRefusal, ReportsFault};
+ghost use Rattle.principals.specs.HierarchyText.{IsRefusedText};
+ghost use Rattle.resolved.specs.CoreOf.{program_of};
+ghost use Rattle.resolved.specs.EndFaults.{end_faults};
+ghost use Rattle.resolved.specs.Isolated.{Isolated};
+ghost use Rattle.resolved.specs.Names.{HasNames};
+ghost use Rattle.resolved.specs.Program.{Program};
+ghost use Rattle.std.specs.Prelude.{IfErr, IfOk, List, OnOk, [], ℕ, ◌≡◌, ◌⊎◌};
+
+use crate::fault::Fault;
+use crate::places::place_of;
+use acceptance::laws::{one_verdict, resolved_programs_have_names};
+use acceptance::{Cause, Text};
+use bytecode::encode;
+use checker::{Checked, Fault as CheckFault, check};
+use layout::emit;
+use lowering::laws::{modules_are_never_stuck, modules_have_no_fault, modules_keep_meaning};
+use lowering::lower;
+use principals::{HierFault, Hierarchy};
+use resolved::program::Core;
+use std::alloc::{AllocError, Global};
+
+/// The greatest length of a text in bytes.
+const MAX_TEXT: usize = 1_048_576;
+
+/// Compiles a source under a hierarchy text to the bytes of a module.
+///
+/// The hierarchy text is read first. The source is then checked phase by phase: its length, whether it is UTF-8, its tokens, its
+/// tree, its names, types and sizes, the ends of its statements, and its labels.
+///
+/// # Errors
+///
+/// The first fault of the two texts, at its line and column; or out of memory.
+pub fn compile(alloc: Global, hierarchy: &[u8], source: &[u8]) -> Result<Vec<u8>, Fault>
+    // The bytes are code of the program that the two texts stand for.
+    ensures compiled { IfOk result (λ code. IsCompiled hierarchy.now source.now code.items) }
+
+    // A refusal is the first fault of the two texts, at its line and column.
+    ensures first_fault { IfErr result (ReportsFault hierarchy.now source.now) }
+
+    // And two texts that are refused stand for no program.
+    ensures refused { IfErr result (λ fault. IsRefusal fault →
+        (program : Program) → ¬ StandFor hierarchy.now source.now program) }
+{
+    one_verdict();
+    resolved_programs_have_names();
+    let principals = match principals_of(alloc, hierarchy) {
+        Ok(principals) => principals,
+        Err(fault) => return Err(fault),
+    };
+    let checked = match checked(alloc, &principals, source) {
+        Ok(checked) => checked,
+        Err(fault) => return Err(fault),
+    };
+    match code_of(alloc, &checked.core) {
+        Ok(code) => Ok(code),
+        Err(_) => Err(Fault::NoMemory),
+    }
+}
+
+// The hierarchy of a text.
+fn principals_of(alloc: Global, bytes: &[u8]) -> Result<Hierarchy, Fault>
+    ensures has { IfOk result (HasHierarchy bytes.now) }
+    ensures first_fault { IfErr result (λ fault.
+        (source : List ℕ) → ReportsFault bytes.now source fault) }
+{
+    let text = match text_of(bytes) {
+        Ok(text) => text,
+        Err(cause) => return Err(fault_at(Text::Hierarchy, bytes, cause, 0)),
+    };
+    match Hierarchy::read(alloc, text) {
+        Ok(principals) => Ok(principals),
+        Err(fault) => Err(hierarchy_fault(bytes, fault)),
+    }
+}
+
+// The accepted program of a source.
+fn checked(alloc: Global, principals: &Hierarchy, source: &[u8]) -> Result<Checked, Fault>
+    ensures accepted { IfOk result (λ checked.
+        IsAccepted principals.now source.now (program_of checked.core)) }
+    ensures isolated { IfOk result (λ checked. Isolated (program_of checked.core)) }
+    ensures first_fault { IfErr result (λ fault. (hierarchy : List ℕ)
+        → HasHierarchy hierarchy principals.now → ReportsFault hierarchy source.now fault) }
+{
+    match check(alloc, principals, source) {
+        Ok(checked) => Ok(checked),
+        Err(CheckFault::NoMemory) => Err(Fault::NoMemory),
+        Err(CheckFault::Refused(cause, at)) => Err(fault_at(Text::Source, source, cause, at)),
+        Err(CheckFault::FlowNotAllowed(flow)) => {
+            Err(fault_at(Text::Source, source, Cause::FlowNotAllowed, flow.at))
+        }
+    }
+}
+
+// The bytes of the module of an accepted program.
+fn code_of(alloc: Global, core: &Core) -> Result<Vec<u8>, AllocError>
+    requires ends { end_faults (program_of core.now) ≡ [] }
+    requires names { HasNames (program_of core.now) }
+    requires isolated { Isolated (program_of core.now) }
+    ensures { IfOk result (λ code. IsCodeOf (program_of core.now) code.items) }
+{
+    modules_keep_meaning();
+    modules_have_no_fault();
+    modules_are_never_stuck();
+    let graph = lower(alloc, core)?;
+    // It brings that the graph fits the module file, so that no run of the module is stuck.
+    let _procedures = graph.procedures();
+    let laid = emit(alloc, &graph)?;
+    let code = encode(alloc, &laid)?;
+    Ok(code)
+}
+
+// The text of some bytes.
+fn text_of(bytes: &[u8]) -> Result<&str, Cause>
+    ensures same { IfOk result (λ text. text.now ≡ bytes.now) }
+    ensures text { OnOk result (IsText bytes.now) }
+    ensures none { IfErr result (λ cause. IsNoText bytes.now cause 0) }
+{
+    if bytes.len() > MAX_TEXT {
+        return Err(Cause::TextTooLong);
+    }
+    match str::from_utf8(bytes) {
+        Ok(text) => Ok(text),
+        Err(_) => Err(Cause::NotUtf8),
+    }
+}
+
+// The fault of a text whose bytes are refused for a cause at one of them.
+fn fault_at(text: Text, bytes: &[u8], cause: Cause, at: usize) -> Fault
+    ensures { result ≡ Fault.Refused text cause
+        (record { line = line_of bytes.now at; column = column_of bytes.now at }) }
+{
+    Fault::Refused {
+        text,
+        cause,
+        at: place_of(bytes, at),
+    }
+}
+
+// The fault that a refusal of a hierarchy text is.
+fn hierarchy_fault(bytes: &[u8], fault: HierFault) -> Fault
+    ensures { (source : List ℕ) → IsText bytes.now
+        → (fault ≡ HierFault.NoMemory) ⊎ IsRefusedText bytes.now fault
+        → ReportsFault bytes.now source result }
+{
+    match fault {
+        HierFault::NoMemory => Fault::NoMemory,
+        HierFault::TooLong => fault_at(Text::Hierarchy, bytes, Cause::TextTooLong, 0),
+        HierFault::Syntax(at) => fault_at(Text::Hierarchy, bytes, Cause::Syntax, at),
+        HierFault::DeclaredTwice(at) => {
+            fault_at(Text::Hierarchy, bytes, Cause::PrincipalTwice, at)
+        }
+        HierFault::UnknownPrincipal(at) => {
+            fault_at(Text::Hierarchy, bytes, Cause::UnknownPrincipal, at)
+        }
+        HierFault::TooManyPrincipals(at) => {
+            fault_at(Text::Hierarchy, bytes, Cause::TooManyPrincipals, at)
+        }
+    }
+}

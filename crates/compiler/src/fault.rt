@@ -1,0 +1,42 @@
+//! Why two texts gave no module.
+
+ghost use Rattle.compiler.specs.Reported.{fault_words};
+ghost use Rattle.compiler.specs.declared.fault.Fault.TheVariants.{NoMemory};
+ghost use Rattle.std.specs.Prelude.{◌≡◌, Some};
+
+use crate::causes::words;
+use acceptance::{Cause, Text};
+use lexer::Place;
+use std::alloc::AllocError;
+use std::error::Error;
+use std::fmt;
+
+/// Why two texts gave no module.
+#[derive(Clone, Copy, Debug, PartialEq, Eq)]
+pub enum Fault {
+    /// Memory ran out.
+    NoMemory,
+    /// One of the texts is refused, for this cause at this place of it.
+    Refused { text: Text, cause: Cause, at: Place },
+}
+
+impl fmt::Display for Fault {
+    ghost output = { λ fault. Some (fault_words fault) };
+
+    fn fmt<W: fmt::Write>(&self, f: &mut fmt::Formatter<W>) -> fmt::Result {
+        match self {
+            Fault::NoMemory => write!(f, "no memory"),
+            Fault::Refused { cause, .. } => write!(f, "{}", words(*cause)),
+        }
+    }
+}
+
+impl Error for Fault {}
+
+impl From<AllocError> for Fault {
+    ghost from_gives = { λ _ fault. fault ≡ NoMemory };
+
+    fn from(_error: AllocError) -> Fault {
+        Fault::NoMemory
+    }
+}

@@ -1,0 +1,211 @@
+-- Code that does not end normally by its form does not go on behind its last instruction; and a form that may end normally has a normal
+-- end, so that a procedure with a value, which has none, has no return without one.
+use Rattle.std.proofs.Common.{◌≡◌, refl, sym, ap, ◌∙◌, subst, ℕ, zero, suc, ◌+◌, ◌<◌, ◌⊎◌, inl, inr, Bool, true, false, not, ◌&&◌, ◌||◌, List, [], ◌∷◌, ◌++◌, length, Option, Some, None, slice_get, arith, append-nil}
+use Rattle.std.specs.Prelude.{filter, if◌then◌else◌}
+use Rattle.std.proofs.lemmas.List.Folds.{list_any-append}
+use Rattle.resolved.specs.declared.statement.Exit.{Exit}
+use Rattle.resolved.specs.declared.statement.Exit.TheVariants.{Normal, Return, Break, Continue, Throw}
+use Rattle.resolved.specs.declared.expression.Base.TheVariants.{Boolean}
+use Rattle.resolved.specs.Tree.{Expression, Statement, Assign, Clear, Store, Receive, Send, Call, If, While, Leave, ReturnWith, Try, Nested, Block, Empty, Then, Handlers, NoMore, Catch, place_of}
+use Rattle.resolved.specs.Program.{Program, ProcedureEntry}
+use Rattle.resolved.specs.Ends.{same_exit, has_end, raises, thrown_ends, passes, then_ends, statement_ends, block_ends, handlers_ends}
+use Rattle.resolved.specs.EndFaults.{OutsideLoop, Unreachable, NeverRaised, fault_unless, may_stand, inner_faults, block_faults, handlers_faults}
+use Rattle.resolved.specs.WellFormed.{has_base, is_exception, statement_fits, block_fits, handlers_fit}
+use Rattle.resolved.proofs.Sound.Values.{both}
+use Rattle.isolation.proofs.Among.{end-filter}
+use Rattle.isolation.proofs.Declared.{append-empty, no_fault-test}
+use Rattle.bytecode.specs.declared.instruction.Instruction.{Instruction}
+use Rattle.bytecode.specs.declared.instruction.Instruction.TheVariants as instruction
+use Rattle.verifier.specs.Flow.{goes_on}
+use Rattle.lowering.specs.Expressions.{value_code, branch_size, branch_code}
+use Rattle.lowering.specs.Code.{Loop, statement_falls, block_falls, handlers_fall, jump_size, jump_code, jumps_over, jumps_behind, leave_code, return_code, statement_size, block_size, handlers_size, statement_code, block_code, handlers_code}
+use Rattle.lowering.proofs.Unreached.{neither, statement-none}
+
+-- code that is not empty, and whose last instruction does not go on
+pub record Stops (code : List Instruction) : Type 0 where
+  pub filled : 0 < length code
+  pub stays : (k : ℕ) (i : Instruction) → slice_get code k ≡ Some i → goes_on i ≡ true → k + 1 < length code
+
+pub stops-one : (i : Instruction) → goes_on i ≡ false → Stops (i ∷ [])
+stops-one i stops = record { filled = omega arith; stays = stay }
+  where
+    stay : (k : ℕ) (j : Instruction) → slice_get (i ∷ []) k ≡ Some j → goes_on j ≡ true → k + 1 < 1
+    stay zero j e goes =
+        let same : i ≡ j = cc in
+        absurd (let no : false ≡ true = sym stops ∙ (ap goes_on same ∙ goes) in cc)
+    stay (suc k) j e goes = absurd (let no : None ≡ Some j = e in cc)
+
+stops-more : (x : Instruction) (code : List Instruction) → Stops code → Stops (x ∷ code)
+stops-more x code h = record { filled = omega arith; stays = stay }
+  where
+    stay : (k : ℕ) (j : Instruction) → slice_get (x ∷ code) k ≡ Some j → goes_on j ≡ true → k + 1 < suc (length code)
+    stay zero j e goes = omega (arith, h.filled)
+    stay (suc k) j e goes = omega (arith, h.stays k j e goes)
+
+pub stops-behind : (xs ys : List Instruction) → Stops ys → Stops (xs ++ ys)
+stops-behind [] ys h = h
+stops-behind (x ∷ xs) ys h = stops-more x (xs ++ ys) (stops-behind xs ys h)
+
+pub stops-alone : (xs : List Instruction) → Stops xs → Stops (xs ++ [])
+stops-alone xs h = subst Stops (sym (append-nil xs)) h
+
+leave-stops : (loop : Loop) (exit : Exit) → Stops (leave_code loop exit ∷ [])
+leave-stops loop Normal = stops-one instruction.Return refl
+leave-stops loop Return = stops-one instruction.Return refl
+leave-stops loop Break = stops-one (instruction.Jump loop.behind) refl
+leave-stops loop Continue = stops-one (instruction.Jump loop.test) refl
+leave-stops loop (Throw exception) = stops-one (instruction.Throw exception) refl
+
+return-stops : (place : ℕ) (e : Option Expression) → Stops (return_code place e)
+return-stops place None = stops-one instruction.Return refl
+return-stops place (Some e) = stops-behind (value_code place e) (instruction.ReturnValue ∷ []) (stops-one instruction.ReturnValue refl)
+
+by-truth : {A : Type 0} (b : Bool) → (b ≡ true → A) → (b ≡ false → A) → A
+by-truth true h k = h refl
+by-truth false h k = k refl
+
+module _ (program : Program) (procedure : ProcedureEntry) where
+  -- a block that does not end normally, and the handlers behind it, if there are any
+  behind-stops : (loop : Loop) (end place : ℕ) (block : Block) (code : List Instruction) (handlers : Handlers) → block_falls block ≡ false → Stops code
+      → Stops (handlers_code program loop end place handlers) ⊎ (handlers ≡ NoMore)
+      → Stops (code ++ (jump_code (jumps_behind block handlers) end ++ handlers_code program loop end place handlers))
+  behind-stops loop end place block code handlers falls stops (inl more) =
+      stops-behind code (jump_code (jumps_behind block handlers) end ++ handlers_code program loop end place handlers)
+      (stops-behind (jump_code (jumps_behind block handlers) end) (handlers_code program loop end place handlers) more)
+  behind-stops loop end place block code handlers falls stops (inr none) =
+      subst (λ (h : Handlers). Stops (code ++ (jump_code (jumps_behind block h) end ++ handlers_code program loop end place h))) (sym none)
+      (subst (λ (b : Bool). Stops (code ++ (jump_code (b && false) end ++ []))) (sym falls) (stops-alone code stops))
+
+  -- nothing stands behind a statement that does not end normally
+  rest-stops : (in_loop : Bool) (loop : Loop) (place : ℕ) (goes : Bool) (code : List Instruction) (rest : Block) → goes ≡ false → block_faults program in_loop goes rest ≡ []
+      → Stops code → Stops (code ++ block_code program loop place rest)
+  rest-stops in_loop loop place goes code Empty none faults stops = stops-alone code stops
+  rest-stops in_loop loop place goes code (Then statement rest) none faults stops =
+      let first = fault_unless (may_stand in_loop statement) OutsideLoop (place_of statement) in
+      let second = fault_unless goes Unreachable (place_of statement) in
+      let later = append-empty (first ++ second ++ inner_faults program in_loop statement) _ faults in
+      let here = append-empty (first ++ second) (inner_faults program in_loop statement) later.0 in
+      let reached : goes ≡ true = no_fault-test goes Unreachable (place_of statement) (append-empty first second here.0).1 in
+      absurd (let no : true ≡ false = sym reached ∙ none in cc)
+
+  mutual
+    statement-stops : (loop : Loop) (in_loop : Bool) (place : ℕ) (statement : Statement) → statement_fits program procedure statement ≡ true
+        → inner_faults program in_loop statement ≡ [] → statement_falls statement ≡ false → Stops (statement_code program loop place statement)
+    statement-stops loop in_loop place (If mark e yes_block no_block) fits faults falls =
+        let b = branch_size false e in
+        let j = jumps_over yes_block no_block in
+        let other = place + b + block_size program yes_block + jump_size j in
+        let jump = jump_code j (other + block_size program no_block) in
+        let last = block_code program loop other no_block in
+        let parts = both (has_base program procedure Boolean e && block_fits program procedure yes_block) (block_fits program procedure no_block) fits in
+        let none = append-empty (block_faults program in_loop true yes_block) (block_faults program in_loop true no_block) faults in
+        stops-behind (branch_code false place other e) (block_code program loop (place + b) yes_block ++ (jump ++ last))
+        (stops-behind (block_code program loop (place + b) yes_block) (jump ++ last)
+        (stops-behind jump last (block-stops loop in_loop true other no_block parts.1 none.1 (neither (block_falls yes_block) (block_falls no_block) falls).1)))
+    statement-stops loop in_loop place (Leave mark exit) fits faults falls = leave-stops loop exit
+    statement-stops loop in_loop place (ReturnWith mark e) fits faults falls = return-stops place e
+    statement-stops loop in_loop place (Try mark block handlers) fits faults falls =
+        let behind = place + block_size program block + jump_size (jumps_behind block handlers) in
+        let end = behind + handlers_size program handlers in
+        let parts = both (block_fits program procedure block) (handlers_fit program procedure handlers) fits in
+        let none = append-empty (block_faults program in_loop true block) (handlers_faults program in_loop (block_ends program block) handlers) faults in
+        let ends = neither (block_falls block) (handlers_fall handlers) falls in
+        behind-stops loop end behind block (block_code program loop place block) handlers ends.0 (block-stops loop in_loop true place block parts.0 none.0 ends.0)
+        (handlers-stop loop in_loop end behind (block_ends program block) handlers parts.1 none.1 ends.1)
+    statement-stops loop in_loop place (Nested mark block) fits faults falls = block-stops loop in_loop true place block fits faults falls
+    statement-stops loop in_loop place _ fits faults falls = absurd (let no : true ≡ false = falls in cc)
+
+    pub block-stops : (loop : Loop) (in_loop reached : Bool) (place : ℕ) (block : Block) → block_fits program procedure block ≡ true
+        → block_faults program in_loop reached block ≡ [] → block_falls block ≡ false → Stops (block_code program loop place block)
+    block-stops loop in_loop reached place Empty fits faults falls = absurd (let no : true ≡ false = falls in cc)
+    block-stops loop in_loop reached place (Then statement rest) fits faults falls =
+        let behind = place + statement_size program statement in
+        let code = statement_code program loop place statement in
+        let first = fault_unless (may_stand in_loop statement) OutsideLoop (place_of statement) in
+        let second = fault_unless reached Unreachable (place_of statement) in
+        let goes = has_end (statement_ends program statement) Normal in
+        let later = append-empty (first ++ second ++ inner_faults program in_loop statement) (block_faults program in_loop goes rest) faults in
+        let here = append-empty (first ++ second) (inner_faults program in_loop statement) later.0 in
+        let parts = both (statement_fits program procedure statement) (block_fits program procedure rest) fits in
+        by-truth (statement_falls statement)
+        (λ h.
+        let last : block_falls rest ≡ false = sym (ap (λ (b : Bool). b && block_falls rest) h) ∙ falls in
+        stops-behind code (block_code program loop behind rest) (block-stops loop in_loop goes behind rest parts.1 later.1 last))
+        (λ h. rest-stops in_loop loop behind goes code rest (statement-none program procedure statement parts.0 h) later.1 (statement-stops loop in_loop place statement parts.0 here.1 h))
+
+    handlers-stop : (loop : Loop) (in_loop : Bool) (end place : ℕ) (ends : List Exit) (handlers : Handlers) → handlers_fit program procedure handlers ≡ true
+        → handlers_faults program in_loop ends handlers ≡ [] → handlers_fall handlers ≡ false
+        → Stops (handlers_code program loop end place handlers) ⊎ (handlers ≡ NoMore)
+    handlers-stop loop in_loop end place ends NoMore fits faults falls = inr refl
+    handlers-stop loop in_loop end place ends (Catch mark exception body rest) fits faults falls =
+        let behind = place + block_size program body + jump_size (jumps_behind body rest) in
+        let parts = both (is_exception program exception && block_fits program procedure body) (handlers_fit program procedure rest) fits in
+        let body_fits : block_fits program procedure body ≡ true = (both (is_exception program exception) (block_fits program procedure body) parts.0).1 in
+        let raised = fault_unless (has_end ends (Throw exception)) NeverRaised mark in
+        let others = filter (λ exit. not (same_exit (Throw exception) exit)) ends in
+        let later = append-empty (raised ++ block_faults program in_loop true body) (handlers_faults program in_loop others rest) faults in
+        let here = append-empty raised (block_faults program in_loop true body) later.0 in
+        let both_end = neither (block_falls body) (handlers_fall rest) falls in
+        inl (behind-stops loop end behind body (block_code program loop place body) rest both_end.0
+        (block-stops loop in_loop true place body body_fits here.1 both_end.0)
+        (handlers-stop loop in_loop end behind others rest parts.1 later.1 both_end.1))
+
+-- ---- normal ends
+some-left : (xs ys : List Exit) → has_end xs Normal ≡ true → has_end (xs ++ ys) Normal ≡ true
+some-left xs ys h = list_any-append (same_exit Normal) xs ys ∙ ap (λ b. b || has_end ys Normal) h
+
+some-right : (xs ys : List Exit) → has_end ys Normal ≡ true → has_end (xs ++ ys) Normal ≡ true
+some-right xs ys h = list_any-append (same_exit Normal) xs ys ∙ (ap (λ b. has_end xs Normal || b) h ∙ or (has_end xs Normal))
+  where
+    or : (b : Bool) → (b || true) ≡ true
+    or true = refl
+    or false = refl
+
+then-normal : (first rest : List Exit) → has_end first Normal ≡ true → has_end rest Normal ≡ true → has_end (then_ends first rest) Normal ≡ true
+then-normal first rest h k =
+    subst (λ (b : Bool). has_end (if b then filter (λ exit. not (same_exit Normal exit)) first ++ rest else first) Normal ≡ true) (sym h)
+    (some-right (filter (λ exit. not (same_exit Normal exit)) first) rest k)
+
+either : (a b : Bool) → (a || b) ≡ true → (a ≡ true) ⊎ (b ≡ true)
+either true b h = inl refl
+either false b h = inr h
+
+module _ (program : Program) where
+  mutual
+    statement-normal : (statement : Statement) → statement_falls statement ≡ true → has_end (statement_ends program statement) Normal ≡ true
+    statement-normal (Assign mark x e) falls = refl
+    statement-normal (Clear mark slot) falls = refl
+    statement-normal (Store mark array size index e) falls = refl
+    statement-normal (Receive mark channel target) falls = refl
+    statement-normal (Send mark channel e) falls = refl
+    statement-normal (Call mark f arguments target) falls = refl
+    statement-normal (If mark e yes_block no_block) falls =
+        let raised = thrown_ends (raises e) in
+        elim (either (block_falls yes_block) (block_falls no_block) falls) [
+          | inl h ↦ some-left (raised ++ block_ends program yes_block) (block_ends program no_block) (some-right raised (block_ends program yes_block) (block-normal yes_block h))
+          | inr h ↦ some-right (raised ++ block_ends program yes_block) (block_ends program no_block) (block-normal no_block h)
+        ]
+    statement-normal (While mark loop e body) falls = refl
+    statement-normal (Leave mark exit) falls = absurd (let no : false ≡ true = falls in cc)
+    statement-normal (ReturnWith mark e) falls = absurd (let no : false ≡ true = falls in cc)
+    statement-normal (Try mark block handlers) falls =
+        let tried = filter (passes handlers) (block_ends program block) in
+        elim (either (block_falls block) (handlers_fall handlers) falls) [
+          | inl h ↦ some-left tried (handlers_ends program handlers) (end-filter (passes handlers) (block_ends program block) Normal ∙ block-normal block h)
+          | inr h ↦ some-right tried (handlers_ends program handlers) (handlers-normal handlers h)
+        ]
+    statement-normal (Nested mark block) falls = block-normal block falls
+
+    pub block-normal : (block : Block) → block_falls block ≡ true → has_end (block_ends program block) Normal ≡ true
+    block-normal Empty falls = refl
+    block-normal (Then statement rest) falls =
+        let parts = both (statement_falls statement) (block_falls rest) falls in
+        then-normal (statement_ends program statement) (block_ends program rest) (statement-normal statement parts.0) (block-normal rest parts.1)
+
+    handlers-normal : (handlers : Handlers) → handlers_fall handlers ≡ true → has_end (handlers_ends program handlers) Normal ≡ true
+    handlers-normal NoMore falls = absurd (let no : false ≡ true = falls in cc)
+    handlers-normal (Catch mark exception body rest) falls =
+        elim (either (block_falls body) (handlers_fall rest) falls) [
+          | inl h ↦ some-left (block_ends program body) (handlers_ends program rest) (block-normal body h)
+          | inr h ↦ some-right (block_ends program body) (handlers_ends program rest) (handlers-normal rest h)
+        ]

@@ -1,0 +1,100 @@
+-- A statement that does not end normally by its form does not do so in any run.
+use Rattle.std.proofs.Common.{◌≡◌, ℕ, ◌⊎◌, inl, inr, Bool, true, false, ◌&&◌, ◌||◌, refl}
+use Rattle.std.specs.Prelude.{Some, None, if◌then◌else◌, ◌==◌}
+use Rattle.resolved.specs.declared.expression.Base.TheVariants.{Boolean}
+use Rattle.resolved.specs.declared.statement.Exit.{Exit}
+use Rattle.resolved.specs.declared.statement.Exit.TheVariants.{Normal, Return, Break, Continue, Throw}
+use Rattle.resolved.specs.Tree.{Statement, If, Leave, ReturnWith, Try, Nested, Block, Empty, Then, Handlers, NoMore, Catch}
+use Rattle.resolved.specs.Program.{Program, ProcedureEntry}
+use Rattle.resolved.specs.State.{State, value_of}
+use Rattle.resolved.specs.Value.{Evaluated, Gives, Raises, truth_in}
+use Rattle.resolved.specs.Meaning.{Outcome, Ended, Stopped, Calls, after, evaluated, caught, statement_meaning, block_meaning, handlers_meaning}
+use Rattle.resolved.specs.WellFormed.{has_base, statement_fits, block_fits, handlers_fit, is_exception, may_leave_by}
+use Rattle.resolved.proofs.Sound.Values.{both}
+use Rattle.lowering.specs.Code.{statement_falls, block_falls, handlers_fall}
+use Rattle.lowering.proofs.Outcomes.{NotNormal}
+
+neither : (a b : Bool) → (a || b) ≡ false → (a ≡ false) × (b ≡ false)
+neither true b h = absurd (let no : true ≡ false = h in cc)
+neither false b h = (refl, h)
+
+not_both : (a b : Bool) → (a && b) ≡ false → (a ≡ false) ⊎ (b ≡ false)
+not_both true b h = inr h
+not_both false b h = inl refl
+
+not-first : (o : Outcome) (next : State → Outcome) → NotNormal o → NotNormal (after o next)
+not-first (Ended Normal returned t) next h = absurd h
+not-first (Ended Return returned t) next h = tt
+not-first (Ended Break returned t) next h = tt
+not-first (Ended Continue returned t) next h = tt
+not-first (Ended (Throw exception) returned t) next h = tt
+not-first (Stopped stop t) next h = tt
+
+not-rest : (o : Outcome) (next : State → Outcome) → ((t : State) → NotNormal (next t)) → NotNormal (after o next)
+not-rest (Ended Normal returned t) next h = h t
+not-rest (Ended Return returned t) next h = tt
+not-rest (Ended Break returned t) next h = tt
+not-rest (Ended Continue returned t) next h = tt
+not-rest (Ended (Throw exception) returned t) next h = tt
+not-rest (Stopped stop t) next h = tt
+
+not-evaluated : {A : Type 0} (o : Evaluated A) (s : State) (next : A → Outcome) → ((v : A) → NotNormal (next v)) → NotNormal (evaluated o s next)
+not-evaluated (Gives v) s next h = h v
+not-evaluated (Raises exception) s next h = tt
+
+not-either : (b : Bool) (one other : Outcome) → NotNormal one → NotNormal other → NotNormal (if b then one else other)
+not-either true one other h k = h
+not-either false one other h k = k
+
+not-caught : (o : Outcome) (handle : ℕ → State → Outcome) → NotNormal o → ((exception : ℕ) (t : State) → NotNormal (handle exception t)) → NotNormal (caught o handle)
+not-caught (Ended Normal returned t) handle h each = absurd h
+not-caught (Ended Return returned t) handle h each = tt
+not-caught (Ended Break returned t) handle h each = tt
+not-caught (Ended Continue returned t) handle h each = tt
+not-caught (Ended (Throw exception) returned t) handle h each = each exception t
+not-caught (Stopped stop t) handle h each = tt
+
+not-left : (program : Program) (exit : Exit) (s : State) → may_leave_by program exit ≡ true → NotNormal (Ended exit None s)
+not-left program Normal s h = absurd (let no : false ≡ true = h in cc)
+not-left program Return s h = tt
+not-left program Break s h = tt
+not-left program Continue s h = tt
+not-left program (Throw exception) s h = tt
+
+module _ (program : Program) (procedure : ProcedureEntry) (calls : Calls) (k : ℕ) where
+  mutual
+    pub statement-stays : (statement : Statement) → statement_fits program procedure statement ≡ true → statement_falls statement ≡ false → (s : State) → NotNormal (statement_meaning calls k statement s)
+    statement-stays (If at e yes_block no_block) fits falls s =
+        let parts = both (has_base program procedure Boolean e && block_fits program procedure yes_block) (block_fits program procedure no_block) fits in
+        let yes_fits : block_fits program procedure yes_block ≡ true = (both (has_base program procedure Boolean e) (block_fits program procedure yes_block) parts.0).1 in
+        let ends = neither (block_falls yes_block) (block_falls no_block) falls in
+        not-evaluated (value_of s e) s _ (λ v. not-either (truth_in v) _ _ (block-stays yes_block yes_fits ends.0 s) (block-stays no_block parts.1 ends.1 s))
+    statement-stays (Leave at exit) fits falls s = not-left program exit s fits
+    statement-stays (ReturnWith at None) fits falls s = tt
+    statement-stays (ReturnWith at (Some e)) fits falls s = not-evaluated (value_of s e) s _ (λ v. tt)
+    statement-stays (Try at block handlers) fits falls s =
+        let parts = both (block_fits program procedure block) (handlers_fit program procedure handlers) fits in
+        let ends = neither (block_falls block) (handlers_fall handlers) falls in
+        not-caught (block_meaning calls k block s) _ (block-stays block parts.0 ends.0 s) (λ exception t. handlers-stay handlers parts.1 ends.1 exception t)
+    statement-stays (Nested at block) fits falls s = block-stays block fits falls s
+    statement-stays _ fits falls s = absurd (let no : true ≡ false = falls in cc)
+
+    pub block-stays : (block : Block) → block_fits program procedure block ≡ true → block_falls block ≡ false → (s : State) → NotNormal (block_meaning calls k block s)
+    block-stays Empty fits falls s = absurd (let no : true ≡ false = falls in cc)
+    block-stays (Then statement rest) fits falls s =
+        let parts = both (statement_fits program procedure statement) (block_fits program procedure rest) fits in
+        either_stays (not_both (statement_falls statement) (block_falls rest) falls) s (λ h. statement-stays statement parts.0 h s) (λ h t. block-stays rest parts.1 h t)
+      where
+        either_stays : (statement_falls statement ≡ false) ⊎ (block_falls rest ≡ false) → (s : State)
+            → (statement_falls statement ≡ false → NotNormal (statement_meaning calls k statement s))
+            → (block_falls rest ≡ false → (t : State) → NotNormal (block_meaning calls k rest t)) → NotNormal (block_meaning calls k (Then statement rest) s)
+        either_stays (inl h) s first second = not-first (statement_meaning calls k statement s) _ (first h)
+        either_stays (inr h) s first second = not-rest (statement_meaning calls k statement s) _ (second h)
+
+    pub handlers-stay : (handlers : Handlers) → handlers_fit program procedure handlers ≡ true → handlers_fall handlers ≡ false → (exception : ℕ) (s : State) → NotNormal (handlers_meaning calls k handlers exception s)
+    handlers-stay NoMore fits falls exception s = tt
+    handlers-stay (Catch at handled body rest) fits falls exception s =
+        let parts = both (is_exception program handled && block_fits program procedure body) (handlers_fit program procedure rest) fits in
+        let body_fits : block_fits program procedure body ≡ true = (both (is_exception program handled) (block_fits program procedure body) parts.0).1 in
+        let ends = neither (block_falls body) (handlers_fall rest) falls in
+        not-either (exception == handled) _ _ (block-stays body body_fits ends.0 s) (handlers-stay rest parts.1 ends.1 exception s)

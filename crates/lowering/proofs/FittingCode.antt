@@ -1,0 +1,420 @@
+-- The numbers in the code of statements and in its handlers, but for where it jumps, are within the limits of the module file.
+use Rattle.std.proofs.Common.{◌≡◌, ℕ, pos, ◌+◌, ◌^◌, ◌<◌, ◌≤◌, Bool, true, false, ◌&&◌, List, [], ◌∷◌, ◌++◌, length, Option, Some, None, refl, arith, length-append}
+use Rattle.std.specs.Prelude.{slice_get, is_none, not, nat_lt, if◌then◌else◌}
+use Rattle.std.specs.Int.{w32}
+use Rattle.std.specs.List.{AllByRecursion}
+use Rattle.std.proofs.lemmas.Bool.{ltb-true}
+use Rattle.std.proofs.lemmas.Int.{SFits-int_wrap}
+use Rattle.std.proofs.lemmas.Option.{slice_get_within}
+use Rattle.resolved.specs.declared.expression.Base.{Base}
+use Rattle.resolved.specs.declared.expression.Base.TheVariants.{Int, Boolean}
+use Rattle.resolved.specs.declared.expression.Variable.{Variable}
+use Rattle.resolved.specs.declared.expression.Variable.TheVariants.{Global, Local}
+use Rattle.resolved.specs.declared.expression.Prefix.{Prefix}
+use Rattle.resolved.specs.declared.expression.Prefix.TheVariants as prefix
+use Rattle.resolved.specs.declared.expression.Operator.{Operator}
+use Rattle.resolved.specs.declared.expression.Operator.TheVariants as operator
+use Rattle.resolved.specs.declared.expression.Connective.{Connective}
+use Rattle.resolved.specs.declared.expression.Connective.TheVariants.{And, Or}
+use Rattle.resolved.specs.declared.statement.Exit.{Exit}
+use Rattle.resolved.specs.declared.statement.Exit.TheVariants.{Normal, Return, Break, Continue, Throw}
+use Rattle.resolved.specs.declared.tables.Direction.{Direction}
+use Rattle.resolved.specs.declared.tables.Direction.TheVariants.{Input, Output}
+use Rattle.resolved.specs.Tree.{Expression, Integer, Logical, Read, Element, Unary, Binary, Short, Statement, Assign, Clear, Store, Receive, Send, Call, If, While, Leave, ReturnWith, Try, Nested, Block, Empty, Then, Handlers, NoMore, Catch}
+use Rattle.resolved.specs.Program.{Program, ProcedureEntry, SlotEntry, ResultEntry, ChannelEntry, GlobalEntry, procedure_at}
+use Rattle.resolved.specs.Value.{literal_number}
+use Rattle.resolved.specs.WellFormed.{VariableType, same_base, slot_type, global_type, variable_type, scalar_by, has_length, array_by, has_base, prefix_base, operand_base, result_base, has_result, target_by, channel_is, arguments_match, parameters_of, call_matches, is_exception, may_leave_by, is_array, statement_fits, block_fits, handlers_fit, statement_nodes, block_nodes, handlers_nodes}
+use Rattle.resolved.proofs.Sound.Values.{both}
+use Rattle.bytecode.specs.declared.instruction.Instruction.{Instruction}
+use Rattle.bytecode.specs.declared.instruction.Instruction.TheVariants as instruction
+use Rattle.bytecode.specs.declared.declaration.Handler.{Handler}
+use Rattle.bytecode.specs.Opcodes.{OperandFits, row_of}
+use Rattle.lowering.specs.Expressions.{load_of, store_of, load_element_of, store_element_of, prefix_instruction, operator_instruction, turned_operator, value_size, value_code, rest_of_short, arguments_code, turned, deciding, branch_size, branch_code, test_code}
+use Rattle.lowering.specs.Code.{Loop, jump_code, jumps_over, jumps_behind, kept_code, result_code, leave_code, return_code, entry_of, no_place, test_place, handlers_place, statement_size, block_size, handlers_size, statement_code, block_code, handlers_code, statement_table, block_table, handlers_table}
+use Rattle.lowering.specs.Graphs.{end_code}
+
+-- ---- instructions
+
+-- a number of an instruction, unless it is where that jumps, is within the limits
+abbrev pub IsNumbered : Instruction → Type 0
+IsNumbered (instruction.Jump target) = Unit {0}
+IsNumbered (instruction.JumpIfFalse target) = Unit {0}
+IsNumbered x = OperandFits (row_of x).operand
+
+pub record AreNumbered (code : List Instruction) : Type 0 where
+  pub each : AllByRecursion IsNumbered code
+
+numbered-none : AreNumbered []
+numbered-none = record { each = tt }
+
+numbered-more : (x : Instruction) (code : List Instruction) → IsNumbered x → AreNumbered code → AreNumbered (x ∷ code)
+numbered-more x code h k = record { each = (h, k.each) }
+
+numbered-one : (x : Instruction) → IsNumbered x → AreNumbered (x ∷ [])
+numbered-one x h = numbered-more x [] h numbered-none
+
+append-each : (xs ys : List Instruction) → AllByRecursion IsNumbered xs → AllByRecursion IsNumbered ys → AllByRecursion IsNumbered (xs ++ ys)
+append-each [] ys h k = k
+append-each (x ∷ xs) ys h k = (h.0, append-each xs ys h.1 k)
+
+pub numbered-both : (xs ys : List Instruction) → AreNumbered xs → AreNumbered ys → AreNumbered (xs ++ ys)
+numbered-both xs ys h k = record { each = append-each xs ys h.each k.each }
+
+literal-numbered : (n : ℕ) → IsNumbered (instruction.Push (literal_number n))
+literal-numbered n = SFits-int_wrap w32 (pos n)
+
+prefix-numbered : (sign : Prefix) → IsNumbered (prefix_instruction sign)
+prefix-numbered prefix.Negate = tt
+prefix-numbered prefix.Not = tt
+
+operator-numbered : (o : Operator) → IsNumbered (operator_instruction o)
+operator-numbered operator.Add = tt
+operator-numbered operator.Subtract = tt
+operator-numbered operator.Multiply = tt
+operator-numbered operator.Divide = tt
+operator-numbered operator.Remainder = tt
+operator-numbered operator.LessThan = tt
+operator-numbered operator.AtMost = tt
+operator-numbered operator.GreaterThan = tt
+operator-numbered operator.AtLeast = tt
+operator-numbered operator.Equal = tt
+operator-numbered operator.Unequal = tt
+operator-numbered operator.Same = tt
+operator-numbered operator.Different = tt
+
+jump-numbered : (wanted : Bool) (target : ℕ) → AreNumbered (jump_code wanted target)
+jump-numbered true target = numbered-one (instruction.Jump target) tt
+jump-numbered false target = numbered-none
+
+pub end-numbered : (falls : Bool) → AreNumbered (end_code falls)
+end-numbered true = numbered-one instruction.Return tt
+end-numbered false = numbered-none
+
+short-numbered : (connective : Connective) (at size : ℕ) (right : ℕ → List Instruction) → ((place : ℕ) → AreNumbered (right place)) → AreNumbered (rest_of_short connective at size right)
+short-numbered And at size right h =
+    numbered-more (instruction.JumpIfFalse (at + 1 + size + 1)) _ tt
+    (numbered-both (right (at + 1)) _ (h (at + 1)) (numbered-more (instruction.Jump (at + 1 + size + 1 + 1)) _ tt (numbered-one (instruction.PushBoolean false) tt)))
+short-numbered Or at size right h =
+    numbered-more (instruction.JumpIfFalse (at + 1 + 1 + 1)) _ tt
+    (numbered-more (instruction.PushBoolean true) _ tt (numbered-more (instruction.Jump (at + 1 + 1 + 1 + size)) _ tt (h (at + 1 + 1 + 1))))
+
+-- ---- variables
+
+-- the number of a variable is within the limits
+abbrev IsSmall : Variable → Type 0
+IsSmall (Global n) = n < 2 ^ 32
+IsSmall (Local n) = n < 2 ^ 32
+
+load-numbered : (x : Variable) → IsSmall x → IsNumbered (load_of x)
+load-numbered (Global n) h = h
+load-numbered (Local n) h = h
+
+store-numbered : (x : Variable) → IsSmall x → IsNumbered (store_of x)
+store-numbered (Global n) h = h
+store-numbered (Local n) h = h
+
+load_element-numbered : (x : Variable) → IsSmall x → IsNumbered (load_element_of x)
+load_element-numbered (Global n) h = h
+load_element-numbered (Local n) h = h
+
+store_element-numbered : (x : Variable) → IsSmall x → IsNumbered (store_element_of x)
+store_element-numbered (Global n) h = h
+store_element-numbered (Local n) h = h
+
+scalar-is : (o : Option VariableType) (test : Base → Bool) → scalar_by o test ≡ true → (type : VariableType) × (o ≡ Some type) × (test type.base ≡ true)
+scalar-is None test h = absurd (cc)
+scalar-is (Some type) test h = (type, refl, (both (is_none type.size) (test type.base) h).1)
+
+array-is : (o : Option VariableType) (count : ℕ) (test : Base → Bool) → array_by o count test ≡ true → (type : VariableType) × (o ≡ Some type) × (test type.base ≡ true)
+array-is None count test h = absurd (cc)
+array-is (Some type) count test h = (type, refl, (both (has_length type.size count) (test type.base) h).1)
+
+-- ---- handlers
+
+-- the number of a handler's exception is within the limits
+abbrev pub IsOfException : Handler → Type 0
+IsOfException handler = handler.exception < 2 ^ 32
+
+pub record AreCatches (most : ℕ) (table : List Handler) : Type 0 where
+  pub each : AllByRecursion IsOfException table
+  pub few : length table ≤ most
+
+catches-none : (most : ℕ) → AreCatches most []
+catches-none most = record { each = tt; few = omega arith }
+
+append-catches : (xs ys : List Handler) → AllByRecursion IsOfException xs → AllByRecursion IsOfException ys → AllByRecursion IsOfException (xs ++ ys)
+append-catches [] ys h k = k
+append-catches (x ∷ xs) ys h k = (h.0, append-catches xs ys h.1 k)
+
+catches-both : (m n most : ℕ) (xs ys : List Handler) → AreCatches m xs → AreCatches n ys → m + n ≤ most → AreCatches most (xs ++ ys)
+catches-both m n most xs ys h k room =
+    record { each = append-catches xs ys h.each k.each; few = omega (arith, length-append xs ys, h.few, k.few, room) }
+
+catches-more : (m most : ℕ) (xs : List Handler) → AreCatches m xs → m ≤ most → AreCatches most xs
+catches-more m most xs h room = record { each = h.each; few = omega (arith, h.few, room) }
+
+entry-catches : (start end exception target : ℕ) → exception < 2 ^ 32 → AreCatches 1 (entry_of start end exception target)
+entry-catches start end exception target small = by (nat_lt start end)
+  where
+    by : (b : Bool) → AreCatches 1 (if b then (record { start = start; end = end; exception = exception; target = target } ∷ []) else [])
+    by true = record { each = (small, tt); few = omega arith }
+    by false = catches-none 1
+
+-- ---- code of a program whose tables are not too long
+pub record HasShortTables (program : Program) (procedure : ProcedureEntry) : Type 0 where
+  pub globals : length program.globals < 2 ^ 32
+  pub slots : length procedure.slots < 2 ^ 32
+  pub channels : length program.channels < 2 ^ 32
+  pub procedures : length program.procedures < 2 ^ 32
+  pub exceptions : 3 + length program.exceptions < 2 ^ 32
+
+module _ (program : Program) (procedure : ProcedureEntry) (short : HasShortTables program procedure) where
+  global-small : (n : ℕ) (type : VariableType) (o : Option GlobalEntry) → slice_get program.globals n ≡ o → global_type o ≡ Some type → n < 2 ^ 32
+  global-small n type None e h = absurd (cc)
+  global-small n type (Some entry) e h = omega (arith, slice_get_within program.globals n entry e, short.globals)
+
+  slot-small : (n : ℕ) (type : VariableType) (o : Option SlotEntry) → slice_get procedure.slots n ≡ o → slot_type o ≡ Some type → n < 2 ^ 32
+  slot-small n type None e h = absurd (cc)
+  slot-small n type (Some entry) e h = omega (arith, slice_get_within procedure.slots n entry e, short.slots)
+
+  variable-small : (x : Variable) (type : VariableType) → variable_type program procedure x ≡ Some type → IsSmall x
+  variable-small (Global n) type h = global-small n type (slice_get program.globals n) refl h
+  variable-small (Local n) type h = slot-small n type (slice_get procedure.slots n) refl h
+
+  scalar-small : (x : Variable) (test : Base → Bool) → scalar_by (variable_type program procedure x) test ≡ true → IsSmall x
+  scalar-small x test h =
+      let there = scalar-is (variable_type program procedure x) test h in
+      variable-small x there.0 there.1
+
+  array-small : (x : Variable) (count : ℕ) (test : Base → Bool) → array_by (variable_type program procedure x) count test ≡ true → IsSmall x
+  array-small x count test h =
+      let there = array-is (variable_type program procedure x) count test h in
+      variable-small x there.0 there.1
+
+  channel-small : (n : ℕ) (direction : Direction) (o : Option ChannelEntry) → slice_get program.channels n ≡ o → channel_is o direction ≡ true → n < 2 ^ 32
+  channel-small n direction None e h = absurd (cc)
+  channel-small n direction (Some entry) e h = omega (arith, slice_get_within program.channels n entry e, short.channels)
+
+  exception-small : (n : ℕ) → is_exception program n ≡ true → n < 2 ^ 32
+  exception-small n h = omega (arith, ltb-true n (3 + length program.exceptions) h, short.exceptions)
+
+  -- ---- values
+  value-numbered : (e : Expression) (base : Base) (at : ℕ) → has_base program procedure base e ≡ true → AreNumbered (value_code at e)
+  value-numbered (Integer n) base at h = numbered-one _ (literal-numbered n)
+  value-numbered (Logical b) base at h = numbered-one _ tt
+  value-numbered (Read x) base at h = numbered-one _ (load-numbered x (scalar-small x (same_base base) h))
+  value-numbered (Element array count index) base at h =
+      let parts = both (array_by (variable_type program procedure array) count (same_base base)) (has_base program procedure Int index) h in
+      numbered-both (value_code at index) _ (value-numbered index Int at parts.1) (numbered-one _ (load_element-numbered array (array-small array count (same_base base) parts.0)))
+  value-numbered (Unary sign e) base at h =
+      numbered-both (value_code at e) _ (value-numbered e (prefix_base sign) at (both (same_base (prefix_base sign) base) _ h).1) (numbered-one _ (prefix-numbered sign))
+  value-numbered (Binary o d e) base at h =
+      let parts = both (same_base (result_base o) base && has_base program procedure (operand_base o) d) (has_base program procedure (operand_base o) e) h in
+      let left = (both (same_base (result_base o) base) (has_base program procedure (operand_base o) d) parts.0).1 in
+      numbered-both (value_code at d) _ (value-numbered d (operand_base o) at left)
+      (numbered-both (value_code (at + value_size d) e) _ (value-numbered e (operand_base o) (at + value_size d) parts.1) (numbered-one _ (operator-numbered o)))
+  value-numbered (Short connective d e) base at h =
+      let parts = both (same_base Boolean base && has_base program procedure Boolean d) (has_base program procedure Boolean e) h in
+      let left = (both (same_base Boolean base) (has_base program procedure Boolean d) parts.0).1 in
+      numbered-both (value_code at d) _ (value-numbered d Boolean at left)
+      (short-numbered connective (at + value_size d) (value_size e) (λ place. value_code place e) (λ place. value-numbered e Boolean place parts.1))
+
+  -- a condition that is negated as a whole
+  not-numbered : (e : Expression) (at : ℕ) → has_base program procedure Boolean e ≡ true → AreNumbered (value_code at (Unary prefix.Not e))
+  not-numbered e at h = numbered-both (value_code at e) _ (value-numbered e Boolean at h) (numbered-one instruction.Not tt)
+
+  turned-numbered : (e : Expression) (at : ℕ) → has_base program procedure Boolean e ≡ true → AreNumbered (value_code at (turned e))
+  turned-numbered (Integer n) at h = not-numbered (Integer n) at h
+  turned-numbered (Logical b) at h = numbered-one _ tt
+  turned-numbered (Read x) at h = not-numbered (Read x) at h
+  turned-numbered (Element array count index) at h = not-numbered (Element array count index) at h
+  turned-numbered (Unary sign e) at h = not-numbered (Unary sign e) at h
+  turned-numbered (Binary o d e) at h =
+      let parts = both (same_base (result_base o) Boolean && has_base program procedure (operand_base o) d) (has_base program procedure (operand_base o) e) h in
+      let left = (both (same_base (result_base o) Boolean) (has_base program procedure (operand_base o) d) parts.0).1 in
+      numbered-both (value_code at d) _ (value-numbered d (operand_base o) at left)
+      (numbered-both (value_code (at + value_size d) e) _ (value-numbered e (operand_base o) (at + value_size d) parts.1) (numbered-one _ (operator-numbered (turned_operator o))))
+  turned-numbered (Short connective d e) at h = not-numbered (Short connective d e) at h
+
+  test-numbered : (wanted : Bool) (e : Expression) (at target : ℕ) → has_base program procedure Boolean e ≡ true → AreNumbered (test_code wanted at target e)
+  test-numbered true e at target h = numbered-both (value_code at (turned e)) _ (turned-numbered e at h) (numbered-one (instruction.JumpIfFalse target) tt)
+  test-numbered false e at target h = numbered-both (value_code at e) _ (value-numbered e Boolean at h) (numbered-one (instruction.JumpIfFalse target) tt)
+
+  branch-numbered : (e : Expression) (wanted : Bool) (at target : ℕ) → has_base program procedure Boolean e ≡ true → AreNumbered (branch_code wanted at target e)
+  branch-numbered (Integer n) wanted at target h = test-numbered wanted (Integer n) at target h
+  branch-numbered (Logical b) wanted at target h = test-numbered wanted (Logical b) at target h
+  branch-numbered (Read x) wanted at target h = test-numbered wanted (Read x) at target h
+  branch-numbered (Element array count index) wanted at target h = test-numbered wanted (Element array count index) at target h
+  branch-numbered (Unary prefix.Negate e) wanted at target h = test-numbered wanted (Unary prefix.Negate e) at target h
+  branch-numbered (Unary prefix.Not e) wanted at target h =
+      branch-numbered e (not wanted) at target (both (same_base Boolean Boolean) (has_base program procedure Boolean e) h).1
+  branch-numbered (Binary o d e) wanted at target h = test-numbered wanted (Binary o d e) at target h
+  branch-numbered (Short connective d e) wanted at target h =
+      let parts = both (same_base Boolean Boolean && has_base program procedure Boolean d) (has_base program procedure Boolean e) h in
+      let left = (both (same_base Boolean Boolean) (has_base program procedure Boolean d) parts.0).1 in
+      numbered-both (branch_code (deciding connective) at _ d) _ (branch-numbered d (deciding connective) at _ left)
+      (branch-numbered e wanted (at + branch_size (deciding connective) d) target parts.1)
+
+  arguments-numbered : (es : List Expression) (parameters : List SlotEntry) (at : ℕ) → arguments_match program procedure parameters es ≡ true → AreNumbered (arguments_code at es)
+  arguments-numbered [] parameters at h = numbered-none
+  arguments-numbered (e ∷ rest) [] at h = absurd (cc)
+  arguments-numbered (e ∷ rest) (parameter ∷ parameters) at h =
+      let parts = both (has_base program procedure parameter.base e) (arguments_match program procedure parameters rest) h in
+      numbered-both (value_code at e) _ (value-numbered e parameter.base at parts.0) (arguments-numbered rest parameters (at + value_size e) parts.1)
+
+  kept-numbered : (target : Option Variable) (test : Base → Bool) → target_by program procedure target test ≡ true → IsNumbered (kept_code target)
+  kept-numbered None test h = tt
+  kept-numbered (Some x) test h = store-numbered x (scalar-small x test h)
+
+  result-numbered : (result : Option ResultEntry) (target : Option Variable) (test : Base → Bool) → target_by program procedure target test ≡ true → AreNumbered (result_code result target)
+  result-numbered None target test h = numbered-none
+  result-numbered (Some entry) target test h = numbered-one _ (kept-numbered target test h)
+
+  leave-numbered : (loop : Loop) (exit : Exit) → may_leave_by program exit ≡ true → IsNumbered (leave_code loop exit)
+  leave-numbered loop Normal h = tt
+  leave-numbered loop Return h = tt
+  leave-numbered loop Break h = tt
+  leave-numbered loop Continue h = tt
+  leave-numbered loop (Throw exception) h = exception-small exception h
+
+  has_result-base : (result : Option ResultEntry) (test : Base → Bool) → has_result result test ≡ true → (base : Base) × (test base ≡ true)
+  has_result-base None test h = absurd (cc)
+  has_result-base (Some entry) test h = (entry.base, h)
+
+  -- ---- statements that hold no others
+  assign-numbered : (x : Variable) (e : Expression) (at : ℕ) → scalar_by (variable_type program procedure x) (λ base. has_base program procedure base e) ≡ true
+      → AreNumbered (value_code at e ++ store_of x ∷ [])
+  assign-numbered x e at h =
+      let there = scalar-is (variable_type program procedure x) (λ base. has_base program procedure base e) h in
+      numbered-both (value_code at e) _ (value-numbered e there.0.base at there.2) (numbered-one _ (store-numbered x (variable-small x there.0 there.1)))
+
+  clear-numbered : (slot : ℕ) (o : Option SlotEntry) → slice_get procedure.slots slot ≡ o → is_array (slot_type o) ≡ true → IsNumbered (instruction.Clear slot)
+  clear-numbered slot None e h = absurd (cc)
+  clear-numbered slot (Some entry) e h = omega (arith, slice_get_within procedure.slots slot entry e, short.slots)
+
+  element-numbered : (array : Variable) (count : ℕ) (index e : Expression) (at : ℕ)
+      → (array_by (variable_type program procedure array) count (λ base. has_base program procedure base e) && has_base program procedure Int index) ≡ true
+      → AreNumbered (value_code at index ++ (value_code (at + value_size index) e ++ store_element_of array ∷ []))
+  element-numbered array count index e at h =
+      let parts = both (array_by (variable_type program procedure array) count (λ base. has_base program procedure base e)) (has_base program procedure Int index) h in
+      let there = array-is (variable_type program procedure array) count (λ base. has_base program procedure base e) parts.0 in
+      numbered-both (value_code at index) _ (value-numbered index Int at parts.1)
+      (numbered-both (value_code (at + value_size index) e) _ (value-numbered e there.0.base (at + value_size index) there.2)
+      (numbered-one _ (store_element-numbered array (variable-small array there.0 there.1))))
+
+  call-numbered : (f : ℕ) (arguments : List Expression) (target : Option Variable) (at : ℕ) (result : Option ResultEntry) (o : Option ProcedureEntry)
+      → slice_get program.procedures f ≡ o → call_matches program procedure o arguments target ≡ true
+      → AreNumbered (arguments_code at arguments ++ instruction.Call f ∷ result_code result target)
+  call-numbered f arguments target at result None e h = absurd (cc)
+  call-numbered f arguments target at result (Some callee) e h =
+      let test : Base → Bool = λ base. has_result callee.result (same_base base) in
+      let parts = both (arguments_match program procedure (parameters_of callee) arguments) (target_by program procedure target test) h in
+      let small : f < 2 ^ 32 = omega (arith, slice_get_within program.procedures f callee e, short.procedures) in
+      numbered-both (arguments_code at arguments) _ (arguments-numbered arguments (parameters_of callee) at parts.0)
+      (numbered-more (instruction.Call f) _ small (result-numbered result target test parts.1))
+
+  return-numbered : (e : Option Expression) (p at : ℕ) → statement_fits program procedure (ReturnWith p e) ≡ true → AreNumbered (return_code at e)
+  return-numbered None p at h = numbered-one instruction.Return tt
+  return-numbered (Some e) p at h =
+      let there = has_result-base procedure.result (λ base. has_base program procedure base e) h in
+      numbered-both (value_code at e) _ (value-numbered e there.0 at there.1) (numbered-one instruction.ReturnValue tt)
+
+  -- ---- statements, blocks and handlers
+  mutual
+    statement-numbered : (loop : Loop) (p : ℕ) (statement : Statement) → statement_fits program procedure statement ≡ true → AreNumbered (statement_code program loop p statement)
+    statement-numbered loop p (Assign at x e) h = assign-numbered x e p h
+    statement-numbered loop p (Clear at slot) h = numbered-one _ (clear-numbered slot (slice_get procedure.slots slot) refl h)
+    statement-numbered loop p (Store at array count index e) h = element-numbered array count index e p h
+    statement-numbered loop p (Receive at channel target) h =
+        let parts = both (channel_is (slice_get program.channels channel) Input) (target_by program procedure target (same_base Int)) h in
+        numbered-more (instruction.Receive channel) _ (channel-small channel Input (slice_get program.channels channel) refl parts.0)
+        (numbered-one _ (kept-numbered target (same_base Int) parts.1))
+    statement-numbered loop p (Send at channel e) h =
+        let parts = both (channel_is (slice_get program.channels channel) Output) (has_base program procedure Int e) h in
+        numbered-both (value_code p e) _ (value-numbered e Int p parts.1)
+        (numbered-one (instruction.Send channel) (channel-small channel Output (slice_get program.channels channel) refl parts.0))
+    statement-numbered loop p (Call at f arguments target) h =
+        call-numbered f arguments target p (procedure_at program f).result (slice_get program.procedures f) refl h
+    statement-numbered loop p (If at e yes_block no_block) h =
+        let parts = both (has_base program procedure Boolean e && block_fits program procedure yes_block) (block_fits program procedure no_block) h in
+        let first = both (has_base program procedure Boolean e) (block_fits program procedure yes_block) parts.0 in
+        let no = no_place program p e yes_block no_block in
+        numbered-both (branch_code false p no e) _ (branch-numbered e false p no first.0)
+        (numbered-both (block_code program loop (p + branch_size false e) yes_block) _ (block-numbered loop (p + branch_size false e) yes_block first.1)
+        (numbered-both (jump_code (jumps_over yes_block no_block) _) _ (jump-numbered (jumps_over yes_block no_block) (no + block_size program no_block))
+        (block-numbered loop no no_block parts.1)))
+    statement-numbered loop p (While at number e body) h =
+        let parts = both (has_base program procedure Boolean e) (block_fits program procedure body) h in
+        let test = test_place program p body in
+        numbered-more (instruction.Jump test) _ tt
+        (numbered-both (block_code program _ (p + 1) body) _
+        (block-numbered (record { behind = test + branch_size true e; test = test }) (p + 1) body parts.1)
+        (branch-numbered e true test (p + 1) parts.0))
+    statement-numbered loop p (Leave at exit) h = numbered-one _ (leave-numbered loop exit h)
+    statement-numbered loop p (ReturnWith at e) h = return-numbered e at p h
+    statement-numbered loop p (Try at block handlers) h =
+        let parts = both (block_fits program procedure block) (handlers_fit program procedure handlers) h in
+        let place = handlers_place program p block handlers in
+        numbered-both (block_code program loop p block) _ (block-numbered loop p block parts.0)
+        (numbered-both (jump_code (jumps_behind block handlers) _) _ (jump-numbered (jumps_behind block handlers) (place + handlers_size program handlers))
+        (handlers-numbered loop (place + handlers_size program handlers) place handlers parts.1))
+    statement-numbered loop p (Nested at block) h = block-numbered loop p block h
+
+    pub block-numbered : (loop : Loop) (p : ℕ) (block : Block) → block_fits program procedure block ≡ true → AreNumbered (block_code program loop p block)
+    block-numbered loop p Empty h = numbered-none
+    block-numbered loop p (Then statement rest) h =
+        let parts = both (statement_fits program procedure statement) (block_fits program procedure rest) h in
+        numbered-both (statement_code program loop p statement) _ (statement-numbered loop p statement parts.0)
+        (block-numbered loop (p + statement_size program statement) rest parts.1)
+
+    handlers-numbered : (loop : Loop) (end p : ℕ) (handlers : Handlers) → handlers_fit program procedure handlers ≡ true → AreNumbered (handlers_code program loop end p handlers)
+    handlers-numbered loop end p NoMore h = numbered-none
+    handlers-numbered loop end p (Catch at exception body rest) h =
+        let parts = both (is_exception program exception && block_fits program procedure body) (handlers_fit program procedure rest) h in
+        let first = both (is_exception program exception) (block_fits program procedure body) parts.0 in
+        numbered-both (block_code program loop p body) _ (block-numbered loop p body first.1)
+        (numbered-both (jump_code (jumps_behind body rest) end) _ (jump-numbered (jumps_behind body rest) end)
+        (handlers-numbered loop end (handlers_place program p body rest) rest parts.1))
+
+  mutual
+    statement-catches : (p : ℕ) (statement : Statement) → statement_fits program procedure statement ≡ true → AreCatches (statement_nodes statement) (statement_table program p statement)
+    statement-catches p (Assign at x e) h = catches-none _
+    statement-catches p (Clear at slot) h = catches-none _
+    statement-catches p (Store at array count index e) h = catches-none _
+    statement-catches p (Receive at channel target) h = catches-none _
+    statement-catches p (Send at channel e) h = catches-none _
+    statement-catches p (Call at f arguments target) h = catches-none _
+    statement-catches p (If at e yes_block no_block) h =
+        let parts = both (has_base program procedure Boolean e && block_fits program procedure yes_block) (block_fits program procedure no_block) h in
+        let first = both (has_base program procedure Boolean e) (block_fits program procedure yes_block) parts.0 in
+        catches-both (block_nodes yes_block) (block_nodes no_block) _ _ _
+        (block-catches (p + branch_size false e) yes_block first.1) (block-catches (no_place program p e yes_block no_block) no_block parts.1) (omega arith)
+    statement-catches p (While at number e body) h =
+        let parts = both (has_base program procedure Boolean e) (block_fits program procedure body) h in
+        catches-more (block_nodes body) _ _ (block-catches (p + 1) body parts.1) (omega arith)
+    statement-catches p (Leave at exit) h = catches-none _
+    statement-catches p (ReturnWith at e) h = catches-none _
+    statement-catches p (Try at block handlers) h =
+        let parts = both (block_fits program procedure block) (handlers_fit program procedure handlers) h in
+        catches-both (block_nodes block) (handlers_nodes handlers) _ _ _
+        (block-catches p block parts.0)
+        (handlers-catches p (p + block_size program block) (handlers_place program p block handlers) handlers parts.1) (omega arith)
+    statement-catches p (Nested at block) h = catches-more (block_nodes block) _ _ (block-catches p block h) (omega arith)
+
+    pub block-catches : (p : ℕ) (block : Block) → block_fits program procedure block ≡ true → AreCatches (block_nodes block) (block_table program p block)
+    block-catches p Empty h = catches-none _
+    block-catches p (Then statement rest) h =
+        let parts = both (statement_fits program procedure statement) (block_fits program procedure rest) h in
+        catches-both (statement_nodes statement) (block_nodes rest) _ _ _
+        (statement-catches p statement parts.0) (block-catches (p + statement_size program statement) rest parts.1) (omega arith)
+
+    handlers-catches : (start end p : ℕ) (handlers : Handlers) → handlers_fit program procedure handlers ≡ true → AreCatches (handlers_nodes handlers) (handlers_table program start end p handlers)
+    handlers-catches start end p NoMore h = catches-none _
+    handlers-catches start end p (Catch at exception body rest) h =
+        let parts = both (is_exception program exception && block_fits program procedure body) (handlers_fit program procedure rest) h in
+        let first = both (is_exception program exception) (block_fits program procedure body) parts.0 in
+        catches-both 1 (block_nodes body + handlers_nodes rest) _ _ _
+        (entry-catches start end exception p (exception-small exception first.0))
+        (catches-both (block_nodes body) (handlers_nodes rest) _ _ _
+        (block-catches p body first.1) (handlers-catches start end (handlers_place program p body rest) rest parts.1) (omega arith))
+        (omega arith)

@@ -1,0 +1,249 @@
+-- The graph of a program is within the limits of the module file.
+use Rattle.std.proofs.Common.{◌≡◌, ℕ, zero, suc, ◌+◌, ◌*◌, ◌^◌, ◌<◌, ◌≤◌, Bool, true, false, ◌&&◌, List, [], ◌∷◌, ◌++◌, All, length, map, get_or, Option, Some, None, refl, ap, ◌∙◌, subst, arith, sum_by}
+use Rattle.std.specs.Prelude.{◌==◌, slice_get, is_none}
+use Rattle.std.specs.List.{AllByRecursion, list_all}
+use Rattle.std.specs.Option.{option_map}
+use Rattle.std.proofs.lemmas.Bool.{and_parts, leb-true}
+use Rattle.std.proofs.lemmas.List.{length-map, get_or-map}
+use Rattle.std.proofs.lemmas.List.Elements.{All-head, All-tail}
+use Rattle.std.proofs.lemmas.List.Sums.{get_or-le-sum_by}
+use Rattle.std.proofs.lemmas.Option.{slice_get-map, slice_get_within}
+use Rattle.resolved.specs.Names.{HasNames}
+use Rattle.resolved.specs.Program.{Program, ProcedureEntry, ResultEntry, ChannelEntry, GlobalEntry, SlotEntry}
+use Rattle.resolved.specs.WellFormed.{size_fits, cell_count, cell_limit, label_fits, label_nodes, first_fits, procedure_fits, procedure_nodes, program_nodes, node_limit, main_fits, well_formed}
+use Rattle.resolved.proofs.Parts.{ProcedureParts, procedure_parts, program_parts}
+use Rattle.bytecode.specs.declared.instruction.Instruction.{Instruction}
+use Rattle.bytecode.specs.declared.instruction.Instruction.TheVariants as instruction
+use Rattle.bytecode.specs.declared.declaration.Handler.{Handler}
+use Rattle.bytecode.specs.declared.value.Kind.{Kind}
+use Rattle.bytecode.specs.declared.value.Kind.TheVariants as kind
+use Rattle.bytecode.specs.Code.{width_of, code_length}
+use Rattle.bytecode.specs.Form.{Fits, FitEach, IsCoded, Code}
+use Rattle.bytecode.specs.Format.{returned, handler, handlers, procedure, procedures, may_start, main, program as program_field, contents, module_file}
+use Rattle.bytecode.specs.Opcodes.{row_of, operand_width, instructions}
+use Rattle.bytecode.specs.declared.opcode.Operand.{Operand}
+use Rattle.bytecode.specs.declared.opcode.Operand.TheVariants.{Absent, Int, Boolean, Number}
+use Rattle.bytecode.proofs.Spelling.{is_spelled, spelled-length}
+use Rattle.layout.specs.Graph.{IsHandlerIn, HasTargetIn, HasPositions}
+use Rattle.lowering.specs.Interface.{returned_kind}
+use Rattle.lowering.specs.Code.{block_falls, block_size, block_code, block_table}
+use Rattle.lowering.specs.Fitting.{HasShortValues}
+use Rattle.lowering.specs.Graphs.{end_code, no_loop, body_code, procedure_contents, graph_of}
+use Rattle.lowering.proofs.FittingChannels.{declared-fits}
+use Rattle.lowering.proofs.FittingCode.{IsNumbered, numbered-both, end-numbered, IsOfException, HasShortTables, block-numbered, block-catches}
+use Rattle.lowering.proofs.FittingHierarchy.{hierarchy-fits}
+use Rattle.lowering.proofs.FittingLabels.{length_by_sum}
+use Rattle.lowering.proofs.FittingTables.{globals-fit, slots-fit}
+use Rattle.lowering.proofs.Fronts.{FitEach-made, All-at_seam}
+use Rattle.lowering.proofs.Room.{block-room}
+use Rattle.lowering.proofs.Sizes.{both_sized, block-sized}
+use Rattle.lowering.proofs.Targets.{Below}
+
+-- ---- code
+
+-- with its target below the length of short code, an instruction has its spelling
+numbered-coded : (n : ℕ) (x : Instruction) → n < 2 ^ 32 → IsNumbered x → Below n x → IsCoded instructions x
+numbered-coded n (instruction.Jump target) room h there = is_spelled (instruction.Jump target) (omega (arith, there, room))
+numbered-coded n (instruction.JumpIfFalse target) room h there = is_spelled (instruction.JumpIfFalse target) (omega (arith, there, room))
+numbered-coded n (instruction.Push z) room h there = is_spelled (instruction.Push z) h
+numbered-coded n (instruction.PushBoolean b) room h there = is_spelled (instruction.PushBoolean b) h
+numbered-coded n instruction.Pop room h there = is_spelled instruction.Pop h
+numbered-coded n (instruction.Load k) room h there = is_spelled (instruction.Load k) h
+numbered-coded n (instruction.Store k) room h there = is_spelled (instruction.Store k) h
+numbered-coded n (instruction.LoadGlobal k) room h there = is_spelled (instruction.LoadGlobal k) h
+numbered-coded n (instruction.StoreGlobal k) room h there = is_spelled (instruction.StoreGlobal k) h
+numbered-coded n (instruction.LoadElement k) room h there = is_spelled (instruction.LoadElement k) h
+numbered-coded n (instruction.StoreElement k) room h there = is_spelled (instruction.StoreElement k) h
+numbered-coded n (instruction.LoadGlobalElement k) room h there = is_spelled (instruction.LoadGlobalElement k) h
+numbered-coded n (instruction.StoreGlobalElement k) room h there = is_spelled (instruction.StoreGlobalElement k) h
+numbered-coded n (instruction.Clear k) room h there = is_spelled (instruction.Clear k) h
+numbered-coded n (instruction.Compute operator) room h there = is_spelled (instruction.Compute operator) h
+numbered-coded n instruction.Negate room h there = is_spelled instruction.Negate h
+numbered-coded n instruction.Not room h there = is_spelled instruction.Not h
+numbered-coded n (instruction.Compare comparison) room h there = is_spelled (instruction.Compare comparison) h
+numbered-coded n instruction.SameBoolean room h there = is_spelled instruction.SameBoolean h
+numbered-coded n instruction.OtherBoolean room h there = is_spelled instruction.OtherBoolean h
+numbered-coded n (instruction.Call f) room h there = is_spelled (instruction.Call f) h
+numbered-coded n instruction.Return room h there = is_spelled instruction.Return h
+numbered-coded n instruction.ReturnValue room h there = is_spelled instruction.ReturnValue h
+numbered-coded n (instruction.Receive k) room h there = is_spelled (instruction.Receive k) h
+numbered-coded n (instruction.Send k) room h there = is_spelled (instruction.Send k) h
+numbered-coded n (instruction.Throw k) room h there = is_spelled (instruction.Throw k) h
+
+code-coded : (n : ℕ) (code : List Instruction) → n < 2 ^ 32 → AllByRecursion IsNumbered code → All (Below n) code → AllByRecursion (IsCoded instructions) code
+code-coded n [] room each there = tt
+code-coded n (x ∷ code) room each there =
+    (numbered-coded n x room each.0 (All-head (Below n) x code there), code-coded n code room each.1 (All-tail (Below n) x code there))
+
+operand-short : (x : Instruction) → width_of x ≤ 5
+operand-short x = by (row_of x).operand
+  where
+    by : (o : Operand) → 1 + operand_width o ≤ 5
+    by Absent = omega arith
+    by (Int n) = omega arith
+    by (Boolean b) = omega arith
+    by (Number n) = omega arith
+
+-- an instruction takes at most five bytes
+code-short : (code : List Instruction) → code_length code ≤ 5 * length code
+code-short [] = omega arith
+code-short (x ∷ code) = omega (arith, operand-short x, code-short code)
+
+code-fits : (code : List Instruction) → length code ≤ 4194305 → AllByRecursion IsNumbered code → All (HasTargetIn code) code → Fits (Code instructions) code
+code-fits code few each there =
+    (omega (arith, few, code-short code, spelled-length code), code-coded (length code) code (omega (arith, few)) each there)
+
+-- ---- handlers
+
+handler-fits : (n : ℕ) (entry : Handler) → n < 2 ^ 32 → IsHandlerIn n entry → IsOfException entry → Fits handler entry
+unfolding handler
+handler-fits n entry room there small =
+    ((omega (arith, room, there.not_empty, there.within), (omega (arith, room, there.within), (small, omega (arith, room, there.target)))), refl)
+
+each-handler : (n : ℕ) (before table : List Handler) → n < 2 ^ 32 → All (IsHandlerIn n) table → AllByRecursion IsOfException table → FitEach (λ front x. Fits handler x) before table
+each-handler n before [] room there small = tt
+each-handler n before (entry ∷ table) room there small = (
+  handler-fits n entry room (All-head (IsHandlerIn n) entry table there) small.0,
+  each-handler n (before ++ entry ∷ []) table room (All-tail (IsHandlerIn n) entry table there) small.1,
+)
+
+handlers-fits : (n : ℕ) (table : List Handler) → n < 2 ^ 32 → length table < 2 ^ 32 → All (IsHandlerIn n) table → AllByRecursion IsOfException table → Fits handlers table
+unfolding handlers
+handlers-fits n table room few there small = (few, refl, each-handler n [] table room there small)
+
+-- ---- procedures
+
+returned-fits : (result : Option Kind) → Fits returned result
+unfolding returned
+returned-fits None = ((omega arith, refl), refl)
+returned-fits (Some kind.Int) = ((omega arith, refl), refl)
+returned-fits (Some kind.Boolean) = ((omega arith, refl), refl)
+
+end-sized : (falls : Bool) → length (end_code falls) ≤ 1
+end-sized true = omega arith
+end-sized false = omega arith
+
+-- a procedure of a program whose tables are not too long
+procedure-fits : (program : Program) (entry : ProcedureEntry) → HasShortTables program entry → procedure_nodes entry ≤ 1048576 → ProcedureParts program entry
+    → HasPositions (procedure_contents program entry) → Fits procedure (procedure_contents program entry)
+unfolding procedure
+procedure-fits program entry short few parts placed =
+    let body = entry.body in
+    let code = body_code program body in
+    let size : length code ≡ block_size program body + length (end_code (block_falls body)) =
+    both_sized (block_code program no_loop 0 body) (end_code (block_falls body)) (block_size program body) (length (end_code (block_falls body))) (block-sized program no_loop 0 body) refl in
+    let long : length code ≤ 4194305 = omega (arith, few, size, block-room program body, end-sized (block_falls body)) in
+    let numbers = numbered-both (block_code program no_loop 0 body) (end_code (block_falls body)) (block-numbered program entry short no_loop 0 body parts.body_fits) (end-numbered (block_falls body)) in
+    let catches = block-catches program entry short 0 body parts.body_fits in
+    let parameters = leb-true entry.parameters (length entry.slots) parts.parameters_there in (
+      (
+        returned-fits (returned_kind entry.result),
+        (
+          omega (arith, few, parameters),
+          (
+            slots-fit program.hierarchy entry.parameters entry.slots (omega (arith, few)) parameters parts.parameters_written parts.slots_fit
+                (leb-true (sum_by (λ (slot : SlotEntry). cell_count slot.size) entry.slots) cell_limit parts.frame_cells),
+            (
+              code-fits code long numbers.each placed.targets,
+              handlers-fits (length code) (block_table program 0 body) (omega (arith, long)) (omega (arith, few, catches.few)) placed.handlers catches.each,
+            ),
+          ),
+        ),
+      ),
+      refl,
+    )
+
+-- ---- programs
+
+procedures-fits : (program : Program) (entries : List ProcedureEntry) → length entries ≤ 1048576
+    → All (λ (entry : ProcedureEntry). Fits procedure (procedure_contents program entry)) entries → Fits procedures (map (procedure_contents program) entries)
+unfolding procedures
+procedures-fits program entries few each = (
+  omega (arith, few, length-map entries (procedure_contents program)),
+  refl,
+  FitEach-made _ (procedure_contents program) entries (λ front entry rest e.
+      All-at_seam front entry rest (λ (entry : ProcedureEntry). Fits procedure (procedure_contents program entry)) (subst (All (λ (entry : ProcedureEntry). Fits procedure (procedure_contents program entry))) e each)),
+)
+
+starts : (program : Program) (o : Option ProcedureEntry) → main_fits o ≡ true → may_start (option_map (procedure_contents program) o) ≡ true
+starts program None h = absurd (cc)
+starts program (Some entry) h = ap (λ b. (entry.parameters == 0) && b) (same entry.result) ∙ h
+  where
+    same : (result : Option ResultEntry) → is_none (returned_kind result) ≡ is_none result
+    same None = refl
+    same (Some type) = refl
+
+main-there : (program : Program) (o : Option ProcedureEntry) → slice_get program.procedures program.main ≡ o → main_fits o ≡ true → program.main < length program.procedures
+main-there program None e h = absurd (cc)
+main-there program (Some entry) e h = slice_get_within program.procedures program.main entry e
+
+main-fits : (program : Program) → length program.procedures ≤ 1048576 → main_fits (slice_get program.procedures program.main) ≡ true
+    → Fits (main (map (procedure_contents program) program.procedures)) program.main
+unfolding main
+main-fits program few h = (
+  omega (arith, few, main-there program (slice_get program.procedures program.main) refl h),
+  ap may_start (slice_get-map (procedure_contents program) program.procedures program.main) ∙ starts program (slice_get program.procedures program.main) h,
+)
+
+-- the numbers of nodes
+record HasCounts (program : Program) : Type 0 where
+  channels : sum_by (λ (entry : ChannelEntry). 1 + label_nodes entry.label) program.channels ≤ 1048576
+  exceptions : length program.exceptions ≤ 1048576
+  globals : length program.globals ≤ 1048576
+  procedures : sum_by procedure_nodes program.procedures ≤ 1048576
+
+counts-from : (program : Program) → program_nodes program ≤ node_limit → HasCounts program
+counts-from program few =
+    record { channels = omega (arith, few); exceptions = omega (arith, few); globals = omega (arith, few); procedures = omega (arith, few) }
+
+procedure-some : (entry : ProcedureEntry) → 1 ≤ procedure_nodes entry
+procedure-some entry = omega arith
+
+tables-from : (program : Program) (entry : ProcedureEntry) → HasCounts program → procedure_nodes entry ≤ 1048576 → HasShortTables program entry
+tables-from program entry counts few = record {
+  globals = omega (arith, counts.globals);
+  slots = omega (arith, few);
+  channels = omega (arith, counts.channels, length_by_sum (λ (entry : ChannelEntry). 1 + label_nodes entry.label) program.channels (λ entry. omega arith));
+  procedures = omega (arith, counts.procedures, length_by_sum procedure_nodes program.procedures procedure-some);
+  exceptions = omega (arith, counts.exceptions);
+}
+
+passes-at : (program : Program) (entries : List ProcedureEntry) (k : ℕ) (d : ProcedureEntry) → list_all (procedure_fits program) entries ≡ true → k < length entries
+    → procedure_fits program (get_or entries k d) ≡ true
+passes-at program [] k d h below = absurd (omega (arith, below))
+passes-at program (entry ∷ rest) zero d h below = (and_parts (procedure_fits program entry) _ h).0
+passes-at program (entry ∷ rest) (suc k) d h below = passes-at program rest k d (and_parts (procedure_fits program entry) _ h).1 (omega (arith, below))
+
+each-procedure : (program : Program) → HasCounts program → list_all (procedure_fits program) program.procedures ≡ true → All HasPositions (map (procedure_contents program) program.procedures)
+    → All (λ (entry : ProcedureEntry). Fits procedure (procedure_contents program entry)) program.procedures
+each-procedure program counts fits placed k d below =
+    let entry = get_or program.procedures k d in
+    let few : procedure_nodes entry ≤ 1048576 = omega (arith, counts.procedures, get_or-le-sum_by procedure_nodes program.procedures k d below) in
+    let here : HasPositions (procedure_contents program entry) =
+    subst HasPositions (get_or-map (procedure_contents program) program.procedures k d (procedure_contents program d) below)
+    (placed k (procedure_contents program d) (omega (arith, below, length-map program.procedures (procedure_contents program)))) in
+    procedure-fits program entry (tables-from program entry counts few) few (procedure_parts program entry (passes-at program program.procedures k d fits below)) here
+
+pub graph-fits : (program : Program) → well_formed program ≡ true → HasNames program → HasShortValues program
+    → All HasPositions (graph_of program).procedures → Fits module_file (graph_of program)
+unfolding module_file contents program_field
+graph-fits program formed names values placed =
+    let parts = program_parts program formed in
+    let counts = counts-from program (leb-true (program_nodes program) node_limit parts.nodes_fit) in
+    let few = length_by_sum procedure_nodes program.procedures procedure-some in
+    let tables = and_parts (list_all (λ (entry : GlobalEntry). size_fits entry.size && label_fits program.hierarchy entry.label && first_fits entry) program.globals) _ parts.globals_are in (
+      (
+        hierarchy-fits program.hierarchy names.hierarchy names.principals,
+        (
+          declared-fits program.hierarchy program.exceptions program.channels names.hierarchy.few counts.exceptions counts.channels parts.channels_fit names.items names.different names.labels,
+          (
+            globals-fit program.hierarchy program.globals counts.globals tables.0 (leb-true (sum_by (λ (entry : GlobalEntry). cell_count entry.size) program.globals) cell_limit tables.1) values,
+            (
+              procedures-fits program program.procedures (omega (arith, few, counts.procedures)) (each-procedure program counts parts.procedures_fit placed),
+              main-fits program (omega (arith, few, counts.procedures)) parts.main_is,
+            ),
+          ),
+        ),
+      ),
+      refl,
+    )

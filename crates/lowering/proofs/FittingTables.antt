@@ -1,0 +1,229 @@
+-- The globals and slots of a graph are within the limits of the module file.
+use Rattle.std.proofs.Common.{◌≡◌, ℕ, ◌+◌, ◌<◌, ◌≤◌, Bool, true, false, ◌&&◌, ◌||◌, ltb, leb, eqb, List, [], ◌∷◌, ◌++◌, length, map, take, Option, Some, None, refl, sym, ap, ◌∙◌, subst, arith, sum_by}
+use Rattle.std.specs.Prelude.{All, FitsSigned, is_none, nat_lt, if◌then◌else◌}
+use Rattle.std.specs.Int.{w32, cast_signed}
+use Rattle.std.specs.List.{list_all}
+use Rattle.std.proofs.lemmas.Bool.{and_from, and_parts, false_from_ne_true, le-leb, leb-true, leb-false, ltb-true, eqb-true}
+use Rattle.std.proofs.lemmas.Int.{to_z-of_z}
+use Rattle.std.proofs.lemmas.List.{length-map}
+use Rattle.std.proofs.lemmas.List.Sums.{sum_by-cons}
+use Rattle.std.proofs.Math.Facts.{Fits-of_z, Fits-lt-pow}
+use Rattle.principals.specs.ActsFor.{PrincipalHierarchy}
+use Rattle.resolved.specs.declared.expression.Value.{Value}
+use Rattle.resolved.specs.declared.expression.Value.TheVariants.{Number, Truth}
+use Rattle.resolved.specs.Program.{GlobalEntry, SlotEntry}
+use Rattle.resolved.specs.WellFormed.{size_fits, cell_count, label_fits, first_fits, written_fits, parameter_fits}
+use Rattle.bytecode.specs.declared.fault.Refusal.TheVariants.{BadValue}
+use Rattle.bytecode.specs.declared.value.Kind.{Kind}
+use Rattle.bytecode.specs.declared.value.Kind.TheVariants as kind
+use Rattle.bytecode.specs.declared.declaration.Slot.{Slot}
+use Rattle.bytecode.specs.declared.declaration.Slot.TheVariants as slot
+use Rattle.bytecode.specs.declared.declaration.Global.{Global}
+use Rattle.bytecode.specs.declared.declaration.Global.TheVariants as global
+use Rattle.bytecode.specs.Form.{Fits, Number as NumberField, Checked}
+use Rattle.bytecode.specs.Format.{cells_of_size, is_size, variable_kind, of_scalar, first_value, global_of, global_fields, global_cells, global_after, globals, slot_of, slot_fields, slot_cells, slot_after, slots}
+use Rattle.lowering.specs.Interface.{kind_of_base, declared_slot, slot_contents, scalar_global, declared_global, global_contents}
+use Rattle.lowering.specs.Fitting.{IsShortValue}
+use Rattle.lowering.proofs.Fronts.{FitEach-made, All-at_seam, passes_at_seam, passes_among_first, sum_at_seam}
+
+-- ---- sizes
+
+pub kind-fits : (k : Kind) → Fits variable_kind k
+unfolding variable_kind
+kind-fits kind.Int = ((omega arith, refl), refl)
+kind-fits kind.Boolean = ((omega arith, refl), refl)
+
+size-tested : (cells size : ℕ) → size ≤ 65536 → cells + cells_of_size size ≤ 1048576 → is_size cells size ≡ true
+size-tested cells size few room = and_from _ _ (le-leb size 65536 few) (le-leb (cells + cells_of_size size) 1048576 room)
+
+not_none : (size : ℕ) → 0 < size → eqb size 0 ≡ false
+not_none size some = false_from_ne_true (eqb size 0) (λ e. let zero_is = eqb-true size 0 e in absurd (omega (arith, some, zero_is)))
+
+-- a length of an array is at least 1 and at most the limit
+record IsLength (size : ℕ) : Type 0 where
+  some : 0 < size
+  few : size ≤ 65536
+
+length-from : (size : ℕ) → size_fits (Some size) ≡ true → IsLength size
+length-from size h =
+    let parts = and_parts (ltb 0 size) (leb size 65536) h in
+    record { some = ltb-true 0 size parts.0; few = leb-true size 65536 parts.1 }
+
+cells-are : (size : ℕ) → 0 < size → cells_of_size size ≡ size
+cells-are size some = ap (λ b. if b then 1 else size) (not_none size some)
+
+-- what a function makes takes no more cells than is counted
+cells-mapped : {A B : Type 0} (f : B → ℕ) (g : A → B) (h : A → ℕ) (test : A → Bool) → ((x : A) → test x ≡ true → f (g x) ≤ h x)
+    → (xs : List A) → list_all test xs ≡ true → sum_by f (map g xs) ≤ sum_by h xs
+cells-mapped f g h test each [] passed = omega arith
+cells-mapped f g h test each (x ∷ xs) passed =
+    let parts = and_parts (test x) (list_all test xs) passed in
+    omega (arith, sum_by-cons f (g x) (map g xs), sum_by-cons h x xs, each x parts.0, cells-mapped f g h test each xs parts.1)
+
+-- ---- globals
+
+int_global-fits : (before : List Global) (z : _) → FitsSigned w32 z → global_cells before + 1 ≤ 1048576 → Fits (global_after before) (global.Int z)
+unfolding global_after
+int_global-fits before z short room =
+    ((kind-fits kind.Int, ((omega arith, size-tested (global_cells before) 0 (omega arith) room), Fits-lt-pow (Fits-of_z short))), ap (λ n. global.Int n) (to_z-of_z w32 z short))
+
+boolean_global-fits : (before : List Global) (b : Bool) → global_cells before + 1 ≤ 1048576 → Fits (global_after before) (global.Boolean b)
+unfolding global_after
+boolean_global-fits before true room =
+    ((kind-fits kind.Boolean, ((omega arith, size-tested (global_cells before) 0 (omega arith) room), (omega arith, refl))), refl)
+boolean_global-fits before false room =
+    ((kind-fits kind.Boolean, ((omega arith, size-tested (global_cells before) 0 (omega arith) room), (omega arith, refl))), refl)
+
+-- what an array has in place of a first value
+first-none : (k : Kind) (size : ℕ) → 0 < size → Fits (first_value k size) 0
+first-none kind.Int size some = subst (λ b. Fits (of_scalar b NumberField) 0) (sym (not_none size some)) refl
+first-none kind.Boolean size some =
+    subst (λ b. Fits (of_scalar b (Checked BadValue (λ n. nat_lt n 2) NumberField)) 0) (sym (not_none size some)) refl
+
+array-again : (k : Kind) (size : ℕ) → 0 < size → global_of (k, (size, 0)) ≡ global.Array k size
+array-again kind.Int size some =
+    ap (λ b. if b then global.Int (cast_signed w32 0) else global.Array kind.Int size) (not_none size some)
+array-again kind.Boolean size some =
+    ap (λ b. if b then global.Boolean (eqb 0 1) else global.Array kind.Boolean size) (not_none size some)
+
+array_global-fits : (before : List Global) (k : Kind) (size : ℕ) → IsLength size → global_cells before + cells_of_size size ≤ 1048576 → Fits (global_after before) (global.Array k size)
+unfolding global_after
+array_global-fits before k size long room =
+    ((kind-fits k, ((omega (arith, long.few), size-tested (global_cells before) size long.few room), first-none k size long.some)), array-again k size long.some)
+
+-- the cells of a global of a graph
+abbrev cells_of_global : Global → ℕ
+cells_of_global g = cells_of_size (global_fields g).1.0
+
+global_cells-are : (entry : GlobalEntry) (size : Option ℕ) → size_fits size ≡ true → cells_of_global (declared_global entry.base size entry.first) ≡ cell_count size
+global_cells-are entry None h = by entry.first
+  where
+    by : (v : Value) → cells_of_global (scalar_global v) ≡ 1
+    by (Number z) = refl
+    by (Truth b) = refl
+global_cells-are entry (Some size) h = cells-are size (length-from size h).some
+
+global-fits : (before : List Global) (entry : GlobalEntry) (size : Option ℕ) → size_fits size ≡ true → IsShortValue entry.first
+    → global_cells before + cell_count size ≤ 1048576 → Fits (global_after before) (declared_global entry.base size entry.first)
+global-fits before entry None h short room = by entry.first short
+  where
+    by : (v : Value) → IsShortValue v → Fits (global_after before) (scalar_global v)
+    by (Number z) small = int_global-fits before z small room
+    by (Truth b) small = boolean_global-fits before b room
+global-fits before entry (Some size) h short room =
+    let long = length-from size h in
+    array_global-fits before (kind_of_base entry.base) size long (omega (arith, room, cells-are size long.some))
+
+-- a global as a well-formed program has it
+abbrev pub is_fit_global : PrincipalHierarchy → GlobalEntry → Bool
+is_fit_global h entry = size_fits entry.size && label_fits h entry.label && first_fits entry
+
+global_size : (h : PrincipalHierarchy) (entry : GlobalEntry) → is_fit_global h entry ≡ true → size_fits entry.size ≡ true
+global_size h entry fits = (and_parts (size_fits entry.size) _ (and_parts (size_fits entry.size && label_fits h entry.label) _ fits).0).0
+
+abbrev counted_global : GlobalEntry → ℕ
+counted_global entry = cell_count entry.size
+
+pub globals-fit : (h : PrincipalHierarchy) (entries : List GlobalEntry) → length entries ≤ 1048576
+    → list_all (λ (entry : GlobalEntry). size_fits entry.size && label_fits h entry.label && first_fits entry) entries ≡ true
+    → sum_by (λ (entry : GlobalEntry). cell_count entry.size) entries ≤ 1048576
+    → All (λ (entry : GlobalEntry). IsShortValue entry.first) entries → Fits globals (map global_contents entries)
+unfolding globals
+globals-fit h entries few fits room short = (
+  omega (arith, few, length-map entries global_contents),
+  refl,
+  FitEach-made _ global_contents entries (λ front entry rest e.
+      let all = subst (λ l. list_all (is_fit_global h) l ≡ true) e fits in
+      let size = global_size h entry (passes_at_seam (is_fit_global h) front entry rest all) in
+      let total : sum_by counted_global entries ≡ sum_by counted_global (front ++ entry ∷ rest) = ap (sum_by counted_global) e in
+      let cells = cells-mapped cells_of_global global_contents counted_global (λ (entry : GlobalEntry). size_fits entry.size) (λ entry h. let same = global_cells-are entry entry.size h in omega (arith, same)) front
+      (front-sizes front entry rest all) in
+      global-fits (map global_contents front) entry entry.size size (All-at_seam front entry rest (λ (entry : GlobalEntry). IsShortValue entry.first) (subst (All (λ (entry : GlobalEntry). IsShortValue entry.first)) e short))
+      (omega (arith, room, total, cells, sum_at_seam counted_global front entry rest))),
+)
+  where
+    front-sizes : (front : List GlobalEntry) (entry : GlobalEntry) (rest : List GlobalEntry) → list_all (is_fit_global h) (front ++ entry ∷ rest) ≡ true → list_all (λ (entry : GlobalEntry). size_fits entry.size) front ≡ true
+    front-sizes [] entry rest all = refl
+    front-sizes (x ∷ front) entry rest all =
+        let parts = and_parts (is_fit_global h x) _ all in
+        and_from _ _ (global_size h x parts.0) (front-sizes front entry rest parts.1)
+
+-- ---- slots
+
+scalar_slot-fits : (parameters : ℕ) (before : List Slot) (k : Kind) → slot_cells before + 1 ≤ 1048576 → Fits (slot_after parameters before) (slot.Scalar k)
+unfolding slot_after
+scalar_slot-fits parameters before k room =
+    let any : (leb parameters (length before) || true) ≡ true = or-true (leb parameters (length before)) in
+    ((kind-fits k, (omega arith, and_from _ _ (size-tested (slot_cells before) 0 (omega arith) room) any)), scalar-again k)
+  where
+    or-true : (b : Bool) → (b || true) ≡ true
+    or-true true = refl
+    or-true false = refl
+
+    scalar-again : (k : Kind) → slot_of (k, 0) ≡ slot.Scalar k
+    scalar-again k = refl
+
+array_slot-again : (k : Kind) (size : ℕ) → 0 < size → slot_of (k, size) ≡ slot.Array k size
+array_slot-again k size some = ap (λ b. if b then slot.Scalar k else slot.Array k size) (not_none size some)
+
+array_slot-fits : (parameters : ℕ) (before : List Slot) (k : Kind) (size : ℕ) → IsLength size → parameters ≤ length before → slot_cells before + cells_of_size size ≤ 1048576 → Fits (slot_after parameters before) (slot.Array k size)
+unfolding slot_after
+array_slot-fits parameters before k size long behind room =
+    let past : (leb parameters (length before) || eqb size 0) ≡ true = ap (λ b. b || eqb size 0) (le-leb parameters (length before) behind) in
+    ((kind-fits k, (omega (arith, long.few), and_from _ _ (size-tested (slot_cells before) size long.few room) past)), array_slot-again k size long.some)
+
+abbrev cells_of_slot : Slot → ℕ
+cells_of_slot s = cells_of_size (slot_fields s).1
+
+slot_cells-are : (entry : SlotEntry) (size : Option ℕ) → size_fits size ≡ true → cells_of_slot (declared_slot entry.base size) ≡ cell_count size
+slot_cells-are entry None h = refl
+slot_cells-are entry (Some size) h = cells-are size (length-from size h).some
+
+slot-fits : (parameters : ℕ) (before : List Slot) (entry : SlotEntry) (size : Option ℕ) → size_fits size ≡ true → (length before < parameters → size ≡ None)
+    → slot_cells before + cell_count size ≤ 1048576 → Fits (slot_after parameters before) (declared_slot entry.base size)
+slot-fits parameters before entry None h scalar room = scalar_slot-fits parameters before (kind_of_base entry.base) room
+slot-fits parameters before entry (Some size) h scalar room =
+    let long = length-from size h in
+    array_slot-fits parameters before (kind_of_base entry.base) size long (behind (leb parameters (length before)) refl) (omega (arith, room, cells-are size long.some))
+  where
+    behind : (b : Bool) → leb parameters (length before) ≡ b → parameters ≤ length before
+    behind true e = leb-true parameters (length before) e
+    behind false e = absurd (let none = scalar (leb-false parameters (length before) e) in cc)
+
+abbrev pub is_fit_slot : PrincipalHierarchy → SlotEntry → Bool
+is_fit_slot h entry = size_fits entry.size && written_fits h entry.written
+
+abbrev counted_slot : SlotEntry → ℕ
+counted_slot entry = cell_count entry.size
+
+none_from : (entry : SlotEntry) (size : Option ℕ) → entry.size ≡ size → parameter_fits entry ≡ true → entry.size ≡ None
+none_from entry None e h = e
+none_from entry (Some n) e h =
+    let scalar : is_none entry.size ≡ true = (and_parts (is_none entry.size) _ h).0 in
+    absurd (let no : false ≡ true = sym (ap is_none e) ∙ scalar in cc)
+
+pub slots-fit : (h : PrincipalHierarchy) (parameters : ℕ) (entries : List SlotEntry) → length entries ≤ 1048576 → parameters ≤ length entries
+    → list_all parameter_fits (take parameters entries) ≡ true
+    → list_all (λ (entry : SlotEntry). size_fits entry.size && written_fits h entry.written) entries ≡ true
+    → sum_by (λ (entry : SlotEntry). cell_count entry.size) entries ≤ 1048576 → Fits (slots parameters) (map slot_contents entries)
+unfolding slots
+slots-fit h parameters entries few there written fits room = (
+  omega (arith, few, length-map entries slot_contents),
+  le-leb _ _ (omega (arith, there, length-map entries slot_contents)),
+  FitEach-made _ slot_contents entries (λ front entry rest e.
+      let all = subst (λ l. list_all (is_fit_slot h) l ≡ true) e fits in
+      let first = subst (λ l. list_all parameter_fits (take parameters l) ≡ true) e written in
+      let size : size_fits entry.size ≡ true = (and_parts (size_fits entry.size) _ (passes_at_seam (is_fit_slot h) front entry rest all)).0 in
+      let total : sum_by counted_slot entries ≡ sum_by counted_slot (front ++ entry ∷ rest) = ap (sum_by counted_slot) e in
+      let cells = cells-mapped cells_of_slot slot_contents counted_slot (λ (entry : SlotEntry). size_fits entry.size) (λ entry h. let same = slot_cells-are entry entry.size h in omega (arith, same)) front
+      (front-sizes front entry rest all) in
+      slot-fits parameters (map slot_contents front) entry entry.size size
+      (λ below. none_from entry entry.size refl (passes_among_first parameter_fits parameters front entry rest (omega (arith, below, length-map front slot_contents)) first))
+      (omega (arith, room, total, cells, sum_at_seam counted_slot front entry rest))),
+)
+  where
+    front-sizes : (front : List SlotEntry) (entry : SlotEntry) (rest : List SlotEntry) → list_all (is_fit_slot h) (front ++ entry ∷ rest) ≡ true → list_all (λ (entry : SlotEntry). size_fits entry.size) front ≡ true
+    front-sizes [] entry rest all = refl
+    front-sizes (x ∷ front) entry rest all =
+        let parts = and_parts (is_fit_slot h x) _ all in
+        and_from _ _ (and_parts (size_fits x.size) _ parts.0).0 (front-sizes front entry rest parts.1)

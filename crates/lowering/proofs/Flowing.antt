@@ -1,0 +1,162 @@
+-- The kinds of the operands along code. They follow from the first instruction to the last: behind one at which control goes on they are
+-- what it leaves, and behind another what it leaves without the top. So each position has one list, and code flows where each instruction
+-- finds its operands and leaves what the position has to which it jumps.
+use Rattle.std.proofs.Common.{◌≡◌, refl, sym, ap, ◌∙◌, subst, ℕ, zero, suc, ◌+◌, Bool, true, false, List, [], ◌∷◌, ◌++◌, length, take, Option, Some, None, slice_get, arith, append_assoc, length-append}
+use Rattle.std.proofs.Math.Seq.{take-append_seam}
+use Rattle.bytecode.specs.Contents.{ProcedureContents, ModuleContents}
+use Rattle.bytecode.specs.declared.instruction.Instruction.{Instruction}
+use Rattle.bytecode.specs.declared.instruction.Instruction.TheVariants as instruction
+use Rattle.bytecode.specs.declared.value.Kind.{Kind}
+use Rattle.bytecode.specs.declared.value.Kind.TheVariants.{Boolean}
+use Rattle.verifier.specs.Fixed.{instruction_defect}
+use Rattle.verifier.specs.Flow.{Effect, Leaves, Misses, effect, goes_on, target_of}
+use Rattle.lowering.proofs.Places.{Stands, stands-front, stands-back}
+
+abbrev pub below_top : List Kind → List Kind
+below_top [] = []
+below_top (kind ∷ kinds) = kinds
+
+abbrev pub following : (goes : Bool) → Effect → List Kind
+following true (Leaves after) = after
+following false (Leaves after) = below_top after
+following true (Misses wrong) = []
+following false (Misses wrong) = []
+
+taken : (whole before behind : List Instruction) (k : ℕ) → whole ≡ before ++ behind → length before ≡ k → take k whole ≡ before
+taken whole before behind k parts size =
+    ap (take k) parts ∙ (ap (λ (n : ℕ). take n (before ++ behind)) (sym size) ∙ take-append_seam before behind)
+
+same_target : (a b : ℕ) → Some a ≡ Some b → a ≡ b
+same_target a b e = cc
+
+no_target-has : {A : Type 0} (o : Option ℕ) (to : ℕ) → o ≡ None → o ≡ Some to → A
+no_target-has o to none some = absurd (let no : None ≡ Some to = sym none ∙ some in cc)
+
+module _ (m : ModuleContents) (p : ProcedureContents) where
+  -- the kinds behind an instruction, and behind code
+  abbrev pub onward : Instruction → List Kind → List Kind
+  onward i kinds = following (goes_on i) (effect m p i kinds)
+
+  abbrev pub along : List Instruction → List Kind → List Kind
+  along [] kinds = kinds
+  along (i ∷ code) kinds = along code (onward i kinds)
+
+  pub along-append : (xs ys : List Instruction) (kinds : List Kind) → along (xs ++ ys) kinds ≡ along ys (along xs kinds)
+  along-append [] ys kinds = refl
+  along-append (x ∷ xs) ys kinds = along-append xs ys (onward x kinds)
+
+  -- an instruction that jumps nowhere, finds its operands and has no defect by itself, with the kinds before and behind it
+  pub record Does (i : Instruction) (before behind : List Kind) : Type 0 where
+    pub after : List Kind
+    pub leaves : effect m p i before ≡ Leaves after
+    pub follows : following (goes_on i) (Leaves after) ≡ behind
+    pub no_target : target_of i ≡ None
+    pub fixed : instruction_defect m p i ≡ None
+
+-- the kinds at the positions of the code of a procedure
+module _ (m : ModuleContents) (p : ProcedureContents) (whole : List Instruction) where
+  abbrev pub kinds_at : ℕ → List Kind
+  kinds_at k = along m p (take k whole) []
+
+  reaches : (code : List Instruction) (at n : ℕ) → length code ≡ n → Stands whole code at → kinds_at (at + n) ≡ along m p code (kinds_at at)
+  reaches code at n size h =
+      ap (λ c. along m p c [])
+      (taken whole (h.before ++ code) h.behind (at + n) (h.parts ∙ sym (append_assoc h.before code h.behind)) (length-append h.before code ∙ omega (arith, size, h.place)))
+      ∙ (along-append m p h.before code [] ∙ ap (λ c. along m p code (along m p c [])) (sym (taken whole h.before (code ++ h.behind) at h.parts h.place)))
+
+  -- an instruction at a position with some kinds
+  pub record Fine (i : Instruction) (kinds : List Kind) : Type 0 where
+    pub after : List Kind
+    pub leaves : effect m p i kinds ≡ Leaves after
+    pub jumps : (to : ℕ) → target_of i ≡ Some to → kinds_at to ≡ after
+    pub fixed : target_of i ≡ None → instruction_defect m p i ≡ None
+
+  abbrev pub EachFine : List Instruction → List Kind → Type 0
+  EachFine [] kinds = Unit {0}
+  EachFine (i ∷ code) kinds = Fine i kinds × EachFine code (onward m p i kinds)
+
+  fine-append : (xs ys : List Instruction) (kinds : List Kind) → EachFine xs kinds → EachFine ys (along m p xs kinds) → EachFine (xs ++ ys) kinds
+  fine-append [] ys kinds h k = k
+  fine-append (x ∷ xs) ys kinds h k = (h.0, fine-append xs ys (onward m p x kinds) h.1 k)
+
+  pub fine-at : (code : List Instruction) (kinds : List Kind) (k : ℕ) (i : Instruction) → EachFine code kinds → slice_get code k ≡ Some i
+      → Fine i (along m p (take k code) kinds)
+  fine-at [] kinds k i h e = absurd (let no : None ≡ Some i = e in cc)
+  fine-at (x ∷ code) kinds zero i h e = let same : x ≡ i = cc in subst (λ y. Fine y kinds) same h.0
+  fine-at (x ∷ code) kinds (suc k) i h e = fine-at code (onward m p x kinds) k i h.1 e
+
+  -- a piece of the code at a place to which control comes with some kinds
+  pub record Here (code : List Instruction) (at : ℕ) (kinds : List Kind) : Type 0 where
+    pub stands : Stands whole code at
+    pub kinds_are : kinds_at at ≡ kinds
+
+  pub here-front : (xs ys : List Instruction) (at : ℕ) (a : List Kind) → Here (xs ++ ys) at a → Here xs at a
+  here-front xs ys at a h = record { stands = stands-front whole xs ys at h.stands; kinds_are = h.kinds_are }
+
+  pub here-end : (xs : List Instruction) (at n : ℕ) (a b : List Kind) → length xs ≡ n → along m p xs a ≡ b → Here xs at a → kinds_at (at + n) ≡ b
+  here-end xs at n a b size passes h = reaches xs at n size h.stands ∙ (ap (along m p xs) h.kinds_are ∙ passes)
+
+  pub here-back : (xs ys : List Instruction) (at n : ℕ) (a b : List Kind) → length xs ≡ n → along m p xs a ≡ b → Here (xs ++ ys) at a → Here ys (at + n) b
+  here-back xs ys at n a b size passes h =
+      record { stands = stands-back whole xs ys at n size h.stands; kinds_are = here-end xs at n a b size passes (here-front xs ys at a h) }
+
+  -- a piece of code for a place, with the kinds before and behind it; its instructions are fine wherever it stands, given some aims
+  pub record Flows (at : ℕ) (code : List Instruction) (aims : Type 0) (before behind : List Kind) : Type 0 where
+    pub passes : along m p code before ≡ behind
+    pub each : Here code at before → aims → EachFine code before
+
+  pub flows-none : {at : ℕ} {aims : Type 0} {a : List Kind} → Flows at [] aims a a
+  flows-none = record { passes = refl; each = λ h g. tt }
+
+  pub flows-both : {at : ℕ} {xs ys : List Instruction} {aims : Type 0} {a b c : List Kind} (n : ℕ) → length xs ≡ n
+      → Flows at xs aims a b → Flows (at + n) ys aims b c → Flows at (xs ++ ys) aims a c
+  flows-both {at = at} {xs = xs} {ys = ys} {a = a} {b = b} n size first second = record {
+    passes = along-append m p xs ys a ∙ (ap (along m p ys) first.passes ∙ second.passes);
+    each = λ h g. fine-append xs ys a (first.each (here-front xs ys at a h) g)
+        (subst (EachFine ys) (sym first.passes) (second.each (here-back xs ys at n a b size first.passes h) g));
+  }
+
+  -- with other aims, which give the ones that are wanted
+  pub flows-given : {at : ℕ} {code : List Instruction} {given : Type 0} {a b : List Kind} (aims : Type 0)
+      → (Here code at a → given → aims) → Flows at code aims a b → Flows at code given a b
+  flows-given aims make f = record { passes = f.passes; each = λ h g. f.each h (make h g) }
+
+  -- code without aims
+  pub flows-free : {at : ℕ} {code : List Instruction} {given : Type 0} {a b : List Kind} → Flows at code (Unit {0}) a b → Flows at code given a b
+  flows-free f = flows-given (Unit {0}) (λ h g. tt) f
+
+  pub flows-one : {at : ℕ} {aims : Type 0} {i : Instruction} {a b : List Kind} → Does m p i a b → Flows at (i ∷ []) aims a b
+  flows-one {i = i} d = record {
+    passes = ap (following (goes_on i)) d.leaves ∙ d.follows;
+    each = λ h g. (record { after = d.after; leaves = d.leaves; jumps = λ to e. no_target-has (target_of i) to d.no_target e; fixed = λ none. d.fixed }, tt);
+  }
+
+  pub flows-jump : {at : ℕ} {aims : Type 0} {a : List Kind} (target : ℕ) → (aims → kinds_at target ≡ a)
+      → Flows at (instruction.Jump target ∷ []) aims a (below_top a)
+  flows-jump {a = a} target arrives = record {
+    passes = refl;
+    each = λ h g. (
+      record {
+        after = a;
+        leaves = refl;
+        jumps = λ to e. subst (λ t. kinds_at t ≡ a) (same_target target to e) (arrives g);
+        fixed = λ none. no_target-has (Some target) target none refl;
+      },
+      tt,
+    );
+  }
+
+  pub flows-test : {at : ℕ} {aims : Type 0} {a : List Kind} (target : ℕ) → (aims → kinds_at target ≡ a)
+      → Flows at (instruction.JumpIfFalse target ∷ []) aims (Boolean ∷ a) a
+  flows-test {a = a} target arrives = record {
+    passes = refl;
+    each = λ h g. (
+      record {
+        after = a;
+        leaves = refl;
+        jumps = λ to e. subst (λ t. kinds_at t ≡ a) (same_target target to e) (arrives g);
+        fixed = λ none. no_target-has (Some target) target none refl;
+      },
+      tt,
+    );
+  }

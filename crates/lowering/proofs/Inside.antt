@@ -1,0 +1,303 @@
+-- The jumps and handlers of a procedure go to positions of its code.
+use Rattle.std.proofs.Common.{◌≡◌, refl, sym, ap, ◌∙◌, ℕ, zero, suc, ◌+◌, ◌<◌, ◌≤◌, Bool, true, false, not, ◌&&◌, ◌||◌, List, [], ◌∷◌, ◌++◌, All, length, get_or, arith}
+use Rattle.std.specs.Prelude.{Option, Some, None, filter, flat_map, nat_lt, is_some, if◌then◌else◌}
+use Rattle.std.specs.List.{list_all}
+use Rattle.std.proofs.lemmas.Bool.{ltb-true}
+use Rattle.std.proofs.lemmas.List.Elements.{All-nil, All-cons, All-append, All-map}
+use Rattle.resolved.specs.declared.expression.Base.TheVariants.{Boolean}
+use Rattle.resolved.specs.declared.expression.Variable.{Variable}
+use Rattle.resolved.specs.declared.statement.Exit.{Exit}
+use Rattle.resolved.specs.declared.statement.Exit.TheVariants.{Normal, Return, Break, Continue, Throw}
+use Rattle.resolved.specs.Tree.{Expression, Statement, Assign, Clear, Store, Receive, Send, Call, If, While, Leave, ReturnWith, Try, Nested, Block, Empty, Then, Handlers, NoMore, Catch, place_of}
+use Rattle.resolved.specs.Program.{Program, ProcedureEntry, ResultEntry, procedure_at}
+use Rattle.resolved.specs.Ends.{same_exit, has_end, statement_ends, block_ends}
+use Rattle.resolved.specs.EndFaults.{OutsideLoop, Unreachable, NeverRaised, NoValueReturned, Undeclared, fault_unless, may_leave, may_stand, inner_faults, block_faults, handlers_faults, may_end, procedure_faults}
+use Rattle.resolved.specs.WellFormed.{has_base, is_exception, statement_fits, block_fits, handlers_fit, procedure_fits}
+use Rattle.resolved.proofs.Sound.Values.{both}
+use Rattle.resolved.proofs.Parts.{program_parts, procedure_parts}
+use Rattle.isolation.proofs.Declared.{append-empty, no_fault-test}
+use Rattle.bytecode.specs.declared.instruction.Instruction.{Instruction}
+use Rattle.bytecode.specs.declared.instruction.Instruction.TheVariants as instruction
+use Rattle.bytecode.specs.declared.declaration.Handler.{Handler}
+use Rattle.layout.specs.Graph.{IsHandlerIn, HasPositions}
+use Rattle.lowering.specs.Expressions.{value_size, value_code, arguments_code, branch_size}
+use Rattle.lowering.specs.Code.{Loop, statement_falls, block_falls, handlers_fall, is_empty, is_none_left, jump_size, jump_code, jumps_over, jumps_behind, result_code, leave_code, return_code, return_size, entry_of, statement_size, block_size, handlers_size, statement_code, block_code, handlers_code, statement_table, block_table, handlers_table}
+use Rattle.lowering.specs.Graphs.{end_code, no_loop, body_code, procedure_contents}
+use Rattle.lowering.specs.Positions.{GraphsHavePositions}
+use Rattle.lowering.proofs.Sizes.{both_sized, block-sized}
+use Rattle.lowering.proofs.Targets.{Below, Stays, none-below, more-below, one-below, both-below, store-below, store_element-below, kept-below, value-below, arguments-below, branch-filled, branch-below}
+use Rattle.lowering.proofs.Unreached.{neither, statement-none}
+
+-- ---- truth values
+or-left : (a b : Bool) → a ≡ true → (a || b) ≡ true
+or-left a b h = ap (λ (x : Bool). x || b) h
+
+or-right : (a b : Bool) → b ≡ true → (a || b) ≡ true
+or-right true b h = refl
+or-right false b h = h
+
+and-both : (a b : Bool) → a ≡ true → b ≡ true → (a && b) ≡ true
+and-both a b h k = ap (λ (x : Bool). x && b) h ∙ k
+
+by-truth : {A : Type 0} (b : Bool) → (b ≡ true → A) → (b ≡ false → A) → A
+by-truth true h k = h refl
+by-truth false h k = k refl
+
+-- ---- code with its handlers
+record Placed (n : ℕ) (made : List Instruction) (table : List Handler) : Type 0 where
+  pub code : Stays n made
+  pub entries : All (IsHandlerIn n) table
+
+plain : {n : ℕ} {code : List Instruction} → Stays n code → Placed n code []
+plain {n = n} h = record { code = h; entries = All-nil (IsHandlerIn n) }
+
+placed-both : {n : ℕ} {xs ys : List Instruction} {es fs : List Handler} → Placed n xs es → Placed n ys fs → Placed n (xs ++ ys) (es ++ fs)
+placed-both {n = n} {xs = xs} {ys = ys} {es = es} {fs = fs} h k =
+    record { code = both-below n xs ys h.code k.code; entries = All-append (IsHandlerIn n) es fs h.entries k.entries }
+
+-- where a part ends: within the code, and before its end if the part may end normally
+record EndsIn (n end : ℕ) (falls : Bool) : Type 0 where
+  pub within : end ≤ n
+  pub strict : falls ≡ true → end < n
+
+-- where a loop goes: to positions, if there is a loop
+record LoopIn (n : ℕ) (in_loop : Bool) (loop : Loop) : Type 0 where
+  pub behind : in_loop ≡ true → loop.behind < n
+  pub test : in_loop ≡ true → loop.test < n
+
+-- ---- a part that does not end normally has code
+module _ (program : Program) where
+  mutual
+    statement-filled : (statement : Statement) → statement_falls statement ≡ false → 1 ≤ statement_size program statement
+    statement-filled (If at e yes_block no_block) falls = omega (arith, branch-filled e false)
+    statement-filled (Leave at exit) falls = omega arith
+    statement-filled (ReturnWith at None) falls = omega arith
+    statement-filled (ReturnWith at (Some e)) falls = omega arith
+    statement-filled (Try at block handlers) falls =
+        omega (arith, block-filled block (neither (block_falls block) (handlers_fall handlers) falls).0)
+    statement-filled (Nested at block) falls = block-filled block falls
+    statement-filled _ falls = absurd (let no : true ≡ false = falls in cc)
+
+    block-filled : (block : Block) → block_falls block ≡ false → 1 ≤ block_size program block
+    block-filled Empty falls = absurd (let no : true ≡ false = falls in cc)
+    block-filled (Then statement rest) falls =
+        by-truth (statement_falls statement)
+        (λ h. let k : block_falls rest ≡ false = sym (ap (λ (b : Bool). b && block_falls rest) h) ∙ falls in omega (arith, block-filled rest k))
+        (λ h. omega (arith, statement-filled statement h))
+
+  inside : (block : Block) (p n : ℕ) → EndsIn n (p + block_size program block) (block_falls block) → p < n
+  inside block p n ends =
+      by-truth (block_falls block) (λ h. omega (arith, ends.strict h)) (λ h. omega (arith, ends.within, block-filled block h))
+
+-- ---- pieces
+jump-below : (n : ℕ) (wanted : Bool) (target : ℕ) → (wanted ≡ true → target < n) → Stays n (jump_code wanted target)
+jump-below n true target h = one-below n (instruction.Jump target) (h refl)
+jump-below n false target h = none-below n
+
+result-below : (n : ℕ) (result : Option ResultEntry) (target : Option Variable) → Stays n (result_code result target)
+result-below n None target = none-below n
+result-below n (Some entry) target = one-below n _ (kept-below n target)
+
+leave-below : (n : ℕ) (in_loop : Bool) (loop : Loop) (exit : Exit) → LoopIn n in_loop loop → may_leave in_loop exit ≡ true → Below n (leave_code loop exit)
+leave-below n in_loop loop Normal loops h = tt
+leave-below n in_loop loop Return loops h = tt
+leave-below n in_loop loop Break loops h = loops.behind h
+leave-below n in_loop loop Continue loops h = loops.test h
+leave-below n in_loop loop (Throw exception) loops h = tt
+
+return-below : (n p : ℕ) (e : Option Expression) → p + return_size e ≤ n → Stays n (return_code p e)
+return-below n p None room = one-below n instruction.Return tt
+return-below n p (Some e) room =
+    both-below n (value_code p e) _ (value-below e p n (omega (arith, room))) (one-below n instruction.ReturnValue tt)
+
+end-below : (n : ℕ) (falls : Bool) → Stays n (end_code falls)
+end-below n true = one-below n instruction.Return tt
+end-below n false = none-below n
+
+entry-in : (n start end exception target : ℕ) → end ≤ n → target < n → All (IsHandlerIn n) (entry_of start end exception target)
+entry-in n start end exception target within inside_code = by (nat_lt start end) refl
+  where
+    by : (b : Bool) → nat_lt start end ≡ b
+        → All (IsHandlerIn n) (if b then (record { start = start; end = end; exception = exception; target = target } ∷ []) else [])
+    by true e =
+        All-cons (IsHandlerIn n) (record { start = start; end = end; exception = exception; target = target }) []
+        (record { not_empty = ltb-true start end e; within = within; target = inside_code }) (All-nil (IsHandlerIn n))
+    by false e = All-nil (IsHandlerIn n)
+
+module _ (program : Program) (procedure : ProcedureEntry) (n : ℕ) where
+  -- nothing stands where no statement ends normally
+  unreached : (loop : Loop) (in_loop reached : Bool) (p : ℕ) (block : Block) → reached ≡ false → block_faults program in_loop reached block ≡ []
+      → Placed n (block_code program loop p block) (block_table program p block)
+  unreached loop in_loop reached p Empty h faults = plain (none-below n)
+  unreached loop in_loop reached p (Then statement rest) h faults =
+      let first = fault_unless (may_stand in_loop statement) OutsideLoop (place_of statement) in
+      let second = fault_unless reached Unreachable (place_of statement) in
+      let later = append-empty (first ++ second ++ inner_faults program in_loop statement) _ faults in
+      let here = append-empty (first ++ second) (inner_faults program in_loop statement) later.0 in
+      let reaches : reached ≡ true = no_fault-test reached Unreachable (place_of statement) (append-empty first second here.0).1 in
+      absurd (let no : true ≡ false = sym reaches ∙ h in cc)
+
+  mutual
+    statement-placed : (loop : Loop) (in_loop : Bool) (p : ℕ) (statement : Statement) → statement_fits program procedure statement ≡ true
+        → may_stand in_loop statement ≡ true → inner_faults program in_loop statement ≡ [] → LoopIn n in_loop loop
+        → EndsIn n (p + statement_size program statement) (statement_falls statement)
+        → Placed n (statement_code program loop p statement) (statement_table program p statement)
+    statement-placed loop in_loop p (Assign at x e) fits stands faults loops ends =
+        plain (both-below n (value_code p e) _ (value-below e p n (omega (arith, ends.within))) (one-below n _ (store-below n x)))
+    statement-placed loop in_loop p (Clear at slot) fits stands faults loops ends = plain (one-below n (instruction.Clear slot) tt)
+    statement-placed loop in_loop p (Store at array size index e) fits stands faults loops ends =
+        plain (both-below n (value_code p index) _ (value-below index p n (omega (arith, ends.within)))
+        (both-below n (value_code (p + value_size index) e) _ (value-below e (p + value_size index) n (omega (arith, ends.within))) (one-below n _ (store_element-below n array))))
+    statement-placed loop in_loop p (Receive at channel target) fits stands faults loops ends =
+        plain (more-below n (instruction.Receive channel) _ tt (one-below n _ (kept-below n target)))
+    statement-placed loop in_loop p (Send at channel e) fits stands faults loops ends =
+        plain (both-below n (value_code p e) _ (value-below e p n (omega (arith, ends.within))) (one-below n (instruction.Send channel) tt))
+    statement-placed loop in_loop p (Call at f arguments target) fits stands faults loops ends =
+        plain (both-below n (arguments_code p arguments) _ (arguments-below arguments p n (omega (arith, ends.within)))
+        (more-below n (instruction.Call f) _ tt (result-below n (procedure_at program f).result target)))
+    statement-placed loop in_loop p (If at e yes_block no_block) fits stands faults loops ends =
+        let b = branch_size false e in
+        let y = block_size program yes_block in
+        let j = jumps_over yes_block no_block in
+        let k = jump_size j in
+        let z = block_size program no_block in
+        let parts = both (has_base program procedure Boolean e && block_fits program procedure yes_block) (block_fits program procedure no_block) fits in
+        let yes_fits : block_fits program procedure yes_block ≡ true = (both (has_base program procedure Boolean e) (block_fits program procedure yes_block) parts.0).1 in
+        let no_fault = append-empty (block_faults program in_loop true yes_block) (block_faults program in_loop true no_block) faults in
+        let within : p + (b + (y + (k + z))) ≤ n = ends.within in
+        let first : block_falls yes_block ≡ true → p + (b + (y + (k + z))) < n = λ h. ends.strict (or-left (block_falls yes_block) (block_falls no_block) h) in
+        let second : block_falls no_block ≡ true → p + (b + (y + (k + z))) < n = λ h. ends.strict (or-right (block_falls yes_block) (block_falls no_block) h) in
+        let yes_ends : EndsIn n (p + b + y) (block_falls yes_block) = record { within = omega (arith, within); strict = λ h. omega (arith, first h) } in
+        let no_ends : EndsIn n (p + b + y + k + z) (block_falls no_block) = record { within = omega (arith, within); strict = λ h. omega (arith, second h) } in
+        let over : j ≡ true → p + b + y + k + z < n = λ h. omega (arith, first (both (block_falls yes_block) (not (is_empty no_block)) h).0) in
+        placed-both (plain (branch-below e false p (p + b + y + k) n (inside program yes_block (p + b) n yes_ends) (inside program no_block (p + b + y + k) n no_ends)))
+        (placed-both (block-placed loop in_loop true (p + b) yes_block yes_fits no_fault.0 loops yes_ends)
+        (placed-both (plain (jump-below n j (p + b + y + k + z) over))
+        (block-placed loop in_loop true (p + b + y + k) no_block parts.1 no_fault.1 loops no_ends)))
+    statement-placed loop in_loop p (While at number e body) fits stands faults loops ends =
+        let m = block_size program body in
+        let b = branch_size true e in
+        let strict : p + (1 + (m + b)) < n = ends.strict refl in
+        let inner : Loop = record { behind = p + 1 + m + b; test = p + 1 + m } in
+        let placed = block-placed inner true true (p + 1) body (both (has_base program procedure Boolean e) (block_fits program procedure body) fits).1 faults
+        (record { behind = λ h. omega (arith, strict); test = λ h. omega (arith, strict) })
+        (record { within = omega (arith, strict); strict = λ h. omega (arith, strict) }) in
+        record {
+          code = more-below n (instruction.Jump (p + 1 + m)) _ (omega (arith, strict))
+              (both-below n (block_code program inner (p + 1) body) _ placed.code (branch-below e true (p + 1 + m) (p + 1) n (omega (arith, strict)) (omega (arith, strict))));
+          entries = placed.entries;
+        }
+    statement-placed loop in_loop p (Leave at exit) fits stands faults loops ends = plain (one-below n _ (leave-below n in_loop loop exit loops stands))
+    statement-placed loop in_loop p (ReturnWith at e) fits stands faults loops ends = plain (return-below n p e ends.within)
+    statement-placed loop in_loop p (Try at block handlers) fits stands faults loops ends =
+        let m = block_size program block in
+        let j = jumps_behind block handlers in
+        let k = jump_size j in
+        let z = handlers_size program handlers in
+        let parts = both (block_fits program procedure block) (handlers_fit program procedure handlers) fits in
+        let no_fault = append-empty (block_faults program in_loop true block) (handlers_faults program in_loop (block_ends program block) handlers) faults in
+        let within : p + (m + (k + z)) ≤ n = ends.within in
+        let first : block_falls block ≡ true → p + (m + (k + z)) < n = λ h. ends.strict (or-left (block_falls block) (handlers_fall handlers) h) in
+        let second : handlers_fall handlers ≡ true → p + (m + (k + z)) < n = λ h. ends.strict (or-right (block_falls block) (handlers_fall handlers) h) in
+        let over : j ≡ true → p + m + k + z < n = λ h. omega (arith, first (both (block_falls block) (not (is_none_left handlers)) h).0) in
+        placed-both (block-placed loop in_loop true p block parts.0 no_fault.0 loops (record { within = omega (arith, within); strict = λ h. omega (arith, first h) }))
+        (placed-both (plain (jump-below n j (p + m + k + z) over))
+        (handlers-placed loop in_loop p (p + m) (p + m + k + z) (p + m + k) (block_ends program block) handlers parts.1 no_fault.1 loops (omega (arith, within)) refl
+        (record { within = omega (arith, within); strict = λ h. omega (arith, second h) })))
+    statement-placed loop in_loop p (Nested at block) fits stands faults loops ends = block-placed loop in_loop true p block fits faults loops ends
+
+    block-placed : (loop : Loop) (in_loop reached : Bool) (p : ℕ) (block : Block) → block_fits program procedure block ≡ true
+        → block_faults program in_loop reached block ≡ [] → LoopIn n in_loop loop → EndsIn n (p + block_size program block) (block_falls block)
+        → Placed n (block_code program loop p block) (block_table program p block)
+    block-placed loop in_loop reached p Empty fits faults loops ends = plain (none-below n)
+    block-placed loop in_loop reached p (Then statement rest) fits faults loops ends =
+        let m = statement_size program statement in
+        let z = block_size program rest in
+        let first = fault_unless (may_stand in_loop statement) OutsideLoop (place_of statement) in
+        let second = fault_unless reached Unreachable (place_of statement) in
+        let goes_on = has_end (statement_ends program statement) Normal in
+        let later = append-empty (first ++ second ++ inner_faults program in_loop statement) (block_faults program in_loop goes_on rest) faults in
+        let here = append-empty (first ++ second) (inner_faults program in_loop statement) later.0 in
+        let stands = no_fault-test (may_stand in_loop statement) OutsideLoop (place_of statement) (append-empty first second here.0).0 in
+        let parts = both (statement_fits program procedure statement) (block_fits program procedure rest) fits in
+        let within : p + (m + z) ≤ n = ends.within in
+        let rest_ends : statement_falls statement ≡ true → EndsIn n (p + m + z) (block_falls rest) =
+        λ h. record { within = omega (arith, within); strict = λ g. omega (arith, ends.strict (and-both (statement_falls statement) (block_falls rest) h g)) } in
+        placed-both
+        (statement-placed loop in_loop p statement parts.0 stands here.1 loops
+        (record { within = omega (arith, within); strict = λ h. inside program rest (p + m) n (rest_ends h) }))
+        (by-truth (statement_falls statement)
+        (λ h. block-placed loop in_loop goes_on (p + m) rest parts.1 later.1 loops (rest_ends h))
+        (λ h. unreached loop in_loop goes_on (p + m) rest (statement-none program procedure statement parts.0 h) later.1))
+
+    handlers-placed : (loop : Loop) (in_loop : Bool) (start end behind p : ℕ) (ends : List Exit) (handlers : Handlers)
+        → handlers_fit program procedure handlers ≡ true → handlers_faults program in_loop ends handlers ≡ [] → LoopIn n in_loop loop
+        → end ≤ n → p + handlers_size program handlers ≡ behind → EndsIn n behind (handlers_fall handlers)
+        → Placed n (handlers_code program loop behind p handlers) (handlers_table program start end p handlers)
+    handlers-placed loop in_loop start end behind p ends NoMore fits faults loops tried size last = plain (none-below n)
+    handlers-placed loop in_loop start end behind p ends (Catch at exception body rest) fits faults loops tried size last =
+        let m = block_size program body in
+        let j = jumps_behind body rest in
+        let k = jump_size j in
+        let z = handlers_size program rest in
+        let parts = both (is_exception program exception && block_fits program procedure body) (handlers_fit program procedure rest) fits in
+        let body_fits : block_fits program procedure body ≡ true = (both (is_exception program exception) (block_fits program procedure body) parts.0).1 in
+        let raised = fault_unless (has_end ends (Throw exception)) NeverRaised at in
+        let others = filter (λ exit. not (same_exit (Throw exception) exit)) ends in
+        let later = append-empty (raised ++ block_faults program in_loop true body) (handlers_faults program in_loop others rest) faults in
+        let here = append-empty raised (block_faults program in_loop true body) later.0 in
+        let is : p + (m + (k + z)) ≡ behind = size in
+        let first : block_falls body ≡ true → behind < n = λ h. last.strict (or-left (block_falls body) (handlers_fall rest) h) in
+        let body_ends : EndsIn n (p + m) (block_falls body) = record { within = omega (arith, is, last.within); strict = λ h. omega (arith, is, first h) } in
+        let placed = placed-both (block-placed loop in_loop true p body body_fits here.1 loops body_ends)
+        (placed-both (plain (jump-below n j behind (λ h. first (both (block_falls body) (not (is_none_left rest)) h).0)))
+        (handlers-placed loop in_loop start end behind (p + m + k) others rest parts.1 later.1 loops tried (omega (arith, is))
+        (record { within = last.within; strict = λ h. last.strict (or-right (block_falls body) (handlers_fall rest) h) }))) in
+        record {
+          code = placed.code;
+          entries = All-append (IsHandlerIn n) (entry_of start end exception p) _ (entry-in n start end exception p tried (inside program body p n body_ends)) placed.entries;
+        }
+
+-- ---- procedures and programs
+procedure-placed : (program : Program) (procedure : ProcedureEntry) → block_fits program procedure procedure.body ≡ true → block_faults program false true procedure.body ≡ []
+    → HasPositions (procedure_contents program procedure)
+procedure-placed program procedure fits faults =
+    let body = procedure.body in
+    let n = length (body_code program body) in
+    let size : n ≡ block_size program body + length (end_code (block_falls body)) =
+    both_sized (block_code program no_loop 0 body) (end_code (block_falls body)) (block_size program body) (length (end_code (block_falls body))) (block-sized program no_loop 0 body) refl in
+    let one : block_falls body ≡ true → length (end_code (block_falls body)) ≡ 1 = λ h. ap (λ (b : Bool). length (end_code b)) h in
+    let placed = block-placed program procedure n no_loop false true 0 body fits faults
+    (record { behind = λ h. absurd (let no : false ≡ true = h in cc); test = λ h. absurd (let no : false ≡ true = h in cc) })
+    (record { within = omega (arith, size); strict = λ h. omega (arith, size, one h) }) in
+    record {
+      targets = (both-below n (block_code program no_loop 0 body) (end_code (block_falls body)) placed.code (end-below n (block_falls body))).each;
+      handlers = placed.entries;
+    }
+
+fits-at : (program : Program) (procedures : List ProcedureEntry) (k : ℕ) (d : ProcedureEntry) → list_all (procedure_fits program) procedures ≡ true → k < length procedures
+    → procedure_fits program (get_or procedures k d) ≡ true
+fits-at program [] k d h below = absurd (omega (arith, below))
+fits-at program (procedure ∷ rest) zero d h below = (both (procedure_fits program procedure) (list_all (procedure_fits program) rest) h).0
+fits-at program (procedure ∷ rest) (suc k) d h below =
+    fits-at program rest k d (both (procedure_fits program procedure) (list_all (procedure_fits program) rest) h).1 (omega (arith, below))
+
+faultless-at : (program : Program) (procedures : List ProcedureEntry) (k : ℕ) (d : ProcedureEntry) → flat_map (procedure_faults program) procedures ≡ [] → k < length procedures
+    → procedure_faults program (get_or procedures k d) ≡ []
+faultless-at program [] k d h below = absurd (omega (arith, below))
+faultless-at program (procedure ∷ rest) zero d h below = (append-empty (procedure_faults program procedure) (flat_map (procedure_faults program) rest) h).0
+faultless-at program (procedure ∷ rest) (suc k) d h below =
+    faultless-at program rest k d (append-empty (procedure_faults program procedure) (flat_map (procedure_faults program) rest) h).1 (omega (arith, below))
+
+pub graphs-positioned : GraphsHavePositions
+graphs-positioned program formed none =
+    All-map HasPositions (procedure_contents program) program.procedures
+    (λ k d below.
+    let procedure = get_or program.procedures k d in
+    let ends = block_ends program procedure.body in
+    let value = fault_unless (not (is_some procedure.result && has_end ends Normal)) NoValueReturned procedure.at in
+    let declared = fault_unless (list_all (may_end procedure) ends) Undeclared procedure.at in
+    let faults = append-empty (block_faults program false true procedure.body ++ value) declared (faultless-at program program.procedures k d none below) in
+    procedure-placed program procedure
+    (procedure_parts program procedure (fits-at program program.procedures k d (program_parts program formed).procedures_fit below)).body_fits
+    (append-empty (block_faults program false true procedure.body) value faults.0).0)

@@ -1,0 +1,182 @@
+-- The graph of a program keeps its meaning.
+use Rattle.std.proofs.Common.{◌≡◌, ℕ, ◌+◌, ◌⊎◌, inl, inr, true, false, ◌&&◌, ◌||◌, ℤ, pos, negsuc, List, [], ◌∷◌, refl, sym, ap, ◌∙◌, subst, slice_get, eqb-true}
+use Rattle.std.specs.Prelude.{Option, Some, None, is_none, ◌==◌, replicate, take}
+use Rattle.std.specs.Option.{option_map}
+use Rattle.std.specs.List.{list_all}
+use Rattle.std.proofs.Math.Path.{fun_ext}
+use Rattle.std.proofs.lemmas.Option.{slice_get-map}
+use Rattle.resolved.specs.declared.expression.Value.{Value}
+use Rattle.resolved.specs.declared.expression.Value.TheVariants.{Number, Truth}
+use Rattle.resolved.specs.declared.expression.Base.{Base}
+use Rattle.resolved.specs.declared.expression.Base.TheVariants as base
+use Rattle.resolved.specs.declared.statement.Exit.TheVariants.{Normal, Return, Break, Continue, Throw}
+use Rattle.resolved.specs.declared.tables.Direction.{Direction}
+use Rattle.resolved.specs.declared.tables.Direction.TheVariants.{Input, Output}
+use Rattle.resolved.specs.Program.{Program, ProcedureEntry, ResultEntry, GlobalEntry, ChannelEntry, procedure_at}
+use Rattle.resolved.specs.State as source
+use Rattle.resolved.specs.Value.{base_of}
+use Rattle.resolved.specs.Ends.{thrown_ends, declared_by}
+use Rattle.resolved.specs.EndFaults.{end_faults}
+use Rattle.resolved.specs.Meaning as meaning
+use Rattle.resolved.specs.Meaning.{Outcome, Ended, Stopped, Deep, OutOfTurns, leaving, entering, calls_with, block_meaning, state_after, global_cells, channel_numbers, numbers_by}
+use Rattle.resolved.specs.WellFormed.{well_formed, parameters_of, has_result, same_base, main_fits, first_fits, size_fits, label_fits, is_zero_value}
+use Rattle.resolved.specs.Kinds.{StateFits, OutcomeFits, ArgumentsFit}
+use Rattle.resolved.proofs.Parts.{ProcedureParts, procedure_at_is, program_parts, passes_at}
+use Rattle.resolved.proofs.Parts as parts
+use Rattle.resolved.proofs.Sound.Values.{both, same_base_is}
+use Rattle.resolved.proofs.Sound.Meanings.{meaning_keeps_types}
+use Rattle.resolved.proofs.Sound.Runs.{runs_begin_typed}
+use Rattle.isolation.specs.Runs.{EndsAmong}
+use Rattle.isolation.proofs.Among.{calls-among}
+use Rattle.isolation.proofs.Declared.{ends-as-declared}
+use Rattle.bytecode.specs.declared.value.Cell.{Cell}
+use Rattle.bytecode.specs.Contents.{ProcedureContents}
+use Rattle.bytecode.specs.Values.{zero_of}
+use Rattle.bytecode.specs.Machine as machine
+use Rattle.bytecode.specs.Machine.{Machine, Running}
+use Rattle.layout.specs.Runs.{graph_program}
+use Rattle.lowering.specs.Interface.{global_contents, scalar_global, kind_of_base}
+use Rattle.lowering.specs.Code.{block_size}
+use Rattle.lowering.specs.Graphs.{no_loop, graph_of}
+use Rattle.lowering.specs.Kept.{ending_of}
+use Rattle.lowering.proofs.Steps.{Leads, Waits, leads-through}
+use Rattle.lowering.proofs.States.{place, cell_of, cells_of, left_of, left_by}
+use Rattle.lowering.proofs.Outcomes.{Runs}
+use Rattle.lowering.proofs.Frames.{setting_of, procedure_there, slots-begin, cells_replicated}
+use Rattle.lowering.proofs.Calls.{nowhere, never_true, no_break, no_continue, body-run, body-returns, calls-run}
+
+-- ---- the first state
+
+zero_value_cell : (v : Value) (b : Base) → base_of v ≡ b → is_zero_value v ≡ true → cell_of v ≡ zero_of (kind_of_base b)
+zero_value_cell (Number (pos n)) base.Int e h = let none : n ≡ 0 = eqb-true n 0 h in rw none refl
+zero_value_cell (Number (negsuc n)) base.Int e h = absurd (let no : false ≡ true = h in cc)
+zero_value_cell (Truth false) base.Boolean e h = refl
+zero_value_cell (Truth true) base.Boolean e h = absurd (let no : false ≡ true = h in cc)
+zero_value_cell (Number z) base.Boolean e h = absurd (let no : base.Int ≡ base.Boolean = e in cc)
+zero_value_cell (Truth b) base.Int e h = absurd (let no : base.Boolean ≡ base.Int = e in cc)
+
+scalar_begins : (v : Value) → machine.first_global (scalar_global v) ≡ cell_of v ∷ []
+scalar_begins (Number z) = refl
+scalar_begins (Truth b) = refl
+
+sized_begins : (entry : GlobalEntry) (size : Option ℕ) → entry.size ≡ size → base_of entry.first ≡ entry.base → (is_none entry.size || is_zero_value entry.first) ≡ true
+    → machine.first_global (global_contents entry) ≡ cells_of (meaning.cells_of entry.size entry.first)
+sized_begins entry None e h empty = rw e (scalar_begins entry.first)
+sized_begins entry (Some count) e h empty =
+    let is_zero_first : is_zero_value entry.first ≡ true = subst (λ s. (is_none s || is_zero_value entry.first) ≡ true) e empty in
+    rw e (ap (replicate count) (sym (zero_value_cell entry.first entry.base h is_zero_first)) ∙ sym (cells_replicated count entry.first))
+
+global_begins : (program : Program) → well_formed program ≡ true → (k : ℕ) (o : Option GlobalEntry) → slice_get program.globals k ≡ o
+    → machine.cells_of_global (option_map global_contents o) ≡ cells_of (global_cells o)
+global_begins program formed k None e = refl
+global_begins program formed k (Some entry) e =
+    let all_fit : list_all (λ (entry : GlobalEntry). size_fits entry.size && label_fits program.hierarchy entry.label && first_fits entry) program.globals ≡ true =
+    (both (list_all _ program.globals) _ (program_parts program formed).globals_are).0 in
+    let fit : first_fits entry ≡ true =
+    (both (size_fits entry.size && label_fits program.hierarchy entry.label) _ (passes_at _ program.globals k entry all_fit e)).1 in
+    let two = both (same_base (base_of entry.first) entry.base) (is_none entry.size || is_zero_value entry.first) fit in
+    sized_begins entry entry.size refl (same_base_is (base_of entry.first) entry.base two.0) two.1
+
+rest_begins : (o : Option ChannelEntry) (numbers : List ℤ) → numbers ≡ left_of o (channel_numbers o numbers) numbers
+rest_begins None numbers = refl
+rest_begins (Some entry) numbers = by entry.direction
+  where
+    by : (d : Direction) → numbers ≡ left_by d (numbers_by d numbers) numbers
+    by Input = refl
+    by Output = refl
+
+begins-so : (program : Program) (formed : well_formed program ≡ true) (world : source.World) (main : ProcedureEntry) (there : slice_get program.procedures program.main ≡ Some main)
+    → ArgumentsFit (parameters_of main) []
+    → ◌≡◌ {A = Machine} (Running (machine.first_state (graph_of program) world))
+    (place (setting_of program formed world program.main main there []) 0 [] (entering main [] (meaning.first_state program world)))
+begins-so program formed world main there none =
+    let graph = graph_of program in
+    let globals : (λ k. machine.cells_of_global (slice_get graph.globals k)) ≡ (λ n. cells_of (global_cells (slice_get program.globals n))) =
+    fun_ext (λ n. ap machine.cells_of_global (slice_get-map global_contents program.globals n) ∙ global_begins program formed n (slice_get program.globals n) refl) in
+    let slots : machine.first_slots (machine.slots_in (slice_get graph.procedures program.main)) [] ≡ (λ n. cells_of (meaning.frame_of main.slots [] n)) =
+    ap (λ (o : Option ProcedureContents). machine.first_slots (machine.slots_in o) []) (procedure_there program program.main main there) ∙ slots-begin main [] none in
+    let rest : world ≡ (λ c. left_of (slice_get program.channels c) (channel_numbers (slice_get program.channels c) (world c)) (world c)) =
+    fun_ext (λ c. rest_begins (slice_get program.channels c) (world c)) in
+    ap (λ (g : ℕ → List Cell). Running (record (machine.first_state graph world) { globals = g })) globals
+    ∙ ap (λ (f : ℕ → List Cell). Running (record (machine.first_state graph world) {
+      globals = λ n. cells_of (global_cells (slice_get program.globals n));
+      frame = record { procedure = program.main; slots = f; operands = []; position = 0 };
+    })) slots
+    ∙ ap (λ (r : ℕ → List ℤ). Running (record (machine.first_state graph world) {
+      globals = λ n. cells_of (global_cells (slice_get program.globals n));
+      frame = record { procedure = program.main; slots = λ n. cells_of (meaning.frame_of main.slots [] n); operands = []; position = 0 };
+      rest = r;
+    })) rest
+
+-- ---- how a run ends
+
+pub record Comes (p : machine.Program) (from : Machine) (o : Outcome) : Type 0 where
+  pub ending : machine.Ending
+  pub so : ending_of o ≡ Some ending
+  pub leads : Leads p from (machine.Ended ending (state_after o).sent)
+
+pub record GoesOn (p : machine.Program) (k : ℕ) (from : Machine) (o : Outcome) : Type 0 where
+  pub no_end : ending_of o ≡ None
+  pub waits : Waits p k from (state_after o).sent
+
+module _ (program : Program) (formed : well_formed program ≡ true) (none : end_faults program ≡ []) (world : source.World) (k : ℕ) where
+  module _ (main : ProcedureEntry) (there : slice_get program.procedures program.main ≡ Some main) (nothing : main.result ≡ None) where
+    ends-by : (s : source.State) (back : source.State → source.State) (o : Outcome) → block_meaning (calls_with program k 511) k main.body s ≡ o
+        → ((t : source.State) → (back t).sent ≡ t.sent) → OutcomeFits program main Return main.result o
+        → EndsAmong (Normal ∷ thrown_ends (declared_by main.throws)) (leaving back o)
+        → Runs (setting_of program formed world program.main main there []) no_loop nowhere k (place (setting_of program formed world program.main main there []) 0 [] s) (0 + block_size program main.body) o
+        → Comes (setting_of program formed world program.main main there []).p (place (setting_of program formed world program.main main there []) 0 [] s) (leaving back o)
+        ⊎ GoesOn (setting_of program formed world program.main main there []).p k (place (setting_of program formed world program.main main there []) 0 [] s) (leaving back o)
+    ends-by s back (Ended Normal None t) is same fit among run =
+        inl (record { ending = machine.Finished; so = refl; leads = rw (same t) (leads-through _ _ _ _ run (body-returns program formed none world k 511 program.main main there [] s t None is (ap is_none nothing))) })
+    ends-by s back (Ended Normal (Some v) t) is same fit among run = absurd (never_true fit.returned)
+    ends-by s back (Ended Return None t) is same fit among run = inl (record { ending = machine.Finished; so = refl; leads = rw (same t) run })
+    ends-by s back (Ended Return (Some v) t) is same fit among run =
+        absurd (never_true (sym (ap (λ (r : Option ResultEntry). has_result r (same_base (base_of v))) nothing) ∙ fit.returned))
+    ends-by s back (Ended Break returned t) is same fit among run = absurd (never_true (sym (no_break (declared_by main.throws)) ∙ among))
+    ends-by s back (Ended Continue returned t) is same fit among run = absurd (never_true (sym (no_continue (declared_by main.throws)) ∙ among))
+    ends-by s back (Ended (Throw e) returned t) is same fit among run = inl (record { ending = machine.Threw e; so = refl; leads = rw (same t) run })
+    ends-by s back (Stopped Deep t) is same fit among run = inl (record { ending = machine.Deep; so = refl; leads = rw (same t) run })
+    ends-by s back (Stopped OutOfTurns t) is same fit among run = inr (record { no_end = refl; waits = rw (same t) run })
+
+  abbrev Done : Outcome → Type 0
+  Done o = Comes (graph_program (graph_of program)) (Running (machine.first_state (graph_of program) world)) o
+      ⊎ GoesOn (graph_program (graph_of program)) k (Running (machine.first_state (graph_of program) world)) o
+
+  main-run : (main : ProcedureEntry) → slice_get program.procedures program.main ≡ Some main → main_fits (Some main) ≡ true → Done (calls_with program k 512 program.main [] (meaning.first_state program world))
+  main-run main there fits =
+      let two = both (main.parameters == 0) (is_none main.result) fits in
+      let no_parameters : main.parameters ≡ 0 = eqb-true main.parameters 0 two.0 in
+      let no_arguments : ArgumentsFit (parameters_of main) [] = subst (λ n. ArgumentsFit (take n main.slots) []) (sym no_parameters) tt in
+      let is : procedure_at program program.main ≡ main = procedure_at_is program program.main main there in
+      let first : source.State = meaning.first_state program world in
+      let s : source.State = entering main [] first in
+      let fit : StateFits program main s = subst (λ (p : ProcedureEntry). StateFits program p (entering p [] first)) is (runs_begin_typed program formed world) in
+      let body : ProcedureParts program main = parts.procedure_there program formed program.main main there in
+      let back : source.State → source.State = λ t. record t { locals = first.locals } in
+      let o : Outcome = block_meaning (calls_with program k 511) k main.body s in
+      let whole : calls_with program k 512 program.main [] first ≡ leaving back o =
+      ap (λ (p : ProcedureEntry). leaving back (block_meaning (calls_with program k 511) k p.body (entering p [] first))) is in
+      let among : EndsAmong (Normal ∷ thrown_ends (declared_by main.throws)) (leaving back o) =
+      subst (λ (x : Outcome). EndsAmong (Normal ∷ thrown_ends (declared_by main.throws)) x) whole
+      (subst (λ (p : ProcedureEntry). EndsAmong (Normal ∷ thrown_ends (declared_by p.throws)) (calls_with program k 512 program.main [] first)) is
+      (calls-among program k 512 (ends-as-declared program none) program.main [] first).among) in
+      let done = ends-by main there (nothing main.result two.1) s back o refl (λ t. refl) (meaning_keeps_types program formed main main.body body.body_fits 511 k s fit) among
+      (body-run program formed none world k 511 program.main main there [] s (calls-run program formed none world k 511 program.main main there [] refl) fit) in
+      subst (λ (x : Outcome). Done x) (sym whole)
+      (subst (λ (m : Machine). Comes (graph_program (graph_of program)) m (leaving back o) ⊎ GoesOn (graph_program (graph_of program)) k m (leaving back o)) (sym (begins-so program formed world main there no_arguments)) done)
+    where
+      nothing : (o : Option ResultEntry) → is_none o ≡ true → o ≡ None
+      nothing None e = refl
+      nothing (Some value) e = absurd (let no : false ≡ true = e in cc)
+
+  run-done : Done (calls_with program k 512 program.main [] (meaning.first_state program world))
+  run-done = go (slice_get program.procedures program.main) refl (program_parts program formed).main_is
+    where
+      go : (o : Option ProcedureEntry) → slice_get program.procedures program.main ≡ o → main_fits o ≡ true → Done (calls_with program k 512 program.main [] (meaning.first_state program world))
+      go None e fits = absurd (let no : false ≡ true = fits in cc)
+      go (Some main) e fits = main-run main e fits
+
+  pub run-within-limit : Done (meaning.run_within meaning.frame_limit program world k)
+  unfolding meaning.frame_limit
+  run-within-limit = run-done

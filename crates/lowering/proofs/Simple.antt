@@ -1,0 +1,151 @@
+-- Code of simple statements does what they do.
+use Rattle.std.proofs.Common.{◌≡◌, ℕ, suc, ◌+◌, Bool, true, false, cond, eqb, ℤ, List, [], ◌∷◌, length, map, refl, sym, ap, ◌∙◌, slice_get, subst, arith, nat_lt, eqb-true, All}
+use Rattle.std.specs.Prelude.{Option, Some, None, if◌then◌else◌, is_none, replicate}
+use Rattle.std.proofs.Math.Path.{fun_ext}
+use Rattle.resolved.specs.declared.expression.Value.{Value}
+use Rattle.resolved.specs.declared.expression.Value.TheVariants.{Number}
+use Rattle.resolved.specs.declared.expression.Base.{Base}
+use Rattle.resolved.specs.declared.expression.Base.TheVariants as base
+use Rattle.resolved.specs.declared.expression.Variable.{Variable}
+use Rattle.resolved.specs.declared.statement.Exit.{Exit}
+use Rattle.resolved.specs.declared.statement.Exit.TheVariants as exit
+use Rattle.resolved.specs.declared.tables.Direction.{Direction}
+use Rattle.resolved.specs.declared.tables.Direction.TheVariants.{Input, Output}
+use Rattle.resolved.specs.Program as resolved
+use Rattle.resolved.specs.State as source
+use Rattle.resolved.specs.State.{value_of, cells, cell_at, assigned, stored, cleared, updated, with_cells}
+use Rattle.resolved.specs.Value.{base_of, zero_value}
+use Rattle.resolved.specs.Meaning.{Ended, kept_in}
+use Rattle.resolved.specs.WellFormed.{VariableType, variable_type, has_base, same_base, scalar_by, array_by, target_by, channel_is, is_array, may_leave_by, is_exception, has_result, cell_count}
+use Rattle.resolved.proofs.Sound.Values.{same_base_is}
+use Rattle.bytecode.specs.declared.value.Cell.{Cell}
+use Rattle.bytecode.specs.declared.value.Kind.{Kind}
+use Rattle.bytecode.specs.declared.value.Cell.TheVariants as cell
+use Rattle.bytecode.specs.declared.declaration.Slot.TheVariants as slot
+use Rattle.bytecode.specs.declared.declaration.Direction.{Direction as MachineDirection}
+use Rattle.bytecode.specs.declared.instruction.Instruction.{Instruction}
+use Rattle.bytecode.specs.declared.instruction.Instruction.TheVariants as instruction
+use Rattle.bytecode.specs.Values.{zero_of, has_kind}
+use Rattle.bytecode.specs.Machine.{State, changed, returns_nothing, leaves_without, returns_value, gives_back, leaves_value, raised, no_row}
+use Rattle.lowering.specs.Interface.{kind_of_base, returned_kind}
+use Rattle.lowering.specs.Expressions.{store_of}
+use Rattle.lowering.specs.Code.{Loop, kept_code, leave_code}
+use Rattle.lowering.proofs.Places.{Stands}
+use Rattle.lowering.proofs.Steps.{Leads}
+use Rattle.lowering.proofs.States.{Setting, state_at, place, cell_of, cells_of, thrown_to, returned_to, raised-is, leaves-is, leaves_value-is, kind-same, left_of, left_by, direction_in}
+use Rattle.lowering.proofs.Rows.{does, onward, slot_for, stores-is}
+use Rattle.lowering.proofs.Values.{scalar-there}
+use Rattle.lowering.proofs.Expressions.{jump-runs}
+use Rattle.lowering.proofs.Outcomes.{Runs}
+
+-- ---- cells
+
+pub cleared_cells : (b : Base) (values : List Value) (count : ℕ) → length values ≡ count → ((v : Value) → base_of v ≡ b → base_of v ≡ b) → All (λ v. base_of v ≡ b) values
+    → replicate count (zero_of (kind_of_base b)) ≡ cells_of (map (λ v. zero_value (base_of v)) values)
+cleared_cells b values count size same kinds = subst (λ n. replicate n (zero_of (kind_of_base b)) ≡ cells_of (map (λ v. zero_value (base_of v)) values)) size (go values kinds)
+  where
+    zero : (b : Base) → cell_of (zero_value b) ≡ zero_of (kind_of_base b)
+    zero base.Int = refl
+    zero base.Boolean = refl
+
+    one : (b c : Base) → c ≡ b → zero_of (kind_of_base b) ≡ cell_of (zero_value c)
+    one b c e = sym (zero b) ∙ ap (λ x. cell_of (zero_value x)) (sym e)
+
+    go : (values : List Value) → All (λ v. base_of v ≡ b) values → replicate (length values) (zero_of (kind_of_base b)) ≡ cells_of (map (λ v. zero_value (base_of v)) values)
+    go [] all = refl
+    go (v ∷ rest) all =
+        ap (λ (c : Cell). c ∷ replicate (length rest) (zero_of (kind_of_base b))) (one b (base_of v) (all 0 v (omega arith)))
+        ∙ ap (λ (l : List Cell). cell_of (zero_value (base_of v)) ∷ l) (go rest (λ i d below. all (suc i) d (omega (arith, below))))
+
+module _ (g : Setting) (loop : Loop) (h : ℕ → Option ℕ) (k : ℕ) (s : source.State) where
+  -- a value goes into a scalar of its base type
+  pub stores-scalar : (x : Variable) (v : Value) (at : ℕ) (operands : List Cell) (more : List Instruction) (test : Base → Bool)
+      → scalar_by (variable_type g.program g.procedure x) test ≡ true → ((b : Base) → test b ≡ true → base_of v ≡ b)
+      → Stands g.code (store_of x ∷ more) at → Leads g.p (place g at (cell_of v ∷ operands) s) (place g (at + 1) operands (assigned s x v))
+  stores-scalar x v at operands more test typed same stands =
+      let there = scalar-there (variable_type g.program g.procedure x) test typed in
+      let type : VariableType = there.0 in
+      does g more (store_of x) at (cell_of v ∷ operands) s _ stands
+      (stores-is g x (kind_of_base type.base) v at operands s (slot_is type there.1 there.2) (kind-same v type.base (same type.base there.3)))
+    where
+      slot_is : (type : VariableType) → variable_type g.program g.procedure x ≡ Some type → type.size ≡ None → slot_for g x ≡ Some (slot.Scalar (kind_of_base type.base))
+      slot_is type e f = rw (e, f) refl
+
+  -- ---- leaving
+  pub leaves-runs : (way : Exit) (at : ℕ) (more : List Instruction) → may_leave_by g.program way ≡ true → Stands g.code (leave_code loop way ∷ more) at
+      → ((exception : ℕ) → g.p.find g.number at exception ≡ h exception) → Runs g loop h k (place g at [] s) (at + 1) (Ended way None s)
+  leaves-runs exit.Normal at more may stands finds = absurd (let no : false ≡ true = may in cc)
+  leaves-runs exit.Return at more may stands finds = absurd (let no : false ≡ true = may in cc)
+  leaves-runs exit.Break at more may stands finds = jump-runs g h s loop.behind at [] more stands
+  leaves-runs exit.Continue at more may stands finds = jump-runs g h s loop.test at [] more stands
+  leaves-runs (exit.Throw exception) at more may stands finds =
+      does g more (instruction.Throw exception) at [] s _ stands
+      (ap (λ (n : ℕ). if nat_lt exception n then raised g.p (state_at g at [] s) exception else no_row (state_at g at [] s)) g.exceptions_there
+      ∙ ap (λ (b : Bool). if b then raised g.p (state_at g at [] s) exception else no_row (state_at g at [] s)) may
+      ∙ raised-is g at [] s exception ∙ ap (λ (o : Option ℕ). thrown_to g o exception s) (finds exception))
+
+  pub returns-nothing : (at : ℕ) (more : List Instruction) → is_none g.procedure.result ≡ true → Stands g.code (instruction.Return ∷ more) at
+      → Leads g.p (place g at [] s) (returned_to g None s)
+  returns-nothing at more none stands =
+      does g more instruction.Return at [] s _ stands
+      (ap (returns_nothing (state_at g at [] s)) g.header_is ∙ ap (leaves_without (state_at g at [] s)) (g.returned_is ∙ ap returned_kind (nothing g.procedure.result none))
+      ∙ leaves-is g at [] s)
+    where
+      nothing : (o : Option resolved.ResultEntry) → is_none o ≡ true → o ≡ None
+      nothing None e = refl
+      nothing (Some entry) e = cc
+
+  gives_kind : (at : ℕ) (v : Value) (kind : Kind) → has_kind kind (cell_of v) ≡ true
+      → gives_back (state_at g at (cell_of v ∷ []) s) (Some kind) (cell_of v ∷ []) ≡ leaves_value (state_at g at (cell_of v ∷ []) s) (cell_of v) g.callers
+  gives_kind at v kind e = rw e refl
+
+  pub returns-value : (at : ℕ) (more : List Instruction) (v : Value) (entry : resolved.ResultEntry) → g.procedure.result ≡ Some entry → base_of v ≡ entry.base
+      → Stands g.code (instruction.ReturnValue ∷ more) at → Leads g.p (place g at (cell_of v ∷ []) s) (returned_to g (Some v) s)
+  returns-value at more v entry result same stands =
+      let S = state_at g at (cell_of v ∷ []) s in
+      does g more instruction.ReturnValue at (cell_of v ∷ []) s _ stands
+      (ap (returns_value S) g.header_is ∙ ap (λ (o : Option Kind). gives_back S o (cell_of v ∷ [])) (g.returned_is ∙ ap returned_kind result)
+      ∙ gives_kind at v (kind_of_base entry.base) (kind-same v entry.base same) ∙ leaves_value-is g at (cell_of v ∷ []) v s)
+
+  -- ---- channels
+  pub taken_state : (channel : ℕ) (numbers : List ℤ) (at : ℕ) (operands : List Cell) → channel_is (slice_get g.program.channels channel) Input ≡ true
+      → ◌≡◌ {A = State} (record (state_at g at operands s) { rest = changed (state_at g at operands s).rest channel numbers })
+      (state_at g at operands (record s { inputs = updated s.inputs channel numbers }))
+  taken_state channel numbers at operands is_input =
+      ap (λ (rest : ℕ → List ℤ). record (state_at g at operands s) { rest = rest }) (fun_ext (λ m. go m (eqb m channel) refl))
+    where
+      input_left : (o : Option resolved.ChannelEntry) (whole : List ℤ) → channel_is o Input ≡ true → left_of o numbers whole ≡ numbers
+      input_left None whole e = absurd (let no : false ≡ true = e in cc)
+      input_left (Some entry) whole e = by entry.direction e
+        where
+          by : (d : Direction) → Rattle.resolved.specs.WellFormed.same_direction d Input ≡ true → left_by d numbers whole ≡ numbers
+          by Input e = refl
+          by Output e = absurd (let no : false ≡ true = e in cc)
+
+      go : (m : ℕ) (b : Bool) → eqb m channel ≡ b → cond b numbers (left_of (slice_get g.program.channels m) (s.inputs m) (g.world m))
+          ≡ left_of (slice_get g.program.channels m) (cond b numbers (s.inputs m)) (g.world m)
+      go m true e =
+          let same : m ≡ channel = eqb-true m channel e in
+          sym (input_left (slice_get g.program.channels m) (g.world m) (subst (λ c. channel_is (slice_get g.program.channels c) Input ≡ true) (sym same) is_input))
+      go m false e = refl
+
+  pub input_rest : (channel : ℕ) → channel_is (slice_get g.program.channels channel) Input ≡ true
+      → (left_of (slice_get g.program.channels channel) (s.inputs channel) (g.world channel) ≡ s.inputs channel)
+      × (direction_in (slice_get g.program.channels channel) ≡ Some Rattle.bytecode.specs.declared.declaration.Direction.TheVariants.Input)
+  input_rest channel is_input = go (slice_get g.program.channels channel) is_input
+    where
+      by : (d : Direction) → Rattle.resolved.specs.WellFormed.same_direction d Input ≡ true
+          → (left_by d (s.inputs channel) (g.world channel) ≡ s.inputs channel)
+          × (◌≡◌ {A = Option MachineDirection} (Some (Rattle.lowering.specs.Interface.direction_of d)) (Some Rattle.bytecode.specs.declared.declaration.Direction.TheVariants.Input))
+      by Input e = (refl, refl)
+      by Output e = absurd (let no : false ≡ true = e in cc)
+
+      go : (o : Option resolved.ChannelEntry) → channel_is o Input ≡ true
+          → (left_of o (s.inputs channel) (g.world channel) ≡ s.inputs channel) × (direction_in o ≡ Some Rattle.bytecode.specs.declared.declaration.Direction.TheVariants.Input)
+      go None e = absurd (let no : false ≡ true = e in cc)
+      go (Some entry) e = by entry.direction e
+
+  pub kept-runs : (target : Option Variable) (z : ℤ) (at : ℕ) (more : List Instruction) → target_by g.program g.procedure target (same_base base.Int) ≡ true
+      → Stands g.code (kept_code target ∷ more) at → Leads g.p (place g at (cell.Int z ∷ []) s) (place g (at + 1) [] (kept_in target (Number z) s))
+  kept-runs None z at more typed stands = does g more instruction.Pop at (cell.Int z ∷ []) s _ stands (onward g at (cell.Int z ∷ []) [] s)
+  kept-runs (Some x) z at more typed stands = stores-scalar x (Number z) at [] more (same_base base.Int) typed (λ b e. same_base_is base.Int b e) stands

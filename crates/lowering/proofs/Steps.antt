@@ -1,0 +1,86 @@
+-- Runs of a machine put together, and what a run that ends has sent on its way.
+use Rattle.std.proofs.Common.{◌≡◌, ℕ, zero, suc, ◌≤◌, List, refl, sym, ap, ◌∙◌, subst, arith}
+use Rattle.labels.specs.declared.sent.Pair.{Pair}
+use Rattle.labels.specs.Sent.{Begins}
+use Rattle.bytecode.specs.Machine.{State, Machine, Running, Ended, Ending, Program, sent_of, step, exec}
+use Rattle.labels.proofs.Begins.{Begins-itself}
+use Rattle.lowering.proofs.Sent.{exec-keeps}
+
+-- some steps lead from one machine to another
+pub record Leads (p : Program) (from to : Machine) : Type 0 where
+  pub steps : ℕ
+  pub reached : exec p steps from ≡ to
+
+-- at least one step does
+abbrev pub Strides : Program → Machine → Machine → Type 0
+Strides p from to = Leads p (step p from) to
+
+-- after k steps at least a machine still runs and has sent this
+pub record Waits (p : Program) (k : ℕ) (from : Machine) (sent : List Pair) : Type 0 where
+  pub steps : ℕ
+  pub enough : k ≤ steps
+  pub state : State
+  pub reached : exec p steps from ≡ Running state
+  pub sent_is : state.sent ≡ sent
+
+pub leads-itself : (p : Program) (m : Machine) → Leads p m m
+leads-itself p m = record { steps = 0; reached = refl }
+
+pub leads-step : (p : Program) (from to : Machine) → step p from ≡ to → Leads p from to
+leads-step p from to e = record { steps = 1; reached = e }
+
+pub strides-leads : (p : Program) (from to : Machine) → Strides p from to → Leads p from to
+strides-leads p from to h = record { steps = suc h.steps; reached = h.reached }
+
+leads-after : (p : Program) (n : ℕ) (from mid to : Machine) → exec p n from ≡ mid → Leads p mid to → Leads p from to
+leads-after p zero from mid to e h = subst (λ m. Leads p m to) (sym e) h
+leads-after p (suc n) from mid to e h =
+    strides-leads p from to (leads-after p n (step p from) mid to e h)
+
+pub leads-through : (p : Program) (from mid to : Machine) → Leads p from mid → Leads p mid to → Leads p from to
+leads-through p from mid to first second = leads-after p first.steps from mid to first.reached second
+
+strides-after : (p : Program) (n : ℕ) (from mid to : Machine) → exec p n from ≡ mid → Strides p mid to → Strides p from to
+strides-after p zero from mid to e h = subst (λ m. Strides p m to) (sym e) h
+strides-after p (suc n) from mid to e h = leads-after p n (step p from) mid to e (strides-leads p mid to h)
+
+pub strides-through : (p : Program) (from mid to : Machine) → Leads p from mid → Strides p mid to → Strides p from to
+strides-through p from mid to first second = strides-after p first.steps from mid to first.reached second
+
+waits-after : (p : Program) (n k : ℕ) (from mid : Machine) (sent : List Pair) → exec p n from ≡ mid → Waits p k mid sent → Waits p k from sent
+waits-after p zero k from mid sent e h = subst (λ m. Waits p k m sent) (sym e) h
+waits-after p (suc n) k from mid sent e h =
+    let rest : Waits p k (step p from) sent = waits-after p n k (step p from) mid sent e h in
+    record { steps = suc rest.steps; enough = omega (arith, rest.enough); state = rest.state; reached = rest.reached; sent_is = rest.sent_is }
+
+pub waits-through : (p : Program) (k : ℕ) (from mid : Machine) (sent : List Pair) → Leads p from mid → Waits p k mid sent → Waits p k from sent
+waits-through p k from mid sent first second = waits-after p first.steps k from mid sent first.reached second
+
+-- a step more
+pub waits-stride : (p : Program) (k : ℕ) (from mid : Machine) (sent : List Pair) → Strides p from mid → Waits p k mid sent → Waits p (suc k) from sent
+waits-stride p k from mid sent first second =
+    let rest : Waits p k (step p from) sent = waits-through p k (step p from) mid sent first second in
+    record { steps = suc rest.steps; enough = omega (arith, rest.enough); state = rest.state; reached = rest.reached; sent_is = rest.sent_is }
+
+pub waits-less : (p : Program) (j k : ℕ) (from : Machine) (sent : List Pair) → j ≤ k → Waits p k from sent → Waits p j from sent
+waits-less p j k from sent less h = record { steps = h.steps; enough = omega (arith, h.enough, less); state = h.state; reached = h.reached; sent_is = h.sent_is }
+
+-- what has ended stays so
+pub ended-stays : (p : Program) (n : ℕ) (ending : Ending) (sent : List Pair) → exec p n (Ended ending sent) ≡ Ended ending sent
+ended-stays p zero ending sent = refl
+ended-stays p (suc n) ending sent = ended-stays p n ending sent
+
+-- a run that ends has sent at each time what begins what it has sent in the end
+pub sent-before : (p : Program) (last n : ℕ) (m : Machine) (ending : Ending) (sent : List Pair) → exec p last m ≡ Ended ending sent → Begins (sent_of (exec p n m)) sent
+sent-before p zero n m ending sent e =
+    let stays : exec p n m ≡ Ended ending sent = ap (exec p n) e ∙ ended-stays p n ending sent in
+    subst (λ (x : Machine). Begins (sent_of x) sent) (sym stays) (Begins-itself sent)
+sent-before p (suc last) zero m ending sent e =
+    subst (λ (x : Machine). Begins (sent_of m) (sent_of x)) e (exec-keeps p (suc last) m)
+sent-before p (suc last) (suc n) m ending sent e = sent-before p last n (step p m) ending sent e
+
+-- a run ends in one way
+pub ends-once : (p : Program) (last n : ℕ) (m : Machine) (ending other : Ending) (sent more : List Pair) → exec p last m ≡ Ended ending sent → exec p n m ≡ Ended other more → ◌≡◌ {A = Machine} (Ended ending sent) (Ended other more)
+ends-once p zero n m ending other sent more e f = sym (ended-stays p n ending sent) ∙ ap (exec p n) (sym e) ∙ f
+ends-once p (suc last) zero m ending other sent more e f = sym e ∙ ap (exec p (suc last)) f ∙ ended-stays p (suc last) other more
+ends-once p (suc last) (suc n) m ending other sent more e f = ends-once p last n (step p m) ending other sent more e f

@@ -1,0 +1,170 @@
+-- Code of an expression pushes its value, or raises what the expression raises.
+use Rattle.std.proofs.Common.{◌≡◌, ℕ, ◌+◌, ◌<◌, ◌≤◌, Bool, true, false, ℤ, pos, negsuc, List, [], ◌∷◌, length, refl, ap, ◌∙◌, slice_get, subst, arith, nat_lt, eqb-true}
+use Rattle.std.specs.Prelude.{Option, Some, None, if◌then◌else◌, is_none}
+use Rattle.std.specs.Option.{option_map}
+use Rattle.std.proofs.lemmas.Bool.{ltb-true, ltb-false}
+use Rattle.std.proofs.lemmas.List.{length-map}
+use Rattle.std.proofs.lemmas.Option.{slice_get-get_or, slice_get_past, slice_get-map}
+use Rattle.resolved.specs.declared.expression.Value.{Value}
+use Rattle.resolved.specs.declared.expression.Value.TheVariants.{Number, Truth}
+use Rattle.resolved.specs.declared.expression.Base.{Base}
+use Rattle.resolved.specs.declared.expression.Base.TheVariants as base
+use Rattle.resolved.specs.declared.expression.Variable.{Variable}
+use Rattle.resolved.specs.State as source
+use Rattle.resolved.specs.State.{value_of, cells, cell_at}
+use Rattle.resolved.specs.Value.{Evaluated, Gives, Raises, then_with, base_of, checked_index}
+use Rattle.resolved.specs.WellFormed.{VariableType, variable_type, same_base, scalar_by, array_by, has_length, cell_count}
+use Rattle.resolved.specs.Kinds.{StateFits, CellsFit, GivesBase}
+use Rattle.resolved.proofs.Sound.Values.{both}
+use Rattle.bytecode.specs.declared.value.Cell.{Cell}
+use Rattle.bytecode.specs.declared.value.Kind.{Kind}
+use Rattle.bytecode.specs.declared.value.Cell.TheVariants as cell
+use Rattle.bytecode.specs.declared.declaration.Slot.{Slot}
+use Rattle.bytecode.specs.declared.declaration.Slot.TheVariants as slot
+use Rattle.bytecode.specs.declared.instruction.Instruction.{Instruction}
+use Rattle.bytecode.specs.Machine.{Machine, act, loads, scalar_cell, element_at, loads_element, found, goes_on, bounds}
+use Rattle.lowering.specs.Interface.{kind_of_base}
+use Rattle.lowering.specs.Expressions.{load_of, load_element_of}
+use Rattle.lowering.proofs.Places.{Stands}
+use Rattle.lowering.proofs.Steps.{Leads, leads-through}
+use Rattle.lowering.proofs.States.{Setting, state_at, place, cell_of, cells_of, thrown_to, raised-is}
+use Rattle.lowering.proofs.Rows.{does, onward, slot_for, loads-is, loads_element-is}
+
+-- in these places the search for a handler comes to what a function says
+pub record Finds (g : Setting) (at n : ℕ) (h : ℕ → Option ℕ) : Type 0 where
+  pub finds : (i : ℕ) → at ≤ i → i < at + n → (exception : ℕ) → g.p.find g.number i exception ≡ h exception
+
+pub finds-part : (g : Setting) (at n : ℕ) (h : ℕ → Option ℕ) (from m : ℕ) → at ≤ from → from + m ≤ at + n → Finds g at n h → Finds g from m h
+finds-part g at n h from m low high f = record { finds = λ i least most exception. f.finds i (omega (arith, low, least)) (omega (arith, high, most)) exception }
+
+-- the machine comes from one machine to the end of code with the value on the operands, or to where the exception goes
+abbrev pub ValueRuns : Setting → (ℕ → Option ℕ) → List Cell → Machine → (end : ℕ) → source.State → Evaluated Value → Type 0
+ValueRuns g h operands from end s (Gives v) = Leads g.p from (place g end (cell_of v ∷ operands) s)
+ValueRuns g h operands from end s (Raises exception) = Leads g.p from (thrown_to g (h exception) exception s)
+
+-- ---- putting pieces together
+
+pub value-from : (g : Setting) (h : ℕ → Option ℕ) (operands : List Cell) (from mid : Machine) (end : ℕ) (s : source.State) (o : Evaluated Value)
+    → Leads g.p from mid → ValueRuns g h operands mid end s o → ValueRuns g h operands from end s o
+value-from g h operands from mid end s (Gives v) first second = leads-through g.p from mid _ first second
+value-from g h operands from mid end s (Raises exception) first second = leads-through g.p from mid _ first second
+
+pub value-to : (g : Setting) (h : ℕ → Option ℕ) (operands : List Cell) (from : Machine) (mid end : ℕ) (s : source.State) (o : Evaluated Value)
+    → ValueRuns g h operands from mid s o → ((v : Value) → Leads g.p (place g mid (cell_of v ∷ operands) s) (place g end (cell_of v ∷ operands) s))
+    → ValueRuns g h operands from end s o
+value-to g h operands from mid end s (Gives v) first each = leads-through g.p from _ _ first (each v)
+value-to g h operands from mid end s (Raises exception) first each = first
+
+pub value-at : (g : Setting) (h : ℕ → Option ℕ) (operands : List Cell) (from : Machine) (mid end : ℕ) (s : source.State) (o : Evaluated Value)
+    → mid ≡ end → ValueRuns g h operands from mid s o → ValueRuns g h operands from end s o
+value-at g h operands from mid end s o e first = subst (λ (q : ℕ). ValueRuns g h operands from q s o) e first
+
+pub then-runs : (g : Setting) (h : ℕ → Option ℕ) (before behind : List Cell) (from : Machine) (mid end : ℕ) (s : source.State) (first : Evaluated Value) (next : Value → Evaluated Value)
+    → ValueRuns g h before from mid s first
+    → ((v : Value) → first ≡ Gives v → ValueRuns g h behind (place g mid (cell_of v ∷ before) s) end s (next v))
+    → ValueRuns g h behind from end s (then_with first next)
+then-runs g h before behind from mid end s (Gives v) next run each =
+    value-from g h behind from (place g mid (cell_of v ∷ before) s) end s (next v) run (each v refl)
+then-runs g h before behind from mid end s (Raises exception) next run each = run
+
+-- the base type of what was given
+pub given-base : (b : Base) (o : Evaluated Value) (v : Value) → GivesBase b o → o ≡ Gives v → base_of v ≡ b
+given-base b (Gives w) v fit e = let same : w ≡ v = cc in subst (λ x. base_of x ≡ b) same fit
+given-base b (Raises exception) v fit e = cc
+
+-- ---- variables
+
+pub scalar-there : (o : Option VariableType) (test : Base → Bool) → scalar_by o test ≡ true
+    → (type : VariableType) × (o ≡ Some type) × (type.size ≡ None) × (test type.base ≡ true)
+scalar-there None test h = cc
+scalar-there (Some type) test h =
+    let parts : (is_none type.size ≡ true) × (test type.base ≡ true) = both (is_none type.size) (test type.base) h in
+    (type, refl, none_size type.size parts.0, parts.1)
+  where
+    none_size : (size : Option ℕ) → is_none size ≡ true → size ≡ None
+    none_size None h = refl
+    none_size (Some n) h = cc
+
+pub array-there : (o : Option VariableType) (count : ℕ) (test : Base → Bool) → array_by o count test ≡ true
+    → (type : VariableType) × (o ≡ Some type) × (type.size ≡ Some count) × (test type.base ≡ true)
+array-there None count test h = cc
+array-there (Some type) count test h =
+    let parts : (has_length type.size count ≡ true) × (test type.base ≡ true) = both (has_length type.size count) (test type.base) h in
+    (type, refl, this_size type.size parts.0, parts.1)
+  where
+    this_size : (size : Option ℕ) → has_length size count ≡ true → size ≡ Some count
+    this_size None h = cc
+    this_size (Some n) h = ap (λ (m : ℕ). Some m) (eqb-true n count h)
+
+first_cell : (kind : Kind) (values : List Value) → length values ≡ 1 → scalar_cell kind (cells_of values) ≡ cell_of (cell_at values 0)
+first_cell kind [] e = absurd (let no : 0 ≡ 1 = e in omega (arith, no))
+first_cell kind (v ∷ rest) e = refl
+
+pub element-there : (values : List Value) (i : ℕ) → i < length values → slice_get (cells_of values) i ≡ Some (cell_of (cell_at values i))
+element-there values i below =
+    slice_get-map cell_of values i ∙ ap (option_map cell_of) (slice_get-get_or values i (Number (pos 0)) below)
+
+pub element-missing : (values : List Value) (i : ℕ) → length values ≤ i → slice_get (cells_of values) i ≡ None
+element-missing values i most = slice_get_past (cells_of values) i (omega (arith, length-map values cell_of, most))
+
+module _ (g : Setting) (h : ℕ → Option ℕ) (s : source.State) (fit : StateFits g.program g.procedure s) where
+  pub read-runs : (x : Variable) (b : Base) (at : ℕ) (operands : List Cell) (more : List Instruction)
+      → scalar_by (variable_type g.program g.procedure x) (same_base b) ≡ true → Stands g.code (load_of x ∷ more) at
+      → Leads g.p (place g at operands s) (place g (at + 1) (cell_of (cell_at (cells s x) 0) ∷ operands) s)
+  read-runs x b at operands more typed stands =
+      let there = scalar-there (variable_type g.program g.procedure x) (same_base b) typed in
+      let type : VariableType = there.0 in
+      let is_type : variable_type g.program g.procedure x ≡ Some type = there.1 in
+      let no_size : type.size ≡ None = there.2 in
+      let fits : CellsFit type (cells s x) = fit.fits x type is_type in
+      let kind : Kind = kind_of_base type.base in
+      let one : length (cells s x) ≡ 1 = fits.count ∙ ap cell_count no_size in
+      let S = state_at g at operands s in
+      does g more (load_of x) at operands s _ stands
+      (loads-is g x at operands s
+      ∙ ap (λ (o : Option Slot). loads g.p S o (cells_of (cells s x))) (slot_is type is_type no_size)
+      ∙ ap (λ (c : Cell). goes_on g.p S (c ∷ operands)) (first_cell kind (cells s x) one)
+      ∙ onward g at operands (cell_of (cell_at (cells s x) 0) ∷ operands) s)
+    where
+      slot_is : (type : VariableType) → variable_type g.program g.procedure x ≡ Some type → type.size ≡ None → slot_for g x ≡ Some (slot.Scalar (kind_of_base type.base))
+      slot_is type e f = rw (e, f) refl
+
+  pub element-runs : (x : Variable) (count : ℕ) (b : Base) (v : Value) (at : ℕ) (operands : List Cell) (more : List Instruction)
+      → array_by (variable_type g.program g.procedure x) count (same_base b) ≡ true → base_of v ≡ base.Int → Stands g.code (load_element_of x ∷ more) at
+      → ((exception : ℕ) → g.p.find g.number at exception ≡ h exception)
+      → ValueRuns g h operands (place g at (cell_of v ∷ operands) s) (at + 1) s (then_with (checked_index v count) (λ i. Gives (cell_at (cells s x) i)))
+  element-runs x count b (Truth t) at operands more typed is_int stands finds = cc
+  element-runs x count b (Number z) at operands more typed is_int stands finds =
+      let there = array-there (variable_type g.program g.procedure x) count (same_base b) typed in
+      let type : VariableType = there.0 in
+      let is_type : variable_type g.program g.procedure x ≡ Some type = there.1 in
+      let size_is : type.size ≡ Some count = there.2 in
+      let fits : CellsFit type (cells s x) = fit.fits x type is_type in
+      let many : length (cells s x) ≡ count = fits.count ∙ ap cell_count size_is in
+      go z many (loads_element-is g x at (cell.Int z ∷ operands) s
+      ∙ ap (λ (o : Option Slot). loads_element g.p (state_at g at (cell.Int z ∷ operands) s) o (cells_of (cells s x)) (cell.Int z ∷ operands)) (slot_is type is_type size_is))
+    where
+      slot_is : (type : VariableType) → variable_type g.program g.procedure x ≡ Some type → type.size ≡ Some count → slot_for g x ≡ Some (slot.Array (kind_of_base type.base) count)
+      slot_is type e f = rw (e, f) refl
+
+      missing : (z : ℤ) → element_at (cells_of (cells s x)) z ≡ None → act g.p (load_element_of x) (state_at g at (cell.Int z ∷ operands) s) ≡ found g.p (state_at g at (cell.Int z ∷ operands) s) operands (element_at (cells_of (cells s x)) z)
+          → Leads g.p (place g at (cell.Int z ∷ operands) s) (thrown_to g (h bounds) bounds s)
+      missing z none acts =
+          does g more (load_element_of x) at (cell.Int z ∷ operands) s _ stands
+          (acts ∙ ap (found g.p (state_at g at (cell.Int z ∷ operands) s) operands) none ∙ raised-is g at (cell.Int z ∷ operands) s bounds
+          ∙ ap (λ (o : Option ℕ). thrown_to g o bounds s) (finds bounds))
+
+      inside : (i : ℕ) (test : Bool) → nat_lt i count ≡ test → length (cells s x) ≡ count
+          → act g.p (load_element_of x) (state_at g at (cell.Int (pos i) ∷ operands) s) ≡ found g.p (state_at g at (cell.Int (pos i) ∷ operands) s) operands (element_at (cells_of (cells s x)) (pos i))
+          → ValueRuns g h operands (place g at (cell.Int (pos i) ∷ operands) s) (at + 1) s (then_with (if test then Gives i else Raises 1) (λ i. Gives (cell_at (cells s x) i)))
+      inside i true e many acts =
+          does g more (load_element_of x) at (cell.Int (pos i) ∷ operands) s _ stands
+          (acts ∙ ap (found g.p (state_at g at (cell.Int (pos i) ∷ operands) s) operands) (element-there (cells s x) i (omega (arith, many, ltb-true i count e)))
+          ∙ onward g at (cell.Int (pos i) ∷ operands) (cell_of (cell_at (cells s x) i) ∷ operands) s)
+      inside i false e many acts = missing (pos i) (element-missing (cells s x) i (omega (arith, many, ltb-false i count e))) acts
+
+      go : (z : ℤ) → length (cells s x) ≡ count
+          → act g.p (load_element_of x) (state_at g at (cell.Int z ∷ operands) s) ≡ found g.p (state_at g at (cell.Int z ∷ operands) s) operands (element_at (cells_of (cells s x)) z)
+          → ValueRuns g h operands (place g at (cell.Int z ∷ operands) s) (at + 1) s (then_with (checked_index (Number z) count) (λ i. Gives (cell_at (cells s x) i)))
+      go (pos i) many acts = inside i (nat_lt i count) refl many acts
+      go (negsuc i) many acts = missing (negsuc i) refl acts

@@ -1,0 +1,22 @@
+-- A graph by its parts.
+use Rattle.std.proofs.Common.{◌≡◌, ℕ, List, map}
+use Rattle.principals.specs.ActsFor.{PrincipalHierarchy}
+use Rattle.bytecode.specs.declared.declaration.Global.{Global}
+use Rattle.bytecode.specs.Contents.{ChannelContents, ProcedureContents, ModuleContents}
+use Rattle.resolved.specs.Program.{Program}
+use Rattle.lowering.specs.Interface.{hierarchy_contents, channel_contents, global_contents}
+use Rattle.lowering.specs.Graphs.{procedure_contents, graph_of}
+
+pub graph-made : (program : Program) (hierarchy : PrincipalHierarchy) (exceptions : List (List ℕ)) (channels : List ChannelContents) (globals : List Global) (procedures : List ProcedureContents)
+    → hierarchy ≡ hierarchy_contents program.hierarchy → exceptions ≡ program.exceptions → channels ≡ map channel_contents program.channels
+    → globals ≡ map global_contents program.globals → procedures ≡ map (procedure_contents program) program.procedures
+    → ◌≡◌ {A = ModuleContents} (record {
+      hierarchy = hierarchy;
+      exceptions = exceptions;
+      channels = channels;
+      globals = globals;
+      procedures = procedures;
+      main = program.main;
+    }) (graph_of program)
+graph-made program hierarchy exceptions channels globals procedures h e c g p =
+    λ i. record { hierarchy = h i; exceptions = e i; channels = c i; globals = g i; procedures = p i; main = program.main }

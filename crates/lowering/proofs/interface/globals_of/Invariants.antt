@@ -1,0 +1,13 @@
+use Rattle.std.proofs.Common.{◌≡◌, map, take}
+use Rattle.std.specs.Prelude.{All}
+use Rattle.resolved.specs.Program.{GlobalEntry}
+use Rattle.resolved.specs.ProgramOf.{global_entry}
+use Rattle.lowering.specs.Fitting.{IsShortValue}
+use Rattle.lowering.specs.Interface.{global_contents}
+use Rattle.lowering.proofs.interface.globals_of.Given as goal
+
+-- the globals so far are the first ones, whose values are of 32 bits
+abbrev pub invariant-loop-variable : goal.invariant-loop-variable
+invariant-loop-variable l =
+    (l.made.items ≡ map global_contents (map global_entry (take l.variable-index l.globals)))
+    × All (λ (entry : GlobalEntry). IsShortValue entry.first) (map global_entry (take l.variable-index l.globals))

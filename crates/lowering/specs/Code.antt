@@ -1,0 +1,230 @@
+-- The code of statements, and the handlers that stand for their catches.
+-- A loop has its test at the bottom: `jump test; body; test: go back to the body if true`. Each `try` has its block first and then its
+-- handlers' bodies, which code jumps over that ends normally. No code is made for a way that no statement goes.
+-- Source: our own; the handler table is that of the Java virtual machine, inner handlers first.
+use Rattle.std.specs.Prelude.{ℕ, ◌+◌, Bool, true, false, not, ◌&&◌, ◌||◌, List, [], ◌∷◌, ◌++◌, Option, Some, None, nat_lt, if◌then◌else◌}
+use Rattle.resolved.specs.declared.expression.Variable.{Variable}
+use Rattle.resolved.specs.declared.statement.Exit.{Exit}
+use Rattle.resolved.specs.declared.statement.Exit.TheVariants as exit
+use Rattle.resolved.specs.Tree.{Expression, Statement, Assign, Clear, Store, Receive, Send, Call, If, While, Leave, ReturnWith, Try, Nested, Block, Empty, Then, Handlers, NoMore, Catch}
+use Rattle.resolved.specs.Program.{Program, ResultEntry, procedure_at}
+use Rattle.bytecode.specs.declared.instruction.Instruction.{Instruction}
+use Rattle.bytecode.specs.declared.instruction.Instruction.TheVariants as instruction
+use Rattle.bytecode.specs.declared.declaration.Handler.{Handler}
+use Rattle.lowering.specs.Expressions.{store_of, store_element_of, value_size, value_code, arguments_size, arguments_code, branch_size, branch_code}
+
+-- where `break` and `continue` go: behind the loop, and to its test
+pub record Loop : Type 0 where
+  pub behind : ℕ
+  pub test : ℕ
+
+-- ---- normal ends
+-- whether a statement, block or handler may end normally, by its form alone
+abbrev mutual
+  pub statement_falls : Statement → Bool
+  statement_falls (Assign at x e) = true
+  statement_falls (Clear at slot) = true
+  statement_falls (Store at array length index e) = true
+  statement_falls (Receive at channel target) = true
+  statement_falls (Send at channel e) = true
+  statement_falls (Call at procedure arguments target) = true
+  statement_falls (If at e yes_block no_block) = block_falls yes_block || block_falls no_block
+  statement_falls (While at loop e body) = true
+  statement_falls (Leave at exit) = false
+  statement_falls (ReturnWith at e) = false
+  statement_falls (Try at block handlers) = block_falls block || handlers_fall handlers
+  statement_falls (Nested at block) = block_falls block
+
+  pub block_falls : Block → Bool
+  block_falls Empty = true
+  block_falls (Then statement rest) = statement_falls statement && block_falls rest
+
+  pub handlers_fall : Handlers → Bool
+  handlers_fall NoMore = false
+  handlers_fall (Catch at exception body rest) = block_falls body || handlers_fall rest
+
+abbrev pub is_empty : Block → Bool
+is_empty Empty = true
+is_empty (Then statement rest) = false
+
+abbrev pub is_none_left : Handlers → Bool
+is_none_left NoMore = true
+is_none_left (Catch at exception body rest) = false
+
+-- a jump, where one is wanted
+abbrev pub jump_size : (wanted : Bool) → ℕ
+jump_size true = 1
+jump_size false = 0
+
+abbrev pub jump_code : (wanted : Bool) → (target : ℕ) → List Instruction
+jump_code true target = instruction.Jump target ∷ []
+jump_code false target = []
+
+-- ---- sizes
+-- the value of a call, or what is received, is stored or dropped
+abbrev pub kept_code : Option Variable → Instruction
+kept_code None = instruction.Pop
+kept_code (Some x) = store_of x
+
+-- behind a call: a procedure without a value leaves nothing to store or drop
+abbrev pub result_size : Option ResultEntry → ℕ
+result_size None = 0
+result_size (Some entry) = 1
+
+abbrev pub result_code : Option ResultEntry → Option Variable → List Instruction
+result_code None target = []
+result_code (Some entry) target = kept_code target ∷ []
+
+-- `break`, `continue` and `throw`; no well-formed program leaves otherwise
+abbrev pub leave_code : Loop → Exit → Instruction
+leave_code loop exit.Normal = instruction.Return
+leave_code loop exit.Return = instruction.Return
+leave_code loop exit.Break = instruction.Jump loop.behind
+leave_code loop exit.Continue = instruction.Jump loop.test
+leave_code loop (exit.Throw exception) = instruction.Throw exception
+
+abbrev pub return_size : Option Expression → ℕ
+return_size None = 1
+return_size (Some e) = value_size e + 1
+
+abbrev pub return_code : (at : ℕ) → Option Expression → List Instruction
+return_code at None = instruction.Return ∷ []
+return_code at (Some e) = value_code at e ++ instruction.ReturnValue ∷ []
+
+-- whether the first block of an `if` jumps over the second one, and that of a `try` or a handler over the handlers behind it
+abbrev pub jumps_over : Block → Block → Bool
+jumps_over yes_block no_block = block_falls yes_block && not (is_empty no_block)
+
+abbrev pub jumps_behind : Block → Handlers → Bool
+jumps_behind block handlers = block_falls block && not (is_none_left handlers)
+
+-- how many instructions code has
+abbrev mutual
+  pub statement_size : Program → Statement → ℕ
+  statement_size program (Assign at x e) = value_size e + 1
+  statement_size program (Clear at slot) = 1
+  statement_size program (Store at array length index e) = value_size index + (value_size e + 1)
+  statement_size program (Receive at channel target) = 2
+  statement_size program (Send at channel e) = value_size e + 1
+  statement_size program (Call at procedure arguments target) =
+      arguments_size arguments + (1 + result_size (procedure_at program procedure).result)
+  statement_size program (If at e yes_block no_block) =
+      branch_size false e
+      + (block_size program yes_block + (jump_size (jumps_over yes_block no_block) + block_size program no_block))
+  statement_size program (While at loop e body) = 1 + (block_size program body + branch_size true e)
+  statement_size program (Leave at exit) = 1
+  statement_size program (ReturnWith at e) = return_size e
+  statement_size program (Try at block handlers) =
+      block_size program block + (jump_size (jumps_behind block handlers) + handlers_size program handlers)
+  statement_size program (Nested at block) = block_size program block
+
+  pub block_size : Program → Block → ℕ
+  block_size program Empty = 0
+  block_size program (Then statement rest) = statement_size program statement + block_size program rest
+
+  pub handlers_size : Program → Handlers → ℕ
+  handlers_size program NoMore = 0
+  handlers_size program (Catch at exception body rest) =
+      block_size program body + (jump_size (jumps_behind body rest) + handlers_size program rest)
+
+-- ---- places
+-- where the second block of an `if` begins
+abbrev pub no_place : Program → (place : ℕ) → Expression → Block → Block → ℕ
+no_place program place e yes_block no_block =
+    place + branch_size false e + block_size program yes_block + jump_size (jumps_over yes_block no_block)
+
+-- where the test of a loop begins
+abbrev pub test_place : Program → (place : ℕ) → Block → ℕ
+test_place program place body = place + 1 + block_size program body
+
+-- where the handlers of a `try` begin, or those that follow a handler
+abbrev pub handlers_place : Program → (place : ℕ) → Block → Handlers → ℕ
+handlers_place program place block handlers = place + block_size program block + jump_size (jumps_behind block handlers)
+
+-- ---- code
+-- `break` and `continue` go where the innermost loop says; code behind a handler's body, where that ends normally, is at `end`
+abbrev mutual
+  pub statement_code : Program → Loop → (place : ℕ) → Statement → List Instruction
+  statement_code program loop place (Assign at x e) = value_code place e ++ store_of x ∷ []
+  statement_code program loop place (Clear at slot) = instruction.Clear slot ∷ []
+  statement_code program loop place (Store at array length index e) =
+      value_code place index ++ (value_code (place + value_size index) e ++ store_element_of array ∷ [])
+  statement_code program loop place (Receive at channel target) = instruction.Receive channel ∷ kept_code target ∷ []
+  statement_code program loop place (Send at channel e) = value_code place e ++ instruction.Send channel ∷ []
+  statement_code program loop place (Call at procedure arguments target) =
+      arguments_code place arguments
+      ++ instruction.Call procedure ∷ result_code (procedure_at program procedure).result target
+  statement_code program loop place (If at e yes_block no_block) =
+      branch_code false place (no_place program place e yes_block no_block) e
+      ++ (block_code program loop (place + branch_size false e) yes_block
+      ++ (jump_code (jumps_over yes_block no_block)
+      (no_place program place e yes_block no_block + block_size program no_block)
+      ++ block_code program loop (no_place program place e yes_block no_block) no_block))
+  statement_code program loop place (While at number e body) =
+      instruction.Jump (test_place program place body)
+      ∷ (block_code program
+      (record { behind = test_place program place body + branch_size true e; test = test_place program place body })
+      (place + 1) body
+      ++ branch_code true (test_place program place body) (place + 1) e)
+  statement_code program loop place (Leave at exit) = leave_code loop exit ∷ []
+  statement_code program loop place (ReturnWith at e) = return_code place e
+  statement_code program loop place (Try at block handlers) =
+      block_code program loop place block
+      ++ (jump_code (jumps_behind block handlers)
+      (handlers_place program place block handlers + handlers_size program handlers)
+      ++ handlers_code program loop (handlers_place program place block handlers + handlers_size program handlers)
+      (handlers_place program place block handlers) handlers)
+  statement_code program loop place (Nested at block) = block_code program loop place block
+
+  pub block_code : Program → Loop → (place : ℕ) → Block → List Instruction
+  block_code program loop place Empty = []
+  block_code program loop place (Then statement rest) =
+      statement_code program loop place statement
+      ++ block_code program loop (place + statement_size program statement) rest
+
+  pub handlers_code : Program → Loop → (end place : ℕ) → Handlers → List Instruction
+  handlers_code program loop end place NoMore = []
+  handlers_code program loop end place (Catch at exception body rest) =
+      block_code program loop place body
+      ++ (jump_code (jumps_behind body rest) end
+      ++ handlers_code program loop end (handlers_place program place body rest) rest)
+
+-- ---- handlers
+-- the entry of a catch: none where no instruction stands in the block
+abbrev pub entry_of : (start end exception target : ℕ) → List Handler
+entry_of start end exception target =
+    if nat_lt start end then (record { start = start; end = end; exception = exception; target = target } ∷ []) else []
+
+-- the entries of a block stand before those of the `try` that it belongs to
+abbrev mutual
+  pub statement_table : Program → (place : ℕ) → Statement → List Handler
+  statement_table program place (Assign at x e) = []
+  statement_table program place (Clear at slot) = []
+  statement_table program place (Store at array length index e) = []
+  statement_table program place (Receive at channel target) = []
+  statement_table program place (Send at channel e) = []
+  statement_table program place (Call at procedure arguments target) = []
+  statement_table program place (If at e yes_block no_block) =
+      block_table program (place + branch_size false e) yes_block
+      ++ block_table program (no_place program place e yes_block no_block) no_block
+  statement_table program place (While at number e body) = block_table program (place + 1) body
+  statement_table program place (Leave at exit) = []
+  statement_table program place (ReturnWith at e) = []
+  statement_table program place (Try at block handlers) =
+      block_table program place block
+      ++ handlers_table program place (place + block_size program block)
+      (handlers_place program place block handlers) handlers
+  statement_table program place (Nested at block) = block_table program place block
+
+  pub block_table : Program → (place : ℕ) → Block → List Handler
+  block_table program place Empty = []
+  block_table program place (Then statement rest) =
+      statement_table program place statement
+      ++ block_table program (place + statement_size program statement) rest
+
+  pub handlers_table : Program → (start end place : ℕ) → Handlers → List Handler
+  handlers_table program start end place NoMore = []
+  handlers_table program start end place (Catch at exception body rest) =
+      entry_of start end exception place
+      ++ (block_table program place body
+      ++ handlers_table program start end (handlers_place program place body rest) rest)

@@ -1,0 +1,41 @@
+-- The graph of a program: the code of each procedure, and the tables of its globals, channels and exceptions.
+-- Source: our own.
+use Rattle.std.specs.Prelude.{Bool, true, false, List, [], ◌∷◌, ◌++◌, map}
+use Rattle.resolved.specs.Tree.{Block}
+use Rattle.resolved.specs.Program.{Program, ProcedureEntry}
+use Rattle.bytecode.specs.declared.instruction.Instruction.{Instruction}
+use Rattle.bytecode.specs.declared.instruction.Instruction.TheVariants.{Return}
+use Rattle.bytecode.specs.Contents.{ProcedureContents, ModuleContents}
+use Rattle.lowering.specs.Interface.{hierarchy_contents, channel_contents, global_contents, slot_contents, returned_kind}
+use Rattle.lowering.specs.Code.{Loop, block_falls, block_code, block_table}
+
+-- a return behind a body that may end normally
+abbrev pub end_code : (falls : Bool) → List Instruction
+end_code true = Return ∷ []
+end_code false = []
+
+-- outside a loop, where no `break` and no `continue` stands
+abbrev pub no_loop : Loop
+no_loop = record { behind = 0; test = 0 }
+
+abbrev pub body_code : Program → Block → List Instruction
+body_code program body = block_code program no_loop 0 body ++ end_code (block_falls body)
+
+abbrev pub procedure_contents : Program → ProcedureEntry → ProcedureContents
+procedure_contents program procedure = record {
+  returned = returned_kind procedure.result;
+  parameters = procedure.parameters;
+  slots = map slot_contents procedure.slots;
+  code = body_code program procedure.body;
+  handlers = block_table program 0 procedure.body;
+}
+
+abbrev pub graph_of : Program → ModuleContents
+graph_of program = record {
+  hierarchy = hierarchy_contents program.hierarchy;
+  exceptions = program.exceptions;
+  channels = map channel_contents program.channels;
+  globals = map global_contents program.globals;
+  procedures = map (procedure_contents program) program.procedures;
+  main = program.main;
+}

@@ -1,0 +1,167 @@
+//! Code of conditions, which goes to a place where the condition has a wanted truth.
+ghost use Rattle.resolved.specs.TreeOf.{expression_of};
+ghost use Rattle.resolved.specs.Value.{bool_eq};
+ghost use Rattle.lowering.specs.Expressions.{branch_code, branch_size, deciding, test_code, tested, turned, turned_operator, value_code, value_size};
+ghost use Rattle.std.specs.Prelude.{OnOk, if◌then◌else◌, length, ◌++◌, ◌+◌, ◌<◌, ◌^◌, ◌≡◌};
+
+use crate::emitter::{next_place, push};
+use crate::instructions::operator_instruction;
+use crate::operands::{push_value, value_size};
+use bytecode::Instruction;
+use resolved::expression::{Connective, Expression, Operator, Prefix};
+use std::alloc::AllocError;
+
+/// The comparison that is true exactly where an operator is false.
+fn turned_operator(operator: Operator) -> Operator
+    ensures { result ≡ turned_operator operator }
+{
+    match operator {
+        Operator::Add => Operator::Add,
+        Operator::Subtract => Operator::Subtract,
+        Operator::Multiply => Operator::Multiply,
+        Operator::Divide => Operator::Divide,
+        Operator::Remainder => Operator::Remainder,
+        Operator::LessThan => Operator::AtLeast,
+        Operator::AtMost => Operator::GreaterThan,
+        Operator::GreaterThan => Operator::AtMost,
+        Operator::AtLeast => Operator::LessThan,
+        Operator::Equal => Operator::Unequal,
+        Operator::Unequal => Operator::Equal,
+        Operator::Same => Operator::Different,
+        Operator::Different => Operator::Same,
+    }
+}
+
+/// The truth at which the left operand of a connective decides.
+fn deciding(connective: Connective) -> bool
+    ensures { result ≡ deciding connective }
+{
+    match connective {
+        Connective::And => false,
+        Connective::Or => true,
+    }
+}
+
+/// How many instructions the code has that pushes what is tested.
+fn tested_size(wanted: bool, condition: &Expression) -> u32
+    requires { value_size (tested wanted (expression_of condition.now)) < 2 ^ 32 }
+    ensures { result ≡ value_size (tested wanted (expression_of condition.now)) }
+{
+    if !wanted {
+        return value_size(condition);
+    }
+    match condition {
+        Expression::Integer(_) => value_size(condition) + 1,
+        Expression::Logical(_) => value_size(condition),
+        Expression::Read(_) => value_size(condition) + 1,
+        Expression::Element(_, _, _) => value_size(condition) + 1,
+        Expression::Unary(_, _) => value_size(condition) + 1,
+        Expression::Binary(_, _, _) => value_size(condition),
+        Expression::Short(_, _, _) => value_size(condition) + 1,
+    }
+}
+
+/// How many instructions the code of a condition has.
+pub(crate) fn branch_size(wanted: bool, condition: &Expression) -> u32
+    requires { branch_size wanted (expression_of condition.now) < 2 ^ 32 }
+    ensures { result ≡ branch_size wanted (expression_of condition.now) }
+{
+    match condition {
+        Expression::Integer(_) => tested_size(wanted, condition) + 1,
+        Expression::Logical(_) => tested_size(wanted, condition) + 1,
+        Expression::Read(_) => tested_size(wanted, condition) + 1,
+        Expression::Element(_, _, _) => tested_size(wanted, condition) + 1,
+        Expression::Unary(Prefix::Negate, _) => tested_size(wanted, condition) + 1,
+        Expression::Unary(Prefix::Not, operand) => branch_size(!wanted, operand),
+        Expression::Binary(_, _, _) => tested_size(wanted, condition) + 1,
+        Expression::Short(connective, left, right) => {
+            branch_size(deciding(*connective), left) + branch_size(wanted, right)
+        }
+    }
+}
+
+/// Adds code that pushes the value of a turned condition.
+#[tactic(auto, using(crate::proofs::Appending::growing))]
+fn push_turned(code: &mut Vec<Instruction>, condition: &Expression) -> Result<(), AllocError>
+    requires { length code.now.items + value_size (turned (expression_of condition.now)) < 2 ^ 32 }
+    ensures { OnOk result (code.new.items ≡
+        code.old.items ++ value_code (length code.old.items) (turned (expression_of condition.now))) }
+{
+    match condition {
+        Expression::Logical(truth) => return push(code, Instruction::PushBoolean(!*truth)),
+        Expression::Binary(operator, left, right) => {
+            push_value(code, left)?;
+            push_value(code, right)?;
+            return push(code, operator_instruction(turned_operator(*operator)));
+        }
+        Expression::Integer(_) => {}
+        Expression::Read(_) => {}
+        Expression::Element(_, _, _) => {}
+        Expression::Unary(_, _) => {}
+        Expression::Short(_, _, _) => {}
+    }
+    push_value(code, condition)?;
+    push(code, Instruction::Not)
+}
+
+/// Adds code that goes to the target where what is tested is false.
+fn push_test(
+    code: &mut Vec<Instruction>,
+    wanted: bool,
+    target: u32,
+    condition: &Expression,
+) -> Result<(), AllocError>
+    requires { length code.now.items + (value_size (tested wanted (expression_of condition.now)) + 1)
+        < 2 ^ 32 }
+    ensures { OnOk result (code.new.items ≡ code.old.items ++
+        test_code wanted (length code.old.items) target (expression_of condition.now)) }
+{
+    if wanted {
+        push_turned(code, condition)?;
+    } else {
+        push_value(code, condition)?;
+    }
+    push(code, Instruction::JumpIfFalse(target))
+}
+
+/// Where the left operand of a connective goes where it decides: the whole condition then has that truth.
+fn inner_target(wanted: bool, decides: bool, target: u32, behind: u32) -> u32
+    ensures { result ≡ (if bool_eq wanted decides then target else behind) }
+{
+    match (wanted, decides) {
+        (true, true) => target,
+        (true, false) => behind,
+        (false, true) => behind,
+        (false, false) => target,
+    }
+}
+
+/// Adds code that goes to the target where the condition has the wanted truth.
+#[tactic(auto, using(crate::proofs::Appending::growing))]
+pub(crate) fn push_branch(
+    code: &mut Vec<Instruction>,
+    wanted: bool,
+    target: u32,
+    condition: &Expression,
+) -> Result<(), AllocError>
+    requires { length code.now.items + branch_size wanted (expression_of condition.now) < 2 ^ 32 }
+    ensures { OnOk result (code.new.items ≡ code.old.items ++
+        branch_code wanted (length code.old.items) target (expression_of condition.now)) }
+{
+    match condition {
+        Expression::Integer(_) => push_test(code, wanted, target, condition),
+        Expression::Logical(_) => push_test(code, wanted, target, condition),
+        Expression::Read(_) => push_test(code, wanted, target, condition),
+        Expression::Element(_, _, _) => push_test(code, wanted, target, condition),
+        Expression::Unary(Prefix::Negate, _) => push_test(code, wanted, target, condition),
+        Expression::Unary(Prefix::Not, operand) => push_branch(code, !wanted, target, operand),
+        Expression::Binary(_, _, _) => push_test(code, wanted, target, condition),
+        Expression::Short(connective, left, right) => {
+            let decides = deciding(*connective);
+            let behind = next_place(code) + branch_size(decides, left) + branch_size(wanted, right);
+            let inner = inner_target(wanted, decides, target, behind);
+            push_branch(code, decides, inner, left)?;
+            push_branch(code, wanted, target, right)
+        }
+    }
+}

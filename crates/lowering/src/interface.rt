@@ -1,0 +1,114 @@
+//! What a graph shows before any run: the hierarchy, the exceptions, the channels and the globals.
+ghost use Rattle.resolved.specs.ProgramOf.{channel_entry, global_entry};
+ghost use Rattle.lowering.specs.Interface.{channel_contents, declared_global, direction_of, global_contents, hierarchy_contents, kind_of_base, scalar_global};
+ghost use Rattle.lowering.specs.Fitting.{IsShortValue};
+ghost use Rattle.std.specs.Prelude.{All, IfOk, map, ◌≡◌};
+ghost use Rattle.std.specs.String.{string_bytes};
+
+use bytecode::{Channel, Direction, Kind};
+use principals::Hierarchy;
+use resolved::expression::{Base, Value};
+use resolved::tables;
+use std::alloc::{AllocError, Global};
+
+/// The same principals, with the written pairs in ascending order, each once.
+pub(crate) fn hierarchy_of(alloc: Global, hierarchy: &Hierarchy) -> Result<Hierarchy, AllocError>
+    ensures { IfOk result (λ made. made ≡ hierarchy_contents hierarchy.now) }
+{
+    let _kept = hierarchy.count();
+    let mut names = Vec::new(alloc);
+    for name in hierarchy.names() {
+        names.push(name.clone()?)?;
+    }
+    let mut pairs = Vec::from_slice(alloc, hierarchy.pairs())?;
+    pairs.sort_unstable();
+    pairs.dedup();
+    Hierarchy::of(alloc, names, pairs)
+}
+
+/// The same names, in their order.
+pub(crate) fn names_of(alloc: Global, names: &[String]) -> Result<Vec<String>, AllocError>
+    ensures { IfOk result (λ made.
+        map (λ name. string_bytes name) made.items ≡ map (λ name. string_bytes name) names.now) }
+{
+    let mut made = Vec::new(alloc);
+    for name in names {
+        made.push(name.clone()?)?;
+    }
+    Ok(made)
+}
+
+/// The same way.
+fn direction_of(direction: tables::Direction) -> Direction
+    ensures { result ≡ direction_of direction }
+{
+    match direction {
+        tables::Direction::Input => Direction::Input,
+        tables::Direction::Output => Direction::Output,
+    }
+}
+
+/// The same channels, in their order.
+pub(crate) fn channels_of(
+    alloc: Global,
+    channels: &[tables::Channel],
+) -> Result<Vec<Channel>, AllocError>
+    ensures { IfOk result (λ made.
+        made.items ≡ map channel_contents (map channel_entry channels.now)) }
+{
+    let mut made = Vec::new(alloc);
+    for channel in channels {
+        let direction = direction_of(channel.direction);
+        made.push(Channel::new(direction, channel.name.clone()?, channel.label.clone()?))?;
+    }
+    Ok(made)
+}
+
+/// The kind of the values of a base type.
+pub(crate) fn kind_of_base(base: Base) -> Kind
+    ensures { result ≡ kind_of_base base }
+{
+    match base {
+        Base::Int => Kind::Int,
+        Base::Boolean => Kind::Boolean,
+    }
+}
+
+/// The global that holds a value at first.
+fn scalar_global(value: Value) -> bytecode::Global
+    ensures exact { result ≡ scalar_global value }
+    ensures short { IsShortValue value }
+{
+    match value {
+        Value::Number(number) => bytecode::Global::Int(number),
+        Value::Truth(truth) => bytecode::Global::Boolean(truth),
+    }
+}
+
+/// A scalar global that holds a value at first, or an array of so many elements.
+fn declared_global(base: Base, size: Option<u32>, first: Value) -> bytecode::Global
+    ensures exact { result ≡ declared_global base size first }
+    ensures short { IsShortValue first }
+{
+    match size {
+        None => scalar_global(first),
+        Some(count) => bytecode::Global::Array(kind_of_base(base), count),
+    }
+}
+
+/// The globals, in their order; what they hold at first is of 32 bits.
+pub(crate) fn globals_of(
+    alloc: Global,
+    globals: &[tables::GlobalVariable],
+) -> Result<Vec<bytecode::Global>, AllocError>
+    ensures exact { IfOk result (λ made.
+        made.items ≡ map global_contents (map global_entry globals.now)) }
+    ensures short { IfOk result (λ _. All (λ entry. IsShortValue entry.first)
+        (map global_entry globals.now)) }
+{
+    let mut made = Vec::new(alloc);
+    for variable in globals {
+        made.push(declared_global(variable.base, variable.size, variable.first))?;
+    }
+    Ok(made)
+}

@@ -1,0 +1,91 @@
+//! Procedures: what they take and give, the slots of their frames, their code and their handlers.
+ghost use Rattle.resolved.specs.CoreOf.{program_of};
+ghost use Rattle.resolved.specs.ProgramOf.{procedure_entry, result_entry, slot_entry};
+ghost use Rattle.resolved.specs.TreeOf.{block_of};
+ghost use Rattle.lowering.specs.Code.{block_size};
+ghost use Rattle.lowering.specs.Graphs.{end_code, procedure_contents};
+ghost use Rattle.lowering.specs.Interface.{declared_slot, returned_kind, slot_contents};
+ghost use Rattle.std.specs.Prelude.{IfOk, OnOk, map, ◌++◌, ◌<◌, ◌^◌, ◌≡◌};
+
+use crate::emission::{LoopPlaces, push_block};
+use crate::emitter::push;
+use crate::endings::block_falls;
+use crate::interface::kind_of_base;
+use bytecode::{Instruction, Kind, Procedure, Slot};
+use resolved::expression::Base;
+use resolved::program::Core;
+use resolved::tables;
+use std::alloc::{AllocError, Global};
+
+/// A slot for values of a base type: one, or as many as an array has elements.
+fn declared_slot(base: Base, size: Option<u32>) -> Slot
+    ensures { result ≡ declared_slot base size }
+{
+    match size {
+        None => Slot::Scalar(kind_of_base(base)),
+        Some(count) => Slot::Array(kind_of_base(base), count),
+    }
+}
+
+/// The slots of a frame, in their order.
+fn slots_of(alloc: Global, slots: &[tables::Slot]) -> Result<Vec<Slot>, AllocError>
+    ensures { IfOk result (λ made. made.items ≡ map slot_contents (map slot_entry slots.now)) }
+{
+    let mut made = Vec::new(alloc);
+    for slot in slots {
+        made.push(declared_slot(slot.base, slot.size))?;
+    }
+    Ok(made)
+}
+
+/// The kind of value that a procedure gives, if it gives one.
+fn returned_kind(given: &Option<tables::ResultType>) -> Option<Kind>
+    ensures { result ≡ returned_kind (result_entry given.now) }
+{
+    match given {
+        None => None,
+        Some(given) => Some(kind_of_base(given.base)),
+    }
+}
+
+/// Adds a return, where a body may end normally.
+fn push_end(code: &mut Vec<Instruction>, falls: bool) -> Result<(), AllocError>
+    ensures { OnOk result (code.new.items ≡ code.old.items ++ end_code falls) }
+{
+    if falls {
+        push(code, Instruction::Return)?;
+    }
+    Ok(())
+}
+
+/// The procedure of a graph for a procedure of a program.
+fn procedure_of(
+    alloc: Global,
+    core: &Core,
+    procedure: &tables::Procedure,
+) -> Result<Procedure, AllocError>
+    requires { block_size (program_of core.now) (block_of procedure.now.body.items) < 2 ^ 32 }
+    ensures { IfOk result (λ made.
+        made ≡ procedure_contents (program_of core.now) (procedure_entry procedure.now)) }
+{
+    let outside = LoopPlaces { behind: 0, test: 0 };
+    let mut code = Vec::new(alloc);
+    let mut handlers = Vec::new(alloc);
+    push_block(core, outside, &mut code, &mut handlers, &procedure.body)?;
+    push_end(&mut code, block_falls(&procedure.body))?;
+    let returned = returned_kind(&procedure.result);
+    let slots = slots_of(alloc, &procedure.slots)?;
+    Ok(Procedure::new(returned, procedure.parameters, slots, code, handlers))
+}
+
+/// The procedures of a graph, in the order of the program's.
+pub(crate) fn procedures_of(alloc: Global, core: &Core) -> Result<Vec<Procedure>, AllocError>
+    ensures { IfOk result (λ made. made.items
+        ≡ map (procedure_contents (program_of core.now)) (program_of core.now).procedures) }
+{
+    let mut made = Vec::new(alloc);
+    for procedure in &core.procedures {
+        made.push(procedure_of(alloc, core, procedure)?)?;
+    }
+    Ok(made)
+}

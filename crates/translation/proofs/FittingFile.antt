@@ -1,7 +1,0 @@
--- The graph of a well-formed program is within the limits of the module file: it goes to positions alone, and so its targets are too.
-use Rattle.translation.specs.Fitting.{GraphsFitTheFile}
-use Rattle.translation.proofs.FittingGraphs.{graph-fits}
-use Rattle.translation.proofs.Inside.{graphs-positioned}
-
-pub graphs-fit : GraphsFitTheFile
-graphs-fit program formed none names values = graph-fits program formed names values (graphs-positioned program formed none)

@@ -1,5 +1,0 @@
-use Rattle.translation.proofs.Faultless.{modules-faultless}
-use Rattle.translation.proofs.laws.modules_have_no_fault.Goals as goal
-
-pub returns : goal.returns
-returns c = modules-faultless
