@@ -88,7 +88,7 @@ pub flow-added : (core : Core) (table : List Label) (atoms : List NamedAtom) (ta
     → taker ≡ wanted → AreAdded core table (flow atoms taker) old new → AreAdded core table (flow atoms wanted) old new
 flow-added core table atoms taker wanted old new is added = added-same core table (flow atoms wanted) (flow atoms taker) old new (ap (flow atoms) (sym is)) added
 
--- the left side of the way alone
-pub alone-left : (core : Core) (table : List Label) (named : NamedAtom) (way : Atom) (left : List Atom)
-    → left ≡ way ∷ [] → IsPart core table named way → IsLeft core table (named ∷ []) left
-alone-left core table named way left is stands = ap (parts (program_of core) table) is ∙ ap (λ p. p ∷ []) stands
+-- the left side of the pc alone
+pub alone-left : (core : Core) (table : List Label) (named : NamedAtom) (pc : Atom) (left : List Atom)
+    → left ≡ pc ∷ [] → IsPart core table named pc → IsLeft core table (named ∷ []) left
+alone-left core table named pc left is stands = ap (parts (program_of core) table) is ∙ ap (λ p. p ∷ []) stands

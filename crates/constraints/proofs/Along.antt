@@ -15,7 +15,7 @@ use Rattle.path_map.specs.Exits.{exits_of}
 use Rattle.path_map.specs.Paths.{block_paths, handlers_paths, inner_paths, rest_paths, statement_paths}
 use Rattle.gathering.specs.Names.{NamedAtom, NamedConstraint}
 use Rattle.gathering.specs.Walk as walk
-use Rattle.gathering.specs.Walk.{block_constraints, handlers_constraints, inner_atom, inner_block, made_by_block, made_by_handlers, made_by_statement, onward_way, single, statement_constraints, with_normal, within_single}
+use Rattle.gathering.specs.Walk.{block_constraints, handlers_constraints, inner_atom, inner_block, made_by_block, made_by_handlers, made_by_statement, onward_pc, single, statement_constraints, with_normal, within_single}
 use Rattle.solver.specs.declared.system.Atom.{Atom}
 use Rattle.constraints.specs.Added.{AreAdded, IsPart, Stored}
 use Rattle.constraints.specs.Parts.{scope_of}
@@ -28,24 +28,24 @@ use Rattle.constraints.proofs.Formed.{block-at}
 use Rattle.constraints.proofs.Passed.{passed-from, paths-then, walked-on}
 
 -- what is still to be added, for the whole to have been added
-pub record Adds (core : Core) (table : List Label) (procedure : ℕ) (takers : walk.Takers) (named : NamedAtom) (block : Block) (old : Progress) (rest : Block) (reached : Bool) (way : Atom) (now : Progress) : Type 0 where
+pub record Adds (core : Core) (table : List Label) (procedure : ℕ) (takers : walk.Takers) (named : NamedAtom) (block : Block) (old : Progress) (rest : Block) (reached : Bool) (pc : Atom) (now : Progress) : Type 0 where
   pub here : NamedAtom
-  pub stands : IsPart core table here way
+  pub stands : IsPart core table here pc
   pub added : (last : List Stored)
       → AreAdded core table (block_constraints (scope_of core procedure) reached here takers now.number rest) now.constraints.items last
       → AreAdded core table (block_constraints (scope_of core procedure) true named takers old.number block) old.constraints.items last
 
 -- what a walk has come to, with these statements of the block left
-pub record Comes (core : Core) (table : List Label) (entries : List Exits) (procedure : ℕ) (way : Atom) (takers : Takers) (block : Block) (left : List Exits) (old : Progress) (rest : Block) (reached : Bool) (onward : Atom) (now : Progress) : Type 0 where
+pub record Comes (core : Core) (table : List Label) (entries : List Exits) (procedure : ℕ) (pc : Atom) (takers : Takers) (block : Block) (left : List Exits) (old : Progress) (rest : Block) (reached : Bool) (onward : Atom) (now : Progress) : Type 0 where
   pub entries_left : drop now.index entries ≡ map exits_of (rest_paths (program_of core) rest) ++ left
   pub number_is : now.number + made_by_block rest ≡ old.number + made_by_block block
   pub thrown_is : now.thrown.items ≡ old.thrown.items
-  pub adds : (named : NamedAtom) → IsPart core table named way → Adds core table procedure (takers_of takers old.thrown.items) named block old rest reached onward now
+  pub adds : (named : NamedAtom) → IsPart core table named pc → Adds core table procedure (takers_of takers old.thrown.items) named block old rest reached onward now
 
-abbrev pub Along : Core → (table : List Label) → (entries : List Exits) → (procedure : ℕ) → (way : Atom) → Takers → (block : Block) → (old : Progress) → (rest : Block) → (reached : Bool) → (onward : Atom) → (now : Progress) → Type 0
-Along core table entries procedure way takers block old rest reached onward now =
+abbrev pub Along : Core → (table : List Label) → (entries : List Exits) → (procedure : ℕ) → (pc : Atom) → Takers → (block : Block) → (old : Progress) → (rest : Block) → (reached : Bool) → (onward : Atom) → (now : Progress) → Type 0
+Along core table entries procedure pc takers block old rest reached onward now =
     (left : List Exits) → drop old.index entries ≡ map exits_of (rest_paths (program_of core) block) ++ left → AreLevelled takers old.thrown.items →
-    Comes core table entries procedure way takers block left old rest reached onward now
+    Comes core table entries procedure pc takers block left old rest reached onward now
 
 -- with these handlers left
 pub record Handles (core : Core) (table : List Label) (entries : List Exits) (procedure : ℕ) (number : ℕ → ℕ) (takers : Takers) (handlers : Handlers) (left : List Exits) (old : Progress) (rest : Handlers) (now : Progress) : Type 0 where
@@ -62,27 +62,27 @@ Handling core table entries procedure number takers handlers old rest now =
     Handles core table entries procedure number takers handlers left old rest now
 
 module _ (core : Core) (table : List Label) (entries : List Exits) (procedure : ℕ) where
-  pub along-start : (way : Atom) (takers : Takers) (block : Block) (old : Progress) → Along core table entries procedure way takers block old block true way old
-  along-start way takers block old = λ left before levelled. record {
+  pub along-start : (pc : Atom) (takers : Takers) (block : Block) (old : Progress) → Along core table entries procedure pc takers block old block true pc old
+  along-start pc takers block old = λ left before levelled. record {
     entries_left = before;
     number_is = refl;
     thrown_is = refl;
     adds = λ named stands. record { here = named; stands = stands; added = λ last added. added };
   }
 
-  pub along-step : (way : Atom) (takers : Takers) (block : Block) (old : Progress) (statement : Statement) (rest : Block) (reached : Bool) (onward next : Atom) (now made new : Progress) (exits : Exits) (number : ℕ)
-      → Along core table entries procedure way takers block old (Then statement rest) reached onward now
+  pub along-step : (pc : Atom) (takers : Takers) (block : Block) (old : Progress) (statement : Statement) (rest : Block) (reached : Bool) (onward next : Atom) (now made new : Progress) (exits : Exits) (number : ℕ)
+      → Along core table entries procedure pc takers block old (Then statement rest) reached onward now
       → made ≡ record now { number = now.number + 1 } → number ≡ now.number
       → ((first : Exits) (left : List Exits) → drop made.index entries ≡ first ∷ left → exits ≡ first)
       → IsStatementWalked core table entries procedure onward takers number statement made new
-      → ((ends : List Exit) (named : NamedAtom) → exits ≡ exits_of ends → IsPart core table named onward → IsPart core table (onward_way (one_end ends) named number) next)
-      → Along core table entries procedure way takers block old rest exits.normal next new
-  along-step way takers block old statement rest reached onward next now made new exits number along made_is number_is exits_are walked goes = λ left before levelled.
+      → ((ends : List Exit) (named : NamedAtom) → exits ≡ exits_of ends → IsPart core table named onward → IsPart core table (onward_pc (one_end ends) named number) next)
+      → Along core table entries procedure pc takers block old rest exits.normal next new
+  along-step pc takers block old statement rest reached onward next now made new exits number along made_is number_is exits_are walked goes = λ left before levelled.
       let program : Program = program_of core in
       let scope : Scope = scope_of core procedure in
       let ends : List Exit = statement_ends program statement in
       let t : walk.Takers = takers_of takers old.thrown.items in
-      let comes : Comes core table entries procedure way takers block left old (Then statement rest) reached onward now = along left before levelled in
+      let comes : Comes core table entries procedure pc takers block left old (Then statement rest) reached onward now = along left before levelled in
       let behind : List Exits = map exits_of (rest_paths program rest) ++ left in
       let ahead : drop made.index entries ≡ map exits_of (statement_paths program statement) ++ behind =
       ap (λ (p : Progress). drop p.index entries) made_is
@@ -102,9 +102,9 @@ module _ (core : Core) (table : List Label) (entries : List Exits) (procedure : 
         thrown_is = from.thrown_is ∙ comes.thrown_is;
         adds = λ named stands.
             let adds : Adds core table procedure t named block old (Then statement rest) reached onward now = comes.adds named stands in
-            let tail : Bool → ℕ → ℕ → List NamedConstraint = λ b k m. block_constraints scope b (onward_way (one_end ends) adds.here k) t m rest in
+            let tail : Bool → ℕ → ℕ → List NamedConstraint = λ b k m. block_constraints scope b (onward_pc (one_end ends) adds.here k) t m rest in
             record {
-              here = onward_way (one_end ends) adds.here number;
+              here = onward_pc (one_end ends) adds.here number;
               stands = goes ends adds.here kept adds.stands;
               added = λ last added. adds.added last
                   (added-same core table (block_constraints scope reached adds.here t now.number (Then statement rest)) (step number adds.here ++ tail exits.normal number new.number) now.constraints.items last
@@ -119,13 +119,13 @@ module _ (core : Core) (table : List Label) (entries : List Exits) (procedure : 
             };
       }
 
-  pub along-end : (way : Atom) (takers : Takers) (block : Block) (old : Progress) (reached : Bool) (onward : Atom) (now new : Progress)
-      → Along core table entries procedure way takers block old Empty reached onward now
+  pub along-end : (pc : Atom) (takers : Takers) (block : Block) (old : Progress) (reached : Bool) (onward : Atom) (now new : Progress)
+      → Along core table entries procedure pc takers block old Empty reached onward now
       → ((n : ℕ) → IsWalked core table entries onward takers [] (λ named. block_constraints (scope_of core procedure) reached named (takers_of takers now.thrown.items) n Empty) 0 now new)
-      → AreStatementsWalked core table entries procedure way takers block old new
-  along-end way takers block old reached onward now new along ended = λ left before levelled.
+      → AreStatementsWalked core table entries procedure pc takers block old new
+  along-end pc takers block old reached onward now new along ended = λ left before levelled.
       let scope : Scope = scope_of core procedure in
-      let comes : Comes core table entries procedure way takers block left old Empty reached onward now = along left before levelled in
+      let comes : Comes core table entries procedure pc takers block left old Empty reached onward now = along left before levelled in
       let passed : HasPassed core table entries onward (λ named. block_constraints scope reached named (takers_of takers old.thrown.items) now.number Empty) 0 left now new =
       walked-on core table entries onward takers [] (λ thrown k named. block_constraints scope reached named (takers_of takers thrown) k Empty)
       0 left now new old.thrown.items now.number comes.thrown_is refl levelled comes.entries_left (ended now.number) in
@@ -147,21 +147,21 @@ module _ (core : Core) (table : List Label) (entries : List Exits) (procedure : 
     added = λ last added. added;
   }
 
-  pub handling-step : (number : ℕ → ℕ) (takers : Takers) (handlers : Handlers) (old : Progress) (at handled : ℕ) (body : Block) (rest : Handlers) (way : Atom) (named : ℕ) (now new : Progress)
+  pub handling-step : (number : ℕ → ℕ) (takers : Takers) (handlers : Handlers) (old : Progress) (at handled : ℕ) (body : Block) (rest : Handlers) (pc : Atom) (named : ℕ) (now new : Progress)
       → Handling core table entries procedure number takers handlers old (Catch at handled body rest) now
-      → named ≡ number handled → IsPart core table (inner_atom named) way
-      → IsBlockWalked core table entries procedure way takers body now new
+      → named ≡ number handled → IsPart core table (inner_atom named) pc
+      → IsBlockWalked core table entries procedure pc takers body now new
       → Handling core table entries procedure number takers handlers old rest new
-  handling-step number takers handlers old at handled body rest way named now new along is stands walked = λ left before levelled.
+  handling-step number takers handlers old at handled body rest pc named now new along is stands walked = λ left before levelled.
       let program : Program = program_of core in
       let scope : Scope = scope_of core procedure in
       let t : walk.Takers = takers_of takers old.thrown.items in
       let comes : Handles core table entries procedure number takers handlers left old (Catch at handled body rest) now = along left before levelled in
       let behind : List Exits = map exits_of (handlers_paths program rest) ++ left in
-      let part : IsPart core table (inner_atom (number handled)) way = subst (λ k. IsPart core table (inner_atom k) way) is stands in
+      let part : IsPart core table (inner_atom (number handled)) pc = subst (λ k. IsPart core table (inner_atom k) pc) is stands in
       let inside : List NamedConstraint = inner_block scope (inner_atom (number handled)) t now.number body in
-      let passed : HasPassed core table entries way (λ other. inside) (made_by_block body) behind now new =
-      block-at core table entries procedure way way (inner_atom (number handled)) takers t body behind now new old.thrown.items now.number part comes.thrown_is refl levelled refl
+      let passed : HasPassed core table entries pc (λ other. inside) (made_by_block body) behind now new =
+      block-at core table entries procedure pc pc (inner_atom (number handled)) takers t body behind now new old.thrown.items now.number part comes.thrown_is refl levelled refl
       (paths-then (block_paths program body) (handlers_paths program rest) (drop now.index entries) left comes.entries_left) walked in
       let tail : ℕ → List NamedConstraint = λ k. handlers_constraints scope number t k rest in
       let sum : now.number + (made_by_block body + made_by_handlers rest) ≡ old.number + made_by_handlers handlers = comes.number_is in
@@ -175,9 +175,9 @@ module _ (core : Core) (table : List Label) (entries : List Exits) (procedure : 
             (added-then core table inside (tail new.number) now.constraints.items new.constraints.items last (passed.added (inner_atom (number handled)) part) added));
       }
 
-  pub handling-end : (number : ℕ → ℕ) (takers : Takers) (handlers : Handlers) (old now : Progress) (way : Atom)
-      → Handling core table entries procedure number takers handlers old NoMore now → AreHandlersWalked core table entries procedure way takers number handlers old now
-  handling-end number takers handlers old now way along = λ left before levelled.
+  pub handling-end : (number : ℕ → ℕ) (takers : Takers) (handlers : Handlers) (old now : Progress) (pc : Atom)
+      → Handling core table entries procedure number takers handlers old NoMore now → AreHandlersWalked core table entries procedure pc takers number handlers old now
+  handling-end number takers handlers old now pc along = λ left before levelled.
       let comes : Handles core table entries procedure number takers handlers left old NoMore now = along left before levelled in
       let sum : now.number + 0 ≡ old.number + made_by_handlers handlers = comes.number_is in
       record {

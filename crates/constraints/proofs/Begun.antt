@@ -37,18 +37,18 @@ pub tails : {A : Type 0} (x y : A) (xs ys : List A) → x ∷ xs ≡ y ∷ ys �
 tails x y xs ys same = ap (λ list. drop 1 list) same
 
 module _ (core : Core) (table : List Label) (entries : List Exits) where
-  -- the entry of a block or statement, and the flow of its way
-  pub begun : (way : Atom) (takers : Takers) (exits : Exits) (thrown : List Entry) (ends : List Exit) (old middle new : Progress)
+  -- the entry of a block or statement, and the flow of its pc
+  pub begun : (pc : Atom) (takers : Takers) (exits : Exits) (thrown : List Entry) (ends : List Exit) (old middle new : Progress)
       → drop old.index entries ≡ exits ∷ drop middle.index entries → middle ≡ record old { index = middle.index } → thrown ≡ middle.thrown.items
       → new.index ≡ middle.index → new.number ≡ middle.number → new.thrown.items ≡ middle.thrown.items
-      → (exits ≡ exits_of ends → IsGathered core table way (λ named. single (one_end ends) named (takers_of takers thrown) ends) middle.constraints.items new.constraints.items)
-      → IsWalked core table entries way takers (ends ∷ []) (λ named. single (one_end ends) named (takers_of takers old.thrown.items) ends) 0 old new
-  begun way takers exits thrown ends old middle new found others lent index number thrown_is added = λ left before levelled.
+      → (exits ≡ exits_of ends → IsGathered core table pc (λ named. single (one_end ends) named (takers_of takers thrown) ends) middle.constraints.items new.constraints.items)
+      → IsWalked core table entries pc takers (ends ∷ []) (λ named. single (one_end ends) named (takers_of takers old.thrown.items) ends) 0 old new
+  begun pc takers exits thrown ends old middle new found others lent index number thrown_is added = λ left before levelled.
       let both : exits ∷ drop middle.index entries ≡ exits_of ends ∷ left = sym found ∙ before in
-      let from : IsGathered core table way (λ named. single (one_end ends) named (takers_of takers thrown) ends) old.constraints.items new.constraints.items =
-      subst (λ cs. IsGathered core table way (λ named. single (one_end ends) named (takers_of takers thrown) ends) cs new.constraints.items)
+      let from : IsGathered core table pc (λ named. single (one_end ends) named (takers_of takers thrown) ends) old.constraints.items new.constraints.items =
+      subst (λ cs. IsGathered core table pc (λ named. single (one_end ends) named (takers_of takers thrown) ends) cs new.constraints.items)
       (ap (λ (p : Progress). p.constraints.items) others) (added (heads exits (exits_of ends) (drop middle.index entries) left both)) in
-      passed-same core table entries way (λ named. single (one_end ends) named (takers_of takers old.thrown.items) ends) (λ named. single (one_end ends) named (takers_of takers thrown) ends) 0 0 left old new
+      passed-same core table entries pc (λ named. single (one_end ends) named (takers_of takers old.thrown.items) ends) (λ named. single (one_end ends) named (takers_of takers thrown) ends) 0 0 left old new
       (λ named. ap (λ t. single (one_end ends) named (takers_of takers t) ends) (sym (lent ∙ ap (λ (p : Progress). p.thrown.items) others))) refl
       (record {
         added = from;
@@ -58,33 +58,33 @@ module _ (core : Core) (table : List Label) (entries : List Exits) where
       })
 
   -- what is gathered with inner unknowns that are made for it
-  pub made-walked : (way : Atom) (takers : Takers) (thrown : List Entry) (k first : ℕ) (gathered : List Entry → ℕ → NamedAtom → List NamedConstraint) (old middle new : Progress)
+  pub made-walked : (pc : Atom) (takers : Takers) (thrown : List Entry) (k first : ℕ) (gathered : List Entry → ℕ → NamedAtom → List NamedConstraint) (old middle new : Progress)
       → middle ≡ record old { number = old.number + k } → first ≡ old.number → thrown ≡ middle.thrown.items
       → new.index ≡ middle.index → new.number ≡ middle.number → new.thrown.items ≡ middle.thrown.items
-      → IsGathered core table way (gathered thrown first) middle.constraints.items new.constraints.items
-      → IsWalked core table entries way takers [] (gathered old.thrown.items old.number) k old new
-  made-walked way takers thrown k first gathered old middle new made first_is lent index number thrown_is added = λ left before levelled.
-      passed-same core table entries way (gathered old.thrown.items old.number) (gathered thrown first) k k left old new
+      → IsGathered core table pc (gathered thrown first) middle.constraints.items new.constraints.items
+      → IsWalked core table entries pc takers [] (gathered old.thrown.items old.number) k old new
+  made-walked pc takers thrown k first gathered old middle new made first_is lent index number thrown_is added = λ left before levelled.
+      passed-same core table entries pc (gathered old.thrown.items old.number) (gathered thrown first) k k left old new
       (λ named. ap (λ t. gathered t old.number named) (sym (lent ∙ ap (λ (p : Progress). p.thrown.items) made)) ∙ ap (λ n. gathered thrown n named) (sym first_is)) refl
-      (alone-passed core table entries way (gathered thrown first) k left old new before
+      (alone-passed core table entries pc (gathered thrown first) k left old new before
       (index ∙ ap (λ (p : Progress). p.index) made) (number ∙ ap (λ (p : Progress). p.number) made) (thrown_is ∙ ap (λ (p : Progress). p.thrown.items) made)
-      (subst (λ cs. IsGathered core table way (gathered thrown first) cs new.constraints.items) (ap (λ (p : Progress). p.constraints.items) made) added))
+      (subst (λ cs. IsGathered core table pc (gathered thrown first) cs new.constraints.items) (ap (λ (p : Progress). p.constraints.items) made) added))
 
   -- the end of a block that is not reached
-  pub unreached : (procedure : ℕ) (reached : Bool) (way : Atom) (takers : Takers) (n : ℕ) (old : Progress) → reached ≡ false
-      → IsWalked core table entries way takers [] (λ named. block_constraints (scope_of core procedure) reached named (takers_of takers old.thrown.items) n Empty) 0 old old
-  unreached procedure reached way takers n old is =
-      alone-walked core table entries way takers (λ named. block_constraints (scope_of core procedure) reached named (takers_of takers old.thrown.items) n Empty) 0 old old refl (omega arith) refl
+  pub unreached : (procedure : ℕ) (reached : Bool) (pc : Atom) (takers : Takers) (n : ℕ) (old : Progress) → reached ≡ false
+      → IsWalked core table entries pc takers [] (λ named. block_constraints (scope_of core procedure) reached named (takers_of takers old.thrown.items) n Empty) 0 old old
+  unreached procedure reached pc takers n old is =
+      alone-walked core table entries pc takers (λ named. block_constraints (scope_of core procedure) reached named (takers_of takers old.thrown.items) n Empty) 0 old old refl (omega arith) refl
       (λ named stands. added-same core table (block_constraints (scope_of core procedure) reached named (takers_of takers old.thrown.items) n Empty) [] old.constraints.items old.constraints.items
       (ap (λ b. block_constraints (scope_of core procedure) b named (takers_of takers old.thrown.items) n Empty) is) (added-none core table old.constraints.items))
 
   -- the end of one that is
-  pub reached-walked : (procedure : ℕ) (reached : Bool) (way : Atom) (takers : Takers) (n : ℕ) (old new : Progress) → reached ≡ true
+  pub reached-walked : (procedure : ℕ) (reached : Bool) (pc : Atom) (takers : Takers) (n : ℕ) (old new : Progress) → reached ≡ true
       → new.index ≡ old.index → new.number ≡ old.number → new.thrown.items ≡ old.thrown.items
-      → IsGathered core table way (λ named. flow (named ∷ []) takers.normal) old.constraints.items new.constraints.items
-      → IsWalked core table entries way takers [] (λ named. block_constraints (scope_of core procedure) reached named (takers_of takers old.thrown.items) n Empty) 0 old new
-  reached-walked procedure reached way takers n old new is index number thrown added =
-      alone-walked core table entries way takers (λ named. block_constraints (scope_of core procedure) reached named (takers_of takers old.thrown.items) n Empty) 0 old new index (omega (arith, number)) thrown
+      → IsGathered core table pc (λ named. flow (named ∷ []) takers.normal) old.constraints.items new.constraints.items
+      → IsWalked core table entries pc takers [] (λ named. block_constraints (scope_of core procedure) reached named (takers_of takers old.thrown.items) n Empty) 0 old new
+  reached-walked procedure reached pc takers n old new is index number thrown added =
+      alone-walked core table entries pc takers (λ named. block_constraints (scope_of core procedure) reached named (takers_of takers old.thrown.items) n Empty) 0 old new index (omega (arith, number)) thrown
       (λ named stands. added-same core table (block_constraints (scope_of core procedure) reached named (takers_of takers old.thrown.items) n Empty) (flow (named ∷ []) takers.normal) old.constraints.items new.constraints.items
       (ap (λ b. block_constraints (scope_of core procedure) b named (takers_of takers old.thrown.items) n Empty) is) (added named stands))
 

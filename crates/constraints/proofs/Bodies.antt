@@ -75,7 +75,7 @@ ends-added core table f n level only procedure throws had taken given old middle
     ∙ ap (λ at. end at ++ thrown_constraints scope (number_in given) (map thrown_entry throws)) (sym at_is)))))
     (added-then core table (end procedure.at) (thrown_constraints scope (number_in given) (map thrown_entry throws)) old middle new first (second at_is))
 
-pub procedure-passed : (core : Core) (table : List Label) (entries : List Exits) (f barrier level start count : ℕ) (procedure : Procedure) (throws : List Thrown) (block : List S.Statement) (way : Atom) (takers : Takers) (only : Bool) (left : List Exits) (old middle walked new : Progress)
+pub procedure-passed : (core : Core) (table : List Label) (entries : List Exits) (f barrier level start count : ℕ) (procedure : Procedure) (throws : List Thrown) (block : List S.Statement) (pc : Atom) (takers : Takers) (only : Bool) (left : List Exits) (old middle walked new : Progress)
     → IsOf core f procedure
     → drop old.index entries ≡ map exits_of (block_paths (program_of core) (here (scope_of core f)).body) ++ left
     → AreWithin barrier old.thrown.items
@@ -83,16 +83,16 @@ pub procedure-passed : (core : Core) (table : List Label) (entries : List Exits)
     → throws ≡ procedure.throws.items → block ≡ procedure.body.items
     → only ≡ ends_one_way (scope_of core f)
     → takers ≡ end_takers_of old.number barrier level only
-    → IsPart core table (renamed Real (label_of (program_of core) (ToBegin f))) way
+    → IsPart core table (renamed Real (label_of (program_of core) (ToBegin f))) pc
     → middle.index ≡ old.index → middle.number ≡ start + count → middle.constraints.items ≡ old.constraints.items
     → ((b : ℕ) → b < level → AreWithin b old.thrown.items → AreDeclared (map thrown_entry throws) start level old.thrown.items middle.thrown.items)
-    → IsBlockWalked core table entries f way takers (block_of block) middle walked
+    → IsBlockWalked core table entries f pc takers (block_of block) middle walked
     → IsKept walked new
     → ((l : ℕ) (had : List Entry) → IsOf core f procedure → only ≡ ends_one_way (scope_of core f)
     → AreDeclared (here (scope_of core f)).throws (suc old.number) l had walked.thrown.items
     → AreAdded core table (end_constraints (scope_of core f) old.number) walked.constraints.items new.constraints.items)
     → HasPassedProcedure core table entries f (suc barrier) left old new
-procedure-passed core table entries f barrier level start count procedure throws block way takers only left old middle walked new is goes within level_is start_is count_is throws_are block_is one takers_are stands index_is number_is constraints_are takes walks kept ended =
+procedure-passed core table entries f barrier level start count procedure throws block pc takers only left old middle walked new is goes within level_is start_is count_is throws_are block_is one takers_are stands index_is number_is constraints_are takes walks kept ended =
     let program : Program = program_of core in
     let scope : Scope = scope_of core f in
     let declared : List ThrownEntry = (here scope).throws in
@@ -112,7 +112,7 @@ procedure-passed core table entries f barrier level start count procedure throws
     (subst (λ l. AreDeclared (map thrown_entry throws) start l old.thrown.items middle.thrown.items) level_suc (takes barrier below within))) in
     let inside : AreWithin (suc barrier) middle.thrown.items = taken-within declared (suc n) barrier (suc barrier) old.thrown.items middle.thrown.items upto within taken in
     let takers_suc : takers ≡ end_takers_of n barrier (suc barrier) only = takers_are ∙ ap (λ l. end_takers_of n barrier l only) level_suc in
-    let passed : HasPassed core table entries way (λ named. inner_block scope named (takers_of takers middle.thrown.items) middle.number body) (made_by_block body) left middle walked =
+    let passed : HasPassed core table entries pc (λ named. inner_block scope named (takers_of takers middle.thrown.items) middle.number body) (made_by_block body) left middle walked =
     walks left (ap (λ k. drop k entries) index_is ∙ (goes ∙ ap (λ b. map exits_of (block_paths program b) ++ left) (sym body_is)))
     (subst (λ t. AreLevelled t middle.thrown.items) (sym takers_suc) (levelled n barrier only middle.thrown.items inside)) in
     let same : takers_of takers middle.thrown.items ≡ end_takers scope n =

@@ -10,18 +10,18 @@ use Rattle.gathering.specs.Walk.{flow, single}
 use Rattle.path_map.specs.Exits.{single_end}
 
 -- the flow to the taker of the one end, if there is one only
-abbrev pub single_flow : (way : NamedAtom) → walk.Takers → Option Exit → List NamedConstraint
-single_flow way takers None = []
-single_flow way takers (Some exit) = flow (way ∷ []) (takers exit)
+abbrev pub single_flow : (pc : NamedAtom) → walk.Takers → Option Exit → List NamedConstraint
+single_flow pc takers None = []
+single_flow pc takers (Some exit) = flow (pc ∷ []) (takers exit)
 
-pub single-is : (ends : List Exit) (way : NamedAtom) (takers : walk.Takers) → single (one_end ends) way takers ends ≡ single_flow way takers (single_end ends)
-single-is [] way takers = none (one_end [])
+pub single-is : (ends : List Exit) (pc : NamedAtom) (takers : walk.Takers) → single (one_end ends) pc takers ends ≡ single_flow pc takers (single_end ends)
+single-is [] pc takers = none (one_end [])
   where
-    none : (b : Bool) → single b way takers [] ≡ []
+    none : (b : Bool) → single b pc takers [] ≡ []
     none true = refl
     none false = refl
-single-is (exit ∷ rest) way takers = go (list_all (same_exit exit) rest)
+single-is (exit ∷ rest) pc takers = go (list_all (same_exit exit) rest)
   where
-    go : (b : Bool) → single b way takers (exit ∷ rest) ≡ single_flow way takers (if b then Some exit else None)
+    go : (b : Bool) → single b pc takers (exit ∷ rest) ≡ single_flow pc takers (if b then Some exit else None)
     go true = refl
     go false = refl

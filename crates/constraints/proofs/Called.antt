@@ -28,9 +28,9 @@ use Rattle.constraints.proofs.Joined.{joined-append}
 use Rattle.constraints.proofs.Tables.{next-of}
 
 -- a left side to which a join was added
-pub left-then : (core : Core) (table : List Label) (way : Atom) (a b : Join) (first left : List Atom)
-    → IsLeftFrom core table way a first → IsJoined core table b first left → IsLeftFrom core table way (a ++ b) left
-left-then core table way a b first left from joined-is named stands =
+pub left-then : (core : Core) (table : List Label) (pc : Atom) (a b : Join) (first left : List Atom)
+    → IsLeftFrom core table pc a first → IsJoined core table b first left → IsLeftFrom core table pc (a ++ b) left
+left-then core table pc a b first left from joined-is named stands =
     let program : Program = program_of core in
     joined-is ∙ (ap (λ ps. ps ++ joined program b) (from named stands)
     ∙ ap (λ ps. numbered_atom program named ∷ ps) (sym (joined-append program a b)))

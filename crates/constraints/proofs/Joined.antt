@@ -125,9 +125,9 @@ raise-next core table f xs i x old middle new inside is first second =
     (ap (raise_atoms_all scope) (next-of expression_of xs i x inside is) ∙ all-append scope before (expression_of x))
     (joined-then core table (raise_atoms_all scope before) (raise_atoms scope (expression_of x)) old middle new first second)
 
--- a left side that begins with the way
-pub left-from : (core : Core) (table : List Label) (way : Atom) (join : Join) (first left : List Atom)
-    → first ≡ way ∷ [] → IsJoined core table join first left → IsLeftFrom core table way join left
-left-from core table way join first left is joined-is named stands =
+-- a left side that begins with the pc
+pub left-from : (core : Core) (table : List Label) (pc : Atom) (join : Join) (first left : List Atom)
+    → first ≡ pc ∷ [] → IsJoined core table join first left → IsLeftFrom core table pc join left
+left-from core table pc join first left is joined-is named stands =
     joined-is ∙ (ap (λ list. parts (program_of core) table list ++ joined (program_of core) join) is
     ∙ ap (λ p. p ∷ joined (program_of core) join) stands)

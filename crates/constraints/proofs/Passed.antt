@@ -27,28 +27,28 @@ levels-same takers old new same levelled = subst (AreLevelled takers) (sym same)
 
 module _ (core : Core) (table : List Label) (entries : List Exits) where
   -- a piece that takes no entry of the path map
-  pub alone-passed : (way : Atom) (gathered : NamedAtom → List NamedConstraint) (made : ℕ) (left : List Exits) (old new : Progress)
+  pub alone-passed : (pc : Atom) (gathered : NamedAtom → List NamedConstraint) (made : ℕ) (left : List Exits) (old new : Progress)
       → drop old.index entries ≡ left → new.index ≡ old.index → new.number ≡ old.number + made → new.thrown.items ≡ old.thrown.items
-      → IsGathered core table way gathered old.constraints.items new.constraints.items
-      → HasPassed core table entries way gathered made left old new
-  alone-passed way gathered made left old new before index number thrown added = record {
+      → IsGathered core table pc gathered old.constraints.items new.constraints.items
+      → HasPassed core table entries pc gathered made left old new
+  alone-passed pc gathered made left old new before index number thrown added = record {
     added = added;
     entries_left = ap (λ i. drop i entries) index ∙ before;
     number_is = number;
     thrown_is = thrown;
   }
 
-  pub alone-walked : (way : Atom) (takers : Takers) (gathered : NamedAtom → List NamedConstraint) (made : ℕ) (old new : Progress)
+  pub alone-walked : (pc : Atom) (takers : Takers) (gathered : NamedAtom → List NamedConstraint) (made : ℕ) (old new : Progress)
       → new.index ≡ old.index → new.number ≡ old.number + made → new.thrown.items ≡ old.thrown.items
-      → IsGathered core table way gathered old.constraints.items new.constraints.items
-      → IsWalked core table entries way takers [] gathered made old new
-  alone-walked way takers gathered made old new index number thrown added =
-      λ left before levelled. alone-passed way gathered made left old new before index number thrown added
+      → IsGathered core table pc gathered old.constraints.items new.constraints.items
+      → IsWalked core table entries pc takers [] gathered made old new
+  alone-walked pc takers gathered made old new index number thrown added =
+      λ left before levelled. alone-passed pc gathered made left old new before index number thrown added
 
-  pub passed-then : (way : Atom) (first second : NamedAtom → List NamedConstraint) (m k : ℕ) (between left : List Exits) (old middle new : Progress)
-      → HasPassed core table entries way first m between old middle → HasPassed core table entries way second k left middle new
-      → HasPassed core table entries way (λ named. first named ++ second named) (m + k) left old new
-  passed-then way first second m k between left old middle new one two = record {
+  pub passed-then : (pc : Atom) (first second : NamedAtom → List NamedConstraint) (m k : ℕ) (between left : List Exits) (old middle new : Progress)
+      → HasPassed core table entries pc first m between old middle → HasPassed core table entries pc second k left middle new
+      → HasPassed core table entries pc (λ named. first named ++ second named) (m + k) left old new
+  passed-then pc first second m k between left old middle new one two = record {
     added = λ named stands. added-then core table (first named) (second named) old.constraints.items middle.constraints.items new.constraints.items
         (one.added named stands) (two.added named stands);
     entries_left = two.entries_left;
@@ -56,21 +56,21 @@ module _ (core : Core) (table : List Label) (entries : List Exits) where
     thrown_is = two.thrown_is ∙ one.thrown_is;
   }
 
-  pub passed-same : (way : Atom) (wanted gathered : NamedAtom → List NamedConstraint) (k m : ℕ) (left : List Exits) (old new : Progress)
+  pub passed-same : (pc : Atom) (wanted gathered : NamedAtom → List NamedConstraint) (k m : ℕ) (left : List Exits) (old new : Progress)
       → ((named : NamedAtom) → wanted named ≡ gathered named) → k ≡ m
-      → HasPassed core table entries way gathered m left old new → HasPassed core table entries way wanted k left old new
-  passed-same way wanted gathered k m left old new same count passed = record {
+      → HasPassed core table entries pc gathered m left old new → HasPassed core table entries pc wanted k left old new
+  passed-same pc wanted gathered k m left old new same count passed = record {
     added = λ named stands. added-same core table (wanted named) (gathered named) old.constraints.items new.constraints.items (same named) (passed.added named stands);
     entries_left = passed.entries_left;
     number_is = passed.number_is ∙ ap (λ n. old.number + n) (sym count);
     thrown_is = passed.thrown_is;
   }
 
-  -- a piece that is reached at a way of its own
-  pub passed-at : (way own : Atom) (named : NamedAtom) (gathered : NamedAtom → List NamedConstraint) (m : ℕ) (left : List Exits) (old new : Progress)
+  -- a piece that is reached at a pc of its own
+  pub passed-at : (pc own : Atom) (named : NamedAtom) (gathered : NamedAtom → List NamedConstraint) (m : ℕ) (left : List Exits) (old new : Progress)
       → IsPart core table named own → HasPassed core table entries own gathered m left old new
-      → HasPassed core table entries way (λ other. gathered named) m left old new
-  passed-at way own named gathered m left old new stands passed = record {
+      → HasPassed core table entries pc (λ other. gathered named) m left old new
+  passed-at pc own named gathered m left old new stands passed = record {
     added = λ other is. passed.added named stands;
     entries_left = passed.entries_left;
     number_is = passed.number_is;
@@ -89,11 +89,11 @@ module _ (core : Core) (table : List Label) (entries : List Exits) where
       (walked left before (levels-same takers thrown old.thrown.items thrown_is levelled))
 
   -- inner unknowns that were made before
-  pub passed-from : (way : Atom) (gathered : NamedAtom → List NamedConstraint) (k m : ℕ) (left : List Exits) (old middle new : Progress)
+  pub passed-from : (pc : Atom) (gathered : NamedAtom → List NamedConstraint) (k m : ℕ) (left : List Exits) (old middle new : Progress)
       → middle ≡ record old { number = old.number + k }
-      → HasPassed core table entries way gathered m left middle new → HasPassed core table entries way gathered (k + m) left old new
-  passed-from way gathered k m left old middle new made passed =
-      let same : HasPassed core table entries way gathered m left (record old { number = old.number + k }) new = subst (λ p. HasPassed core table entries way gathered m left p new) made passed in
+      → HasPassed core table entries pc gathered m left middle new → HasPassed core table entries pc gathered (k + m) left old new
+  passed-from pc gathered k m left old middle new made passed =
+      let same : HasPassed core table entries pc gathered m left (record old { number = old.number + k }) new = subst (λ p. HasPassed core table entries pc gathered m left p new) made passed in
       record {
         added = same.added;
         entries_left = same.entries_left;

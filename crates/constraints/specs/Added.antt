@@ -27,23 +27,23 @@ stand_for program table constraints = map (constraint_of (label_lattice program.
 abbrev pub IsLeft : Core → (table : List Label) → List NamedAtom → List Atom → Type 0
 IsLeft core table named left = parts (program_of core) table left ≡ map (numbered_atom (program_of core)) named
 
--- an atom stands for this part; and a left side for what begins with the part of the way and goes on with a join
+-- an atom stands for this part; and a left side for what begins with the part of the pc and goes on with a join
 abbrev pub IsPart : Core → (table : List Label) → NamedAtom → Atom → Type 0
 IsPart core table named atom = part (program_of core) table atom ≡ numbered_atom (program_of core) named
 
-abbrev pub IsLeftFrom : Core → (table : List Label) → (way : Atom) → Join → List Atom → Type 0
-IsLeftFrom core table way join left =
-    (named : NamedAtom) → IsPart core table named way → IsLeft core table (named ∷ named_atoms join) left
+abbrev pub IsLeftFrom : Core → (table : List Label) → (pc : Atom) → Join → List Atom → Type 0
+IsLeftFrom core table pc join left =
+    (named : NamedAtom) → IsPart core table named pc → IsLeft core table (named ∷ named_atoms join) left
 
 -- constraints were added
 abbrev pub AreAdded : Core → (table : List Label) → (added : List NamedConstraint) → (old new : List Stored) → Type 0
 AreAdded core table added old new =
     stand_for (program_of core) table new ≡ stand_for (program_of core) table old ++ map (numbered (program_of core)) added
 
--- what is gathered at a way was added
-abbrev pub IsGathered : Core → (table : List Label) → (way : Atom) → (NamedAtom → List NamedConstraint) → (old new : List Stored) → Type 0
-IsGathered core table way gathered old new =
-    (named : NamedAtom) → IsPart core table named way → AreAdded core table (gathered named) old new
+-- what is gathered at a pc was added
+abbrev pub IsGathered : Core → (table : List Label) → (pc : Atom) → (NamedAtom → List NamedConstraint) → (old new : List Stored) → Type 0
+IsGathered core table pc gathered old new =
+    (named : NamedAtom) → IsPart core table named pc → AreAdded core table (gathered named) old new
 
 -- a flow if a test holds
 abbrev pub flow_if : Bool → List NamedAtom → Option ℕ → List NamedConstraint

@@ -25,64 +25,64 @@ use Rattle.constraints.specs.declared.progress.Progress.{Progress}
 use Rattle.constraints.specs.declared.takers.Takers.{Takers}
 
 -- a walk that came past what is gathered thus and makes so many inner unknowns, with these entries of the path map left
-pub record HasPassed (core : Core) (table : List Label) (entries : List Exits) (way : Atom) (gathered : NamedAtom → List NamedConstraint) (made : ℕ) (left : List Exits) (old new : Progress) : Type 0 where
-  pub added : IsGathered core table way gathered old.constraints.items new.constraints.items
+pub record HasPassed (core : Core) (table : List Label) (entries : List Exits) (pc : Atom) (gathered : NamedAtom → List NamedConstraint) (made : ℕ) (left : List Exits) (old new : Progress) : Type 0 where
+  pub added : IsGathered core table pc gathered old.constraints.items new.constraints.items
   pub entries_left : drop new.index entries ≡ left
   pub number_is : new.number ≡ old.number + made
   pub thrown_is : new.thrown.items ≡ old.thrown.items
 
 -- a walk past what has these paths, where the path map goes on with them
-abbrev pub IsWalked : Core → (table : List Label) → (entries : List Exits) → (way : Atom) → Takers → (paths : List (List Exit)) → (gathered : NamedAtom → List NamedConstraint) → (made : ℕ) → (old new : Progress) → Type 0
-IsWalked core table entries way takers paths gathered made old new =
+abbrev pub IsWalked : Core → (table : List Label) → (entries : List Exits) → (pc : Atom) → Takers → (paths : List (List Exit)) → (gathered : NamedAtom → List NamedConstraint) → (made : ℕ) → (old new : Progress) → Type 0
+IsWalked core table entries pc takers paths gathered made old new =
     (left : List Exits) → drop old.index entries ≡ map exits_of paths ++ left → AreLevelled takers old.thrown.items →
-    HasPassed core table entries way gathered made left old new
+    HasPassed core table entries pc gathered made left old new
 
 -- past a block of its own, and past its statements
-abbrev pub IsBlockWalked : Core → (table : List Label) → (entries : List Exits) → (procedure : ℕ) → (way : Atom) → Takers → Block → (old new : Progress) → Type 0
-IsBlockWalked core table entries procedure way takers block old new =
-    IsWalked core table entries way takers (block_paths (program_of core) block)
+abbrev pub IsBlockWalked : Core → (table : List Label) → (entries : List Exits) → (procedure : ℕ) → (pc : Atom) → Takers → Block → (old new : Progress) → Type 0
+IsBlockWalked core table entries procedure pc takers block old new =
+    IsWalked core table entries pc takers (block_paths (program_of core) block)
     (λ named. inner_block (scope_of core procedure) named (takers_of takers old.thrown.items) old.number block)
     (made_by_block block) old new
 
-abbrev pub AreStatementsWalked : Core → (table : List Label) → (entries : List Exits) → (procedure : ℕ) → (way : Atom) → Takers → Block → (old new : Progress) → Type 0
-AreStatementsWalked core table entries procedure way takers block old new =
-    IsWalked core table entries way takers (rest_paths (program_of core) block)
+abbrev pub AreStatementsWalked : Core → (table : List Label) → (entries : List Exits) → (procedure : ℕ) → (pc : Atom) → Takers → Block → (old new : Progress) → Type 0
+AreStatementsWalked core table entries procedure pc takers block old new =
+    IsWalked core table entries pc takers (rest_paths (program_of core) block)
     (λ named. block_constraints (scope_of core procedure) true named (takers_of takers old.thrown.items) old.number block)
     (made_by_block block) old new
 
--- a statement of a block, whose normal end has the taker with this number: the flow of its way where it has one end only, and what
+-- a statement of a block, whose normal end has the taker with this number: the flow of its pc where it has one end only, and what
 -- the rule of its form says
-abbrev pub step_constraints : Scope → (way : NamedAtom) → walk.Takers → (normal inner : ℕ) → Statement → List NamedConstraint
-step_constraints scope way takers normal inner statement =
+abbrev pub step_constraints : Scope → (pc : NamedAtom) → walk.Takers → (normal inner : ℕ) → Statement → List NamedConstraint
+step_constraints scope pc takers normal inner statement =
     let ends : List Exit = statement_ends scope.program statement in
-    single (one_end ends) way (with_normal None takers) ends
-    ++ statement_constraints scope way (within_single (one_end ends) (with_normal (Some normal) takers)) inner statement
+    single (one_end ends) pc (with_normal None takers) ends
+    ++ statement_constraints scope pc (within_single (one_end ends) (with_normal (Some normal) takers)) inner statement
 
 -- past a statement of a block, and past one by the rule of its form
-abbrev pub IsStatementWalked : Core → (table : List Label) → (entries : List Exits) → (procedure : ℕ) → (way : Atom) → Takers → (normal : ℕ) → Statement → (old new : Progress) → Type 0
-IsStatementWalked core table entries procedure way takers normal statement old new =
-    IsWalked core table entries way takers (statement_paths (program_of core) statement)
+abbrev pub IsStatementWalked : Core → (table : List Label) → (entries : List Exits) → (procedure : ℕ) → (pc : Atom) → Takers → (normal : ℕ) → Statement → (old new : Progress) → Type 0
+IsStatementWalked core table entries procedure pc takers normal statement old new =
+    IsWalked core table entries pc takers (statement_paths (program_of core) statement)
     (λ named. step_constraints (scope_of core procedure) named (takers_of takers old.thrown.items) normal old.number statement)
     (made_by_statement statement) old new
 
-abbrev pub IsFormWalked : Core → (table : List Label) → (entries : List Exits) → (procedure : ℕ) → (way : Atom) → Takers → Statement → (old new : Progress) → Type 0
-IsFormWalked core table entries procedure way takers statement old new =
-    IsWalked core table entries way takers (inner_paths (program_of core) statement)
+abbrev pub IsFormWalked : Core → (table : List Label) → (entries : List Exits) → (procedure : ℕ) → (pc : Atom) → Takers → Statement → (old new : Progress) → Type 0
+IsFormWalked core table entries procedure pc takers statement old new =
+    IsWalked core table entries pc takers (inner_paths (program_of core) statement)
     (λ named. statement_constraints (scope_of core procedure) named (takers_of takers old.thrown.items) old.number statement)
     (made_by_statement statement) old new
 
 -- past the bodies of handlers, which are reached at the inner unknowns with these numbers
-abbrev pub AreHandlersWalked : Core → (table : List Label) → (entries : List Exits) → (procedure : ℕ) → (way : Atom) → Takers → (number : ℕ → ℕ) → Handlers → (old new : Progress) → Type 0
-AreHandlersWalked core table entries procedure way takers number handlers old new =
-    IsWalked core table entries way takers (handlers_paths (program_of core) handlers)
+abbrev pub AreHandlersWalked : Core → (table : List Label) → (entries : List Exits) → (procedure : ℕ) → (pc : Atom) → Takers → (number : ℕ → ℕ) → Handlers → (old new : Progress) → Type 0
+AreHandlersWalked core table entries procedure pc takers number handlers old new =
+    IsWalked core table entries pc takers (handlers_paths (program_of core) handlers)
     (λ named. handlers_constraints (scope_of core procedure) number (takers_of takers old.thrown.items) old.number handlers)
     (made_by_handlers handlers) old new
 
 -- what is gathered of a branch before its blocks
-abbrev pub branch_constraints : Scope → (way : NamedAtom) → walk.Takers → (inner : ℕ) → Expression → List NamedConstraint
-branch_constraints scope way takers inner e =
-    inner_constraint (way ∷ named_atoms (value_label scope e)) inner
-    ++ raised_flows (way ∷ named_atoms (raise_atoms scope e)) takers (raises e)
+abbrev pub branch_constraints : Scope → (pc : NamedAtom) → walk.Takers → (inner : ℕ) → Expression → List NamedConstraint
+branch_constraints scope pc takers inner e =
+    inner_constraint (pc ∷ named_atoms (value_label scope e)) inner
+    ++ raised_flows (pc ∷ named_atoms (raise_atoms scope e)) takers (raises e)
 
 -- handlers that took their exceptions, with the inner unknowns that they made
 pub record AreTaken (takers : Takers) (handlers : Handlers) (old new : Progress) (tried : Tried) : Type 0 where

@@ -19,22 +19,22 @@ use Rattle.constraints.specs.Added.{IsGathered, Stored}
 use Rattle.constraints.specs.Parts.{scope_of}
 
 -- a statement that works a value out and goes on at an end: what the value flows to, and its ends
-abbrev pub valued_constraints : Scope → (way : NamedAtom) → walk.Takers → (at rule : ℕ) → Expression → Target → Exit → List NamedConstraint
-valued_constraints scope way takers at rule e target exit =
-    let q : List NamedAtom = way ∷ named_atoms (raise_atoms scope e) in
-    rule_constraint scope at rule (way ∷ named_atoms (value_label scope e)) target
+abbrev pub valued_constraints : Scope → (pc : NamedAtom) → walk.Takers → (at rule : ℕ) → Expression → Target → Exit → List NamedConstraint
+valued_constraints scope pc takers at rule e target exit =
+    let q : List NamedAtom = pc ∷ named_atoms (raise_atoms scope e) in
+    rule_constraint scope at rule (pc ∷ named_atoms (value_label scope e)) target
     ++ (flow q (takers exit) ++ raised_flows q takers (raises e))
 
 -- what is gathered of a statement without inner unknowns was added
-abbrev pub IsSimple : Core → (table : List Label) → (procedure : ℕ) → (way : Atom) → walk.Takers → Statement → (old new : List Stored) → Type 0
-IsSimple core table procedure way takers statement old new =
-    (n : ℕ) → IsGathered core table way (λ named. statement_constraints (scope_of core procedure) named takers n statement) old new
+abbrev pub IsSimple : Core → (table : List Label) → (procedure : ℕ) → (pc : Atom) → walk.Takers → Statement → (old new : List Stored) → Type 0
+IsSimple core table procedure pc takers statement old new =
+    (n : ℕ) → IsGathered core table pc (λ named. statement_constraints (scope_of core procedure) named takers n statement) old new
 
 -- what is gathered of a loop before its body
-abbrev pub loop_head_constraints : Scope → (way : NamedAtom) → walk.Takers → (inner : ℕ) → (at loop : ℕ) → Expression → List NamedConstraint
-loop_head_constraints scope way takers inner at loop e =
+abbrev pub loop_head_constraints : Scope → (pc : NamedAtom) → walk.Takers → (inner : ℕ) → (at loop : ℕ) → Expression → List NamedConstraint
+loop_head_constraints scope pc takers inner at loop e =
     let turn : NamedAtom = renamed Real (label_of scope.program (ToLoop scope.number loop)) in
-    rule_constraint scope at 8 (way ∷ []) (ToLoop scope.number loop)
+    rule_constraint scope at 8 (pc ∷ []) (ToLoop scope.number loop)
     ++ (inner_constraint (turn ∷ named_atoms (value_label scope e)) inner
     ++ (flow (inner_atom inner ∷ []) (takers Normal)
     ++ raised_flows (turn ∷ named_atoms (raise_atoms scope e)) takers (raises e)))

@@ -43,17 +43,17 @@ impl<'a> Walk<'a> {
         }
     }
 
-    /// Adds the flow of the way to the taker of the possible end, where there is one only.
+    /// Adds the flow of the pc to the taker of the possible end, where there is one only.
     pub fn add_single(
         &self,
         exits: Exits,
-        way: Atom,
+        pc: Atom,
         takers: Takers,
         thrown: &[Entry],
         constraints: &mut Vec<Constraint<Option<Target>>>,
     ) -> Result<(), AllocError>
         ensures { OnOk result ((ends : List Exit) → exits ≡ exits_of ends →
-            IsGathered self.now.table.now.core.now self.now.table.now.written.items way
+            IsGathered self.now.table.now.core.now self.now.table.now.written.items pc
             (λ (named : NamedAtom).
             single (one_end ends) named (takers_of takers thrown.now) ends)
             constraints.old.items constraints.new.items) }
@@ -61,7 +61,7 @@ impl<'a> Walk<'a> {
         match exits.single() {
             None => Ok(()),
             Some(exit) => {
-                let left = alone(self.alloc, way)?;
+                let left = alone(self.alloc, pc)?;
                 let taker = takers.at(thrown, exit);
                 self.table.add_flow(self.alloc, &left, taker, constraints)?;
                 Ok(())
@@ -69,16 +69,16 @@ impl<'a> Walk<'a> {
         }
     }
 
-    /// Adds the way into a branch, which is the inner unknown with this number: the way and the value of the condition.
+    /// Adds the pc of a branch, which is the inner unknown with this number: the pc before it and the value of the condition.
     pub fn add_branch(
         &self,
         condition: &Expression,
         number: u32,
-        way: Atom,
+        pc: Atom,
         constraints: &mut Vec<Constraint<Option<Target>>>,
     ) -> Result<(), AllocError>
         ensures { OnOk result (IsGathered self.now.table.now.core.now
-            self.now.table.now.written.items way
+            self.now.table.now.written.items pc
             (λ (named : NamedAtom). inner_constraint (named ∷ named_atoms (value_label
             (scope_of self.now.table.now.core.now self.now.procedure)
             (expression_of condition.now))) number)
@@ -86,7 +86,7 @@ impl<'a> Walk<'a> {
     {
         let left = self
             .table
-            .left_of_value(self.alloc, way, self.procedure, condition)?;
+            .left_of_value(self.alloc, pc, self.procedure, condition)?;
         self.table.add_inner(left, number, constraints)?;
         Ok(())
     }
@@ -95,13 +95,13 @@ impl<'a> Walk<'a> {
     pub fn add_condition(
         &self,
         condition: &Expression,
-        way: Atom,
+        pc: Atom,
         takers: Takers,
         thrown: &[Entry],
         constraints: &mut Vec<Constraint<Option<Target>>>,
     ) -> Result<(), AllocError>
         ensures { OnOk result (IsGathered self.now.table.now.core.now
-            self.now.table.now.written.items way
+            self.now.table.now.written.items pc
             (λ (named : NamedAtom). raised_flows (named ∷ named_atoms (raise_atoms
             (scope_of self.now.table.now.core.now self.now.procedure)
             (expression_of condition.now))) (takers_of takers thrown.now)
@@ -110,7 +110,7 @@ impl<'a> Walk<'a> {
     {
         let left = self
             .table
-            .left_of_raise(self.alloc, way, self.procedure, condition)?;
+            .left_of_raise(self.alloc, pc, self.procedure, condition)?;
         let found = raises_of(condition);
         self.table
             .add_raised(self.alloc, &left, takers, thrown, found, constraints)?;
@@ -122,17 +122,17 @@ impl<'a> Walk<'a> {
         &self,
         at: usize,
         number: u32,
-        way: Atom,
+        pc: Atom,
         constraints: &mut Vec<Constraint<Option<Target>>>,
     ) -> Result<(), AllocError>
         ensures { OnOk result (IsGathered self.now.table.now.core.now
-            self.now.table.now.written.items way
+            self.now.table.now.written.items pc
             (λ (named : NamedAtom). rule_constraint
             (scope_of self.now.table.now.core.now self.now.procedure) at 8 (named ∷ [])
             (ToLoop self.now.procedure number))
             constraints.old.items constraints.new.items) }
     {
-        let left = alone(self.alloc, way)?;
+        let left = alone(self.alloc, pc)?;
         let target = Target::ToLoop(self.procedure, number);
         self.table.add_rule(at, 8, left, target, constraints)?;
         Ok(())
@@ -145,19 +145,19 @@ impl<'a> Walk<'a> {
         number: u32,
         condition: &Expression,
         inner: u32,
-        way: Atom,
+        pc: Atom,
         takers: Takers,
         thrown: &[Entry],
         constraints: &mut Vec<Constraint<Option<Target>>>,
     ) -> Result<(), AllocError>
         ensures { OnOk result (IsGathered self.now.table.now.core.now
-            self.now.table.now.written.items way
+            self.now.table.now.written.items pc
             (λ (named : NamedAtom). loop_head_constraints
             (scope_of self.now.table.now.core.now self.now.procedure) named
             (takers_of takers thrown.now) inner at number (expression_of condition.now))
             constraints.old.items constraints.new.items) }
     {
-        self.add_turn(at, number, way, constraints)?;
+        self.add_turn(at, number, pc, constraints)?;
         let turn = self.table.part(Target::ToLoop(self.procedure, number))?;
         self.add_branch(condition, inner, turn, constraints)?;
         let body = self.table.inner(inner)?;

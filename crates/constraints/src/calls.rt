@@ -252,20 +252,20 @@ impl<'a> Walk<'a> {
         arguments: &[Expression],
         target: Option<Variable>,
         number: u32,
-        way: Atom,
+        pc: Atom,
         takers: Takers,
         thrown: &[Entry],
         constraints: &mut Vec<Constraint<Option<Target>>>,
     ) -> Result<(), AllocError>
         ensures { OnOk result (IsGathered self.now.table.now.core.now
-            self.now.table.now.written.items way
+            self.now.table.now.written.items pc
             (λ (named : NamedAtom). call_constraints
             (scope_of self.now.table.now.core.now self.now.procedure) named
             (takers_of takers thrown.now) number at callee (map expression_of arguments.now) target)
             constraints.old.items constraints.new.items) }
     {
         let table = self.table;
-        let raised = table.left_of_arguments(self.alloc, way, self.procedure, arguments)?;
+        let raised = table.left_of_arguments(self.alloc, pc, self.procedure, arguments)?;
         table.add_inner(raised, number, constraints)?;
         let own = table.inner(number)?;
         let begin = alone(self.alloc, own)?;

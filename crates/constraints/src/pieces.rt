@@ -5,7 +5,7 @@ ghost use Rattle.constraints.specs.Takers.{AreLevelled, no_entry, takers_of, und
 ghost use Rattle.constraints.specs.Walked.{IsTried, IsWalked, branch_constraints};
 ghost use Rattle.constraints.specs.Walks.{loop_head_constraints};
 ghost use Rattle.gathering.specs.Names.{NamedAtom};
-ghost use Rattle.gathering.specs.Walk.{block_constraints, call_constraints, inner_atom, onward_way, rule_constraint, single};
+ghost use Rattle.gathering.specs.Walk.{block_constraints, call_constraints, inner_atom, onward_pc, rule_constraint, single};
 ghost use Rattle.path_map.specs.Exits.{exits_of};
 ghost use Rattle.path_map.specs.declared.exits.Exits.{Exits};
 ghost use Rattle.resolved.specs.Ends.{one_end};
@@ -26,7 +26,7 @@ use resolved::statement::{Exit, Handler};
 use solver::Atom;
 use std::alloc::AllocError;
 
-/// What a `try` has in its block: its takers, the numbers of its handlers' ways, and the entries to be put back.
+/// What a `try` has in its block: its takers, the numbers of its handlers' pcs, and the entries to be put back.
 #[derive(Drop)]
 pub(crate) struct Tried {
     pub takers: Takers,
@@ -51,10 +51,10 @@ impl<'a> Walk<'a> {
         }
     }
 
-    // Comes to a block or statement: gives its possible ends, and adds the flow of the way where there is one only.
+    // Comes to a block or statement: gives its possible ends, and adds the flow of the pc where there is one only.
     pub(crate) fn begin(
         &self,
-        way: Atom,
+        pc: Atom,
         takers: Takers,
         progress: &mut Progress,
     ) -> Result<Exits, AllocError>
@@ -63,7 +63,7 @@ impl<'a> Walk<'a> {
             exits ≡ first) }
         ensures added { OnOk result ((ends : List Exit) →
             IsWalked self.now.table.now.core.now self.now.table.now.written.items
-            self.now.map.now.entries.items way takers (ends ∷ [])
+            self.now.map.now.entries.items pc takers (ends ∷ [])
             (λ (named : NamedAtom).
             single (one_end ends) named (takers_of takers progress.old.thrown.items) ends) 0
             progress.old progress.new) }
@@ -71,7 +71,7 @@ impl<'a> Walk<'a> {
         let exits = self.next_exits(progress)?;
         self.add_single(
             exits,
-            way,
+            pc,
             takers,
             &progress.thrown,
             &mut progress.constraints,
@@ -79,16 +79,16 @@ impl<'a> Walk<'a> {
         Ok(exits)
     }
 
-    // The way to what follows a statement with these ends, whose normal end has the taker with this number.
-    pub(crate) fn onward(&self, exits: Exits, way: Atom, number: u32) -> Result<Atom, AllocError>
+    // The pc of what follows a statement with these ends, whose normal end has the taker with this number.
+    pub(crate) fn onward(&self, exits: Exits, pc: Atom, number: u32) -> Result<Atom, AllocError>
         ensures { IfOk result (λ atom. (ends : List Exit) (named : NamedAtom) →
             exits ≡ exits_of ends →
-            IsPart self.now.table.now.core.now self.now.table.now.written.items named way →
+            IsPart self.now.table.now.core.now self.now.table.now.written.items named pc →
             IsPart self.now.table.now.core.now self.now.table.now.written.items
-            (onward_way (one_end ends) named number) atom) }
+            (onward_pc (one_end ends) named number) atom) }
     {
         if exits.is_single() {
-            return Ok(way);
+            return Ok(pc);
         }
         self.table.inner(number)
     }
@@ -97,13 +97,13 @@ impl<'a> Walk<'a> {
     pub(crate) fn end_block(
         &self,
         reached: bool,
-        way: Atom,
+        pc: Atom,
         takers: Takers,
         progress: &mut Progress,
     ) -> Result<(), AllocError>
         ensures { OnOk result ((n : ℕ) →
             IsWalked self.now.table.now.core.now self.now.table.now.written.items
-            self.now.map.now.entries.items way takers []
+            self.now.map.now.entries.items pc takers []
             (λ (named : NamedAtom). block_constraints
             (scope_of self.now.table.now.core.now self.now.procedure) reached named
             (takers_of takers progress.old.thrown.items) n Empty) 0
@@ -112,35 +112,35 @@ impl<'a> Walk<'a> {
         if !reached {
             return Ok(());
         }
-        let left = alone(self.alloc, way)?;
+        let left = alone(self.alloc, pc)?;
         let taker = takers.at(&progress.thrown, Exit::Normal);
         self.table
             .add_flow(self.alloc, &left, taker, &mut progress.constraints)?;
         Ok(())
     }
 
-    // Adds what is gathered of a branch but for its blocks, and gives the number of the way into them.
+    // Adds what is gathered of a branch but for its blocks, and gives the number of the pc inside them.
     pub(crate) fn begin_branch(
         &self,
         condition: &Expression,
-        way: Atom,
+        pc: Atom,
         takers: Takers,
         progress: &mut Progress,
     ) -> Result<u32, AllocError>
         ensures number { IfOk result (λ number. number ≡ progress.old.number) }
         ensures added { OnOk result (
             IsWalked self.now.table.now.core.now self.now.table.now.written.items
-            self.now.map.now.entries.items way takers []
+            self.now.map.now.entries.items pc takers []
             (λ (named : NamedAtom). branch_constraints
             (scope_of self.now.table.now.core.now self.now.procedure) named
             (takers_of takers progress.old.thrown.items) progress.old.number
             (expression_of condition.now)) 1 progress.old progress.new) }
     {
         let number = progress.make(1)?;
-        self.add_branch(condition, number, way, &mut progress.constraints)?;
+        self.add_branch(condition, number, pc, &mut progress.constraints)?;
         self.add_condition(
             condition,
-            way,
+            pc,
             takers,
             &progress.thrown,
             &mut progress.constraints,
@@ -148,22 +148,22 @@ impl<'a> Walk<'a> {
         Ok(number)
     }
 
-    // Adds what is gathered of a loop before its body, and gives the number of the way into it. The next number is that of the way
+    // Adds what is gathered of a loop before its body, and gives the number of the pc inside it. The next number is that of the pc
     // back.
     pub(crate) fn begin_loop(
         &self,
         at: usize,
         number: u32,
         condition: &Expression,
-        way: Atom,
+        pc: Atom,
         takers: Takers,
         progress: &mut Progress,
     ) -> Result<(u32, u32), AllocError>
-        ensures inner { IfOk result (λ ways. ways.0 ≡ progress.old.number) }
-        ensures back { IfOk result (λ ways. ways.1 ≡ progress.old.number + 1) }
+        ensures inner { IfOk result (λ pcs. pcs.0 ≡ progress.old.number) }
+        ensures back { IfOk result (λ pcs. pcs.1 ≡ progress.old.number + 1) }
         ensures added { OnOk result (
             IsWalked self.now.table.now.core.now self.now.table.now.written.items
-            self.now.map.now.entries.items way takers []
+            self.now.map.now.entries.items pc takers []
             (λ (named : NamedAtom). loop_head_constraints
             (scope_of self.now.table.now.core.now self.now.procedure) named
             (takers_of takers progress.old.thrown.items) progress.old.number at number
@@ -176,7 +176,7 @@ impl<'a> Walk<'a> {
             number,
             condition,
             inner,
-            way,
+            pc,
             takers,
             &progress.thrown,
             &mut progress.constraints,
@@ -192,16 +192,16 @@ impl<'a> Walk<'a> {
         back: u32,
         progress: &mut Progress,
     ) -> Result<(), AllocError>
-        ensures { OnOk result ((way : Atom) (takers : Takers) →
+        ensures { OnOk result ((pc : Atom) (takers : Takers) →
             IsWalked self.now.table.now.core.now self.now.table.now.written.items
-            self.now.map.now.entries.items way takers []
+            self.now.map.now.entries.items pc takers []
             (λ (named : NamedAtom). rule_constraint
             (scope_of self.now.table.now.core.now self.now.procedure) at 8
             (inner_atom back ∷ []) (ToLoop self.now.procedure number)) 0
             progress.old progress.new) }
     {
-        let way = self.table.inner(back)?;
-        self.add_turn(at, number, way, &mut progress.constraints)?;
+        let pc = self.table.inner(back)?;
+        self.add_turn(at, number, pc, &mut progress.constraints)?;
         Ok(())
     }
 
@@ -240,13 +240,13 @@ impl<'a> Walk<'a> {
         callee: u32,
         arguments: &[Expression],
         target: Option<Variable>,
-        way: Atom,
+        pc: Atom,
         takers: Takers,
         progress: &mut Progress,
     ) -> Result<(), AllocError>
         ensures { OnOk result (
             IsWalked self.now.table.now.core.now self.now.table.now.written.items
-            self.now.map.now.entries.items way takers []
+            self.now.map.now.entries.items pc takers []
             (λ (named : NamedAtom). call_constraints
             (scope_of self.now.table.now.core.now self.now.procedure) named
             (takers_of takers progress.old.thrown.items) progress.old.number at callee
@@ -259,7 +259,7 @@ impl<'a> Walk<'a> {
             arguments,
             target,
             number,
-            way,
+            pc,
             takers,
             &progress.thrown,
             &mut progress.constraints,

@@ -43,12 +43,12 @@ impl<'a> Walk<'a> {
         value: &Expression,
         target: Target,
         exit: Exit,
-        way: Atom,
+        pc: Atom,
         takers: Takers,
         thrown: &[Entry],
         constraints: &mut Vec<Constraint<Option<Target>>>,
     ) -> Result<(), AllocError>
-        ensures { OnOk result (IsGathered self.now.table.now.core.now self.now.table.now.written.items way
+        ensures { OnOk result (IsGathered self.now.table.now.core.now self.now.table.now.written.items pc
             (λ (named : NamedAtom). valued_constraints
             (scope_of self.now.table.now.core.now self.now.procedure) named
             (takers_of takers thrown.now) at rule (expression_of value.now) target exit)
@@ -56,11 +56,11 @@ impl<'a> Walk<'a> {
     {
         let valued = self
             .table
-            .left_of_value(self.alloc, way, self.procedure, value)?;
+            .left_of_value(self.alloc, pc, self.procedure, value)?;
         self.table.add_rule(at, rule, valued, target, constraints)?;
         let left = self
             .table
-            .left_of_raise(self.alloc, way, self.procedure, value)?;
+            .left_of_raise(self.alloc, pc, self.procedure, value)?;
         let found = raises_of(value);
         self.table.add_ends(self.alloc, &left, takers, thrown, exit, found, constraints)?;
         Ok(())
@@ -72,13 +72,13 @@ impl<'a> Walk<'a> {
         at: usize,
         variable: Variable,
         value: &Expression,
-        way: Atom,
+        pc: Atom,
         takers: Takers,
         thrown: &[Entry],
         constraints: &mut Vec<Constraint<Option<Target>>>,
     ) -> Result<(), AllocError>
         ensures { OnOk result (IsSimple self.now.table.now.core.now self.now.table.now.written.items
-            self.now.procedure way (takers_of takers thrown.now)
+            self.now.procedure pc (takers_of takers thrown.now)
             (Assign at variable (expression_of value.now))
             constraints.old.items constraints.new.items) }
     {
@@ -89,7 +89,7 @@ impl<'a> Walk<'a> {
             value,
             target,
             Exit::Normal,
-            way,
+            pc,
             takers,
             thrown,
             constraints,
@@ -103,13 +103,13 @@ impl<'a> Walk<'a> {
         at: usize,
         channel: u32,
         value: &Expression,
-        way: Atom,
+        pc: Atom,
         takers: Takers,
         thrown: &[Entry],
         constraints: &mut Vec<Constraint<Option<Target>>>,
     ) -> Result<(), AllocError>
         ensures { OnOk result (IsSimple self.now.table.now.core.now self.now.table.now.written.items
-            self.now.procedure way (takers_of takers thrown.now)
+            self.now.procedure pc (takers_of takers thrown.now)
             (Send at channel (expression_of value.now))
             constraints.old.items constraints.new.items) }
     {
@@ -120,7 +120,7 @@ impl<'a> Walk<'a> {
             value,
             target,
             Exit::Normal,
-            way,
+            pc,
             takers,
             thrown,
             constraints,
@@ -133,17 +133,17 @@ impl<'a> Walk<'a> {
         &self,
         at: usize,
         exit: Exit,
-        way: Atom,
+        pc: Atom,
         takers: Takers,
         thrown: &[Entry],
         constraints: &mut Vec<Constraint<Option<Target>>>,
     ) -> Result<(), AllocError>
         ensures { OnOk result (IsSimple self.now.table.now.core.now self.now.table.now.written.items
-            self.now.procedure way (takers_of takers thrown.now)
+            self.now.procedure pc (takers_of takers thrown.now)
             (Leave at exit)
             constraints.old.items constraints.new.items) }
     {
-        let left = alone(self.alloc, way)?;
+        let left = alone(self.alloc, pc)?;
         self.table
             .add_flow(self.alloc, &left, takers.at(thrown, exit), constraints)?;
         Ok(())
@@ -154,19 +154,19 @@ impl<'a> Walk<'a> {
         &self,
         at: usize,
         value: &Option<Expression>,
-        way: Atom,
+        pc: Atom,
         takers: Takers,
         thrown: &[Entry],
         constraints: &mut Vec<Constraint<Option<Target>>>,
     ) -> Result<(), AllocError>
         ensures { OnOk result (IsSimple self.now.table.now.core.now self.now.table.now.written.items
-            self.now.procedure way (takers_of takers thrown.now)
+            self.now.procedure pc (takers_of takers thrown.now)
             (ReturnWith at (some_expression_of value.now))
             constraints.old.items constraints.new.items) }
     {
         match value {
             None => {
-                let left = alone(self.alloc, way)?;
+                let left = alone(self.alloc, pc)?;
                 let taker = takers.at(thrown, Exit::Return);
                 self.table.add_flow(self.alloc, &left, taker, constraints)?;
                 Ok(())
@@ -174,17 +174,7 @@ impl<'a> Walk<'a> {
             Some(value) => {
                 let target = Target::ToValue(self.procedure);
                 let exit = Exit::Return;
-                self.add_valued(
-                    at,
-                    10,
-                    value,
-                    target,
-                    exit,
-                    way,
-                    takers,
-                    thrown,
-                    constraints,
-                )?;
+                self.add_valued(at, 10, value, target, exit, pc, takers, thrown, constraints)?;
                 Ok(())
             }
         }
@@ -195,20 +185,20 @@ impl<'a> Walk<'a> {
         &self,
         at: usize,
         slot: u32,
-        way: Atom,
+        pc: Atom,
         takers: Takers,
         thrown: &[Entry],
         constraints: &mut Vec<Constraint<Option<Target>>>,
     ) -> Result<(), AllocError>
         ensures { OnOk result (IsSimple self.now.table.now.core.now self.now.table.now.written.items
-            self.now.procedure way (takers_of takers thrown.now)
+            self.now.procedure pc (takers_of takers thrown.now)
             (Clear at slot)
             constraints.old.items constraints.new.items) }
     {
         let target = Target::ToVariable(self.procedure, Variable::Local(slot));
         self.table
-            .add_rule(at, 2, alone(self.alloc, way)?, target, constraints)?;
-        let left = alone(self.alloc, way)?;
+            .add_rule(at, 2, alone(self.alloc, pc)?, target, constraints)?;
+        let left = alone(self.alloc, pc)?;
         let taker = takers.at(thrown, Exit::Normal);
         self.table.add_flow(self.alloc, &left, taker, constraints)?;
         Ok(())
@@ -222,13 +212,13 @@ impl<'a> Walk<'a> {
         length: u32,
         index: &Expression,
         value: &Expression,
-        way: Atom,
+        pc: Atom,
         takers: Takers,
         thrown: &[Entry],
         constraints: &mut Vec<Constraint<Option<Target>>>,
     ) -> Result<(), AllocError>
         ensures { OnOk result (IsSimple self.now.table.now.core.now self.now.table.now.written.items
-            self.now.procedure way (takers_of takers thrown.now)
+            self.now.procedure pc (takers_of takers thrown.now)
             (Store at array length (expression_of index.now) (expression_of value.now))
             constraints.old.items constraints.new.items) }
     {
@@ -236,11 +226,11 @@ impl<'a> Walk<'a> {
         let target = Target::ToVariable(procedure, array);
         let stored = self
             .table
-            .left_of_stored(self.alloc, way, procedure, index, value)?;
+            .left_of_stored(self.alloc, pc, procedure, index, value)?;
         self.table.add_rule(at, 3, stored, target, constraints)?;
         let left = self
             .table
-            .left_of_store(self.alloc, way, procedure, length, index, value)?;
+            .left_of_store(self.alloc, pc, procedure, length, index, value)?;
         let found = raises_of_store(length, index, value);
         let exit = Exit::Normal;
         self.table.add_ends(self.alloc, &left, takers, thrown, exit, found, constraints)?;
@@ -279,21 +269,21 @@ impl<'a> Walk<'a> {
         at: usize,
         channel: u32,
         target: Option<Variable>,
-        way: Atom,
+        pc: Atom,
         takers: Takers,
         thrown: &[Entry],
         constraints: &mut Vec<Constraint<Option<Target>>>,
     ) -> Result<(), AllocError>
         ensures { OnOk result (IsSimple self.now.table.now.core.now self.now.table.now.written.items
-            self.now.procedure way (takers_of takers thrown.now)
+            self.now.procedure pc (takers_of takers thrown.now)
             (Receive at channel target)
             constraints.old.items constraints.new.items) }
     {
         let source = Target::ToChannel(channel);
         self.table
-            .add_rule(at, 4, alone(self.alloc, way)?, source, constraints)?;
-        let left = self.table.left_of_label(self.alloc, way, source)?;
-        let received = self.table.left_of_label(self.alloc, way, source)?;
+            .add_rule(at, 4, alone(self.alloc, pc)?, source, constraints)?;
+        let left = self.table.left_of_label(self.alloc, pc, source)?;
+        let received = self.table.left_of_label(self.alloc, pc, source)?;
         self.add_target(at, 4, received, target, constraints)?;
         let normal = takers.at(thrown, Exit::Normal);
         self.table.add_flow(self.alloc, &left, normal, constraints)?;

@@ -15,24 +15,24 @@ use resolved::statement::{Handler, Statement};
 use solver::Atom;
 use std::alloc::AllocError;
 
-/// Adds what is gathered of a block of its own that is reached at this way, or answers out of memory, also where the path map has
+/// Adds what is gathered of a block of its own that is reached at this pc, or answers out of memory, also where the path map has
 /// no entry for it or the numbers do not suffice. It takes the block's entries of the path map and its inner unknowns from the
 /// progress on, and leaves the takers of exceptions as they are.
 #[cycle(walk)]
 pub fn walk_block(
     walk: &Walk,
     block: &[Statement],
-    way: Atom,
+    pc: Atom,
     takers: Takers,
     progress: &mut Progress,
 ) -> Result<(), AllocError>
     ensures { OnOk result (IsBlockWalked walk.now.table.now.core.now
         walk.now.table.now.written.items walk.now.map.now.entries.items walk.now.procedure
-        way takers (block_of block.now) progress.old progress.new) }
+        pc takers (block_of block.now) progress.old progress.new) }
 {
-    let exits = walk.begin(way, takers, progress)?;
+    let exits = walk.begin(pc, takers, progress)?;
     let inner = takers.within_single(exits.is_single());
-    walk_statements(walk, block, way, inner, progress)?;
+    walk_statements(walk, block, pc, inner, progress)?;
     Ok(())
 }
 
@@ -41,16 +41,16 @@ pub fn walk_block(
 fn walk_statements(
     walk: &Walk,
     block: &[Statement],
-    way: Atom,
+    pc: Atom,
     takers: Takers,
     progress: &mut Progress,
 ) -> Result<(), AllocError>
     ensures { OnOk result (AreStatementsWalked walk.now.table.now.core.now
         walk.now.table.now.written.items walk.now.map.now.entries.items walk.now.procedure
-        way takers (block_of block.now) progress.old progress.new) }
+        pc takers (block_of block.now) progress.old progress.new) }
 {
     let mut reached = true;
-    let mut onward = way;
+    let mut onward = pc;
     for statement in block {
         let number = progress.make(1)?;
         let exits = walk_statement(walk, statement, number, onward, takers, progress)?;
@@ -67,7 +67,7 @@ fn walk_statement(
     walk: &Walk,
     statement: &Statement,
     number: u32,
-    way: Atom,
+    pc: Atom,
     takers: Takers,
     progress: &mut Progress,
 ) -> Result<Exits, AllocError>
@@ -75,14 +75,14 @@ fn walk_statement(
         drop progress.old.index walk.now.map.now.entries.items ≡ first ∷ left → exits ≡ first) }
     ensures added { OnOk result (IsStatementWalked walk.now.table.now.core.now
         walk.now.table.now.written.items walk.now.map.now.entries.items walk.now.procedure
-        way takers number (statement_of statement.now)
+        pc takers number (statement_of statement.now)
         progress.old progress.new) }
 {
-    let exits = walk.begin(way, takers.with_normal(None), progress)?;
+    let exits = walk.begin(pc, takers.with_normal(None), progress)?;
     let inner = takers
         .with_normal(Some(number))
         .within_single(exits.is_single());
-    walk_form(walk, statement, way, inner, progress)?;
+    walk_form(walk, statement, pc, inner, progress)?;
     Ok(exits)
 }
 
@@ -91,13 +91,13 @@ fn walk_statement(
 fn walk_form(
     walk: &Walk,
     statement: &Statement,
-    way: Atom,
+    pc: Atom,
     takers: Takers,
     progress: &mut Progress,
 ) -> Result<(), AllocError>
     ensures { OnOk result (IsFormWalked walk.now.table.now.core.now
         walk.now.table.now.written.items walk.now.map.now.entries.items walk.now.procedure
-        way takers (statement_of statement.now) progress.old progress.new) }
+        pc takers (statement_of statement.now) progress.old progress.new) }
 {
     match statement {
         Statement::Assign(at, variable, value) => {
@@ -105,7 +105,7 @@ fn walk_form(
                 *at,
                 *variable,
                 value,
-                way,
+                pc,
                 takers,
                 &progress.thrown,
                 &mut progress.constraints,
@@ -115,7 +115,7 @@ fn walk_form(
             walk.add_clear(
                 *at,
                 *slot,
-                way,
+                pc,
                 takers,
                 &progress.thrown,
                 &mut progress.constraints,
@@ -127,7 +127,7 @@ fn walk_form(
             *length,
             index,
             value,
-            way,
+            pc,
             takers,
             &progress.thrown,
             &mut progress.constraints,
@@ -137,7 +137,7 @@ fn walk_form(
                 *at,
                 *channel,
                 *target,
-                way,
+                pc,
                 takers,
                 &progress.thrown,
                 &mut progress.constraints,
@@ -148,26 +148,26 @@ fn walk_form(
                 *at,
                 *channel,
                 value,
-                way,
+                pc,
                 takers,
                 &progress.thrown,
                 &mut progress.constraints,
             )
         }
         Statement::Call(at, callee, arguments, target) => {
-            walk.walk_call(*at, *callee, arguments, *target, way, takers, progress)
+            walk.walk_call(*at, *callee, arguments, *target, pc, takers, progress)
         }
         Statement::If(_, condition, yes_block, no_block) => {
-            walk_if(walk, condition, yes_block, no_block, way, takers, progress)
+            walk_if(walk, condition, yes_block, no_block, pc, takers, progress)
         }
         Statement::While(at, number, condition, body) => {
-            walk_while(walk, *at, *number, condition, body, way, takers, progress)
+            walk_while(walk, *at, *number, condition, body, pc, takers, progress)
         }
         Statement::Leave(at, exit) => {
             walk.add_leave(
                 *at,
                 *exit,
-                way,
+                pc,
                 takers,
                 &progress.thrown,
                 &mut progress.constraints,
@@ -177,16 +177,16 @@ fn walk_form(
             walk.add_return(
                 *at,
                 value,
-                way,
+                pc,
                 takers,
                 &progress.thrown,
                 &mut progress.constraints,
             )
         }
         Statement::Try(_, block, handlers) => {
-            walk_try(walk, block, handlers, way, takers, progress)
+            walk_try(walk, block, handlers, pc, takers, progress)
         }
-        Statement::Nested(_, block) => walk_block(walk, block, way, takers, progress),
+        Statement::Nested(_, block) => walk_block(walk, block, pc, takers, progress),
     }
 }
 
@@ -197,18 +197,18 @@ fn walk_if(
     condition: &Expression,
     yes_block: &[Statement],
     no_block: &[Statement],
-    way: Atom,
+    pc: Atom,
     takers: Takers,
     progress: &mut Progress,
 ) -> Result<(), AllocError>
     ensures { OnOk result ((at : ℕ) →
         IsFormWalked walk.now.table.now.core.now
         walk.now.table.now.written.items walk.now.map.now.entries.items walk.now.procedure
-        way takers
+        pc takers
         (If at (expression_of condition.now) (block_of yes_block.now) (block_of no_block.now))
         progress.old progress.new) }
 {
-    let number = walk.begin_branch(condition, way, takers, progress)?;
+    let number = walk.begin_branch(condition, pc, takers, progress)?;
     let inner = walk.table.inner(number)?;
     walk_block(walk, yes_block, inner, takers, progress)?;
     walk_block(walk, no_block, inner, takers, progress)?;
@@ -223,16 +223,16 @@ fn walk_while(
     number: u32,
     condition: &Expression,
     body: &[Statement],
-    way: Atom,
+    pc: Atom,
     takers: Takers,
     progress: &mut Progress,
 ) -> Result<(), AllocError>
     ensures { OnOk result (IsFormWalked walk.now.table.now.core.now
         walk.now.table.now.written.items walk.now.map.now.entries.items walk.now.procedure
-        way takers (While at number (expression_of condition.now) (block_of body.now))
+        pc takers (While at number (expression_of condition.now) (block_of body.now))
         progress.old progress.new) }
 {
-    let (inner, back) = walk.begin_loop(at, number, condition, way, takers, progress)?;
+    let (inner, back) = walk.begin_loop(at, number, condition, pc, takers, progress)?;
     let inside = walk.table.inner(inner)?;
     walk_block(walk, body, inside, takers.in_loop(back), progress)?;
     walk.end_loop(at, number, back, progress)?;
@@ -245,18 +245,18 @@ fn walk_try(
     walk: &Walk,
     block: &[Statement],
     handlers: &[Handler],
-    way: Atom,
+    pc: Atom,
     takers: Takers,
     progress: &mut Progress,
 ) -> Result<(), AllocError>
     ensures { OnOk result ((at : ℕ) →
         IsFormWalked walk.now.table.now.core.now
         walk.now.table.now.written.items walk.now.map.now.entries.items walk.now.procedure
-        way takers (Try at (block_of block.now) (handlers_of handlers.now))
+        pc takers (Try at (block_of block.now) (handlers_of handlers.now))
         progress.old progress.new) }
 {
     let tried = walk.begin_try(handlers, takers, progress)?;
-    walk_block(walk, block, way, tried.takers, progress)?;
+    walk_block(walk, block, pc, tried.takers, progress)?;
     put_back(tried.saved, &mut progress.thrown);
     walk_handlers(walk, handlers, &tried.numbers, takers, progress)?;
     Ok(())
@@ -271,18 +271,18 @@ fn walk_handlers(
     takers: Takers,
     progress: &mut Progress,
 ) -> Result<(), AllocError>
-    ensures { OnOk result ((number : ℕ → ℕ) (way : Atom) →
+    ensures { OnOk result ((number : ℕ → ℕ) (pc : Atom) →
         numbers.now ≡ map (λ (handler : Handler). number handler.exception) handlers.now →
         AreHandlersWalked walk.now.table.now.core.now
         walk.now.table.now.written.items walk.now.map.now.entries.items walk.now.procedure
-        way takers number (handlers_of handlers.now) progress.old progress.new) }
+        pc takers number (handlers_of handlers.now) progress.old progress.new) }
 {
     for (i, handler) in handlers.iter().enumerate() {
         let Some(number) = numbers.get(i) else {
             return Err(AllocError);
         };
-        let way = walk.table.inner(*number)?;
-        walk_block(walk, &handler.body, way, takers, progress)?;
+        let pc = walk.table.inner(*number)?;
+        walk_block(walk, &handler.body, pc, takers, progress)?;
     }
     Ok(())
 }

@@ -17,7 +17,7 @@ use Rattle.resolved.specs.Value.{end_exception}
 use Rattle.resolved.specs.Ends.{same_exit, has_end, one_end, index_raises, raises, raises_all, thrown_ends, declared_by, leaves_loop, handles, passes, statement_ends, block_ends, handlers_ends}
 use Rattle.resolved.specs.Labelled.{Scope, Join, LabelAtom, one, label_of, value_label, raise_label, raise_labels, label_if, call_exits, ExitLabels, at_ends, raised_exits, loop_exits, statement_rule, block_rule, handlers_rule, statement_exits, block_exits}
 use Rattle.gathering.specs.Names.{Real, Inner, NamedAtom, NamedConstraint, named_atoms}
-use Rattle.gathering.specs.Walk.{inner_atom, rule_constraint, target_constraint, inner_constraint, Takers, with_normal, in_loop, handler_count, handler_number, in_try, flow, flows, raised_once, raised_flows, single, within_single, by_ends, onward_way, raise_atoms, raise_atoms_all, store_atoms, call_atoms, made_by_statement, made_by_block, argument_constraints, call_flows, call_ends, call_constraints, statement_constraints, block_constraints, handlers_constraints}
+use Rattle.gathering.specs.Walk.{inner_atom, rule_constraint, target_constraint, inner_constraint, Takers, with_normal, in_loop, handler_count, handler_number, in_try, flow, flows, raised_once, raised_flows, single, within_single, by_ends, onward_pc, raise_atoms, raise_atoms_all, store_atoms, call_atoms, made_by_statement, made_by_block, argument_constraints, call_flows, call_ends, call_constraints, statement_constraints, block_constraints, handlers_constraints}
 use Rattle.gathering.proofs.Ends.{same_exit-itself, by_test, has-left, has-right, has-filter, then-other, then-rest, normal_or_other, exits-single, exits-many, taken_or_passed, in_try-taken, AmongTwo, same-thrown, raises-two, store-two, once-same, call-same}
 use Rattle.gathering.proofs.Atoms.{Sub, sub-same, sub-left, sub-right, alike-raise, alike-value, alike-arguments, store_label, alike-store, alike-call}
 use Rattle.gathering.proofs.Reached.{Goes, Part, PartIn, PartBy, Agrees, AgreesIn, AgreesBy}
@@ -108,9 +108,9 @@ module _ (m : ℕ → Join) where
       (closed-flow left (takers e) (λ k i. h e k (or_left (same_exit e e) (has_end rest e) (same_exit-itself e)) i))
       (closed-flows left takers rest (λ x k i. h x k (or_right (same_exit x e) (has_end rest x) i)))
 
-  -- a way with parts of the text
-  pub way-below : (p : NamedAtom) (pc x j : Join) → Below (p ∷ []) pc → Sub (pc ++ x) j → Below (p ∷ named_atoms x) j
-  way-below p pc x j below sub =
+  -- a named_pc with parts of the text
+  pub pc-below : (p : NamedAtom) (pc x j : Join) → Below (p ∷ []) pc → Sub (pc ++ x) j → Below (p ∷ named_atoms x) j
+  pc-below p pc x j below sub =
       below-sub (p ∷ named_atoms x) (pc ++ x) j (below-append (p ∷ []) (named_atoms x) pc x below (below-named x)) sub
 
   pub closed-arguments : (scope : Scope) (at own callee i : ℕ) (es : List Expression) → Closed (argument_constraints scope at own callee i es)
@@ -162,7 +162,7 @@ module _ (m : ℕ → Join) where
   raised-has e q exit h = sub-same q (raised_exits e q exit) (rw h refl)
 
   pub onward-below : (b : Bool) (ends : List Exit) (p : NamedAtom) (n : ℕ) (pc : Join) (exits : ExitLabels) → has_end ends Normal ≡ true → one_end ends ≡ b →
-      m n ≡ at_ends ends pc exits Normal → Below (p ∷ []) pc → Below (onward_way b p n ∷ []) (at_ends ends pc exits Normal)
+      m n ≡ at_ends ends pc exits Normal → Below (p ∷ []) pc → Below (onward_pc b p n ∷ []) (at_ends ends pc exits Normal)
   onward-below true ends p n pc exits has one is below = below-sub (p ∷ []) pc (at_ends ends pc exits Normal) below (sub-same pc _ (sym (exits-single ends pc exits Normal one has)))
   onward-below false ends p n pc exits has one is below = below-inner n (at_ends ends pc exits Normal) is
 
@@ -249,12 +249,12 @@ module _ (m : ℕ → Join) where
         let fourth : List NamedConstraint = call_flows scope.program callee n takers ends in
         closed-append entry (first ++ (second ++ (third ++ fourth)))
         (closed-inner (p ∷ named_atoms (raise_atoms_all scope arguments)) n
-        (way-below p pc (raise_atoms_all scope arguments) (m n) below (λ a h. sub-same j (m n) (sym is) a ((alike-arguments scope pc arguments).0 a h))))
+        (pc-below p pc (raise_atoms_all scope arguments) (m n) below (λ a h. sub-same j (m n) (sym is) a ((alike-arguments scope pc arguments).0 a h))))
         (closed-append first (second ++ (third ++ fourth)) (closed-rule_constraint scope at 6 (inner_atom n ∷ []) (ToBegin callee))
         (closed-append second (third ++ fourth) (closed-arguments scope at n callee 0 arguments)
         (closed-append third fourth (closed-target scope at 6 left target)
         (closed-call_flows scope.program callee n takers ends (λ y k h at_k.
-        way-below (inner_atom n) j (call_atoms scope.program callee y) (m k) own (λ a i.
+        pc-below (inner_atom n) j (call_atoms scope.program callee y) (m k) own (λ a i.
         take y k (call-there callee arguments y h) at_k a ((alike-call scope.program callee j y).0 a i)))))))
       where
         call-there : (callee : ℕ) (arguments : List Expression) (y : Exit) → has_end (call_ends scope.program callee arguments) y ≡ true →
@@ -266,7 +266,7 @@ module _ (m : ℕ → Join) where
           Take (statement_ends scope.program s) takers (statement_rule scope pc s) → Closed (statement_constraints scope p takers n s)
       closed-statement (Assign at x e) p pc takers n part agrees below take =
           closed-demanding at 1 (p ∷ named_atoms (value_label scope e)) (ToVariable scope.number x) (p ∷ named_atoms (raise_atoms scope e)) (pc ++ raise_label scope e)
-          takers Normal (raises e) (raises-two e) (way-below p pc (raise_atoms scope e) (pc ++ raise_label scope e) below (alike-raise scope pc e).0) take
+          takers Normal (raises e) (raises-two e) (pc-below p pc (raise_atoms scope e) (pc ++ raise_label scope e) below (alike-raise scope pc e).0) take
       closed-statement (Clear at slot) p pc takers n part agrees below take =
           closed-append (rule_constraint scope at 2 (p ∷ []) (ToVariable scope.number (Local slot))) (flow (p ∷ []) (takers Normal))
           (closed-rule_constraint scope at 2 (p ∷ []) (ToVariable scope.number (Local slot)))
@@ -274,7 +274,7 @@ module _ (m : ℕ → Join) where
       closed-statement (Store at array len index e) p pc takers n part agrees below take =
           let j : Join = store_label scope pc len index e in
           closed-demanding at 3 (p ∷ named_atoms (value_label scope index ++ value_label scope e)) (ToVariable scope.number array) (p ∷ named_atoms (store_atoms scope len index e)) j
-          takers Normal (raises index ++ raises e ++ index_raises index len) (store-two index e len) (way-below p pc (store_atoms scope len index e) j below (alike-store scope pc len index e).0) take
+          takers Normal (raises index ++ raises e ++ index_raises index len) (store-two index e len) (pc-below p pc (store_atoms scope len index e) j below (alike-store scope pc len index e).0) take
       closed-statement (Receive at channel target) p pc takers n part agrees below take =
           let label : Join = one (label_of scope.program (ToChannel channel)) in
           let q : List NamedAtom = p ∷ named_atoms label in
@@ -288,7 +288,7 @@ module _ (m : ℕ → Join) where
           (closed-flow q (takers (Throw end_exception)) (λ k is. below-sub q (pc ++ label) (m k) q_below (take (Throw end_exception) k refl is)))))
       closed-statement (Send at channel e) p pc takers n part agrees below take =
           closed-demanding at 5 (p ∷ named_atoms (value_label scope e)) (ToChannel channel) (p ∷ named_atoms (raise_atoms scope e)) (pc ++ raise_label scope e)
-          takers Normal (raises e) (raises-two e) (way-below p pc (raise_atoms scope e) (pc ++ raise_label scope e) below (alike-raise scope pc e).0) take
+          takers Normal (raises e) (raises-two e) (pc-below p pc (raise_atoms scope e) (pc ++ raise_label scope e) below (alike-raise scope pc e).0) take
       closed-statement (Call at procedure arguments target) p pc takers n part agrees below take = closed-call at procedure arguments target p pc takers n agrees below take
       closed-statement (If at e yes_block no_block) p pc takers n part agrees below take =
           let r : Join = raise_label scope e in
@@ -300,14 +300,14 @@ module _ (m : ℕ → Join) where
           let yes_exits : ExitLabels = block_exits scope branch yes_block in
           let no_exits : ExitLabels = block_exits scope branch no_block in
           let q : List NamedAtom = p ∷ named_atoms (raise_atoms scope e) in
-          let q_below : Below q (pc ++ r) = way-below p pc (raise_atoms scope e) (pc ++ r) below (alike-raise scope pc e).0 in
+          let q_below : Below q (pc ++ r) = pc-below p pc (raise_atoms scope e) (pc ++ r) below (alike-raise scope pc e).0 in
           let b_below : Below (inner_atom n ∷ []) branch = below-inner n branch agrees.0 in
           let first : List NamedConstraint = inner_constraint (p ∷ named_atoms v) n in
           let second : List NamedConstraint = raised_flows q takers (raises e) in
           let third : List NamedConstraint = by_ends yes_ends (inner_atom n) takers (λ t. block_constraints scope true (inner_atom n) t (suc n) yes_block) in
           let fourth : List NamedConstraint = by_ends no_ends (inner_atom n) takers (λ t. block_constraints scope true (inner_atom n) t (suc n + made_by_block yes_block) no_block) in
           closed-append first (second ++ (third ++ fourth))
-          (closed-inner (p ∷ named_atoms v) n (way-below p pc v (m n) below (λ a h. sub-same branch (m n) (sym agrees.0) a ((alike-value scope pc e).0 a h))))
+          (closed-inner (p ∷ named_atoms v) n (pc-below p pc v (m n) below (λ a h. sub-same branch (m n) (sym agrees.0) a ((alike-value scope pc e).0 a h))))
           (closed-append second (third ++ fourth)
           (closed-raised q (pc ++ r) takers (raises e) (raises-two e) q_below (λ y k h is a i.
           take y k (has-left (thrown ++ yes_ends) no_ends y (has-left thrown yes_ends y h)) is a
@@ -331,7 +331,7 @@ module _ (m : ℕ → Join) where
           let thrown : List Exit = thrown_ends (raises e) in
           let ends : List Exit = block_ends scope.program body in
           let x : ExitLabels = block_exits scope b body in
-          let q_below : Below q (l ++ r) = way-below turn l (raise_atoms scope e) (l ++ r) (below-named l) (alike-raise scope l e).0 in
+          let q_below : Below q (l ++ r) = pc-below turn l (raise_atoms scope e) (l ++ r) (below-named l) (alike-raise scope l e).0 in
           let b_below : Below (inner_atom n ∷ []) b = below-inner n b agrees.0 in
           let all_ends : List Exit = thrown ++ filter leaves_loop ends in
           let first : List NamedConstraint = rule_constraint scope at 8 (p ∷ []) (ToLoop scope.number loop) in
@@ -343,7 +343,7 @@ module _ (m : ℕ → Join) where
           closed-append first (entry ++ (out ++ (raising ++ (third ++ fourth))))
           (closed-rule_constraint scope at 8 (p ∷ []) (ToLoop scope.number loop))
           (closed-append entry (out ++ (raising ++ (third ++ fourth)))
-          (closed-inner (turn ∷ named_atoms v) n (way-below turn l v (m n) (below-named l) (λ a h. sub-same b (m n) (sym agrees.0) a ((alike-value scope l e).0 a h))))
+          (closed-inner (turn ∷ named_atoms v) n (pc-below turn l v (m n) (below-named l) (λ a h. sub-same b (m n) (sym agrees.0) a ((alike-value scope l e).0 a h))))
           (closed-append out (raising ++ (third ++ fourth))
           (closed-flow (inner_atom n ∷ []) (takers Normal) (λ k is. below-sub (inner_atom n ∷ []) b (m k) b_below (λ a i.
           take Normal k refl is a (sub-right (raised_exits e (l ++ r) Normal) (b ++ x Break) a (sub-left b (x Break) a i)))))
@@ -360,7 +360,7 @@ module _ (m : ℕ → Join) where
           closed-flow (p ∷ []) (takers exit) (λ k is. below-sub (p ∷ []) pc (m k) below (take exit k (or_left (same_exit exit exit) false (same_exit-itself exit)) is))
       closed-statement (ReturnWith at (Some e)) p pc takers n part agrees below take =
           closed-demanding at 10 (p ∷ named_atoms (value_label scope e)) (ToValue scope.number) (p ∷ named_atoms (raise_atoms scope e)) (pc ++ raise_label scope e)
-          takers Return (raises e) (raises-two e) (way-below p pc (raise_atoms scope e) (pc ++ raise_label scope e) below (alike-raise scope pc e).0) take
+          takers Return (raises e) (raises-two e) (pc-below p pc (raise_atoms scope e) (pc ++ raise_label scope e) below (alike-raise scope pc e).0) take
       closed-statement (ReturnWith at None) p pc takers n part agrees below take =
           closed-flow (p ∷ []) (takers Return) (λ k is. below-sub (p ∷ []) pc (m k) below (take Return k refl is))
       closed-statement (Try at block handlers) p pc takers n part agrees below take =
@@ -388,10 +388,10 @@ module _ (m : ℕ → Join) where
       closed-statements (Then s rest) reached p pc takers n part agrees below take =
           let ends : List Exit = statement_ends scope.program s in
           let x : ExitLabels = statement_exits scope pc s in
-          let way : NamedAtom = onward_way (one_end ends) p n in
+          let named_pc : NamedAtom = onward_pc (one_end ends) p n in
           let first : List NamedConstraint = single (one_end ends) p (with_normal None takers) ends in
           let second : List NamedConstraint = statement_constraints scope p (within_single (one_end ends) (with_normal (Some n) takers)) (suc n) s in
-          let third : List NamedConstraint = block_constraints scope (has_end ends Normal) way takers (suc n + made_by_statement s) rest in
+          let third : List NamedConstraint = block_constraints scope (has_end ends Normal) named_pc takers (suc n + made_by_statement s) rest in
           closed-append first (second ++ third)
           (closed-single (one_end ends) ends p (with_normal None takers) pc (statement_rule scope pc s) refl below
           (take-statement pc s rest takers take None (λ k i. absurd (cc))))
@@ -400,12 +400,12 @@ module _ (m : ℕ → Join) where
           (take-within (one_end ends) ends (with_normal (Some n) takers) pc (statement_rule scope pc s) refl
           (take-statement pc s rest takers take (Some n) (λ k i. let same : n ≡ k = cc in subst (λ y. m y ≡ x Normal) same agrees.0))))
           (by_test (has_end ends Normal)
-          (λ h. closed-statements rest (has_end ends Normal) way (x Normal) takers (suc n + made_by_statement s) part.2 agrees.2
+          (λ h. closed-statements rest (has_end ends Normal) named_pc (x Normal) takers (suc n + made_by_statement s) part.2 agrees.2
           (onward-below (one_end ends) ends p n pc (statement_rule scope pc s) h refl agrees.0 below)
           (λ e k there is a i. take e k (then-rest ends (block_ends scope.program rest) e h there) is a
           (sub-right (label_if (not (same_exit Normal e)) (x e)) (block_rule scope (x Normal) rest e) a i)))
-          (λ h. subst (λ b. Closed (block_constraints scope b way takers (suc n + made_by_statement s) rest)) (sym h)
-          (closed-unreached s rest way takers (suc n + made_by_statement s) part.1 h))))
+          (λ h. subst (λ b. Closed (block_constraints scope b named_pc takers (suc n + made_by_statement s) rest)) (sym h)
+          (closed-unreached s rest named_pc takers (suc n + made_by_statement s) part.1 h))))
 
       pub closed-handlers : (handlers : Handlers) (number : ℕ → ℕ) (x : ExitLabels) (takers : Takers) (n : ℕ) → PartBy scope.program handlers → AgreesBy scope m n x handlers →
           ((y : ℕ) → handles handlers y ≡ true → m (number y) ≡ x (Throw y)) → Take (handlers_ends scope.program handlers) takers (handlers_rule scope x handlers) →

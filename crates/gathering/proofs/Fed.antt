@@ -16,7 +16,7 @@ use Rattle.resolved.specs.Value.{end_exception}
 use Rattle.resolved.specs.Ends.{same_exit, has_end, one_end, index_raises, raises, thrown_ends, handles, passes, statement_ends, block_ends}
 use Rattle.resolved.specs.Labelled.{Scope, Join, LabelAtom, one, label_of, value_label, raise_label, raise_labels, label_if, call_exits, ExitLabels, at_ends, raised_exits, loop_exits, statement_rule, block_rule, handlers_rule, statement_exits, block_exits}
 use Rattle.gathering.specs.Names.{Real, Inner, is_inner_name, NamedAtom, NamedConstraint, named_atoms}
-use Rattle.gathering.specs.Walk.{inner_atom, rule_constraint, target_constraint, inner_constraint, Takers, with_normal, in_loop, handler_count, handler_number, in_try, flow, flows, raised_once, raised_flows, single, within_single, by_ends, onward_way, raise_atoms, raise_atoms_all, store_atoms, call_atoms, made_by_statement, made_by_block, argument_constraints, call_flows, call_ends, call_constraints, statement_constraints, block_constraints, handlers_constraints}
+use Rattle.gathering.specs.Walk.{inner_atom, rule_constraint, target_constraint, inner_constraint, Takers, with_normal, in_loop, handler_count, handler_number, in_try, flow, flows, raised_once, raised_flows, single, within_single, by_ends, onward_pc, raise_atoms, raise_atoms_all, store_atoms, call_atoms, made_by_statement, made_by_block, argument_constraints, call_flows, call_ends, call_constraints, statement_constraints, block_constraints, handlers_constraints}
 use Rattle.gathering.proofs.Ends.{same-exit, by_test, normal_or_other, exits-single, exits-many, exits-none, taken_or_passed, in_try-taken, single-end, AmongTwo, same-thrown, raises-two, store-two, once-same, call-same}
 use Rattle.gathering.proofs.Atoms.{Sub, sub-same, alike-raise, alike-value, alike-arguments, store_label, alike-store, alike-call}
 use Rattle.gathering.proofs.Reached.{Part, PartIn, PartBy}
@@ -79,9 +79,9 @@ module _ (cs : List NamedConstraint) where
       (λ h. fed-flows left takers rest j (within-right (flow left (takers x)) (flows left takers rest) within) fed e k h is)
       (or_cases (same_exit e x) (has_end rest e) has)
 
-  -- a way with parts of the text
-  pub way-fed : (p : NamedAtom) (pc x j : Join) → Fed (p ∷ []) pc → Sub j (pc ++ x) → Fed (p ∷ named_atoms x) j
-  way-fed p pc x j fed sub a there = fed-append (p ∷ []) (named_atoms x) pc x fed (fed-named x) a (sub a there)
+  -- a named_pc with parts of the text
+  pub pc-fed : (p : NamedAtom) (pc x j : Join) → Fed (p ∷ []) pc → Sub j (pc ++ x) → Fed (p ∷ named_atoms x) j
+  pc-fed p pc x j fed sub a there = fed-append (p ∷ []) (named_atoms x) pc x fed (fed-named x) a (sub a there)
 
   pub fed-call_flows : (program : Program) (callee own : ℕ) (takers : Takers) (ends : List Exit) (j : Join) → Within (call_flows program callee own takers ends) → Fed (inner_atom own ∷ []) j →
       (e : Exit) (k : ℕ) → has_end ends e ≡ true → takers e ≡ Some k → FedTo k (call_exits program callee j e)
@@ -91,7 +91,7 @@ module _ (cs : List NamedConstraint) where
       ⊎_elim
       (λ same. subst (λ y. FedTo k (call_exits program callee j y)) (sym (same-exit e x same))
       (fed-flow left (takers x) (call_exits program callee j x) (within-left (flow left (takers x)) (call_flows program callee own takers rest) within)
-      (way-fed (inner_atom own) j (call_atoms program callee x) (call_exits program callee j x) fed (alike-call program callee j x).1) k (ap takers (sym (same-exit e x same)) ∙ is)))
+      (pc-fed (inner_atom own) j (call_atoms program callee x) (call_exits program callee j x) fed (alike-call program callee j x).1) k (ap takers (sym (same-exit e x same)) ∙ is)))
       (λ h. fed-call_flows program callee own takers rest j (within-right (flow left (takers x)) (call_flows program callee own takers rest) within) fed e k h is)
       (or_cases (same_exit e x) (has_end rest e) has)
 
@@ -128,7 +128,7 @@ module _ (cs : List NamedConstraint) where
       e k is is
 
   pub fed-onward : (normal b : Bool) (ends : List Exit) (p : NamedAtom) (n : ℕ) (takers : Takers) (pc : Join) (exits : ExitLabels) → has_end ends Normal ≡ normal → one_end ends ≡ b →
-      Fed (p ∷ []) pc → Gives ends (within_single b (with_normal (Some n) takers)) exits → Fed (onward_way b p n ∷ []) (at_ends ends pc exits Normal)
+      Fed (p ∷ []) pc → Gives ends (within_single b (with_normal (Some n) takers)) exits → Fed (onward_pc b p n ∷ []) (at_ends ends pc exits Normal)
   fed-onward false b ends p n takers pc exits has one fed gives a there = absurd (none_in_nil a (subst (λ x. Contains x a) (exits-none ends pc exits Normal has) there))
   fed-onward true true ends p n takers pc exits has one fed gives a there = fed a (subst (λ x. Contains x a) (exits-single ends pc exits Normal one has) there)
   fed-onward true false ends p n takers pc exits has one fed gives a there =
@@ -189,7 +189,7 @@ module _ (cs : List NamedConstraint) where
         let third : List NamedConstraint = target_constraint scope at 6 (inner_atom n ∷ named_atoms (call_atoms scope.program callee Normal ++ one (label_of scope.program (ToValue callee)))) target in
         let fourth : List NamedConstraint = call_flows scope.program callee n takers ends in
         let own : Fed (inner_atom n ∷ []) j = fed-inner_atom n j (fed-inner_constraint left n j (within-left entry (first ++ (second ++ (third ++ fourth))) within)
-        (way-fed p pc (raise_atoms_all scope arguments) j fed (alike-arguments scope pc arguments).1)) in
+        (pc-fed p pc (raise_atoms_all scope arguments) j fed (alike-arguments scope pc arguments).1)) in
         let last : Within fourth = within-right third fourth (within-right second (third ++ fourth) (within-right first (second ++ (third ++ fourth))
         (within-right entry (first ++ (second ++ (third ++ fourth))) within))) in
         (own, λ y k has is. fed-call_flows scope.program callee n takers ends j last own y k (call-same scope.program callee arguments y ∙ has) is)
@@ -201,7 +201,7 @@ module _ (cs : List NamedConstraint) where
           let q : List NamedAtom = p ∷ named_atoms (raise_atoms scope e) in
           fed-own q (pc ++ raise_label scope e) takers Normal (raises e) (raises-two e)
           (within-right (rule_constraint scope at 1 (p ∷ named_atoms (value_label scope e)) (ToVariable scope.number x)) (flow q (takers Normal) ++ raised_flows q takers (raises e)) within)
-          (way-fed p pc (raise_atoms scope e) (pc ++ raise_label scope e) fed (alike-raise scope pc e).1) y k has is
+          (pc-fed p pc (raise_atoms scope e) (pc ++ raise_label scope e) fed (alike-raise scope pc e).1) y k has is
       fed-statement (Clear at slot) p pc takers n part fed within y k has is =
           fed-flow (p ∷ []) (takers Normal) pc (within-right (rule_constraint scope at 2 (p ∷ []) (ToVariable scope.number (Local slot))) (flow (p ∷ []) (takers Normal)) within) fed k
           (ap takers (sym (single-end Normal [] y refl has)) ∙ is)
@@ -210,7 +210,7 @@ module _ (cs : List NamedConstraint) where
           let raised : List ℕ = raises index ++ raises e ++ index_raises index len in
           fed-own q (store_label scope pc len index e) takers Normal raised (store-two index e len)
           (within-right (rule_constraint scope at 3 (p ∷ named_atoms (value_label scope index ++ value_label scope e)) (ToVariable scope.number array)) (flow q (takers Normal) ++ raised_flows q takers raised) within)
-          (way-fed p pc (store_atoms scope len index e) (store_label scope pc len index e) fed (alike-store scope pc len index e).1) y k has is
+          (pc-fed p pc (store_atoms scope len index e) (store_label scope pc len index e) fed (alike-store scope pc len index e).1) y k has is
       fed-statement (Receive at channel target) p pc takers n part fed within y k has is =
           let label : Join = one (label_of scope.program (ToChannel channel)) in
           let q : List NamedAtom = p ∷ named_atoms label in
@@ -227,7 +227,7 @@ module _ (cs : List NamedConstraint) where
           let q : List NamedAtom = p ∷ named_atoms (raise_atoms scope e) in
           fed-own q (pc ++ raise_label scope e) takers Normal (raises e) (raises-two e)
           (within-right (rule_constraint scope at 5 (p ∷ named_atoms (value_label scope e)) (ToChannel channel)) (flow q (takers Normal) ++ raised_flows q takers (raises e)) within)
-          (way-fed p pc (raise_atoms scope e) (pc ++ raise_label scope e) fed (alike-raise scope pc e).1) y k has is
+          (pc-fed p pc (raise_atoms scope e) (pc ++ raise_label scope e) fed (alike-raise scope pc e).1) y k has is
       fed-statement (Call at procedure arguments target) p pc takers n part fed within y k has is = (fed-call at procedure arguments target p pc takers n fed within).1 y k has is
       fed-statement (If at e yes_block no_block) p pc takers n part fed within y k has is =
           let r : Join = raise_label scope e in
@@ -236,7 +236,7 @@ module _ (cs : List NamedConstraint) where
           let yes_ends : List Exit = block_ends scope.program yes_block in
           let no_ends : List Exit = block_ends scope.program no_block in
           let q : List NamedAtom = p ∷ named_atoms (raise_atoms scope e) in
-          let q_fed : Fed q (pc ++ r) = way-fed p pc (raise_atoms scope e) (pc ++ r) fed (alike-raise scope pc e).1 in
+          let q_fed : Fed q (pc ++ r) = pc-fed p pc (raise_atoms scope e) (pc ++ r) fed (alike-raise scope pc e).1 in
           let first : List NamedConstraint = inner_constraint (p ∷ named_atoms v) n in
           let second : List NamedConstraint = raised_flows q takers (raises e) in
           let third : List NamedConstraint = by_ends yes_ends (inner_atom n) takers (λ t. block_constraints scope true (inner_atom n) t (suc n) yes_block) in
@@ -245,7 +245,7 @@ module _ (cs : List NamedConstraint) where
           let after : Within (second ++ (third ++ fourth)) = within-right first (second ++ (third ++ fourth)) within in
           let in_second : Within second = within-left second (third ++ fourth) after in
           let branches : Within (third ++ fourth) = within-right second (third ++ fourth) after in
-          let b_fed : Fed (inner_atom n ∷ []) branch = fed-inner_atom n branch (fed-inner_constraint (p ∷ named_atoms v) n branch in_first (way-fed p pc v branch fed (alike-value scope pc e).1)) in
+          let b_fed : Fed (inner_atom n ∷ []) branch = fed-inner_atom n branch (fed-inner_constraint (p ∷ named_atoms v) n branch in_first (pc-fed p pc v branch fed (alike-value scope pc e).1)) in
           three (raised_exits e (pc ++ r) y) (block_exits scope branch yes_block y) (block_exits scope branch no_block y) k
           (raised-fed e (pc ++ r) q takers in_second q_fed y k is)
           (fed-block yes_ends (inner_atom n) takers branch (block_rule scope branch yes_block) (λ t. block_constraints scope true (inner_atom n) t (suc n) yes_block)
@@ -261,7 +261,7 @@ module _ (cs : List NamedConstraint) where
           let b : Join = (l ++ r) ++ v in
           let ends : List Exit = block_ends scope.program body in
           let x : ExitLabels = block_exits scope b body in
-          let q_fed : Fed q (l ++ r) = way-fed turn l (raise_atoms scope e) (l ++ r) (fed-named l) (alike-raise scope l e).1 in
+          let q_fed : Fed q (l ++ r) = pc-fed turn l (raise_atoms scope e) (l ++ r) (fed-named l) (alike-raise scope l e).1 in
           let first : List NamedConstraint = rule_constraint scope at 8 (p ∷ []) (ToLoop scope.number loop) in
           let entry : List NamedConstraint = inner_constraint (turn ∷ named_atoms v) n in
           let out : List NamedConstraint = flow (inner_atom n ∷ []) (takers Normal) in
@@ -275,7 +275,7 @@ module _ (cs : List NamedConstraint) where
           let last : Within (raising ++ (third ++ fourth)) = within-right out (raising ++ (third ++ fourth)) leaving in
           let in_raising : Within raising = within-left raising (third ++ fourth) last in
           let in_third : Within third = within-left third fourth (within-right raising (third ++ fourth) last) in
-          let b_fed : Fed (inner_atom n ∷ []) b = fed-inner_atom n b (fed-inner_constraint (turn ∷ named_atoms v) n b in_entry (way-fed turn l v b (fed-named l) (alike-value scope l e).1)) in
+          let b_fed : Fed (inner_atom n ∷ []) b = fed-inner_atom n b (fed-inner_constraint (turn ∷ named_atoms v) n b in_entry (pc-fed turn l v b (fed-named l) (alike-value scope l e).1)) in
           λ a there. ⊎_elim
           (λ t. raised-fed e (l ++ r) q takers in_raising q_fed y k is a t)
           (λ t. loop-fed b x (suc n) takers (λ z at. fed-flow (inner_atom n ∷ []) (takers Normal) b in_out b_fed z at)
@@ -288,7 +288,7 @@ module _ (cs : List NamedConstraint) where
           let q : List NamedAtom = p ∷ named_atoms (raise_atoms scope e) in
           fed-own q (pc ++ raise_label scope e) takers Return (raises e) (raises-two e)
           (within-right (rule_constraint scope at 10 (p ∷ named_atoms (value_label scope e)) (ToValue scope.number)) (flow q (takers Return) ++ raised_flows q takers (raises e)) within)
-          (way-fed p pc (raise_atoms scope e) (pc ++ raise_label scope e) fed (alike-raise scope pc e).1) y k has is
+          (pc-fed p pc (raise_atoms scope e) (pc ++ raise_label scope e) fed (alike-raise scope pc e).1) y k has is
       fed-statement (ReturnWith at None) p pc takers n part fed within y k has is =
           fed-flow (p ∷ []) (takers Return) pc within fed k (ap takers (sym (single-end Return [] y refl has)) ∙ is)
       fed-statement (Try at block handlers) p pc takers n part fed within y k has is = λ a there.
@@ -320,10 +320,10 @@ module _ (cs : List NamedConstraint) where
           let ends : List Exit = statement_ends scope.program s in
           let exits : ExitLabels = statement_rule scope pc s in
           let x : ExitLabels = statement_exits scope pc s in
-          let way : NamedAtom = onward_way (one_end ends) p n in
+          let named_pc : NamedAtom = onward_pc (one_end ends) p n in
           let first : List NamedConstraint = single (one_end ends) p (with_normal None takers) ends in
           let second : List NamedConstraint = statement_constraints scope p (within_single (one_end ends) (with_normal (Some n) takers)) (suc n) s in
-          let third : List NamedConstraint = block_constraints scope (has_end ends Normal) way takers (suc n + made_by_statement s) rest in
+          let third : List NamedConstraint = block_constraints scope (has_end ends Normal) named_pc takers (suc n + made_by_statement s) rest in
           let after : Within (second ++ third) = within-right first (second ++ third) within in
           let gives : Gives ends (within_single (one_end ends) (with_normal (Some n) takers)) exits =
           fed-statement s p pc (within_single (one_end ends) (with_normal (Some n) takers)) (suc n) part.0 fed (within-left second third after) in
@@ -333,7 +333,7 @@ module _ (cs : List NamedConstraint) where
           (λ other. fed-ends (one_end ends) ends p (with_normal None takers) (with_normal (Some n) takers) pc exits refl (within-left first (second ++ third) within) fed gives y k
           (other.1 None takers ∙ is) (other.1 (Some n) takers ∙ is) a (sub-same (label_if (not (same_exit Normal y)) (x y)) (x y) (rw other.0 refl) a t))
           (normal_or_other y))
-          (λ t. fed-statements rest (has_end ends Normal) way (x Normal) takers (suc n + made_by_statement s) part.2 (λ h. exits-none ends pc exits Normal h)
+          (λ t. fed-statements rest (has_end ends Normal) named_pc (x Normal) takers (suc n + made_by_statement s) part.2 (λ h. exits-none ends pc exits Normal h)
           (fed-onward (has_end ends Normal) (one_end ends) ends p n takers pc exits refl refl fed gives) (within-right second third after) y k is a t)
           (Contains-append_cases (label_if (not (same_exit Normal y)) (x y)) (block_rule scope (x Normal) rest y) a there)
 

@@ -22,8 +22,8 @@ use Rattle.gathering.proofs.Meanings.{nth, Starts, starts-left, starts-right, st
 abbrev pub begin_of : Scope → Join
 begin_of scope = one (label_of scope.program (ToBegin scope.number))
 
-abbrev pub begin_way : Scope → NamedAtom
-begin_way scope = renamed Real (label_of scope.program (ToBegin scope.number))
+abbrev pub begin_pc : Scope → NamedAtom
+begin_pc scope = renamed Real (label_of scope.program (ToBegin scope.number))
 
 abbrev pub exits_of : Scope → ExitLabels
 exits_of scope = block_exits scope (begin_of scope) (here scope).body
@@ -87,7 +87,7 @@ module _ (m : ℕ → Join) where
 
   closed-procedure : (scope : Scope) (n : ℕ) → PartIn scope.program (here scope).body → AgreesOf scope n → Closed m (procedure_constraints scope n)
   closed-procedure scope n part agrees =
-      let p : NamedAtom = begin_way scope in
+      let p : NamedAtom = begin_pc scope in
       closed-append m (inner_block scope p (end_takers scope n) (first_within scope n) (here scope).body) (end_constraints scope n)
       (closed-block m (body_ends scope) p (end_takers scope n) (begin_of scope) (block_rule scope (begin_of scope) (here scope).body)
       (λ t. block_constraints scope true p t (first_within scope n) (here scope).body) (below-named m (begin_of scope)) (end-take scope n agrees)
@@ -136,7 +136,7 @@ module _ (m : ℕ → Join) where
 
     one-procedure : (scope : Scope) (n : ℕ) → PartIn scope.program (here scope).body → AgreesOf scope n → Within cs (procedure_constraints scope n) → One cs (procedure_demands scope) (procedure_constraints scope n)
     one-procedure scope n part agrees within =
-        let p : NamedAtom = begin_way scope in
+        let p : NamedAtom = begin_pc scope in
         let ends : List Exit = body_ends scope in
         let takers : Takers = end_takers scope n in
         let own : List NamedConstraint = single (one_end ends) p takers ends in

@@ -22,7 +22,7 @@ use Rattle.resolved.specs.Ends.{has_end, one_end, index_can_raise, index_raises,
 use Rattle.resolved.specs.Labelled.{OfLocal, OfLoop, Scope, Join, LabelAtom, one, label_of, written_or, variable_label, value_label, label_if, any_of}
 use Rattle.resolved.specs.WellFormed.{VariableType, slot_type, variable_type, scalar_by, array_by, has_base, has_result, target_by, parameters_of, arguments_match, call_matches, is_array, same_base, prefix_base, operand_base, result_base, statement_fits, block_fits, handlers_fit, is_exception, statement_loops, block_loops, handlers_loops}
 use Rattle.gathering.specs.Names.{Real, Inner, NamedAtom, NamedConstraint, named_atoms, IsUnwrittenOf}
-use Rattle.gathering.specs.Walk.{inner_atom, rule_constraint, target_constraint, inner_constraint, Takers, nowhere, with_normal, in_loop, handler_count, handler_number, in_try, at_end, thrown_number, declares, flow, flows, raised_once, raised_flows, single, within_single, by_ends, onward_way, raise_atoms, raise_atoms_all, store_atoms, call_atoms, made_by_statement, made_by_block, made_by_handlers, argument_constraints, call_flows, call_ends, call_constraints, statement_constraints, block_constraints, handlers_constraints}
+use Rattle.gathering.specs.Walk.{inner_atom, rule_constraint, target_constraint, inner_constraint, Takers, nowhere, with_normal, in_loop, handler_count, handler_number, in_try, at_end, thrown_number, declares, flow, flows, raised_once, raised_flows, single, within_single, by_ends, onward_pc, raise_atoms, raise_atoms_all, store_atoms, call_atoms, made_by_statement, made_by_block, made_by_handlers, argument_constraints, call_flows, call_ends, call_constraints, statement_constraints, block_constraints, handlers_constraints}
 use Rattle.gathering.proofs.Atoms.{Sub, raise-value, atoms-below}
 
 -- ---- what is there
@@ -101,8 +101,8 @@ module _ (program : Program) (bound : ℕ) where
   atoms-named (a ∷ rest) f =
       atoms-cons (renamed Real a) (named_atoms rest) (f a (Contains-first a rest)) (atoms-named rest (λ b h. f b (Contains-later a rest b h)))
 
-  pub way-atoms : (p : NamedAtom) (j : Join) → InRange p → JoinInRange j → AllInRange (p ∷ named_atoms j)
-  way-atoms p j ok f = atoms-cons p (named_atoms j) ok (atoms-named j f)
+  pub pc-atoms : (p : NamedAtom) (j : Join) → InRange p → JoinInRange j → AllInRange (p ∷ named_atoms j)
+  pc-atoms p j ok f = atoms-cons p (named_atoms j) ok (atoms-named j f)
 
   pub alone : (p : NamedAtom) → InRange p → AllInRange (p ∷ [])
   alone p ok = atoms-cons p [] ok atoms-nil
@@ -263,8 +263,8 @@ module _ (program : Program) (bound : ℕ) where
         Ranged (rule_constraint own_scope at rule (p ∷ named_atoms left) target ++ (flow (p ∷ named_atoms q) (takers first) ++ raised_flows (p ∷ named_atoms q) takers raised))
     ranged-demanding at rule p left q target takers first raised ok left_ok q_ok target_ok fit =
         ranged-append (rule_constraint own_scope at rule (p ∷ named_atoms left) target) (flow (p ∷ named_atoms q) (takers first) ++ raised_flows (p ∷ named_atoms q) takers raised)
-        (ranged-rule at rule (p ∷ named_atoms left) target (way-atoms p left ok left_ok) target_ok)
-        (ranged-own (p ∷ named_atoms q) takers first raised (way-atoms p q ok q_ok) fit)
+        (ranged-rule at rule (p ∷ named_atoms left) target (pc-atoms p left ok left_ok) target_ok)
+        (ranged-own (p ∷ named_atoms q) takers first raised (pc-atoms p q ok q_ok) fit)
 
     -- calls
     pub call_atoms-ok : (callee : ℕ) (e : Exit) → JoinInRange (call_atoms program callee e)
@@ -283,7 +283,7 @@ module _ (program : Program) (bound : ℕ) where
     ranged-call_flows callee n takers (e ∷ rest) h fit =
         let left : List NamedAtom = inner_atom n ∷ named_atoms (call_atoms program callee e) in
         ranged-append (flow left (takers e)) (call_flows program callee n takers rest)
-        (ranged-flow left (takers e) (way-atoms (inner_atom n) (call_atoms program callee e) h (call_atoms-ok callee e)) (fit e)) (ranged-call_flows callee n takers rest h fit)
+        (ranged-flow left (takers e) (pc-atoms (inner_atom n) (call_atoms program callee e) h (call_atoms-ok callee e)) (fit e)) (ranged-call_flows callee n takers rest h fit)
 
     pub ranged-arguments : (at n callee i : ℕ) (parameters : List SlotEntry) (es : List Expression) → n < bound → arguments_match program own parameters es ≡ true →
         Ranged (argument_constraints own_scope at n callee i es) × JoinInRange (raise_atoms_all own_scope es)
@@ -295,7 +295,7 @@ module _ (program : Program) (bound : ℕ) where
         let more : Ranged (argument_constraints own_scope at n callee (suc i) rest) × JoinInRange (raise_atoms_all own_scope rest) = ranged-arguments at n callee (suc i) parameters rest h parts.1 in
         let left : List NamedAtom = inner_atom n ∷ named_atoms (value_label own_scope e) in (
           ranged-append (rule_constraint own_scope at 6 left (ToParameter callee i)) (argument_constraints own_scope at n callee (suc i) rest)
-              (ranged-rule at 6 left (ToParameter callee i) (way-atoms (inner_atom n) (value_label own_scope e) h v) tt) more.0,
+              (ranged-rule at 6 left (ToParameter callee i) (pc-atoms (inner_atom n) (value_label own_scope e) h v) tt) more.0,
           join-append (raise_atoms own_scope e) (raise_atoms_all own_scope rest) (raise-ok e v) more.1,
         )
 
@@ -307,19 +307,19 @@ module _ (program : Program) (bound : ℕ) where
         let passed : Ranged (argument_constraints own_scope at n callee 0 arguments) × JoinInRange (raise_atoms_all own_scope arguments) = ranged-arguments at n callee 0 (parameters_of entry) arguments h parts.0 in
         let x : Join = call_atoms program callee Normal in
         let v : Join = one (label_of program (ToValue callee)) in
-        let way : NamedAtom = inner_atom n in
+        let pc : NamedAtom = inner_atom n in
         let entered : List NamedConstraint = inner_constraint (p ∷ named_atoms (raise_atoms_all own_scope arguments)) n in
-        let first : List NamedConstraint = rule_constraint own_scope at 6 (way ∷ []) (ToBegin callee) in
+        let first : List NamedConstraint = rule_constraint own_scope at 6 (pc ∷ []) (ToBegin callee) in
         let second : List NamedConstraint = argument_constraints own_scope at n callee 0 arguments in
-        let third : List NamedConstraint = target_constraint own_scope at 6 (way ∷ named_atoms (x ++ v)) target in
+        let third : List NamedConstraint = target_constraint own_scope at 6 (pc ∷ named_atoms (x ++ v)) target in
         let fourth : List NamedConstraint = call_flows program callee n takers (call_ends program callee arguments) in
         ranged-append entered (first ++ (second ++ (third ++ fourth)))
-        (ranged-inner (p ∷ named_atoms (raise_atoms_all own_scope arguments)) n (way-atoms p (raise_atoms_all own_scope arguments) ok passed.1) h)
-        (ranged-append first (second ++ (third ++ fourth)) (ranged-rule at 6 (way ∷ []) (ToBegin callee) (alone way h) tt)
+        (ranged-inner (p ∷ named_atoms (raise_atoms_all own_scope arguments)) n (pc-atoms p (raise_atoms_all own_scope arguments) ok passed.1) h)
+        (ranged-append first (second ++ (third ++ fourth)) (ranged-rule at 6 (pc ∷ []) (ToBegin callee) (alone pc h) tt)
         (ranged-append second (third ++ fourth) passed.0
         (ranged-append third fourth
-        (ranged-target at 6 (way ∷ named_atoms (x ++ v)) target (λ base. has_result entry.result (same_base base))
-        (way-atoms way (x ++ v) h (join-append x v (call_atoms-ok callee Normal) (join-one (label_of program (ToValue callee)) tt))) parts.1)
+        (ranged-target at 6 (pc ∷ named_atoms (x ++ v)) target (λ base. has_result entry.result (same_base base))
+        (pc-atoms pc (x ++ v) h (join-append x v (call_atoms-ok callee Normal) (join-one (label_of program (ToValue callee)) tt))) parts.1)
         (ranged-call_flows callee n takers (call_ends program callee arguments) h fit))))
 
     -- a block of its own
@@ -338,7 +338,7 @@ module _ (program : Program) (bound : ℕ) where
     pub loops-right : (xs ys : List ℕ) → LoopsFit (xs ++ ys) → LoopsFit ys
     loops-right xs ys h l i = h l (Contains-append_right xs ys l i)
 
-    pub onward-ok : (b : Bool) (p : NamedAtom) (n : ℕ) → InRange p → n < bound → InRange (onward_way b p n)
+    pub onward-ok : (b : Bool) (p : NamedAtom) (n : ℕ) → InRange p → n < bound → InRange (onward_pc b p n)
     onward-ok true p n ok h = ok
     onward-ok false p n ok h = h
 
@@ -367,7 +367,7 @@ module _ (program : Program) (bound : ℕ) where
       ranged-statement (Receive at channel target) p takers n fits loops ok fit h =
           let label : Join = one (label_of program (ToChannel channel)) in
           let q : List NamedAtom = p ∷ named_atoms label in
-          let q_ok : AllInRange q = way-atoms p label ok (join-one (label_of program (ToChannel channel)) tt) in
+          let q_ok : AllInRange q = pc-atoms p label ok (join-one (label_of program (ToChannel channel)) tt) in
           let out : List NamedConstraint = flow q (takers Normal) ++ flow q (takers (Throw end_exception)) in
           ranged-append (rule_constraint own_scope at 4 (p ∷ []) (ToChannel channel)) (target_constraint own_scope at 4 q target ++ out)
           (ranged-rule at 4 (p ∷ []) (ToChannel channel) (alone p ok) tt)
@@ -384,44 +384,44 @@ module _ (program : Program) (bound : ℕ) where
           let outer = and_parts (has_base program own Boolean e && block_fits program own yes_block) (block_fits program own no_block) fits in
           let inner = and_parts (has_base program own Boolean e) (block_fits program own yes_block) outer.0 in
           let v : JoinInRange (value_label own_scope e) = value-ok Boolean e inner.0 in
-          let way : NamedAtom = inner_atom n in
+          let pc : NamedAtom = inner_atom n in
           let made : n < bound = omega (arith, h) in
           let first : List NamedConstraint = inner_constraint (p ∷ named_atoms (value_label own_scope e)) n in
           let second : List NamedConstraint = raised_flows (p ∷ named_atoms (raise_atoms own_scope e)) takers (raises e) in
-          let third : List NamedConstraint = by_ends (block_ends program yes_block) way takers (λ t. block_constraints own_scope true way t (suc n) yes_block) in
-          let fourth : List NamedConstraint = by_ends (block_ends program no_block) way takers (λ t. block_constraints own_scope true way t (suc n + made_by_block yes_block) no_block) in
+          let third : List NamedConstraint = by_ends (block_ends program yes_block) pc takers (λ t. block_constraints own_scope true pc t (suc n) yes_block) in
+          let fourth : List NamedConstraint = by_ends (block_ends program no_block) pc takers (λ t. block_constraints own_scope true pc t (suc n + made_by_block yes_block) no_block) in
           ranged-append first (second ++ (third ++ fourth))
-          (ranged-inner (p ∷ named_atoms (value_label own_scope e)) n (way-atoms p (value_label own_scope e) ok v) made)
+          (ranged-inner (p ∷ named_atoms (value_label own_scope e)) n (pc-atoms p (value_label own_scope e) ok v) made)
           (ranged-append second (third ++ fourth)
-          (ranged-raised (p ∷ named_atoms (raise_atoms own_scope e)) takers (raises e) (way-atoms p (raise_atoms own_scope e) ok (raise-ok e v)) fit)
+          (ranged-raised (p ∷ named_atoms (raise_atoms own_scope e)) takers (raises e) (pc-atoms p (raise_atoms own_scope e) ok (raise-ok e v)) fit)
           (ranged-append third fourth
-          (ranged-by_ends (block_ends program yes_block) way takers (λ t. block_constraints own_scope true way t (suc n) yes_block) made fit
-          (λ t k. ranged-block yes_block true way t (suc n) inner.1 (loops-left (block_loops yes_block) (block_loops no_block) loops) made k (omega (arith, h))))
-          (ranged-by_ends (block_ends program no_block) way takers (λ t. block_constraints own_scope true way t (suc n + made_by_block yes_block) no_block) made fit
-          (λ t k. ranged-block no_block true way t (suc n + made_by_block yes_block) outer.1 (loops-right (block_loops yes_block) (block_loops no_block) loops) made k (omega (arith, h))))))
+          (ranged-by_ends (block_ends program yes_block) pc takers (λ t. block_constraints own_scope true pc t (suc n) yes_block) made fit
+          (λ t k. ranged-block yes_block true pc t (suc n) inner.1 (loops-left (block_loops yes_block) (block_loops no_block) loops) made k (omega (arith, h))))
+          (ranged-by_ends (block_ends program no_block) pc takers (λ t. block_constraints own_scope true pc t (suc n + made_by_block yes_block) no_block) made fit
+          (λ t k. ranged-block no_block true pc t (suc n + made_by_block yes_block) outer.1 (loops-right (block_loops yes_block) (block_loops no_block) loops) made k (omega (arith, h))))))
       ranged-statement (While at loop e body) p takers n fits loops ok fit h =
           let parts = and_parts (has_base program own Boolean e) (block_fits program own body) fits in
           let v : JoinInRange (value_label own_scope e) = value-ok Boolean e parts.0 in
           let turn : NamedAtom = Unknown (Real (OfLoop f loop)) in
           let turn_ok : InRange turn = (there, loops loop (Contains-first loop (block_loops body))) in
-          let way : NamedAtom = inner_atom n in
+          let pc : NamedAtom = inner_atom n in
           let made : n < bound = omega (arith, h) in
           let back : suc n < bound = omega (arith, h) in
           let first : List NamedConstraint = rule_constraint own_scope at 8 (p ∷ []) (ToLoop f loop) in
           let entry : List NamedConstraint = inner_constraint (turn ∷ named_atoms (value_label own_scope e)) n in
-          let out : List NamedConstraint = flow (way ∷ []) (takers Normal) in
+          let out : List NamedConstraint = flow (pc ∷ []) (takers Normal) in
           let raising : List NamedConstraint = raised_flows (turn ∷ named_atoms (raise_atoms own_scope e)) takers (raises e) in
-          let third : List NamedConstraint = by_ends (block_ends program body) way (in_loop (suc n) takers) (λ t. block_constraints own_scope true way t (suc (suc n)) body) in
+          let third : List NamedConstraint = by_ends (block_ends program body) pc (in_loop (suc n) takers) (λ t. block_constraints own_scope true pc t (suc (suc n)) body) in
           let fourth : List NamedConstraint = rule_constraint own_scope at 8 (inner_atom (suc n) ∷ []) (ToLoop f loop) in
           ranged-append first (entry ++ (out ++ (raising ++ (third ++ fourth)))) (ranged-rule at 8 (p ∷ []) (ToLoop f loop) (alone p ok) turn_ok)
           (ranged-append entry (out ++ (raising ++ (third ++ fourth)))
-          (ranged-inner (turn ∷ named_atoms (value_label own_scope e)) n (way-atoms turn (value_label own_scope e) turn_ok v) made)
-          (ranged-append out (raising ++ (third ++ fourth)) (ranged-flow (way ∷ []) (takers Normal) (alone way made) (fit Normal))
+          (ranged-inner (turn ∷ named_atoms (value_label own_scope e)) n (pc-atoms turn (value_label own_scope e) turn_ok v) made)
+          (ranged-append out (raising ++ (third ++ fourth)) (ranged-flow (pc ∷ []) (takers Normal) (alone pc made) (fit Normal))
           (ranged-append raising (third ++ fourth)
-          (ranged-raised (turn ∷ named_atoms (raise_atoms own_scope e)) takers (raises e) (way-atoms turn (raise_atoms own_scope e) turn_ok (raise-ok e v)) fit)
+          (ranged-raised (turn ∷ named_atoms (raise_atoms own_scope e)) takers (raises e) (pc-atoms turn (raise_atoms own_scope e) turn_ok (raise-ok e v)) fit)
           (ranged-append third fourth
-          (ranged-by_ends (block_ends program body) way (in_loop (suc n) takers) (λ t. block_constraints own_scope true way t (suc (suc n)) body) made (loop-fits (suc n) takers back fit)
-          (λ t k. ranged-block body true way t (suc (suc n)) parts.1 (λ l i. loops l (Contains-later loop (block_loops body) l i)) made k (omega (arith, h))))
+          (ranged-by_ends (block_ends program body) pc (in_loop (suc n) takers) (λ t. block_constraints own_scope true pc t (suc (suc n)) body) made (loop-fits (suc n) takers back fit)
+          (λ t k. ranged-block body true pc t (suc (suc n)) parts.1 (λ l i. loops l (Contains-later loop (block_loops body) l i)) made k (omega (arith, h))))
           (ranged-rule at 8 (inner_atom (suc n) ∷ []) (ToLoop f loop) (alone (inner_atom (suc n)) back) turn_ok)))))
       ranged-statement (Leave at exit) p takers n fits loops ok fit h = ranged-flow (p ∷ []) (takers exit) (alone p ok) (fit exit)
       ranged-statement (ReturnWith at (Some e)) p takers n fits loops ok fit h =
@@ -454,13 +454,13 @@ module _ (program : Program) (bound : ℕ) where
           let inside : Takers = with_normal (Some n) takers in
           let first : List NamedConstraint = single (one_end ends) p (with_normal None takers) ends in
           let second : List NamedConstraint = statement_constraints own_scope p (within_single (one_end ends) inside) (suc n) s in
-          let third : List NamedConstraint = block_constraints own_scope (has_end ends Normal) (onward_way (one_end ends) p n) takers (suc n + made_by_statement s) rest in
+          let third : List NamedConstraint = block_constraints own_scope (has_end ends Normal) (onward_pc (one_end ends) p n) takers (suc n + made_by_statement s) rest in
           ranged-append first (second ++ third)
           (ranged-single (one_end ends) p (with_normal None takers) ends ok (normal-fits None takers (λ k is. let i : None ≡ Some k = is in absurd (cc)) fit))
           (ranged-append second third
           (ranged-statement s p (within_single (one_end ends) inside) (suc n) parts.0 (loops-left (statement_loops s) (block_loops rest) loops) ok
           (within-fits (one_end ends) inside (normal-fits (Some n) takers (λ k is. same-number n k made is) fit)) (omega (arith, h)))
-          (ranged-block rest (has_end ends Normal) (onward_way (one_end ends) p n) takers (suc n + made_by_statement s) parts.1 (loops-right (statement_loops s) (block_loops rest) loops)
+          (ranged-block rest (has_end ends Normal) (onward_pc (one_end ends) p n) takers (suc n + made_by_statement s) parts.1 (loops-right (statement_loops s) (block_loops rest) loops)
           (onward-ok (one_end ends) p n ok made) fit (omega (arith, h))))
 
       pub ranged-handlers : (handlers : Handlers) (number : ℕ → ℕ) (takers : Takers) (n : ℕ) → handlers_fit program own handlers ≡ true → LoopsFit (handlers_loops handlers) →

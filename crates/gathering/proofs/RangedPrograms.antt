@@ -73,12 +73,12 @@ module _ (program : Program) (bound : ℕ) where
     ranged-procedure n parts h =
         let scope : Scope = own_scope program bound f there in
         let procedure : ProcedureEntry = own program bound f there in
-        let way : NamedAtom = renamed Real (label_of program (ToBegin f)) in
+        let pc : NamedAtom = renamed Real (label_of program (ToBegin f)) in
         let m : ℕ = suc n + length procedure.throws in
         let ended : m ≤ bound = omega (arith, h) in
-        ranged-append program bound (inner_block scope way (end_takers scope n) m procedure.body) (end_constraints scope n)
-        (ranged-by_ends program bound f there (block_ends program procedure.body) way (end_takers scope n) (λ t. block_constraints scope true way t m procedure.body) tt (end_takers-fit n ended)
-        (λ t k. ranged-block program bound f there procedure.body true way t m parts.body_fits (loops-fit program procedure parts) tt k (omega (arith, h))))
+        ranged-append program bound (inner_block scope pc (end_takers scope n) m procedure.body) (end_constraints scope n)
+        (ranged-by_ends program bound f there (block_ends program procedure.body) pc (end_takers scope n) (λ t. block_constraints scope true pc t m procedure.body) tt (end_takers-fit n ended)
+        (λ t k. ranged-block program bound f there procedure.body true pc t m parts.body_fits (loops-fit program procedure parts) tt k (omega (arith, h))))
         (ranged-ends n ended)
 
   ranged-from : (ps : List ProcedureEntry) (f n : ℕ) → ((g : ℕ) → g < length program.procedures → ProcedureParts program (procedure_at program g)) → f + length ps ≤ length program.procedures →

@@ -18,7 +18,7 @@ use Rattle.resolved.specs.Labelled.{Scope, here, Join, one, label_of, value_labe
 use Rattle.resolved.specs.WellFormed.{expression_nodes, statement_nodes, block_nodes, handlers_nodes, procedure_nodes, program_nodes}
 use Rattle.resolved.proofs.Parts.{procedure_at_is}
 use Rattle.gathering.specs.Names.{Real, NamedAtom, NamedConstraint, named_atoms, numbered}
-use Rattle.gathering.specs.Walk.{inner_atom, rule_constraint, target_constraint, Takers, with_normal, in_loop, handler_count, handler_number, in_try, thrown_number, flow, flows, raised_once, raised_flows, single, within_single, by_ends, inner_block, onward_way, raise_atoms, raise_atoms_all, store_atoms, call_atoms, made_by_statement, made_by_block, made_by_procedure, argument_constraints, call_flows, call_ends, call_constraints, statement_constraints, block_constraints, handlers_constraints, ends_one_way, end_takers, thrown_constraints, end_constraints, procedure_constraints, constraints_from, program_constraints, gathered_constraints}
+use Rattle.gathering.specs.Walk.{inner_atom, rule_constraint, target_constraint, Takers, with_normal, in_loop, handler_count, handler_number, in_try, thrown_number, flow, flows, raised_once, raised_flows, single, within_single, by_ends, inner_block, onward_pc, raise_atoms, raise_atoms_all, store_atoms, call_atoms, made_by_statement, made_by_block, made_by_procedure, argument_constraints, call_flows, call_ends, call_constraints, statement_constraints, block_constraints, handlers_constraints, ends_one_way, end_takers, thrown_constraints, end_constraints, procedure_constraints, constraints_from, program_constraints, gathered_constraints}
 use Rattle.gathering.specs.Size.{size_of, declared_at, declared_in, declared_under, declared_at_calls}
 
 size-append : (xs ys : List NamedConstraint) → size_of (xs ++ ys) ≡ size_of xs + size_of ys
@@ -272,10 +272,10 @@ module _ (scope : Scope) where
         let j : nodes_of arguments ≡ sum_by expression_nodes arguments = is_sum_by nodes_of expression_nodes refl (λ x xs. refl) arguments in
         omega (arith, i, j)
     statement-size (If at e yes_block no_block) p takers n =
-        let way : NamedAtom = inner_atom n in
+        let pc : NamedAtom = inner_atom n in
         let second : List NamedConstraint = raised_flows (p ∷ named_atoms (raise_atoms scope e)) takers (raises e) in
-        let third : List NamedConstraint = by_ends (block_ends scope.program yes_block) way takers (λ t. block_constraints scope true way t (suc n) yes_block) in
-        let fourth : List NamedConstraint = by_ends (block_ends scope.program no_block) way takers (λ t. block_constraints scope true way t (suc n + made_by_block yes_block) no_block) in
+        let third : List NamedConstraint = by_ends (block_ends scope.program yes_block) pc takers (λ t. block_constraints scope true pc t (suc n) yes_block) in
+        let fourth : List NamedConstraint = by_ends (block_ends scope.program no_block) pc takers (λ t. block_constraints scope true pc t (suc n + made_by_block yes_block) no_block) in
         let yes : ℕ = 2 + (20 * block_nodes yes_block + 3 * declared_in scope.program yes_block) in
         let no : ℕ = 2 + (20 * block_nodes no_block + 3 * declared_in scope.program no_block) in
         let a : length (named_atoms (value_label scope e)) ≡ length (value_label scope e) = named-length (value_label scope e) in
@@ -283,28 +283,28 @@ module _ (scope : Scope) where
         let c : length (named_atoms (raise_atoms scope e)) ≡ length (raise_atoms scope e) = named-length (raise_atoms scope e) in
         let d : length (raise_atoms scope e) ≤ expression_nodes e = raise-length scope e in
         let i : size_of second ≤ 2 * suc (suc (length (named_atoms (raise_atoms scope e)))) = raised-size (p ∷ named_atoms (raise_atoms scope e)) takers (raises e) in
-        let j : size_of third ≤ 2 + yes = by_ends-size (block_ends scope.program yes_block) way takers (λ t. block_constraints scope true way t (suc n) yes_block) yes (λ t. block-size yes_block true way t (suc n)) in
-        let k : size_of fourth ≤ 2 + no = by_ends-size (block_ends scope.program no_block) way takers (λ t. block_constraints scope true way t (suc n + made_by_block yes_block) no_block) no
-        (λ t. block-size no_block true way t (suc n + made_by_block yes_block)) in
+        let j : size_of third ≤ 2 + yes = by_ends-size (block_ends scope.program yes_block) pc takers (λ t. block_constraints scope true pc t (suc n) yes_block) yes (λ t. block-size yes_block true pc t (suc n)) in
+        let k : size_of fourth ≤ 2 + no = by_ends-size (block_ends scope.program no_block) pc takers (λ t. block_constraints scope true pc t (suc n + made_by_block yes_block) no_block) no
+        (λ t. block-size no_block true pc t (suc n + made_by_block yes_block)) in
         let s : size_of (second ++ (third ++ fourth)) ≡ size_of second + size_of (third ++ fourth) = size-append second (third ++ fourth) in
         let t : size_of (third ++ fourth) ≡ size_of third + size_of fourth = size-append third fourth in
         omega (arith, a, b, c, d, i, j, k, s, t)
     statement-size (While at loop e body) p takers n =
-        let way : NamedAtom = inner_atom n in
+        let pc : NamedAtom = inner_atom n in
         let turn : NamedAtom = renamed Real (label_of scope.program (ToLoop scope.number loop)) in
-        let out : List NamedConstraint = flow (way ∷ []) (takers Normal) in
+        let out : List NamedConstraint = flow (pc ∷ []) (takers Normal) in
         let raising : List NamedConstraint = raised_flows (turn ∷ named_atoms (raise_atoms scope e)) takers (raises e) in
-        let third : List NamedConstraint = by_ends (block_ends scope.program body) way (in_loop (suc n) takers) (λ t. block_constraints scope true way t (suc (suc n)) body) in
+        let third : List NamedConstraint = by_ends (block_ends scope.program body) pc (in_loop (suc n) takers) (λ t. block_constraints scope true pc t (suc (suc n)) body) in
         let fourth : List NamedConstraint = rule_constraint scope at 8 (inner_atom (suc n) ∷ []) (ToLoop scope.number loop) in
         let within : ℕ = 2 + (20 * block_nodes body + 3 * declared_in scope.program body) in
         let a : length (named_atoms (value_label scope e)) ≡ length (value_label scope e) = named-length (value_label scope e) in
         let b : length (value_label scope e) ≤ expression_nodes e = value-length scope e in
         let c : length (named_atoms (raise_atoms scope e)) ≡ length (raise_atoms scope e) = named-length (raise_atoms scope e) in
         let d : length (raise_atoms scope e) ≤ expression_nodes e = raise-length scope e in
-        let h : size_of out ≤ 2 = flow-size (way ∷ []) (takers Normal) in
+        let h : size_of out ≤ 2 = flow-size (pc ∷ []) (takers Normal) in
         let i : size_of raising ≤ 2 * suc (suc (length (named_atoms (raise_atoms scope e)))) = raised-size (turn ∷ named_atoms (raise_atoms scope e)) takers (raises e) in
-        let j : size_of third ≤ 2 + within = by_ends-size (block_ends scope.program body) way (in_loop (suc n) takers) (λ t. block_constraints scope true way t (suc (suc n)) body) within
-        (λ t. block-size body true way t (suc (suc n))) in
+        let j : size_of third ≤ 2 + within = by_ends-size (block_ends scope.program body) pc (in_loop (suc n) takers) (λ t. block_constraints scope true pc t (suc (suc n)) body) within
+        (λ t. block-size body true pc t (suc (suc n))) in
         let s : size_of (out ++ (raising ++ (third ++ fourth))) ≡ size_of out + size_of (raising ++ (third ++ fourth)) = size-append out (raising ++ (third ++ fourth)) in
         let t : size_of (raising ++ (third ++ fourth)) ≡ size_of raising + size_of (third ++ fourth) = size-append raising (third ++ fourth) in
         let u : size_of (third ++ fourth) ≡ size_of third + 2 = size-append third fourth in
@@ -338,13 +338,13 @@ module _ (scope : Scope) where
     block-size (Then s rest) reached p takers n =
         let ends : List Exit = statement_ends scope.program s in
         let within : Takers = within_single (one_end ends) (with_normal (Some n) takers) in
-        let way : NamedAtom = onward_way (one_end ends) p n in
+        let pc : NamedAtom = onward_pc (one_end ends) p n in
         let first : List NamedConstraint = single (one_end ends) p (with_normal None takers) ends in
         let second : List NamedConstraint = statement_constraints scope p within (suc n) s in
-        let third : List NamedConstraint = block_constraints scope (has_end ends Normal) way takers (suc n + made_by_statement s) rest in
+        let third : List NamedConstraint = block_constraints scope (has_end ends Normal) pc takers (suc n + made_by_statement s) rest in
         let i : size_of first ≤ 2 = single-size (one_end ends) p (with_normal None takers) ends in
         let j : size_of second + 2 ≤ 20 * statement_nodes s + 3 * declared_at scope.program s = statement-size s p within (suc n) in
-        let k : size_of third ≤ 2 + (20 * block_nodes rest + 3 * declared_in scope.program rest) = block-size rest (has_end ends Normal) way takers (suc n + made_by_statement s) in
+        let k : size_of third ≤ 2 + (20 * block_nodes rest + 3 * declared_in scope.program rest) = block-size rest (has_end ends Normal) pc takers (suc n + made_by_statement s) in
         let t : size_of (first ++ (second ++ third)) ≡ size_of first + size_of (second ++ third) = size-append first (second ++ third) in
         let u : size_of (second ++ third) ≡ size_of second + size_of third = size-append second third in
         omega (arith, i, j, k, t, u)
@@ -352,11 +352,11 @@ module _ (scope : Scope) where
     handlers-size : (handlers : Handlers) (number : ℕ → ℕ) (takers : Takers) (n : ℕ) → size_of (handlers_constraints scope number takers n handlers) ≤ 20 * handlers_nodes handlers + 3 * declared_under scope.program handlers
     handlers-size NoMore number takers n = omega arith
     handlers-size (Catch at handled body rest) number takers n =
-        let way : NamedAtom = inner_atom (number handled) in
-        let first : List NamedConstraint = by_ends (block_ends scope.program body) way takers (λ t. block_constraints scope true way t n body) in
+        let pc : NamedAtom = inner_atom (number handled) in
+        let first : List NamedConstraint = by_ends (block_ends scope.program body) pc takers (λ t. block_constraints scope true pc t n body) in
         let second : List NamedConstraint = handlers_constraints scope number takers (n + made_by_block body) rest in
         let within : ℕ = 2 + (20 * block_nodes body + 3 * declared_in scope.program body) in
-        let i : size_of first ≤ 2 + within = by_ends-size (block_ends scope.program body) way takers (λ t. block_constraints scope true way t n body) within (λ t. block-size body true way t n) in
+        let i : size_of first ≤ 2 + within = by_ends-size (block_ends scope.program body) pc takers (λ t. block_constraints scope true pc t n body) within (λ t. block-size body true pc t n) in
         let j : size_of second ≤ 20 * handlers_nodes rest + 3 * declared_under scope.program rest = handlers-size rest number takers (n + made_by_block body) in
         let s : size_of (first ++ second) ≡ size_of first + size_of second = size-append first second in
         omega (arith, i, j, s)
@@ -379,11 +379,11 @@ module _ (scope : Scope) where
   pub procedure-size : (n : ℕ) → size_of (procedure_constraints scope n) ≤ 20 * procedure_nodes (here scope) + 3 * declared_in scope.program (here scope).body
   procedure-size n =
       let body : Block = (here scope).body in
-      let way : NamedAtom = renamed Real (label_of scope.program (ToBegin scope.number)) in
+      let pc : NamedAtom = renamed Real (label_of scope.program (ToBegin scope.number)) in
       let m : ℕ = suc n + length (here scope).throws in
-      let first : List NamedConstraint = inner_block scope way (end_takers scope n) m body in
+      let first : List NamedConstraint = inner_block scope pc (end_takers scope n) m body in
       let within : ℕ = 2 + (20 * block_nodes body + 3 * declared_in scope.program body) in
-      let i : size_of first ≤ 2 + within = by_ends-size (block_ends scope.program body) way (end_takers scope n) (λ t. block_constraints scope true way t m body) within (λ t. block-size body true way t m) in
+      let i : size_of first ≤ 2 + within = by_ends-size (block_ends scope.program body) pc (end_takers scope n) (λ t. block_constraints scope true pc t m body) within (λ t. block-size body true pc t m) in
       let j : size_of (end_constraints scope n) ≤ 2 + 2 * length (here scope).throws = end-size n in
       let s : size_of (first ++ end_constraints scope n) ≡ size_of first + size_of (end_constraints scope n) = size-append first (end_constraints scope n) in
       omega (arith, i, j, s)

@@ -17,12 +17,12 @@ use Rattle.resolved.specs.Value.{end_exception}
 use Rattle.resolved.specs.Ends.{has_end, one_end, index_raises, raises, thrown_ends, handles, statement_ends, block_ends}
 use Rattle.resolved.specs.Labelled.{Scope, Join, LabelAtom, one, label_of, value_label, raise_label, raise_labels, call_exits, ExitLabels, statement_rule, block_rule, statement_exits, block_exits, argument_demands, Demand, demand, target_demand, statement_demands, block_demands, handlers_demands}
 use Rattle.gathering.specs.Names.{Real, Inner, is_inner_name, NamedAtom, NamedConstraint, named_atoms}
-use Rattle.gathering.specs.Walk.{inner_atom, rule_constraint, target_constraint, inner_constraint, Takers, with_normal, in_loop, handler_count, handler_number, in_try, flow, flows, raised_once, raised_flows, single, within_single, onward_way, raise_atoms, raise_atoms_all, store_atoms, call_atoms, made_by_statement, made_by_block, argument_constraints, call_flows, call_ends, call_constraints, statement_constraints, block_constraints, handlers_constraints}
+use Rattle.gathering.specs.Walk.{inner_atom, rule_constraint, target_constraint, inner_constraint, Takers, with_normal, in_loop, handler_count, handler_number, in_try, flow, flows, raised_once, raised_flows, single, within_single, onward_pc, raise_atoms, raise_atoms_all, store_atoms, call_atoms, made_by_statement, made_by_block, argument_constraints, call_flows, call_ends, call_constraints, statement_constraints, block_constraints, handlers_constraints}
 use Rattle.gathering.proofs.Ends.{by_test, in_try-taken}
 use Rattle.gathering.proofs.Atoms.{Alike, alike-itself, alike-value, store_label, alike-stored, alike-three}
 use Rattle.gathering.proofs.Reached.{Goes, Part, PartIn, PartBy, Agrees, AgreesIn, AgreesBy}
-use Rattle.gathering.proofs.Closed.{atoms_of, Below, closed_by, Closed, way-below, below-inner, onward-below}
-use Rattle.gathering.proofs.Fed.{outer_atom, Within, Fed, FedTo, GivesAll, within-left, within-right, way-fed, fed-named, fed-inner_atom, fed-inner_constraint, fed-block, fed-onward, fed-call, fed-statement, fed-statements}
+use Rattle.gathering.proofs.Closed.{atoms_of, Below, closed_by, Closed, pc-below, below-inner, onward-below}
+use Rattle.gathering.proofs.Fed.{outer_atom, Within, Fed, FedTo, GivesAll, within-left, within-right, pc-fed, fed-named, fed-inner_atom, fed-inner_constraint, fed-block, fed-onward, fed-call, fed-statement, fed-statements}
 
 outer-append : (xs ys : List NamedConstraint) → outer is_inner_name (xs ++ ys) ≡ (outer is_inner_name xs ++ outer is_inner_name ys)
 outer-append [] ys = refl
@@ -117,11 +117,11 @@ module _ (cs : List NamedConstraint) where
         one-append (demand scope.program at rule j (ToVariable scope.number x)) [] (rule_constraint scope at rule p (ToVariable scope.number x)) xs
         (one-rule scope at rule p j (ToVariable scope.number x) below fed) rest
 
-    -- a way with parts of the text, alike the rule's left side
-    pub one-way : (scope : Scope) (at rule : ℕ) (p : NamedAtom) (pc x j : Join) (target : Target) → Below m (p ∷ []) pc → Fed cs (p ∷ []) pc → Alike (pc ++ x) j →
+    -- a named_pc with parts of the text, alike the rule's left side
+    pub one-end : (scope : Scope) (at rule : ℕ) (p : NamedAtom) (pc x j : Join) (target : Target) → Below m (p ∷ []) pc → Fed cs (p ∷ []) pc → Alike (pc ++ x) j →
         One (demand scope.program at rule j target) (rule_constraint scope at rule (p ∷ named_atoms x) target)
-    one-way scope at rule p pc x j target below fed alike =
-        one-rule scope at rule (p ∷ named_atoms x) j target (way-below m p pc x j below alike.0) (way-fed cs p pc x j fed alike.1)
+    one-end scope at rule p pc x j target below fed alike =
+        one-rule scope at rule (p ∷ named_atoms x) j target (pc-below m p pc x j below alike.0) (pc-fed cs p pc x j fed alike.1)
 
     pub one-arguments : (scope : Scope) (at own : ℕ) (j : Join) (callee i : ℕ) (es : List Expression) → Below m (inner_atom own ∷ []) j → Fed cs (inner_atom own ∷ []) j →
         One (argument_demands scope at j callee i es) (argument_constraints scope at own callee i es)
@@ -130,7 +130,7 @@ module _ (cs : List NamedConstraint) where
         let v : Join = value_label scope e in
         one-append (demand scope.program at 6 (j ++ v) (ToParameter callee i)) (argument_demands scope at j callee (suc i) rest)
         (rule_constraint scope at 6 (inner_atom own ∷ named_atoms v) (ToParameter callee i)) (argument_constraints scope at own callee (suc i) rest)
-        (one-way scope at 6 (inner_atom own) j v (j ++ v) (ToParameter callee i) below fed (alike-itself (j ++ v)))
+        (one-end scope at 6 (inner_atom own) j v (j ++ v) (ToParameter callee i) below fed (alike-itself (j ++ v)))
         (one-arguments scope at own j callee (suc i) rest below fed)
 
     -- a statement with one demand, and its ends
@@ -138,7 +138,7 @@ module _ (cs : List NamedConstraint) where
         One [] xs → One (demand scope.program at rule j target) (rule_constraint scope at rule (p ∷ named_atoms x) target ++ xs)
     one-demanding scope at rule p pc x j target xs below fed alike rest =
         one-append (demand scope.program at rule j target) [] (rule_constraint scope at rule (p ∷ named_atoms x) target) xs
-        (one-way scope at rule p pc x j target below fed alike) rest
+        (one-end scope at rule p pc x j target below fed alike) rest
 
     pub one-call : (scope : Scope) (at callee : ℕ) (arguments : List Expression) (target : Option Variable) (p : NamedAtom) (pc : Join) (takers : Takers) (n : ℕ) →
         m n ≡ (pc ++ raise_labels scope arguments) → Fed cs (inner_atom n ∷ []) (pc ++ raise_labels scope arguments) →
@@ -162,7 +162,7 @@ module _ (cs : List NamedConstraint) where
         (one-append begun (passed ++ given) first (second ++ (third ++ fourth)) (one-rule scope at 6 (own ∷ []) j (ToBegin callee) own_below own_fed)
         (one-append passed given second (third ++ fourth) (one-arguments scope at n j callee 0 arguments own_below own_fed)
         (one-target_more scope at 6 (own ∷ named_atoms (x ++ v)) whole target fourth
-        (way-below m own j (x ++ v) whole own_below (alike-three j x v).0) (way-fed cs own j (x ++ v) whole own_fed (alike-three j x v).1)
+        (pc-below m own j (x ++ v) whole own_below (alike-three j x v).0) (pc-fed cs own j (x ++ v) whole own_fed (alike-three j x v).1)
         (one-call_flows scope.program callee n takers (call_ends scope.program callee arguments)))))
 
     module _ (scope : Scope) where
@@ -194,8 +194,8 @@ module _ (cs : List NamedConstraint) where
             one-append (demand scope.program at 4 pc (ToChannel channel)) (target_demand scope at 4 (pc ++ label) target) (rule_constraint scope at 4 (p ∷ []) (ToChannel channel))
             (target_constraint scope at 4 q target ++ out)
             (one-rule scope at 4 (p ∷ []) pc (ToChannel channel) below fed)
-            (one-target_more scope at 4 q (pc ++ label) target out (way-below m p pc label (pc ++ label) below (alike-itself (pc ++ label)).0)
-            (way-fed cs p pc label (pc ++ label) fed (alike-itself (pc ++ label)).1)
+            (one-target_more scope at 4 q (pc ++ label) target out (pc-below m p pc label (pc ++ label) below (alike-itself (pc ++ label)).0)
+            (pc-fed cs p pc label (pc ++ label) fed (alike-itself (pc ++ label)).1)
             (one-append [] [] (flow q (takers Normal)) (flow q (takers (Throw end_exception))) (one-flow q (takers Normal)) (one-flow q (takers (Throw end_exception)))))
         one-statement (Send at channel e) p pc takers n part agrees below fed within =
             one-demanding scope at 5 p pc (value_label scope e) ((pc ++ raise_label scope e) ++ value_label scope e) (ToChannel channel)
@@ -222,7 +222,7 @@ module _ (cs : List NamedConstraint) where
             let branches : Within cs (third ++ fourth) = within-right cs second (third ++ fourth) after in
             let b_below : Below m (inner_atom n ∷ []) branch = below-inner m n branch agrees.0 in
             let b_fed : Fed cs (inner_atom n ∷ []) branch = fed-inner_atom cs n branch (fed-inner_constraint cs (p ∷ named_atoms v) n branch (within-left cs first (second ++ (third ++ fourth)) within)
-            (way-fed cs p pc v branch fed (alike-value scope pc e).1)) in
+            (pc-fed cs p pc v branch fed (alike-value scope pc e).1)) in
             let yes_demands : List Demand = block_demands scope branch yes_block in
             let no_demands : List Demand = block_demands scope branch no_block in
             one-append [] (yes_demands ++ no_demands) first (second ++ (third ++ fourth)) tt
@@ -256,7 +256,7 @@ module _ (cs : List NamedConstraint) where
             let in_third : Within cs third = within-left cs third fourth (within-right cs raising (third ++ fourth) (within-right cs out (raising ++ (third ++ fourth))
             (within-right cs entry (out ++ (raising ++ (third ++ fourth))) after))) in
             let b_below : Below m (inner_atom n ∷ []) b = below-inner m n b agrees.0 in
-            let b_fed : Fed cs (inner_atom n ∷ []) b = fed-inner_atom cs n b (fed-inner_constraint cs (turn ∷ named_atoms v) n b in_entry (way-fed cs turn l v b (fed-named cs l) (alike-value scope l e).1)) in
+            let b_fed : Fed cs (inner_atom n ∷ []) b = fed-inner_atom cs n b (fed-inner_constraint cs (turn ∷ named_atoms v) n b in_entry (pc-fed cs turn l v b (fed-named cs l) (alike-value scope l e).1)) in
             let gives : GivesAll cs (in_loop (suc n) takers) x = fed-block cs ends (inner_atom n) (in_loop (suc n) takers) b (block_rule scope b body) (λ t. block_constraints scope true (inner_atom n) t (suc (suc n)) body)
             in_third b_fed (λ t w. fed-statements cs scope body true (inner_atom n) b t (suc (suc n)) part (λ i. absurd (cc)) b_fed w) in
             let back : Fed cs (inner_atom (suc n) ∷ []) (x Normal ++ x Continue) = fed-inner_atom cs (suc n) (x Normal ++ x Continue) (λ a there. ⊎_elim
@@ -310,22 +310,22 @@ module _ (cs : List NamedConstraint) where
             let exits : ExitLabels = statement_rule scope pc s in
             let x : ExitLabels = statement_exits scope pc s in
             let t : Takers = within_single (one_end ends) (with_normal (Some n) takers) in
-            let way : NamedAtom = onward_way (one_end ends) p n in
+            let named_pc : NamedAtom = onward_pc (one_end ends) p n in
             let first : List NamedConstraint = single (one_end ends) p (with_normal None takers) ends in
             let second : List NamedConstraint = statement_constraints scope p t (suc n) s in
-            let third : List NamedConstraint = block_constraints scope (has_end ends Normal) way takers (suc n + made_by_statement s) rest in
+            let third : List NamedConstraint = block_constraints scope (has_end ends Normal) named_pc takers (suc n + made_by_statement s) rest in
             let after : Within cs (second ++ third) = within-right cs first (second ++ third) within in
             let in_second : Within cs second = within-left cs second third after in
             one-append [] (statement_demands scope pc s ++ block_demands scope (x Normal) rest) first (second ++ third) (one-single (one_end ends) p (with_normal None takers) ends)
             (one-append (statement_demands scope pc s) (block_demands scope (x Normal) rest) second third
             (one-statement s p pc t (suc n) part.0 agrees.1 below fed in_second)
             (by_test (has_end ends Normal)
-            (λ h. one-statements rest (has_end ends Normal) way (x Normal) takers (suc n + made_by_statement s) part.2 agrees.2
+            (λ h. one-statements rest (has_end ends Normal) named_pc (x Normal) takers (suc n + made_by_statement s) part.2 agrees.2
             (onward-below m (one_end ends) ends p n pc exits h refl agrees.0 below)
             (fed-onward cs (has_end ends Normal) (one_end ends) ends p n takers pc exits refl refl fed (fed-statement cs scope s p pc t (suc n) part.0 fed in_second))
             (within-right cs second third after))
-            (λ h. subst (λ b. One (block_demands scope (x Normal) rest) (block_constraints scope b way takers (suc n + made_by_statement s) rest)) (sym h)
-            (one-unreached s rest way (x Normal) takers (suc n + made_by_statement s) part.1 h))))
+            (λ h. subst (λ b. One (block_demands scope (x Normal) rest) (block_constraints scope b named_pc takers (suc n + made_by_statement s) rest)) (sym h)
+            (one-unreached s rest named_pc (x Normal) takers (suc n + made_by_statement s) part.1 h))))
 
         pub one-handlers : (handlers : Handlers) (number : ℕ → ℕ) (x : ExitLabels) (takers : Takers) (n : ℕ) → PartBy scope.program handlers → AgreesBy scope m n x handlers →
             ((y : ℕ) → handles handlers y ≡ true → m (number y) ≡ x (Throw y)) → ((z : ℕ) → handles handlers z ≡ true → FedTo cs (number z) (x (Throw z))) →

@@ -1,5 +1,5 @@
 -- The gathering of a program's demands by a walk along its tree, in a size in proportion to the tree (and, for a call, to the
--- exceptions that its callee declares). The way to a statement is one atom: an inner unknown where the way has grown. Each end
+-- exceptions that its callee declares). The program-counter label (pc) of a statement is one atom: an inner unknown where the pc has grown. Each end
 -- that matters has a taker, an inner unknown that was made where the end is caught, and what an end is reached at flows to its
 -- taker. Inner unknowns have numbers from n on, in the order in which the walk comes to what makes them.
 -- Source: our own.
@@ -109,22 +109,22 @@ raised_once exceptions = filter (λ x. list_any (λ y. x == y) exceptions) (arit
 abbrev pub raised_flows : List NamedAtom → Takers → (raised : List ℕ) → List NamedConstraint
 raised_flows left takers raised = flows left takers (thrown_ends (raised_once raised))
 
--- where there is one end only, the way itself flows to its taker, and nothing within is asked for
+-- where there is one end only, the pc itself flows to its taker, and nothing within is asked for
 abbrev pub single : (only : Bool) → NamedAtom → Takers → List Exit → List NamedConstraint
-single false way takers ends = []
-single true way takers [] = []
-single true way takers (exit ∷ rest) = flow (way ∷ []) (takers exit)
+single false pc takers ends = []
+single true pc takers [] = []
+single true pc takers (exit ∷ rest) = flow (pc ∷ []) (takers exit)
 
 abbrev pub within_single : (only : Bool) → Takers → Takers
 within_single only takers = if only then nowhere else takers
 
 -- a statement or block, by its ends and by what is gathered of it for takers
-abbrev pub by_ends : List Exit → (way : NamedAtom) → Takers → (within : Takers → List NamedConstraint) → List NamedConstraint
-by_ends ends way takers within = single (one_end ends) way takers ends ++ within (within_single (one_end ends) takers)
+abbrev pub by_ends : List Exit → (pc : NamedAtom) → Takers → (within : Takers → List NamedConstraint) → List NamedConstraint
+by_ends ends pc takers within = single (one_end ends) pc takers ends ++ within (within_single (one_end ends) takers)
 
--- the way to what follows
-abbrev pub onward_way : (only : Bool) → NamedAtom → ℕ → NamedAtom
-onward_way only way n = if only then way else inner_atom n
+-- the pc of what follows
+abbrev pub onward_pc : (only : Bool) → NamedAtom → ℕ → NamedAtom
+onward_pc only pc n = if only then pc else inner_atom n
 
 -- ---- left sides
 -- what decides whether an expression raises an exception, each part of it once
@@ -202,72 +202,72 @@ abbrev pub call_ends : Program → (callee : ℕ) → List Expression → List E
 call_ends program callee arguments =
     Normal ∷ thrown_ends (raised_once (raises_all arguments) ++ declared_by (procedure_at program callee).throws)
 
-abbrev pub call_constraints : Scope → (way : NamedAtom) → Takers → ℕ → (at callee : ℕ) → List Expression → Option Variable → List NamedConstraint
-call_constraints scope way takers n at callee arguments target =
-    inner_constraint (way ∷ named_atoms (raise_atoms_all scope arguments)) n
+abbrev pub call_constraints : Scope → (pc : NamedAtom) → Takers → ℕ → (at callee : ℕ) → List Expression → Option Variable → List NamedConstraint
+call_constraints scope pc takers n at callee arguments target =
+    inner_constraint (pc ∷ named_atoms (raise_atoms_all scope arguments)) n
     ++ (rule_constraint scope at 6 (inner_atom n ∷ []) (ToBegin callee)
     ++ (argument_constraints scope at n callee 0 arguments
     ++ (target_constraint scope at 6
     (inner_atom n ∷ named_atoms (call_atoms scope.program callee Normal ++ one (label_of scope.program (ToValue callee)))) target
     ++ call_flows scope.program callee n takers (call_ends scope.program callee arguments))))
 
--- ---- the walk: statements, blocks and handlers that are reached at a way, with inner unknowns from number n on
+-- ---- the walk: statements, blocks and handlers that are reached at a pc, with inner unknowns from number n on
 abbrev mutual
   -- a statement by what the rule of its form says of its ends
-  pub statement_constraints : Scope → (way : NamedAtom) → Takers → ℕ → Statement → List NamedConstraint
-  statement_constraints scope way takers n (Assign at x e) =
-      let q : List NamedAtom = way ∷ named_atoms (raise_atoms scope e) in
-      rule_constraint scope at 1 (way ∷ named_atoms (value_label scope e)) (ToVariable scope.number x)
+  pub statement_constraints : Scope → (pc : NamedAtom) → Takers → ℕ → Statement → List NamedConstraint
+  statement_constraints scope pc takers n (Assign at x e) =
+      let q : List NamedAtom = pc ∷ named_atoms (raise_atoms scope e) in
+      rule_constraint scope at 1 (pc ∷ named_atoms (value_label scope e)) (ToVariable scope.number x)
       ++ (flow q (takers Normal) ++ raised_flows q takers (raises e))
-  statement_constraints scope way takers n (Clear at slot) =
-      rule_constraint scope at 2 (way ∷ []) (ToVariable scope.number (Local slot)) ++ flow (way ∷ []) (takers Normal)
-  statement_constraints scope way takers n (Store at array length index e) =
-      let q : List NamedAtom = way ∷ named_atoms (store_atoms scope length index e) in
-      rule_constraint scope at 3 (way ∷ named_atoms (value_label scope index ++ value_label scope e)) (ToVariable scope.number array)
+  statement_constraints scope pc takers n (Clear at slot) =
+      rule_constraint scope at 2 (pc ∷ []) (ToVariable scope.number (Local slot)) ++ flow (pc ∷ []) (takers Normal)
+  statement_constraints scope pc takers n (Store at array length index e) =
+      let q : List NamedAtom = pc ∷ named_atoms (store_atoms scope length index e) in
+      rule_constraint scope at 3 (pc ∷ named_atoms (value_label scope index ++ value_label scope e)) (ToVariable scope.number array)
       ++ (flow q (takers Normal) ++ raised_flows q takers (raises index ++ raises e ++ index_raises index length))
-  statement_constraints scope way takers n (Receive at channel target) =
-      let q : List NamedAtom = way ∷ named_atoms (one (label_of scope.program (ToChannel channel))) in
-      rule_constraint scope at 4 (way ∷ []) (ToChannel channel)
+  statement_constraints scope pc takers n (Receive at channel target) =
+      let q : List NamedAtom = pc ∷ named_atoms (one (label_of scope.program (ToChannel channel))) in
+      rule_constraint scope at 4 (pc ∷ []) (ToChannel channel)
       ++ (target_constraint scope at 4 q target ++ (flow q (takers Normal) ++ flow q (takers (Throw end_exception))))
-  statement_constraints scope way takers n (Send at channel e) =
-      let q : List NamedAtom = way ∷ named_atoms (raise_atoms scope e) in
-      rule_constraint scope at 5 (way ∷ named_atoms (value_label scope e)) (ToChannel channel)
+  statement_constraints scope pc takers n (Send at channel e) =
+      let q : List NamedAtom = pc ∷ named_atoms (raise_atoms scope e) in
+      rule_constraint scope at 5 (pc ∷ named_atoms (value_label scope e)) (ToChannel channel)
       ++ (flow q (takers Normal) ++ raised_flows q takers (raises e))
-  statement_constraints scope way takers n (Call at procedure arguments target) =
-      call_constraints scope way takers n at procedure arguments target
-  statement_constraints scope way takers n (If at e yes_block no_block) =
-      inner_constraint (way ∷ named_atoms (value_label scope e)) n
-      ++ (raised_flows (way ∷ named_atoms (raise_atoms scope e)) takers (raises e)
+  statement_constraints scope pc takers n (Call at procedure arguments target) =
+      call_constraints scope pc takers n at procedure arguments target
+  statement_constraints scope pc takers n (If at e yes_block no_block) =
+      inner_constraint (pc ∷ named_atoms (value_label scope e)) n
+      ++ (raised_flows (pc ∷ named_atoms (raise_atoms scope e)) takers (raises e)
       ++ (by_ends (block_ends scope.program yes_block) (inner_atom n) takers (λ t. block_constraints scope true (inner_atom n) t (suc n) yes_block)
       ++ by_ends (block_ends scope.program no_block) (inner_atom n) takers (λ t. block_constraints scope true (inner_atom n) t (suc n + made_by_block yes_block) no_block)))
-  statement_constraints scope way takers n (While at loop e body) =
+  statement_constraints scope pc takers n (While at loop e body) =
       let turn : NamedAtom = renamed Real (label_of scope.program (ToLoop scope.number loop)) in
-      rule_constraint scope at 8 (way ∷ []) (ToLoop scope.number loop)
+      rule_constraint scope at 8 (pc ∷ []) (ToLoop scope.number loop)
       ++ (inner_constraint (turn ∷ named_atoms (value_label scope e)) n
       ++ (flow (inner_atom n ∷ []) (takers Normal)
       ++ (raised_flows (turn ∷ named_atoms (raise_atoms scope e)) takers (raises e)
       ++ (by_ends (block_ends scope.program body) (inner_atom n) (in_loop (suc n) takers) (λ t. block_constraints scope true (inner_atom n) t (suc (suc n)) body)
       ++ rule_constraint scope at 8 (inner_atom (suc n) ∷ []) (ToLoop scope.number loop)))))
-  statement_constraints scope way takers n (Leave at exit) = flow (way ∷ []) (takers exit)
-  statement_constraints scope way takers n (ReturnWith at None) = flow (way ∷ []) (takers Return)
-  statement_constraints scope way takers n (ReturnWith at (Some e)) =
-      let q : List NamedAtom = way ∷ named_atoms (raise_atoms scope e) in
-      rule_constraint scope at 10 (way ∷ named_atoms (value_label scope e)) (ToValue scope.number)
+  statement_constraints scope pc takers n (Leave at exit) = flow (pc ∷ []) (takers exit)
+  statement_constraints scope pc takers n (ReturnWith at None) = flow (pc ∷ []) (takers Return)
+  statement_constraints scope pc takers n (ReturnWith at (Some e)) =
+      let q : List NamedAtom = pc ∷ named_atoms (raise_atoms scope e) in
+      rule_constraint scope at 10 (pc ∷ named_atoms (value_label scope e)) (ToValue scope.number)
       ++ (flow q (takers Return) ++ raised_flows q takers (raises e))
-  statement_constraints scope way takers n (Try at block handlers) =
+  statement_constraints scope pc takers n (Try at block handlers) =
       let number : ℕ → ℕ = λ x. handler_number handlers n x in
-      by_ends (block_ends scope.program block) way (in_try number handlers takers) (λ t. block_constraints scope true way t (n + handler_count handlers) block)
+      by_ends (block_ends scope.program block) pc (in_try number handlers takers) (λ t. block_constraints scope true pc t (n + handler_count handlers) block)
       ++ handlers_constraints scope number takers ((n + handler_count handlers) + made_by_block block) handlers
-  statement_constraints scope way takers n (Nested at block) = by_ends (block_ends scope.program block) way takers (λ t. block_constraints scope true way t n block)
+  statement_constraints scope pc takers n (Nested at block) = by_ends (block_ends scope.program block) pc takers (λ t. block_constraints scope true pc t n block)
 
   -- the statements of a block that is reached or not, by what the rule of blocks says of its ends
-  pub block_constraints : Scope → (reached : Bool) → (way : NamedAtom) → Takers → ℕ → Block → List NamedConstraint
-  block_constraints scope reached way takers n Empty = if reached then flow (way ∷ []) (takers Normal) else []
-  block_constraints scope reached way takers n (Then statement rest) =
+  pub block_constraints : Scope → (reached : Bool) → (pc : NamedAtom) → Takers → ℕ → Block → List NamedConstraint
+  block_constraints scope reached pc takers n Empty = if reached then flow (pc ∷ []) (takers Normal) else []
+  block_constraints scope reached pc takers n (Then statement rest) =
       let ends : List Exit = statement_ends scope.program statement in
-      single (one_end ends) way (with_normal None takers) ends
-      ++ (statement_constraints scope way (within_single (one_end ends) (with_normal (Some n) takers)) (suc n) statement
-      ++ block_constraints scope (has_end ends Normal) (onward_way (one_end ends) way n) takers (suc n + made_by_statement statement) rest)
+      single (one_end ends) pc (with_normal None takers) ends
+      ++ (statement_constraints scope pc (within_single (one_end ends) (with_normal (Some n) takers)) (suc n) statement
+      ++ block_constraints scope (has_end ends Normal) (onward_pc (one_end ends) pc n) takers (suc n + made_by_statement statement) rest)
 
   -- handlers, of which each begins at the inner unknown that took its exception
   pub handlers_constraints : Scope → (number : ℕ → ℕ) → Takers → ℕ → Handlers → List NamedConstraint
@@ -277,9 +277,9 @@ abbrev mutual
       ++ handlers_constraints scope number takers (n + made_by_block body) rest
 
 -- a block of its own
-abbrev pub inner_block : Scope → (way : NamedAtom) → Takers → ℕ → Block → List NamedConstraint
-inner_block scope way takers n block =
-    by_ends (block_ends scope.program block) way takers (λ t. block_constraints scope true way t n block)
+abbrev pub inner_block : Scope → (pc : NamedAtom) → Takers → ℕ → Block → List NamedConstraint
+inner_block scope pc takers n block =
+    by_ends (block_ends scope.program block) pc takers (λ t. block_constraints scope true pc t n block)
 
 -- ---- procedures and programs
 abbrev pub body_ends : Scope → List Exit

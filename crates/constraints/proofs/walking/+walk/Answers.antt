@@ -14,7 +14,7 @@ use Rattle.constraints.proofs.walking.+walk.Goals as goal
 pub walk_block-returns : goal.walk_block-returns
 walk_block-returns t c =
     block-walked c.args.walk.now.table.now.core.now c.args.walk.now.table.now.written.items c.args.walk.now.map.now.entries.items c.args.walk.now.procedure
-    (block_of c.args.block.now) c.args.way c.args.takers c.within_single-inner.result c.in_ok-exits.exits c.is_single.result c.args.progress.now c.begin.new.progress c.walk_statements.new.progress
+    (block_of c.args.block.now) c.args.pc c.args.takers c.within_single-inner.result c.in_ok-exits.exits c.is_single.result c.args.progress.now c.begin.new.progress c.walk_statements.new.progress
     c.in_ok-exits.ensures.exits c.in_ok-exits.ensures.added c.is_single.ensures c.within_single-inner.ensures.levelled c.within_single-inner.ensures.takers c.in_ok-walk_statements.ensures
 
 pub walk_statement-returns-clause-exits : goal.walk_statement-returns-clause-exits
@@ -23,7 +23,7 @@ walk_statement-returns-clause-exits t c = c.in_ok-exits.ensures.exits
 pub walk_statement-returns-clause-added : goal.walk_statement-returns-clause-added
 walk_statement-returns-clause-added t c =
     statement-walked c.args.walk.now.table.now.core.now c.args.walk.now.table.now.written.items c.args.walk.now.map.now.entries.items c.args.walk.now.procedure
-    (statement_of c.args.statement.now) c.args.way c.args.takers c.with_normal.result c.with_normal-2.result c.within_single-inner.result c.in_ok-exits.exits c.is_single.result c.args.number
+    (statement_of c.args.statement.now) c.args.pc c.args.takers c.with_normal.result c.with_normal-2.result c.within_single-inner.result c.in_ok-exits.exits c.is_single.result c.args.number
     c.args.progress.now c.begin.new.progress c.walk_form.new.progress
     c.in_ok-exits.ensures.exits c.in_ok-exits.ensures.added c.is_single.ensures c.with_normal.ensures.levelled c.with_normal.ensures.takers c.with_normal-2.ensures.levelled c.with_normal-2.ensures.takers
     c.within_single-inner.ensures.levelled c.within_single-inner.ensures.takers c.in_ok-walk_form.ensures
@@ -33,7 +33,7 @@ pub walk_form-returns-in-Assign : goal.walk_form-returns-in-Assign
 walk_form-returns-in-Assign t c =
     on_ok_weaker c.add_assign.result
     (λ simple. simple-at c.args.walk.now.table.now.core.now c.args.walk.now.table.now.written.items c.args.walk.now.map.now.entries.items c.args.walk.now.procedure
-    c.args.statement.now (T.Assign c.in-Assign.at c.in-Assign.variable (expression_of c.in-Assign.value)) c.args.way c.args.takers c.deref.result.now c.args.progress.now _
+    c.args.statement.now (T.Assign c.in-Assign.at c.in-Assign.variable (expression_of c.in-Assign.value)) c.args.pc c.args.takers c.deref.result.now c.args.progress.now _
     (ap statement_of c.in-Assign.is) refl refl c.deref.ensures.value refl refl refl simple)
     c.add_assign.ensures
 
@@ -41,7 +41,7 @@ pub walk_form-returns-in-Clear : goal.walk_form-returns-in-Clear
 walk_form-returns-in-Clear t c =
     on_ok_weaker c.add_clear.result
     (λ simple. simple-at c.args.walk.now.table.now.core.now c.args.walk.now.table.now.written.items c.args.walk.now.map.now.entries.items c.args.walk.now.procedure
-    c.args.statement.now (T.Clear c.in-Clear.at c.in-Clear.slot) c.args.way c.args.takers c.deref-in-Clear.result.now c.args.progress.now _
+    c.args.statement.now (T.Clear c.in-Clear.at c.in-Clear.slot) c.args.pc c.args.takers c.deref-in-Clear.result.now c.args.progress.now _
     (ap statement_of c.in-Clear.is) refl refl c.deref-in-Clear.ensures.value refl refl refl simple)
     c.add_clear.ensures
 
@@ -49,7 +49,7 @@ pub walk_form-returns-in-Store : goal.walk_form-returns-in-Store
 walk_form-returns-in-Store t c =
     on_ok_weaker c.add_store.result
     (λ simple. simple-at c.args.walk.now.table.now.core.now c.args.walk.now.table.now.written.items c.args.walk.now.map.now.entries.items c.args.walk.now.procedure
-    c.args.statement.now (T.Store c.in-Store.at c.in-Store.array c.in-Store.length (expression_of c.in-Store.index) (expression_of c.in-Store.value)) c.args.way c.args.takers c.deref-in-Store.result.now c.args.progress.now _
+    c.args.statement.now (T.Store c.in-Store.at c.in-Store.array c.in-Store.length (expression_of c.in-Store.index) (expression_of c.in-Store.value)) c.args.pc c.args.takers c.deref-in-Store.result.now c.args.progress.now _
     (ap statement_of c.in-Store.is) refl refl c.deref-in-Store.ensures.value refl refl refl simple)
     c.add_store.ensures
 
@@ -57,7 +57,7 @@ pub walk_form-returns-in-Receive : goal.walk_form-returns-in-Receive
 walk_form-returns-in-Receive t c =
     on_ok_weaker c.add_receive.result
     (λ simple. simple-at c.args.walk.now.table.now.core.now c.args.walk.now.table.now.written.items c.args.walk.now.map.now.entries.items c.args.walk.now.procedure
-    c.args.statement.now (T.Receive c.in-Receive.at c.in-Receive.channel c.in-Receive.target) c.args.way c.args.takers c.deref-in-Receive.result.now c.args.progress.now _
+    c.args.statement.now (T.Receive c.in-Receive.at c.in-Receive.channel c.in-Receive.target) c.args.pc c.args.takers c.deref-in-Receive.result.now c.args.progress.now _
     (ap statement_of c.in-Receive.is) refl refl c.deref-in-Receive.ensures.value refl refl refl simple)
     c.add_receive.ensures
 
@@ -65,7 +65,7 @@ pub walk_form-returns-in-Send : goal.walk_form-returns-in-Send
 walk_form-returns-in-Send t c =
     on_ok_weaker c.add_send.result
     (λ simple. simple-at c.args.walk.now.table.now.core.now c.args.walk.now.table.now.written.items c.args.walk.now.map.now.entries.items c.args.walk.now.procedure
-    c.args.statement.now (T.Send c.in-Send.at c.in-Send.channel (expression_of c.in-Send.value)) c.args.way c.args.takers c.deref-in-Send.result.now c.args.progress.now _
+    c.args.statement.now (T.Send c.in-Send.at c.in-Send.channel (expression_of c.in-Send.value)) c.args.pc c.args.takers c.deref-in-Send.result.now c.args.progress.now _
     (ap statement_of c.in-Send.is) refl refl c.deref-in-Send.ensures.value refl refl refl simple)
     c.add_send.ensures
 
@@ -73,7 +73,7 @@ pub walk_form-returns-in-Leave : goal.walk_form-returns-in-Leave
 walk_form-returns-in-Leave t c =
     on_ok_weaker c.add_leave.result
     (λ simple. simple-at c.args.walk.now.table.now.core.now c.args.walk.now.table.now.written.items c.args.walk.now.map.now.entries.items c.args.walk.now.procedure
-    c.args.statement.now (T.Leave c.in-Leave.at c.in-Leave.exit) c.args.way c.args.takers c.deref-in-Leave.result.now c.args.progress.now _
+    c.args.statement.now (T.Leave c.in-Leave.at c.in-Leave.exit) c.args.pc c.args.takers c.deref-in-Leave.result.now c.args.progress.now _
     (ap statement_of c.in-Leave.is) refl refl c.deref-in-Leave.ensures.value refl refl refl simple)
     c.add_leave.ensures
 
@@ -81,7 +81,7 @@ pub walk_form-returns-in-Return : goal.walk_form-returns-in-Return
 walk_form-returns-in-Return t c =
     on_ok_weaker c.add_return.result
     (λ simple. simple-at c.args.walk.now.table.now.core.now c.args.walk.now.table.now.written.items c.args.walk.now.map.now.entries.items c.args.walk.now.procedure
-    c.args.statement.now (T.ReturnWith c.in-Return.at (some_expression_of c.in-Return.value)) c.args.way c.args.takers c.deref-in-Return.result.now c.args.progress.now _
+    c.args.statement.now (T.ReturnWith c.in-Return.at (some_expression_of c.in-Return.value)) c.args.pc c.args.takers c.deref-in-Return.result.now c.args.progress.now _
     (ap statement_of c.in-Return.is) refl refl c.deref-in-Return.ensures.value refl refl refl simple)
     c.add_return.ensures
 
@@ -90,7 +90,7 @@ pub walk_form-returns-in-Call : goal.walk_form-returns-in-Call
 walk_form-returns-in-Call t c =
     on_ok_weaker c.walk_call.result
     (λ walked. form-at c.args.walk.now.table.now.core.now c.args.walk.now.table.now.written.items c.args.walk.now.map.now.entries.items c.args.walk.now.procedure
-    c.args.statement.now (T.Call c.in-Call.at c.in-Call.callee (map expression_of c.deref-in-Call.result.now) c.in-Call.target) c.args.way c.args.takers c.args.progress.now _
+    c.args.statement.now (T.Call c.in-Call.at c.in-Call.callee (map expression_of c.deref-in-Call.result.now) c.in-Call.target) c.args.pc c.args.takers c.args.progress.now _
     (ap statement_of c.in-Call.is ∙ ap (λ xs. T.Call c.in-Call.at c.in-Call.callee (map expression_of xs) c.in-Call.target) (sym c.deref-in-Call.ensures.value)) walked)
     c.walk_call.ensures
 
@@ -99,7 +99,7 @@ pub walk_form-returns-in-If : goal.walk_form-returns-in-If
 walk_form-returns-in-If t c =
     on_ok_weaker c.walk_if.result
     (λ walked. form-at c.args.walk.now.table.now.core.now c.args.walk.now.table.now.written.items c.args.walk.now.map.now.entries.items c.args.walk.now.procedure
-    c.args.statement.now (T.If c.in-If.field-0 (expression_of c.in-If.condition) (block_of c.deref-in-If.result.now) (block_of c.deref-in-If-2.result.now)) c.args.way c.args.takers c.args.progress.now _
+    c.args.statement.now (T.If c.in-If.field-0 (expression_of c.in-If.condition) (block_of c.deref-in-If.result.now) (block_of c.deref-in-If-2.result.now)) c.args.pc c.args.takers c.args.progress.now _
     (tree-if c.args.statement.now c.in-If.field-0 c.in-If.condition c.in-If.yes_block c.in-If.no_block c.deref-in-If.result.now c.deref-in-If-2.result.now c.in-If.is c.deref-in-If.ensures.value c.deref-in-If-2.ensures.value) (walked c.in-If.field-0))
     c.walk_if.ensures
 
@@ -107,7 +107,7 @@ pub walk_form-returns-in-While : goal.walk_form-returns-in-While
 walk_form-returns-in-While t c =
     on_ok_weaker c.walk_while.result
     (λ walked. form-at c.args.walk.now.table.now.core.now c.args.walk.now.table.now.written.items c.args.walk.now.map.now.entries.items c.args.walk.now.procedure
-    c.args.statement.now (T.While c.in-While.at c.in-While.number (expression_of c.in-While.condition) (block_of c.deref-in-While.result.now)) c.args.way c.args.takers c.args.progress.now _
+    c.args.statement.now (T.While c.in-While.at c.in-While.number (expression_of c.in-While.condition) (block_of c.deref-in-While.result.now)) c.args.pc c.args.takers c.args.progress.now _
     (tree-while c.args.statement.now c.in-While.at c.in-While.number c.in-While.condition c.in-While.body c.deref-in-While.result.now c.in-While.is c.deref-in-While.ensures.value) walked)
     c.walk_while.ensures
 
@@ -115,7 +115,7 @@ pub walk_form-returns-in-Try : goal.walk_form-returns-in-Try
 walk_form-returns-in-Try t c =
     on_ok_weaker c.walk_try.result
     (λ walked. form-at c.args.walk.now.table.now.core.now c.args.walk.now.table.now.written.items c.args.walk.now.map.now.entries.items c.args.walk.now.procedure
-    c.args.statement.now (T.Try c.in-Try.field-0 (block_of c.deref-in-Try.result.now) (handlers_of c.deref-in-Try-2.result.now)) c.args.way c.args.takers c.args.progress.now _
+    c.args.statement.now (T.Try c.in-Try.field-0 (block_of c.deref-in-Try.result.now) (handlers_of c.deref-in-Try-2.result.now)) c.args.pc c.args.takers c.args.progress.now _
     (tree-try c.args.statement.now c.in-Try.field-0 c.in-Try.block c.in-Try.handlers c.deref-in-Try.result.now c.deref-in-Try-2.result.now c.in-Try.is c.deref-in-Try.ensures.value c.deref-in-Try-2.ensures.value) (walked c.in-Try.field-0))
     c.walk_try.ensures
 
@@ -123,21 +123,21 @@ pub walk_form-returns-in-Nested : goal.walk_form-returns-in-Nested
 walk_form-returns-in-Nested t c =
     on_ok_weaker c.walk_block.result
     (λ walked. form-at c.args.walk.now.table.now.core.now c.args.walk.now.table.now.written.items c.args.walk.now.map.now.entries.items c.args.walk.now.procedure
-    c.args.statement.now (T.Nested c.in-Nested.field-0 (block_of c.deref-in-Nested.result.now)) c.args.way c.args.takers c.args.progress.now _
+    c.args.statement.now (T.Nested c.in-Nested.field-0 (block_of c.deref-in-Nested.result.now)) c.args.pc c.args.takers c.args.progress.now _
     (tree-nested c.args.statement.now c.in-Nested.field-0 c.in-Nested.block c.deref-in-Nested.result.now c.in-Nested.is c.deref-in-Nested.ensures.value) walked)
     c.walk_block.ensures
 
 pub walk_if-returns : goal.walk_if-returns
 walk_if-returns t c = λ at.
     if-walked c.args.walk.now.table.now.core.now c.args.walk.now.table.now.written.items c.args.walk.now.map.now.entries.items c.args.walk.now.procedure
-    at (expression_of c.args.condition.now) (block_of c.args.yes_block.now) (block_of c.args.no_block.now) c.args.way c.in_ok-inner.inner c.args.takers c.in_ok-number.number
+    at (expression_of c.args.condition.now) (block_of c.args.yes_block.now) (block_of c.args.no_block.now) c.args.pc c.in_ok-inner.inner c.args.takers c.in_ok-number.number
     c.args.progress.now c.begin_branch.new.progress c.walk_block.new.progress c.walk_block-2.new.progress
     c.in_ok-number.ensures.number c.in_ok-inner.ensures c.in_ok-number.ensures.added c.in_ok-walk_block.ensures c.in_ok-walk_block-2.ensures
 
 pub walk_while-returns : goal.walk_while-returns
 walk_while-returns t c =
     while-walked c.args.walk.now.table.now.core.now c.args.walk.now.table.now.written.items c.args.walk.now.map.now.entries.items c.args.walk.now.procedure
-    c.args.at c.args.number (expression_of c.args.condition.now) (block_of c.args.body.now) c.args.way c.in_ok-inside.inside c.args.takers c.in_loop.result c.in_ok-inner.inner c.in_ok-inner.back
+    c.args.at c.args.number (expression_of c.args.condition.now) (block_of c.args.body.now) c.args.pc c.in_ok-inside.inside c.args.takers c.in_loop.result c.in_ok-inner.inner c.in_ok-inner.back
     c.args.progress.now c.begin_loop.new.progress c.walk_block.new.progress c.end_loop.new.progress
     c.in_ok-inner.ensures.inner c.in_ok-inner.ensures.back c.in_ok-inside.ensures c.in_loop.ensures.takers c.in_loop.ensures.levelled
     c.in_ok-inner.ensures.added c.in_ok-walk_block.ensures c.in_ok-end_loop.ensures
@@ -145,7 +145,7 @@ walk_while-returns t c =
 pub walk_try-returns : goal.walk_try-returns
 walk_try-returns t c = λ at.
     try-walked c.args.walk.now.table.now.core.now c.args.walk.now.table.now.written.items c.args.walk.now.map.now.entries.items c.args.walk.now.procedure
-    at (block_of c.args.block.now) c.args.handlers.now c.args.way c.args.takers c.in_ok-tried.tried
+    at (block_of c.args.block.now) c.args.handlers.now c.args.pc c.args.takers c.in_ok-tried.tried
     c.args.progress.now c.begin_try.new.progress c.walk_block.new.progress _ c.walk_handlers.new.progress
     c.in_ok-tried.ensures c.in_ok-walk_block.ensures refl refl refl c.put_back.ensures
     (λ number other are. c.in_ok-walk_handlers.ensures number other (c.deref.ensures.value ∙ are))
@@ -153,22 +153,22 @@ walk_try-returns t c = λ at.
 -- along the statements of a block
 pub walk_statements-loop-statement-init : goal.walk_statements-loop-statement-init
 walk_statements-loop-statement-init t c =
-    along-start c.args.walk.now.table.now.core.now c.args.walk.now.table.now.written.items c.args.walk.now.map.now.entries.items c.args.walk.now.procedure c.args.way c.args.takers (block_of c.args.block.now) c.args.progress.now
+    along-start c.args.walk.now.table.now.core.now c.args.walk.now.table.now.written.items c.args.walk.now.map.now.entries.items c.args.walk.now.procedure c.args.pc c.args.takers (block_of c.args.block.now) c.args.progress.now
 
 pub walk_statements-loop-statement-preserved : goal.walk_statements-loop-statement-preserved
 walk_statements-loop-statement-preserved t c =
     along-step c.args.walk.now.table.now.core.now c.args.walk.now.table.now.written.items c.args.walk.now.map.now.entries.items c.args.walk.now.procedure
-    c.args.way c.args.takers (block_of c.args.block.now) c.args.progress.now (statement_of c.statement-item.result) (block_of (drop (c.loop-statement.statement-index + 1) c.args.block.now))
+    c.args.pc c.args.takers (block_of c.args.block.now) c.args.progress.now (statement_of c.statement-item.result) (block_of (drop (c.loop-statement.statement-index + 1) c.args.block.now))
     c.loop-statement.reached c.loop-statement.onward c.in_ok-onward.onward c.loop-statement.progress c.make.new.self c.walk_statement.new.progress c.in_ok-exits.exits c.in_ok-number.number
-    (subst (λ tree. Along c.args.walk.now.table.now.core.now c.args.walk.now.table.now.written.items c.args.walk.now.map.now.entries.items c.args.walk.now.procedure c.args.way c.args.takers (block_of c.args.block.now) c.args.progress.now tree c.loop-statement.reached c.loop-statement.onward c.loop-statement.progress)
+    (subst (λ tree. Along c.args.walk.now.table.now.core.now c.args.walk.now.table.now.written.items c.args.walk.now.map.now.entries.items c.args.walk.now.procedure c.args.pc c.args.takers (block_of c.args.block.now) c.args.progress.now tree c.loop-statement.reached c.loop-statement.onward c.loop-statement.progress)
     (next-statement c.args.block.now c.loop-statement.statement-index c.statement-item.result c.loop-statement-test.true c.statement-item.is) c.loop-statement.invariant)
     c.in_ok-number.ensures.made c.in_ok-number.ensures.first c.in_ok-exits.ensures.exits c.in_ok-exits.ensures.added c.in_ok-onward.ensures
 
 pub walk_statements-returns : goal.walk_statements-returns
 walk_statements-returns t c =
     along-end c.args.walk.now.table.now.core.now c.args.walk.now.table.now.written.items c.args.walk.now.map.now.entries.items c.args.walk.now.procedure
-    c.args.way c.args.takers (block_of c.args.block.now) c.args.progress.now c.loop-statement.reached c.loop-statement.onward c.loop-statement.progress c.end_block.new.progress
-    (subst (λ tree. Along c.args.walk.now.table.now.core.now c.args.walk.now.table.now.written.items c.args.walk.now.map.now.entries.items c.args.walk.now.procedure c.args.way c.args.takers (block_of c.args.block.now) c.args.progress.now tree c.loop-statement.reached c.loop-statement.onward c.loop-statement.progress)
+    c.args.pc c.args.takers (block_of c.args.block.now) c.args.progress.now c.loop-statement.reached c.loop-statement.onward c.loop-statement.progress c.end_block.new.progress
+    (subst (λ tree. Along c.args.walk.now.table.now.core.now c.args.walk.now.table.now.written.items c.args.walk.now.map.now.entries.items c.args.walk.now.procedure c.args.pc c.args.takers (block_of c.args.block.now) c.args.progress.now tree c.loop-statement.reached c.loop-statement.onward c.loop-statement.progress)
     (ap block_of (drop_all c.loop-statement.statement-index c.args.block.now c.loop-statement-test.false)) c.loop-statement.invariant)
     c.in_ok-end_block.ensures
 
@@ -178,8 +178,8 @@ walk_handlers-loop-i-init t c = λ number are.
     handling-start c.args.walk.now.table.now.core.now c.args.walk.now.table.now.written.items c.args.walk.now.map.now.entries.items c.args.walk.now.procedure number c.args.takers (handlers_of c.args.handlers.now) c.args.progress.now
 
 pub walk_handlers-returns : goal.walk_handlers-returns
-walk_handlers-returns t c = λ number way are.
-    handling-end c.args.walk.now.table.now.core.now c.args.walk.now.table.now.written.items c.args.walk.now.map.now.entries.items c.args.walk.now.procedure number c.args.takers (handlers_of c.args.handlers.now) c.args.progress.now c.loop-i.progress way
+walk_handlers-returns t c = λ number pc are.
+    handling-end c.args.walk.now.table.now.core.now c.args.walk.now.table.now.written.items c.args.walk.now.map.now.entries.items c.args.walk.now.procedure number c.args.takers (handlers_of c.args.handlers.now) c.args.progress.now c.loop-i.progress pc
     (subst (λ tree. Handling c.args.walk.now.table.now.core.now c.args.walk.now.table.now.written.items c.args.walk.now.map.now.entries.items c.args.walk.now.procedure number c.args.takers (handlers_of c.args.handlers.now) c.args.progress.now tree c.loop-i.progress)
     (ap handlers_of (drop_all c.loop-i.i c.args.handlers.now c.loop-i-test.false)) (c.loop-i.invariant number are))
 
@@ -188,11 +188,11 @@ walk_handlers-loop-i-preserved t c = λ number are.
     let handler = c.index-handlers-i.result in
     handling-step c.args.walk.now.table.now.core.now c.args.walk.now.table.now.written.items c.args.walk.now.map.now.entries.items c.args.walk.now.procedure
     number c.args.takers (handlers_of c.args.handlers.now) c.args.progress.now handler.at handler.exception (block_of c.deref.result.now) (handlers_of (drop (c.loop-i.i + 1) c.args.handlers.now))
-    c.in_ok-way.way c.in-Some.number.now c.loop-i.progress c.walk_block.new.progress
+    c.in_ok-pc.pc c.in-Some.number.now c.loop-i.progress c.walk_block.new.progress
     (subst (λ tree. Handling c.args.walk.now.table.now.core.now c.args.walk.now.table.now.written.items c.args.walk.now.map.now.entries.items c.args.walk.now.procedure number c.args.takers (handlers_of c.args.handlers.now) c.args.progress.now tree c.loop-i.progress)
     (next-handler c.args.handlers.now c.loop-i.i handler c.deref.result.now c.loop-i-test.true c.index-handlers-i.is c.deref.ensures.value) (c.loop-i.invariant number are))
     (number-at c.args.numbers.now number c.args.handlers.now c.loop-i.i handler c.in-Some.number.now c.in-Some.number.now are c.loop-i-test.true c.index-handlers-i.is c.in-Some.ensures.lookup.1)
-    c.in_ok-way.ensures c.in_ok-walk_block.ensures
+    c.in_ok-pc.ensures c.in_ok-walk_block.ensures
 
 -- ---- each call is of something smaller
 pub walk_statements-walk_statement-requires : goal.walk_statements-walk_statement-requires

@@ -32,7 +32,7 @@ decreases-walk_handlers l = 5 * handlers_nodes (handlers_of l.handlers.now) + 5
 
 abbrev pub invariant-walk_statements-loop-statement : goal.invariant-walk_statements-loop-statement
 invariant-walk_statements-loop-statement l =
-    Along l.walk.table.now.core.now l.walk.table.now.written.items l.walk.map.now.entries.items l.walk.procedure l.fn.way l.takers
+    Along l.walk.table.now.core.now l.walk.table.now.written.items l.walk.map.now.entries.items l.walk.procedure l.fn.pc l.takers
     (block_of l.block) l.fn.progress (block_of (drop l.statement-index l.block)) l.reached l.onward l.progress
 
 abbrev pub invariant-walk_handlers-loop-i : goal.invariant-walk_handlers-loop-i

@@ -27,4 +27,4 @@ returns-in_ok-add_flow-in-Some c = λ ends are named stands.
     (single-is ends named takers ∙ ap (single_flow named takers) (sym (c.single.ensures ends are) ∙ c.in-Some.is))
     (flow-added core table q c.at-taker.result (takers c.in-Some.exit) _ _ c.at-taker.ensures
     (c.in_ok-add_flow-in-Some.ensures q (left-same core table q c.in_ok-left-in-Some.left.items c.deref.result.now c.deref.ensures.value
-    (alone-left core table named c.args.way c.in_ok-left-in-Some.left.items c.in_ok-left-in-Some.ensures stands))))
+    (alone-left core table named c.args.pc c.in_ok-left-in-Some.left.items c.in_ok-left-in-Some.ensures stands))))

@@ -7,4 +7,4 @@ returns c = λ named stands.
     let core = c.args.self.now.table.now.core.now in
     let table = c.args.self.now.table.now.written.items in
     let procedure = c.args.self.now.procedure in
-    c.in_ok-add_rule.ensures procedure (named ∷ []) (alone-left core table named c.args.way c.in_ok-left.left.items c.in_ok-left.ensures stands)
+    c.in_ok-add_rule.ensures procedure (named ∷ []) (alone-left core table named c.args.pc c.in_ok-left.left.items c.in_ok-left.ensures stands)

@@ -6,8 +6,8 @@ use Rattle.constraints.proofs.Passed.{alone-walked}
 use Rattle.constraints.proofs.statements.Walk.end_loop.Goals as goal
 
 pub returns : goal.returns
-returns c = λ way takers.
+returns c = λ pc takers.
     let scope = scope_of c.args.self.now.table.now.core.now c.args.self.now.procedure in
     alone-walked c.args.self.now.table.now.core.now c.args.self.now.table.now.written.items c.args.self.now.map.now.entries.items
-    way takers (λ named. rule_constraint scope c.args.at 8 (inner_atom c.args.back ∷ []) (ToLoop c.args.self.now.procedure c.args.number)) 0 c.args.progress.now _ refl (omega arith) refl
-    (λ named stands. c.in_ok-add_turn.ensures (inner_atom c.args.back) c.in_ok-way.ensures)
+    pc takers (λ named. rule_constraint scope c.args.at 8 (inner_atom c.args.back ∷ []) (ToLoop c.args.self.now.procedure c.args.number)) 0 c.args.progress.now _ refl (omega arith) refl
+    (λ named stands. c.in_ok-add_turn.ensures (inner_atom c.args.back) c.in_ok-pc.ensures)

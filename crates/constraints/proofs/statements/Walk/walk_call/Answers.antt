@@ -10,6 +10,6 @@ pub returns : goal.returns
 returns c =
     let scope = scope_of c.args.self.now.table.now.core.now c.args.self.now.procedure in
     made-walked c.args.self.now.table.now.core.now c.args.self.now.table.now.written.items c.args.self.now.map.now.entries.items
-    c.args.way c.args.takers c.deref.result.now 1 c.in_ok-number.number
+    c.args.pc c.args.takers c.deref.result.now 1 c.in_ok-number.number
     (λ t n named. call_constraints scope named (takers_of c.args.takers t) n c.args.at c.args.callee (map expression_of c.args.arguments.now) c.args.target) c.args.progress.now c.make.new.self _
     c.in_ok-number.ensures.made c.in_ok-number.ensures.first c.deref.ensures.value refl refl refl c.in_ok-add_call.ensures

@@ -12,5 +12,5 @@ returns c =
     let scope = scope_of core c.args.procedure in
     let first = value_label scope (expression_of c.args.index.now) in
     let second = value_label scope (expression_of c.args.value.now) in
-    left-from core table c.args.way (first ++ second) _ _ c.in_ok-left.ensures
+    left-from core table c.args.pc (first ++ second) _ _ c.in_ok-left.ensures
     (joined-then core table first second _ _ _ c.in_ok-add_value.ensures c.in_ok-add_value-2.ensures)
