@@ -1,4 +1,4 @@
-//! What can be wrong with two texts.
+//! What can be wrong with two texts, and the numbers and the words by which it is reported.
 
 /// One of the two texts.
 #[derive(Clone, Copy, Debug, PartialEq, Eq, Drop)]
@@ -64,4 +64,77 @@ pub enum Cause {
     ArraySize,
     /// 704: more than 1,048,576 cells of the globals, or of the parameters and locals of a procedure.
     TooManyCells,
+}
+
+impl Cause {
+    ghost use Rattle.acceptance.specs.Causes.{cause_number, cause_words};
+    ghost use Rattle.std.specs.Prelude.{◌≡◌};
+
+    /// The number that a cause is reported by.
+    pub fn number(self) -> u32
+        ensures { result ≡ cause_number self }
+    {
+        match self {
+            Cause::NotUtf8 => 100,
+            Cause::NoToken => 101,
+            Cause::LiteralTooLarge => 102,
+            Cause::OpenComment => 103,
+            Cause::Syntax => 151,
+            Cause::PrincipalTwice => 152,
+            Cause::UnknownPrincipal => 153,
+            Cause::TooManyPrincipals => 154,
+            Cause::UnexpectedToken => 201,
+            Cause::TooDeep => 202,
+            Cause::UnknownName => 301,
+            Cause::DeclaredTwice => 302,
+            Cause::UnknownPrincipalInLabel => 303,
+            Cause::NoProperMain => 304,
+            Cause::WrongType => 401,
+            Cause::WrongArgumentCount => 402,
+            Cause::WrongUse => 403,
+            Cause::Unreachable => 501,
+            Cause::NoValueReturned => 502,
+            Cause::ExceptionNotDeclared => 503,
+            Cause::NeverRaised => 504,
+            Cause::OutsideLoop => 505,
+            Cause::FlowNotAllowed => 601,
+            Cause::TextTooLong => 701,
+            Cause::ArraySize => 703,
+            Cause::TooManyCells => 704,
+        }
+    }
+
+    /// The words that a cause is reported by.
+    pub fn words(self) -> &'static str
+        ensures { result.now ≡ cause_words self }
+    {
+        match self {
+            Cause::NotUtf8 => "not UTF-8",
+            Cause::NoToken => "no token",
+            Cause::LiteralTooLarge => "literal too large",
+            Cause::OpenComment => "open comment",
+            Cause::Syntax => "syntax",
+            Cause::PrincipalTwice => "declared twice",
+            Cause::UnknownPrincipal => "unknown principal",
+            Cause::TooManyPrincipals => "too many principals",
+            Cause::UnexpectedToken => "unexpected token",
+            Cause::TooDeep => "nested too deep",
+            Cause::UnknownName => "unknown name",
+            Cause::DeclaredTwice => "declared twice",
+            Cause::UnknownPrincipalInLabel => "unknown principal",
+            Cause::NoProperMain => "no proper main",
+            Cause::WrongType => "wrong type",
+            Cause::WrongArgumentCount => "wrong argument count",
+            Cause::WrongUse => "wrong use",
+            Cause::Unreachable => "unreachable",
+            Cause::NoValueReturned => "no value returned",
+            Cause::ExceptionNotDeclared => "exception not declared",
+            Cause::NeverRaised => "never raised",
+            Cause::OutsideLoop => "not in a loop",
+            Cause::FlowNotAllowed => "flow not allowed",
+            Cause::TextTooLong => "text too long",
+            Cause::ArraySize => "array size",
+            Cause::TooManyCells => "too many cells",
+        }
+    }
 }

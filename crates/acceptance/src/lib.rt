@@ -1,5 +1,5 @@
 //! Which two texts stand for a program of the whole language, and why others do not: what a check has to decide. It holds
-//! definitions and their laws alone.
+//! definitions, their laws, and the numbers and words by which causes are reported.
 #![tactic(auto)]
 
 pub mod cause;

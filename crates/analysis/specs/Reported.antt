@@ -1,6 +1,6 @@
 -- What a fault of an analysis reports of a source: why it is refused, and at which byte.
 -- Source: our own.
-use Rattle.std.specs.Prelude.{ℕ, List, Option, Some, None}
+use Rattle.std.specs.Prelude.{◌≢◌, ℕ, List, Option, Some, None}
 use Rattle.principals.specs.ActsFor.{PrincipalHierarchy}
 use Rattle.names.specs.declared.fault.TypeFault.{TypeFault}
 use Rattle.names.specs.declared.fault.TypeFault.TheVariants as names
@@ -9,6 +9,7 @@ use Rattle.path_map.specs.declared.fault.EndsFault.{EndsFault}
 use Rattle.path_map.specs.declared.fault.EndsFault.TheVariants as ends
 use Rattle.acceptance.specs.Refused.{IsSourceRefused, cause_of_name, cause_of_end}
 use Rattle.acceptance.specs.declared.cause.Cause.{Cause}
+use Rattle.acceptance.specs.declared.cause.Cause.TheVariants as causes
 use Rattle.analysis.specs.declared.fault.Fault.{Fault}
 use Rattle.analysis.specs.declared.fault.Fault.TheVariants.{NoMemory, Refused}
 
@@ -29,3 +30,8 @@ of_ends (ends.Refused refusal) = Refused (cause_of_end (refusal_of refusal.defec
 abbrev pub ReportsFault : PrincipalHierarchy → (source : List ℕ) → Fault → Type 0
 ReportsFault h source NoMemory = Unit {0}
 ReportsFault h source (Refused cause at) = IsSourceRefused h source cause at
+
+-- the source is refused before its labels are looked at: for another cause than that a flow is not allowed
+abbrev pub IsBeforeLabels : Fault → Type 0
+IsBeforeLabels NoMemory = Unit {0}
+IsBeforeLabels (Refused cause at) = cause ≢ causes.FlowNotAllowed

@@ -2,7 +2,7 @@
 
 ghost use Rattle.acceptance.specs.Accepted.{IsResolvedFrom, IsText, IsTreeOf};
 ghost use Rattle.acceptance.specs.Refused.{IsNoText};
-ghost use Rattle.analysis.specs.Reported.{ReportsFault};
+ghost use Rattle.analysis.specs.Reported.{IsBeforeLabels, ReportsFault};
 ghost use Rattle.path_map.specs.Exits.{exits_of};
 ghost use Rattle.path_map.specs.Paths.{program_paths};
 ghost use Rattle.principals.specs.ActsFor.{PrincipalHierarchy};
@@ -48,8 +48,9 @@ pub fn analyse(alloc: Global, hierarchy: &Hierarchy, source: &[u8]) -> Result<An
     ensures mapped { IfOk result (λ found. found.ends.entries.items
         ≡ map exits_of (program_paths (program_of found.core))) }
 
-    // A refusal is the first fault, at its byte.
+    // A refusal is the first fault, at its byte, and not one of labels.
     ensures first_fault { IfErr result (ReportsFault hierarchy.now source.now) }
+    ensures before_labels { IfErr result IsBeforeLabels }
 {
     let text = match text_of(source) {
         Ok(text) => text,
@@ -74,6 +75,7 @@ fn read(alloc: Global, source: &str) -> Result<syntax::Program, Fault>
     requires text { IsText source.now }
     ensures spelled { IfOk result (λ tree. IsTreeOf source.now (program_tree tree)) }
     ensures first_fault { IfErr result (λ fault. (h : PrincipalHierarchy) → ReportsFault h source.now fault) }
+    ensures before_labels { IfErr result IsBeforeLabels }
 {
     let tokens = match lex(alloc, source) {
         Ok(tokens) => tokens,

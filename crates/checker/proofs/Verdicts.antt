@@ -14,7 +14,7 @@ use Rattle.analysis.specs.declared.fault.Fault as analysis
 use Rattle.analysis.specs.declared.fault.Fault.TheVariants as earlier
 use Rattle.checker.specs.declared.fault.Fault.{Fault}
 use Rattle.checker.specs.declared.fault.Fault.TheVariants.{NoMemory, Refused, FlowNotAllowed}
-use Rattle.checker.specs.Reported.{IsNotAccepted, RefusesProgram, ReportsFault, fault_of}
+use Rattle.checker.specs.Reported.{HasFlow, IsNotAccepted, RefusesProgram, ReportsFault, fault_of}
 
 -- a program that is kept stands for the source
 pub accepted-from : (h : PrincipalHierarchy) (source : List ℕ) (core kept : Core) → kept ≡ core → IsResolvedFrom h source (program_of core) → end_faults (program_of core) ≡ [] →
@@ -48,3 +48,13 @@ reported-refuses h source (Refused cause at) reported = λ program accepted. acc
 reported-refuses h source (FlowNotAllowed flow) reported = λ program accepted.
     accepted_refused h source program causes.FlowNotAllowed reported.reported.last.at accepted
     (WrongFlow (program_of flow.core) reported.resolved reported.ended flow.policy reported.reported.chain reported.reported.last reported.reported.refused)
+
+-- a refusal before labels is none for a flow, and one of the labels names its flow
+pub flow-before : (fault : analysis.Fault) → before.IsBeforeLabels fault → HasFlow (fault_of fault)
+flow-before earlier.NoMemory early = tt
+flow-before (earlier.Refused cause at) early = early
+
+pub flow-labels : (core : Core) (fault : Fault) → RefusesProgram core fault → HasFlow fault
+flow-labels core NoMemory refused = tt
+flow-labels core (Refused cause at) refused = absurd refused
+flow-labels core (FlowNotAllowed flow) refused = tt

@@ -1,7 +1,7 @@
 -- What a fault of a check reports of a source: why it is refused and at which byte, and for a flow that no labels allow its policy and
 -- the steps of its chain.
 -- Source: our own.
-use Rattle.std.specs.Prelude.{◌≡◌, ℕ, List, [], ◌∷◌, map, Option, Some, None, slice_get}
+use Rattle.std.specs.Prelude.{◌≡◌, ◌≢◌, ℕ, List, [], ◌∷◌, map, Option, Some, None, slice_get}
 use Rattle.principals.specs.ActsFor.{PrincipalHierarchy}
 use Rattle.labels.specs.Constraints.{report_some, reported_steps}
 use Rattle.resolved.specs.declared.target.Target.{Target}
@@ -14,6 +14,7 @@ use Rattle.resolved.specs.Flow.{IsRefused, ReportedStep, reported_step}
 use Rattle.solver.specs.declared.system.Constraint.{Constraint}
 use Rattle.acceptance.specs.Accepted.{IsAccepted, IsResolvedFrom}
 use Rattle.acceptance.specs.Refused.{IsSourceRefused}
+use Rattle.acceptance.specs.declared.cause.Cause.TheVariants as causes
 use Rattle.analysis.specs.declared.fault.Fault as before
 use Rattle.analysis.specs.declared.fault.Fault.TheVariants as earlier
 use Rattle.checker.specs.declared.fault.Fault.{Fault}
@@ -73,3 +74,9 @@ abbrev pub IsNotAccepted : PrincipalHierarchy → (source : List ℕ) → Fault 
 IsNotAccepted h source NoMemory = Unit {0}
 IsNotAccepted h source (Refused cause at) = (program : Program) → ¬ IsAccepted h source program
 IsNotAccepted h source (FlowNotAllowed flow) = (program : Program) → ¬ IsAccepted h source program
+
+-- a source that is refused for a flow is reported with that flow
+abbrev pub HasFlow : Fault → Type 0
+HasFlow NoMemory = Unit {0}
+HasFlow (Refused cause at) = cause ≢ causes.FlowNotAllowed
+HasFlow (FlowNotAllowed flow) = Unit {0}

@@ -55,7 +55,11 @@ impl Checked {
     }
 
     /// The least label of a local without a written one, by the numbers of its procedure and its own: exact up to flow both ways. It
-    /// fails only where memory ran out, and goes through the solution.
+    /// goes through the solution.
+    ///
+    /// # Errors
+    ///
+    /// Memory ran out, or the number of the local among all of them does not fit 32 bits, which is answered in the same way.
     pub fn label(&self, alloc: Global, procedure: u32, slot: u32) -> Result<Label, AllocError>
         ensures { IfOk result (AreAlike (label_lattice (program_of self.now.core).hierarchy)
             (least_label self.now (OfLocal procedure slot))) }

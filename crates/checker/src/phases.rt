@@ -1,7 +1,7 @@
 //! All phases, from the bytes of a source to an accepted program.
 ghost use Rattle.acceptance.specs.Accepted.{IsAccepted};
 ghost use Rattle.checker.specs.Least.{least_label};
-ghost use Rattle.checker.specs.Reported.{IsNotAccepted, RefusesProgram, ReportsFault, fault_of};
+ghost use Rattle.checker.specs.Reported.{HasFlow, IsNotAccepted, RefusesProgram, ReportsFault, fault_of};
 ghost use Rattle.path_map.specs.Exits.{exits_of};
 ghost use Rattle.path_map.specs.Paths.{program_paths};
 ghost use Rattle.resolved.specs.CoreOf.{program_of};
@@ -42,16 +42,17 @@ pub fn check(alloc: Global, hierarchy: &Hierarchy, source: &[u8]) -> Result<Chec
     // A refusal is the first fault, at its byte, and of a source that stands for no program.
     ensures first_fault { IfErr result (ReportsFault hierarchy.now source.now) }
     ensures refused { IfErr result (IsNotAccepted hierarchy.now source.now) }
+
+    // One for a flow names the flow.
+    ensures flow { IfErr result HasFlow }
 {
     isolation::noninterference::labelled_programs_are_isolated();
     let Analysed { core, ends } = match analyse(alloc, hierarchy, source) {
         Ok(found) => found,
         Err(fault) => return Err(before_labels(fault)),
     };
-    match labelled(alloc, core, &ends) {
-        Ok(checked) => Ok(checked),
-        Err(fault) => Err(fault),
-    }
+    let checked = labelled(alloc, core, &ends)?;
+    Ok(checked)
 }
 
 // A fault of the phases before labels.

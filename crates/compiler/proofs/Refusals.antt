@@ -1,7 +1,6 @@
 -- What is refused of either text is the first fault of the two.
 use Rattle.std.proofs.Common.{◌≡◌, ℕ, List, refl, sym, ap, ◌∙◌, subst, arith, ◌⊎◌, ⊎_elim}
-use Rattle.std.specs.Prelude.{◌<◌, length, Some, None}
-use Rattle.lexer.specs.declared.token.Place.{Place}
+use Rattle.std.specs.Prelude.{◌<◌, ◌↔◌, length, Some, None, IfSome, IsSome}
 use Rattle.principals.specs.ActsFor.{PrincipalHierarchy}
 use Rattle.principals.specs.HierarchyText.{greatest_text, IsRefusedText}
 use Rattle.principals.specs.declared.fault.HierFault.{HierFault}
@@ -10,27 +9,26 @@ use Rattle.resolved.specs.CoreOf.{program_of}
 use Rattle.resolved.specs.Program.{Program}
 use Rattle.acceptance.specs.Accepted.{HasHierarchy, IsText, StandFor}
 use Rattle.acceptance.specs.Laws.{HasOneVerdict, Accepted, Refused}
-use Rattle.acceptance.specs.Refused.{IsHierarchyRefused, Wrong, IsSourceRefused, WrongFlow, Hierarchy, Source, hierarchy_refusal}
+use Rattle.acceptance.specs.Refused.{IsNoText, TooLong, NotUtf8, IsHierarchyRefused, Wrong, IsSourceRefused, WrongFlow, Hierarchy, Source, hierarchy_refusal}
 use Rattle.acceptance.specs.declared.cause.Cause.{Cause}
 use Rattle.acceptance.specs.declared.cause.Cause.TheVariants as causes
 use Rattle.acceptance.specs.declared.cause.Text.TheVariants as texts
-use Rattle.checker.specs.Reported.{RefusesFlow}
+use Rattle.checker.specs.Reported as checked
+use Rattle.checker.specs.Reported.{HasFlow, RefusesFlow}
+use Rattle.checker.specs.declared.fault.Fault as checks
+use Rattle.checker.specs.declared.fault.Fault.TheVariants as check
 use Rattle.checker.specs.declared.fault.RefusedFlow.{RefusedFlow}
-use Rattle.compiler.specs.Position.{line_of, column_of}
-use Rattle.compiler.specs.Reported.{IsRefusal, ReportsFault}
+use Rattle.compiler.specs.Position.{place_at}
+use Rattle.compiler.specs.Reported.{AsksForFlow, IsFlowFault, IsRefusal, ReportsFault, not_accepted}
 use Rattle.compiler.specs.declared.fault.Fault.{Fault}
 use Rattle.compiler.specs.declared.fault.Fault.TheVariants as faults
-
--- the place of a byte
-abbrev pub place_at : List ℕ → (at : ℕ) → Place
-place_at bytes at = record { line = line_of bytes at; column = column_of bytes at }
 
 pub in_hierarchy : (hierarchy source : List ℕ) (cause : Cause) (at : ℕ) → IsHierarchyRefused hierarchy cause at →
     ReportsFault hierarchy source (faults.Refused texts.Hierarchy cause (place_at hierarchy at))
 in_hierarchy hierarchy source cause at refused = record {
   at = at;
   refused = Hierarchy cause at refused;
-  place_of = record { line = refl; column = refl };
+  place_of = refl;
 }
 
 pub in_source : (hierarchy source : List ℕ) (h : PrincipalHierarchy) (cause : Cause) (at : ℕ) → HasHierarchy hierarchy h → IsSourceRefused h source cause at →
@@ -38,7 +36,7 @@ pub in_source : (hierarchy source : List ℕ) (h : PrincipalHierarchy) (cause : 
 in_source hierarchy source h cause at has refused = record {
   at = at;
   refused = Source h has cause at refused;
-  place_of = record { line = refl; column = refl };
+  place_of = refl;
 }
 
 -- a flow that is refused stands at the byte of the first demand that no labels meet
@@ -74,3 +72,29 @@ stand_for_none one hierarchy source (faults.Refused text cause place) first refu
     let same : Accepted program ≡ Refused text cause first.at = one hierarchy source (Accepted program) (Refused text cause first.at) stand first.refused in
     absurd (cc)
 stand_for_none one hierarchy source faults.NoMemory first refusal program stand = absurd refusal
+
+-- bytes that are no text are not refused for a flow
+pub no_text_no_flow : (bytes : List ℕ) (cause : Cause) (at : ℕ) → IsNoText bytes cause at → ¬ (cause ≡ causes.FlowNotAllowed)
+no_text_no_flow bytes cause at (TooLong long) = λ (e : causes.TextTooLong ≡ causes.FlowNotAllowed). absurd (cc)
+no_text_no_flow bytes cause at (NotUtf8 short wrong) = λ (e : causes.NotUtf8 ≡ causes.FlowNotAllowed). absurd (cc)
+
+-- what the check of a source reports is the first fault of two texts
+pub first_of_check : (hierarchy source : List ℕ) (h : PrincipalHierarchy) → HasHierarchy hierarchy h → (fault : checks.Fault) → checked.ReportsFault h source fault →
+    ReportsFault hierarchy source (not_accepted source fault).fault
+first_of_check hierarchy source h has check.NoMemory reported = tt
+first_of_check hierarchy source h has (check.Refused cause at) reported = in_source hierarchy source h cause at has reported
+first_of_check hierarchy source h has (check.FlowNotAllowed flow) reported =
+    in_source hierarchy source h causes.FlowNotAllowed flow.at has (refused_flow h source flow reported)
+
+-- and there is a flow where one is not allowed
+pub flow_of_check : (source : List ℕ) (fault : checks.Fault) → HasFlow fault →
+    IsFlowFault (not_accepted source fault).fault ↔ IsSome (not_accepted source fault).flow
+flow_of_check source check.NoMemory flow = ((λ no. absurd no), (λ no. absurd (cc)))
+flow_of_check source (check.Refused cause at) flow = ((λ is. absurd (flow is)), (λ no. absurd (cc)))
+flow_of_check source (check.FlowNotAllowed asked) flow = ((λ is. refl), (λ some. refl))
+
+pub asked_of_check : (hierarchy source : List ℕ) (h : PrincipalHierarchy) → HasHierarchy hierarchy h → (fault : checks.Fault) → checked.ReportsFault h source fault →
+    IfSome (not_accepted source fault).flow (AsksForFlow hierarchy source (not_accepted source fault).fault)
+asked_of_check hierarchy source h has check.NoMemory reported = tt
+asked_of_check hierarchy source h has (check.Refused cause at) reported = tt
+asked_of_check hierarchy source h has (check.FlowNotAllowed flow) reported = record { principals = h; has = has; refuses = reported; fault_is = refl }

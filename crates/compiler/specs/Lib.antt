@@ -1,4 +1,3 @@
 pub mod Position
-pub mod Causes
 pub mod Reported
 pub mod Compiled

@@ -1,7 +1,7 @@
 -- The line and the column of a byte of a text, whether or not a character begins there.
 -- Source: our own; a line ends with a line feed, U+000A, and a column is one character, which begins in UTF-8 with each byte but those
 -- from 128 to 191.
-use Rattle.std.specs.Prelude.{◌≡◌, ℕ, ◌+◌, ◌==◌, ◌||◌, Bool, not, nat_lt, nat_le, List, count_by, take, reverse}
+use Rattle.std.specs.Prelude.{ℕ, ◌+◌, ◌==◌, ◌||◌, Bool, not, nat_lt, nat_le, List, count_by, take, reverse}
 use Rattle.std.specs.List.{take_while}
 use Rattle.lexer.specs.declared.token.Place.{Place}
 
@@ -25,6 +25,5 @@ abbrev pub column_of : List ℕ → (at : ℕ) → ℕ
 column_of text at = count_by begins_character (bytes_of_line text at) + 1
 
 -- the place of a byte of a text
-pub record IsPlaceOf (text : List ℕ) (at : ℕ) (place : Place) : Type 0 where
-  pub line : place.line ≡ line_of text at
-  pub column : place.column ≡ column_of text at
+abbrev pub place_at : List ℕ → (at : ℕ) → Place
+place_at text at = record { line = line_of text at; column = column_of text at }

@@ -3,17 +3,19 @@
 ghost use Rattle.acceptance.specs.Accepted.{HasHierarchy, IsAccepted, IsText, StandFor};
 ghost use Rattle.acceptance.specs.Refused.{IsNoText};
 ghost use Rattle.compiler.specs.Compiled.{IsCodeOf, IsCompiled};
-ghost use Rattle.compiler.specs.Position.{column_of, line_of};
-ghost use Rattle.compiler.specs.Reported.{IsRefusal, ReportsFault};
+ghost use Rattle.checker.specs.Least.{least_label};
+ghost use Rattle.compiler.specs.Position.{place_at};
+ghost use Rattle.compiler.specs.Reported.{AsksForFlow, IsFlowFault, IsRefusal, ReportsFault, not_accepted};
 ghost use Rattle.principals.specs.HierarchyText.{IsRefusedText};
 ghost use Rattle.resolved.specs.CoreOf.{program_of};
 ghost use Rattle.resolved.specs.EndFaults.{end_faults};
+ghost use Rattle.resolved.specs.Flow.{AreLeast};
 ghost use Rattle.resolved.specs.Isolated.{Isolated};
 ghost use Rattle.resolved.specs.Names.{HasNames};
 ghost use Rattle.resolved.specs.Program.{Program};
-ghost use Rattle.std.specs.Prelude.{IfErr, IfOk, List, OnOk, [], ℕ, ◌≡◌, ◌⊎◌};
+ghost use Rattle.std.specs.Prelude.{IfErr, IfOk, IfSome, IsSome, List, OnOk, [], ℕ, ◌↔◌, ◌≡◌, ◌⊎◌};
 
-use crate::fault::Fault;
+use crate::fault::{Fault, NotAccepted};
 use crate::places::place_of;
 use acceptance::laws::{one_verdict, resolved_programs_have_names};
 use acceptance::{Cause, Text};
@@ -50,17 +52,41 @@ pub fn compile(alloc: Global, hierarchy: &[u8], source: &[u8]) -> Result<Vec<u8>
 {
     one_verdict();
     resolved_programs_have_names();
-    let principals = match principals_of(alloc, hierarchy) {
-        Ok(principals) => principals,
-        Err(fault) => return Err(fault),
-    };
-    let checked = match checked(alloc, &principals, source) {
-        Ok(checked) => checked,
-        Err(fault) => return Err(fault),
-    };
-    match code_of(alloc, &checked.core) {
-        Ok(code) => Ok(code),
-        Err(_) => Err(Fault::NoMemory),
+    let checked = check_texts(alloc, hierarchy, source)?;
+    let code = code_of(alloc, &checked.core)?;
+    Ok(code)
+}
+
+/// Checks a source under a hierarchy text: all of [`compile`] but for making the bytes.
+///
+/// # Errors
+///
+/// The first fault of the two texts, at its line and column, with the flow where one is not allowed; or out of memory.
+pub fn check_texts(alloc: Global, hierarchy: &[u8], source: &[u8]) -> Result<Checked, NotAccepted>
+    // The two texts stand for the program, which is isolated; the labels of its locals and loops are the least.
+    ensures accepted { IfOk result (λ checked.
+        StandFor hierarchy.now source.now (program_of checked.core)) }
+    ensures isolated { IfOk result (λ checked. Isolated (program_of checked.core)) }
+    ensures least { IfOk result (λ checked.
+        AreLeast (program_of checked.core) (least_label checked)) }
+
+    // A refusal is the first fault of the two texts, which stand for no program.
+    ensures first_fault { IfErr result (λ refused.
+        ReportsFault hierarchy.now source.now refused.fault) }
+    ensures refused { IfErr result (λ refused. IsRefusal refused.fault →
+        (program : Program) → ¬ StandFor hierarchy.now source.now program) }
+
+    // There is a flow exactly where one is not allowed, and it is the one that the source asks for.
+    ensures flow { IfErr result (λ refused.
+        IsFlowFault refused.fault ↔ IsSome refused.flow) }
+    ensures asked { IfErr result (λ refused. IfSome refused.flow
+        (AsksForFlow hierarchy.now source.now refused.fault)) }
+{
+    one_verdict();
+    let principals = principals_of(alloc, hierarchy)?;
+    match check(alloc, &principals, source) {
+        Ok(checked) => Ok(checked),
+        Err(fault) => Err(not_accepted(source, fault)),
     }
 }
 
@@ -69,6 +95,7 @@ fn principals_of(alloc: Global, bytes: &[u8]) -> Result<Hierarchy, Fault>
     ensures has { IfOk result (HasHierarchy bytes.now) }
     ensures first_fault { IfErr result (λ fault.
         (source : List ℕ) → ReportsFault bytes.now source fault) }
+    ensures no_flow { IfErr result (λ fault. ¬ IsFlowFault fault) }
 {
     let text = match text_of(bytes) {
         Ok(text) => text,
@@ -80,21 +107,19 @@ fn principals_of(alloc: Global, bytes: &[u8]) -> Result<Hierarchy, Fault>
     }
 }
 
-// The accepted program of a source.
-fn checked(alloc: Global, principals: &Hierarchy, source: &[u8]) -> Result<Checked, Fault>
-    ensures accepted { IfOk result (λ checked.
-        IsAccepted principals.now source.now (program_of checked.core)) }
-    ensures isolated { IfOk result (λ checked. Isolated (program_of checked.core)) }
-    ensures first_fault { IfErr result (λ fault. (hierarchy : List ℕ)
-        → HasHierarchy hierarchy principals.now → ReportsFault hierarchy source.now fault) }
+// Why a source is not accepted, by the fault of its check.
+fn not_accepted(source: &[u8], fault: CheckFault) -> NotAccepted
+    ensures { result ≡ not_accepted source.now fault }
 {
-    match check(alloc, principals, source) {
-        Ok(checked) => Ok(checked),
-        Err(CheckFault::NoMemory) => Err(Fault::NoMemory),
-        Err(CheckFault::Refused(cause, at)) => Err(fault_at(Text::Source, source, cause, at)),
-        Err(CheckFault::FlowNotAllowed(flow)) => {
-            Err(fault_at(Text::Source, source, Cause::FlowNotAllowed, flow.at))
+    match fault {
+        CheckFault::NoMemory => NotAccepted::from(Fault::NoMemory),
+        CheckFault::Refused(cause, at) => {
+            NotAccepted::from(fault_at(Text::Source, source, cause, at))
         }
+        CheckFault::FlowNotAllowed(flow) => NotAccepted {
+            fault: fault_at(Text::Source, source, Cause::FlowNotAllowed, flow.at),
+            flow: Some(flow),
+        },
     }
 }
 
@@ -133,8 +158,7 @@ fn text_of(bytes: &[u8]) -> Result<&str, Cause>
 
 // The fault of a text whose bytes are refused for a cause at one of them.
 fn fault_at(text: Text, bytes: &[u8], cause: Cause, at: usize) -> Fault
-    ensures { result ≡ Fault.Refused text cause
-        (record { line = line_of bytes.now at; column = column_of bytes.now at }) }
+    ensures { result ≡ Fault.Refused text cause (place_at bytes.now at) }
 {
     Fault::Refused {
         text,
@@ -145,9 +169,10 @@ fn fault_at(text: Text, bytes: &[u8], cause: Cause, at: usize) -> Fault
 
 // The fault that a refusal of a hierarchy text is.
 fn hierarchy_fault(bytes: &[u8], fault: HierFault) -> Fault
-    ensures { (source : List ℕ) → IsText bytes.now
+    ensures first_fault { (source : List ℕ) → IsText bytes.now
         → (fault ≡ HierFault.NoMemory) ⊎ IsRefusedText bytes.now fault
         → ReportsFault bytes.now source result }
+    ensures no_flow { ¬ IsFlowFault result }
 {
     match fault {
         HierFault::NoMemory => Fault::NoMemory,

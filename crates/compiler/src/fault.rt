@@ -2,10 +2,10 @@
 
 ghost use Rattle.compiler.specs.Reported.{fault_words};
 ghost use Rattle.compiler.specs.declared.fault.Fault.TheVariants.{NoMemory};
-ghost use Rattle.std.specs.Prelude.{◌≡◌, Some};
+ghost use Rattle.std.specs.Prelude.{◌≡◌, None, Some};
 
-use crate::causes::words;
 use acceptance::{Cause, Text};
+use checker::RefusedFlow;
 use lexer::Place;
 use std::alloc::AllocError;
 use std::error::Error;
@@ -26,7 +26,7 @@ impl fmt::Display for Fault {
     fn fmt<W: fmt::Write>(&self, f: &mut fmt::Formatter<W>) -> fmt::Result {
         match self {
             Fault::NoMemory => write!(f, "no memory"),
-            Fault::Refused { cause, .. } => write!(f, "{}", words(*cause)),
+            Fault::Refused { cause, .. } => write!(f, "{}", cause.words()),
         }
     }
 }
@@ -38,5 +38,30 @@ impl From<AllocError> for Fault {
 
     fn from(_error: AllocError) -> Fault {
         Fault::NoMemory
+    }
+}
+
+/// Why two texts were not accepted.
+#[derive(Drop)]
+pub struct NotAccepted {
+    /// Their first fault, or that memory ran out.
+    pub fault: Fault,
+    /// The flow that is not allowed, where that is the fault.
+    pub flow: Option<RefusedFlow>,
+}
+
+impl From<Fault> for NotAccepted {
+    ghost from_gives = { λ fault refused. (refused.fault ≡ fault) × (refused.flow ≡ None) };
+
+    fn from(fault: Fault) -> NotAccepted {
+        NotAccepted { fault, flow: None }
+    }
+}
+
+impl From<NotAccepted> for Fault {
+    ghost from_gives = { λ refused fault. fault ≡ refused.fault };
+
+    fn from(refused: NotAccepted) -> Fault {
+        refused.fault
     }
 }

@@ -8,7 +8,7 @@ use Rattle.bytecode.specs.declared.fault.Refusal.{Refusal}
 use Rattle.channels.specs.declared.defect.WorldDefect.{WorldDefect}
 use Rattle.channels.specs.Words.{world_number, world_words}
 use Rattle.acceptance.specs.declared.cause.Cause.{Cause}
-use Rattle.compiler.specs.Causes.{cause_number, cause_words}
+use Rattle.acceptance.specs.Causes.{cause_number, cause_words}
 use Rattle.lexer.specs.declared.token.Place.{Place}
 use Rattle.machine.specs.declared.status.Status.{Status}
 use Rattle.machine.specs.declared.status.Status.TheVariants as status

@@ -12,7 +12,7 @@ pub use acceptance::{Cause, Text};
 pub use bytecode::{FormatFault, Module, Refusal, decode};
 pub use channels::{Device, Pair, Sink, SinkFault, World, WorldDefect, WorldFault};
 pub use command_line::{MOST_STEPS, Task, TaskFault, USUAL_STEPS, task};
-pub use compiler::{Fault, compile, number as cause_number, words as cause_words};
+pub use compiler::{Fault, compile};
 pub use host::{Answer, Event, Host, HostFault, Id, MAX_SESSIONS};
 pub use machine::Status;
 pub use tasks::{Outcome, perform};

@@ -7,7 +7,6 @@ ghost use Rattle.std.specs.String.{string_bytes};
 use acceptance::Cause;
 use bytecode::Refusal;
 use channels::WorldDefect;
-use compiler::{number, words};
 use lexer::Place;
 use std::alloc::{AllocError, Global};
 use verifier::Fault;
@@ -55,7 +54,7 @@ pub fn encoding_line(alloc: Global, path: &str) -> Result<String, AllocError>
 {
     let line = 1u32;
     let cause = Cause::NotUtf8;
-    let (number, words) = (number(cause), words(cause));
+    let (number, words) = (cause.number(), cause.words());
     format!(in alloc; "{path}:{line}: {number} {words}\n")
 }
 
@@ -64,7 +63,7 @@ pub fn cause_line(alloc: Global, path: &str, cause: Cause, at: Place) -> Result<
     ensures { IfOk result (λ text. string_bytes text ≡ lines.cause_line path.now cause at) }
 {
     let Place { line, column } = at;
-    let (number, words) = (number(cause), words(cause));
+    let (number, words) = (cause.number(), cause.words());
     format!(in alloc; "{path}:{line}:{column}: {number} {words}\n")
 }
 
@@ -73,6 +72,6 @@ pub fn observer_line(alloc: Global, name: &str) -> Result<String, AllocError>
     ensures { IfOk result (λ line. string_bytes line ≡ lines.observer_line name.now) }
 {
     let cause = Cause::UnknownPrincipal;
-    let (number, words) = (number(cause), words(cause));
+    let (number, words) = (cause.number(), cause.words());
     format!(in alloc; "{name}: {number} {words}\n")
 }

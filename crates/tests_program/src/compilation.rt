@@ -1,6 +1,6 @@
 //! Causes by number and words, and a compilation whose growths are refused.
 
-use flowc::{Cause, Fault, cause_number, cause_words, compile};
+use flowc::{Cause, Fault, compile};
 use std::alloc::Global;
 use std::test::Fail;
 
@@ -36,7 +36,7 @@ fn has_a_number_and_words_for_each_cause(rt: HostRuntime) -> Result<(), Fail> {
     ];
     for (cause, number, words) in causes {
         assert!(rt;
-            cause_number(cause) == number && cause_words(cause) == words,
+            cause.number() == number && cause.words() == words,
             "{number}"
         );
     }

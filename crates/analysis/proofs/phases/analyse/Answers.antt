@@ -4,6 +4,7 @@ use Rattle.resolved.specs.CoreOf.{program_of}
 use Rattle.acceptance.specs.Accepted.{IsTreeOf}
 use Rattle.acceptance.specs.Refused.{NoText}
 use Rattle.analysis.specs.Reported.{ReportsFault}
+use Rattle.analysis.proofs.Early.{early-text, early-names, early-ends}
 use Rattle.analysis.proofs.Faults.{named, ended}
 use Rattle.analysis.proofs.phases.analyse.Goals as goal
 
@@ -23,3 +24,12 @@ returns-clause-first_fault c =
     rw c.of_end.ensures
     (ended c.args.hierarchy.now c.args.source.now (program_of c.in-Ok-resolve.core) c.in-Err-ends.fault
     (record { tree = program_tree c.in-Ok-read.tree; tree_of = subst (λ s. IsTreeOf s (program_tree c.in-Ok-read.tree)) c.in-Ok.ensures.same c.in-Ok-read.ensures.spelled; resolved = c.in-Ok-resolve.ensures.resolved }) c.in-Err-ends.ensures.first_fault)
+
+pub returns-in-Err-clause-before_labels : goal.returns-in-Err-clause-before_labels
+returns-in-Err-clause-before_labels c = early-text c.args.source.now c.in-Err.cause 0 c.in-Err.ensures.none
+
+pub returns-in-Err-resolve-clause-before_labels : goal.returns-in-Err-resolve-clause-before_labels
+returns-in-Err-resolve-clause-before_labels c = rw c.of_name.ensures (early-names c.in-Err-resolve.fault)
+
+pub returns-clause-before_labels : goal.returns-clause-before_labels
+returns-clause-before_labels c = rw c.of_end.ensures (early-ends c.in-Err-ends.fault)

@@ -4,7 +4,7 @@ use Rattle.bytecode.specs.Format.{module_file}
 use Rattle.layout.specs.Offsets.{laid_out}
 use Rattle.resolved.specs.CoreOf.{program_of}
 use Rattle.compiler.proofs.Coding.{code_of_module}
-use Rattle.compiler.proofs.compiler.code_of.Goals as goal
+use Rattle.compiler.proofs.compilation.code_of.Goals as goal
 
 pub returns : goal.returns
 returns c =

@@ -1,6 +1,6 @@
 use Rattle.std.proofs.Common.{ap}
 use Rattle.compiler.specs.declared.fault.Fault.TheVariants.{Refused}
-use Rattle.compiler.proofs.compiler.fault_at.Goals as goal
+use Rattle.compiler.proofs.compilation.fault_at.Goals as goal
 
 pub returns : goal.returns
 returns c =

@@ -2,8 +2,8 @@ use Rattle.std.proofs.Common.{◌≡◌, subst, ◌⊎◌}
 use Rattle.principals.specs.HierarchyText.{IsHierarchyOf, IsRefusedText}
 use Rattle.principals.specs.declared.fault.HierFault.TheVariants.{NoMemory}
 use Rattle.acceptance.specs.Refused.{Unreadable}
-use Rattle.compiler.proofs.Refusals.{in_hierarchy}
-use Rattle.compiler.proofs.compiler.principals_of.Goals as goal
+use Rattle.compiler.proofs.Refusals.{in_hierarchy, no_text_no_flow}
+use Rattle.compiler.proofs.compilation.principals_of.Goals as goal
 
 pub returns-in-Err-clause-first_fault : goal.returns-in-Err-clause-first_fault
 returns-in-Err-clause-first_fault c = λ source.
@@ -17,5 +17,8 @@ returns-in-Ok-read-clause-has c = record {
 
 pub returns-in-Err-read-clause-first_fault : goal.returns-in-Err-read-clause-first_fault
 returns-in-Err-read-clause-first_fault c = λ source.
-    c.hierarchy_fault.ensures source c.in-Ok.ensures.text
+    c.hierarchy_fault.ensures.first_fault source c.in-Ok.ensures.text
     (subst (λ t. (c.in-Err-read.fault ≡ NoMemory) ⊎ IsRefusedText t c.in-Err-read.fault) c.in-Ok.ensures.same c.in-Err-read.ensures.refused)
+
+pub returns-in-Err-clause-no_flow : goal.returns-in-Err-clause-no_flow
+returns-in-Err-clause-no_flow c = rw c.fault_at.ensures (no_text_no_flow c.args.bytes.now c.in-Err.cause 0 c.in-Err.ensures.none)

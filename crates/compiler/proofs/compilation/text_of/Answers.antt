@@ -1,7 +1,7 @@
 use Rattle.std.proofs.Common.{arith}
 use Rattle.std.proofs.lemmas.Str.{IsUtf8-from_is_utf8, is_utf8-from_IsUtf8}
 use Rattle.acceptance.specs.Refused.{TooLong, NotUtf8}
-use Rattle.compiler.proofs.compiler.text_of.Goals as goal
+use Rattle.compiler.proofs.compilation.text_of.Goals as goal
 
 pub returns-then-bytes-gt-MAX_TEXT-clause-none : goal.returns-then-bytes-gt-MAX_TEXT-clause-none
 returns-then-bytes-gt-MAX_TEXT-clause-none c = TooLong (omega (arith, c.if-bytes-gt-MAX_TEXT.true))
