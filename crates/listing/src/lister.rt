@@ -116,13 +116,13 @@ fn write_procedures<O: Sink>(
 ///
 /// `Sink` where the sink failed, `NoMemory` where an allocation failed. What went out then is a
 /// prefix of the text.
-pub fn write_listing<O: Sink>(alloc: Global, module: &Module, out: &mut O) -> Result<(), ViewFault>
+pub fn write_listing<O: Sink>(alloc: Global, program: &Module, out: &mut O) -> Result<(), ViewFault>
     ensures listed { OnOk result (Appends (O.taken out.old) (O.taken out.new)
-        (listing_text module.now)) }
+        (listing_text program.now)) }
     ensures prefix { OnErr result (AppendsPrefix (O.taken out.old) (O.taken out.new)
-        (listing_text module.now)) }
+        (listing_text program.now)) }
     ensures failed { result ≡ Err ViewFault.Sink → IsTrue (O.has_failed out.new) }
 {
-    write_channels(alloc, module.hierarchy(), module.channels(), out)?;
-    write_procedures(alloc, module.procedures(), out)
+    write_channels(alloc, program.hierarchy(), program.channels(), out)?;
+    write_procedures(alloc, program.procedures(), out)
 }

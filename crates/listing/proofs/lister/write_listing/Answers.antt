@@ -10,7 +10,7 @@ returns-in_err-write_channels-clause-prefix g c =
     (on_err c.from_residual.result _ (cut_first _ _ _ _ _ refl c.in_err-write_channels.ensures.prefix))
 
 pub write_procedures-requires : goal.write_procedures-requires
-write_procedures-requires g c = rw c.procedures.ensures.procedures (all_short c.args.module.now c.procedures.ensures.spelled)
+write_procedures-requires g c = rw c.procedures.ensures.procedures (all_short c.args.program.now c.procedures.ensures.spelled)
 
 pub returns-clause-prefix : goal.returns-clause-prefix
 returns-clause-prefix g c = on_err_then c.write_procedures.result _ _
