@@ -1,4 +1,4 @@
-//! Tests of `bytecode`, `channels`, `verifier`, `machine` and `host`: what no row of the program `rows` reaches.
+//! Tests of `bytecode`, `channels`, `listing`, `verifier`, `machine` and `host`: what no row of the program `rows` reaches.
 #![tactic(auto)]
 
 #[cfg(test)]
