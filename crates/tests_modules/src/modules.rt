@@ -4,6 +4,9 @@ use bytecode::{
     Arithmetic, Cell, Comparison, Direction, Global, Handler, Instruction, Kind, Module, Procedure,
     Slot, decode, encode, laws,
 };
+use channels::{Device, ViewFault};
+use listing::write_listing;
+use std::io::Cursor;
 use std::test::Fail;
 
 // One output `pub`, and one procedure that sends 7 on it.
@@ -191,4 +194,38 @@ fn prints_names_and_operands(rt: HostRuntime) -> Result<(), Fail> {
 fn values_have_kinds(rt: HostRuntime) {
     assert!(rt; Kind::Int.zero() == Cell::Int(0) && Kind::Boolean.zero() == Cell::Bool(false));
     assert!(rt; Cell::Int(5).kind() == Kind::Int && Cell::Bool(true).kind() == Kind::Boolean);
+}
+
+// What the module is listed as that some bytes spell.
+fn listing_of(alloc: std::alloc::Global, bytes: &[u8]) -> Result<Vec<u8>, Fail> {
+    let module = decode(alloc, bytes)?;
+    let mut device = Device::new(Vec::new(alloc));
+    write_listing(alloc, &module, &mut device)?;
+    Ok(device.into_inner())
+}
+
+#[test]
+fn lists_labels_and_operands(rt: HostRuntime) -> Result<(), Fail> {
+    let listing = listing_of(rt.alloc(), &THREE)?;
+    let lines = "input q {}\noutput p {A: B, C; B:}\nproc 0\n00000000 RECV 0\n00000005 STORE 0\n0000000a LOAD 0\n0000000f PUSH -43\n00000014 ADD\n00000015 SEND 1\n0000001a RET\n";
+    assert_eq!(rt; listing.as_slice(), lines.as_bytes());
+    Ok(())
+}
+
+#[test]
+fn lists_procedures_and_handlers(rt: HostRuntime) -> Result<(), Fail> {
+    let listing = listing_of(rt.alloc(), &MANY)?;
+    let lines = "input q {}\noutput p {}\nproc 0\n00000000 PUSHB true\n00000002 STORE 0\n00000007 RET\nhandler 0 2 3 7\nproc 1\n00000000 LOAD 0\n00000005 NEG\n00000006 RETV\nproc 2\n00000000 PUSHB false\n00000002 RETV\n";
+    assert_eq!(rt; listing.as_slice(), lines.as_bytes());
+    Ok(())
+}
+
+// A sink with room for four bytes takes the first four.
+#[test]
+fn lists_up_to_a_failure(rt: HostRuntime) -> Result<(), Fail> {
+    let module = decode(rt.alloc(), &SENDS)?;
+    let mut device = Device::new(Cursor::new([0u8; 4]));
+    assert_eq!(rt; write_listing(rt.alloc(), &module, &mut device), Err(ViewFault::Sink));
+    assert_eq!(rt; device.into_inner().into_inner().as_slice(), b"outp".as_slice());
+    Ok(())
 }

@@ -1,0 +1,3 @@
+mod Fitting
+mod Formatted
+pub mod Listed
