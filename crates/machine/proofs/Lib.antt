@@ -19,3 +19,4 @@ pub mod Places
 pub mod Fusing
 pub mod Each
 pub mod OnOperations
+pub mod OnWindow

@@ -14,6 +14,7 @@ mod operation;
 pub mod run;
 mod shape;
 pub mod status;
+mod window;
 
 pub use fault::NewFault;
 pub use run::Machine;
