@@ -15,3 +15,8 @@ pub mod Told
 pub mod First
 pub mod Clearing
 pub mod Stepping
+pub mod Places
+pub mod Fusing
+pub mod Each
+pub mod OnOperations
+pub mod OnWindow

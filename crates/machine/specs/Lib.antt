@@ -6,3 +6,5 @@ pub mod Inputs
 pub mod Live
 pub mod Run
 pub mod Steps
+pub mod Operations
+pub mod Fusing

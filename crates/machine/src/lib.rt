@@ -2,15 +2,19 @@
 #![tactic(auto)]
 
 mod arithmetic;
+mod body;
 pub mod fault;
 mod frames;
 mod globals;
 mod index;
 mod input;
+mod inner;
 mod live;
+mod operation;
 pub mod run;
 mod shape;
 pub mod status;
+mod window;
 
 pub use fault::NewFault;
 pub use run::Machine;
