@@ -1,0 +1,4 @@
+mod Walking
+mod Naming
+mod Texts
+mod Lists

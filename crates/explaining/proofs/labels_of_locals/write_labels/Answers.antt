@@ -1,0 +1,38 @@
+use Rattle.std.proofs.Common.{◌≡◌, ◌<◌, ◌∙◌, List, ap, get_or, length, refl, subst}
+use Rattle.resolved.specs.CoreOf.{program_of}
+use Rattle.resolved.specs.declared.tables.Procedure.{Procedure}
+use Rattle.explaining.specs.Locals.{unlabelled_locals}
+use Rattle.explaining.proofs.Texts.{on_err}
+use Rattle.explaining.proofs.Lists.{part_of_none, writes_none, writes_procedure, writes_some_procedures}
+use Rattle.explaining.proofs.labels_of_locals.write_labels.Goals as goal
+
+pub returns-in_err-places-clause-prefix : goal.returns-in_err-places-clause-prefix
+returns-in_err-places-clause-prefix g c =
+    on_err c.from_residual.result _
+    (part_of_none c.args.source.now c.args.checked.now (unlabelled_locals (program_of c.args.checked.now.core)) _)
+
+pub loop-number-init : goal.loop-number-init
+loop-number-init g c = writes_none c.args.source.now c.args.checked.now _ refl _
+
+pub returns-in_err-write_locals-clause-prefix : goal.returns-in_err-write_locals-clause-prefix
+returns-in_err-write_locals-clause-prefix g c =
+    let procedures = c.args.checked.now.core.procedures.items in
+    let number = c.loop-number.number in
+    let here = c.procedure-item.result in
+    let within : number < length procedures =
+    subst (λ (list : List Procedure). number < length list) c.deref-procedure-items.ensures.value c.loop-number-test.true in
+    let is : here ≡ get_or procedures number here = c.procedure-item.is ∙ ap (λ list. get_or list number here) c.deref-procedure-items.ensures.value in
+    on_err c.from_residual-in_err-write_locals.result _
+    (writes_some_procedures c.args.source.now c.args.checked.now procedures number here c.as_slice.result.now _ _ _ within is c.as_slice.ensures.value
+    c.loop-number.invariant _ c.in_ok-places.ensures c.in_err-write_locals.ensures.prefix)
+
+pub loop-number-preserved : goal.loop-number-preserved
+loop-number-preserved g c =
+    let procedures = c.args.checked.now.core.procedures.items in
+    let number = c.loop-number.number in
+    let here = c.procedure-item.result in
+    let within : number < length procedures =
+    subst (λ (list : List Procedure). number < length list) c.deref-procedure-items.ensures.value c.loop-number-test.true in
+    let is : here ≡ get_or procedures number here = c.procedure-item.is ∙ ap (λ list. get_or list number here) c.deref-procedure-items.ensures.value in
+    writes_procedure c.args.source.now c.args.checked.now procedures number here c.as_slice.result.now _ _ _ within is c.as_slice.ensures.value
+    c.loop-number.invariant _ c.in_ok-places.ensures c.in_ok-write_locals.ensures.written
