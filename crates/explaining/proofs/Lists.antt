@@ -5,6 +5,7 @@ use Rattle.std.proofs.KnownBytes.{Appends-nil, Appends-trans}
 use Rattle.std.proofs.lemmas.List.{append-nil, length-map, length-take-le, map-append, map_more, take-append-drop}
 use Rattle.std.specs.Io.KnownBytes.{Appends}
 use Rattle.labels.specs.Label.{Label}
+use Rattle.labels.proofs.Begins.{Begins-itself}
 use Rattle.labels.proofs.FlowTests.{IsLattice-flows}
 use Rattle.resolved.specs.CoreOf.{program_of}
 use Rattle.resolved.specs.Labelled.{OfLocal}
@@ -207,3 +208,11 @@ module _ (source : List ℕ) (checked : Checked) where
         cut_lines (first_procedures procedures (i + 1)) _ _ (procedures-rest procedures (i + 1)) old new
         (writes_some (first_procedures procedures i) _ (first_procedures procedures (i + 1)) procedure_joined old mid new before
         (subst (λ (t : List ℕ). WritesPrefix (AreLines t checked (locals_in i 0 (map slot_entry slots))) mid new) same part))
+
+    -- these are the first of all lines
+    pub writes_procedures : (text : List ℕ) → text ≡ source → Writes (AreLines text checked (locals_in i 0 (map slot_entry slots))) mid new
+        → WritesPrefix (AreLines source checked (locals_from 0 (map procedure_entry procedures))) old new
+    writes_procedures text same now =
+        let there = writes_procedure text same now in
+        cut_lines (first_procedures procedures (i + 1)) _ _ (procedures-rest procedures (i + 1)) old new
+        (there.0, there.1, (there.0, Begins-itself there.0, there.2))

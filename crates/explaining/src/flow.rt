@@ -1,7 +1,6 @@
 //! Why a flow is refused, as lines.
 
 ghost use Rattle.channels.specs.Sink.{AppendsPrefix};
-ghost use Rattle.channels.specs.declared.view.ViewFault.TheVariants as faults;
 ghost use Rattle.explaining.specs.Flow.{flow_text, policy_line, step_line};
 ghost use Rattle.resolved.specs.CoreOf.{program_of};
 ghost use Rattle.std.specs.Io.KnownBytes.{Appends};
@@ -30,8 +29,10 @@ pub fn write_flow<O: Sink>(
     source: &[u8],
     out: &mut O,
 ) -> Result<(), ViewFault>
-    ensures written { OnOk result (Appends (O.taken out.old) (O.taken out.new) (flow_text source.now flow.now)) }
-    ensures prefix { OnErr result (AppendsPrefix (O.taken out.old) (O.taken out.new) (flow_text source.now flow.now)) }
+    ensures written { OnOk result (Appends (O.taken out.old) (O.taken out.new)
+        (flow_text source.now flow.now)) }
+    ensures prefix { OnErr result (AppendsPrefix (O.taken out.old) (O.taken out.new)
+        (flow_text source.now flow.now)) }
     ensures failed { result ≡ Err ViewFault.Sink → IsTrue (O.has_failed out.new) }
 {
     let places = Places::of(alloc, source)?;
@@ -67,8 +68,10 @@ fn write_steps<O: Sink>(
     steps: &[Step],
     out: &mut O,
 ) -> Result<(), ViewFault>
-    ensures written { OnOk result (Appends (O.taken out.old) (O.taken out.new) (flat_map (step_line places.now.text.now (program_of core.now)) steps.now)) }
-    ensures prefix { OnErr result (AppendsPrefix (O.taken out.old) (O.taken out.new) (flat_map (step_line places.now.text.now (program_of core.now)) steps.now)) }
+    ensures written { OnOk result (Appends (O.taken out.old) (O.taken out.new)
+        (flat_map (step_line places.now.text.now (program_of core.now)) steps.now)) }
+    ensures prefix { OnErr result (AppendsPrefix (O.taken out.old) (O.taken out.new)
+        (flat_map (step_line places.now.text.now (program_of core.now)) steps.now)) }
     ensures failed { result ≡ Err ViewFault.Sink → IsTrue (O.has_failed out.new) }
 {
     for step in steps {
