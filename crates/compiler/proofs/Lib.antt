@@ -1,4 +1,4 @@
-mod Lines
+pub mod Lines
 mod Refusals
 pub mod Readers
 mod Isolating

@@ -1,0 +1,5 @@
+mod Walking
+mod Naming
+mod Texts
+mod Counts
+mod Lists

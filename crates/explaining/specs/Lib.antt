@@ -1,0 +1,4 @@
+pub mod Text
+pub mod Flow
+pub mod Locals
+pub mod Marks
