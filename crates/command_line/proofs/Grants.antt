@@ -1,21 +1,22 @@
--- The task that a plain wish is taken for is the one that is wished for.
-use Rattle.std.proofs.Common.{◌≡◌, ◌∙◌, ◌++◌, ◌≤◌, ℕ, List, [], ◌∷◌, Option, Some, None, Result, Ok, Err, IfErr, IfOk, codes, refl, sym, ap, subst, false, true≢false}
+-- The task that a plain request is taken for is the one that is asked for.
+use Rattle.std.proofs.Common.{◌≡◌, ◌∙◌, ◌++◌, ◌≤◌, ℕ, List, [], ◌∷◌, Option, Some, None, Result, Ok, Err, IfErr, IfOk, codes, refl, sym, ap, ap₂, subst, false, true≢false}
 use Rattle.std.specs.Prelude.{IfSome, MatchResult, unwrap_or}
 use Rattle.std.specs.Str.{bytes_eq}
 use Rattle.std.proofs.lemmas.Slice.Eq.{bytes_eq-Decides}
+use Rattle.std.specs.String.{string_bytes}
 use Rattle.clap.specs.Words.{Row, Text, fault_of, first_of, subcommand_of}
 use Rattle.command_line.specs.Command.{flowc_command}
 use Rattle.command_line.specs.Task.{AsksFor, IsTaskOf, steps_in}
-use Rattle.command_line.specs.Wish.{Grants, HasNoOption, IsPlainWish, IsSpelling, Wish, spelled, to_build, to_check, to_run}
+use Rattle.command_line.specs.Request.{Grants, build, check, list, run, HasNoOption, IsPlainRequest, IsSpelling, Request, spelled, to_build, to_check, to_list, to_run}
 use Rattle.command_line.specs.declared.request.Task.{Task}
-use Rattle.command_line.specs.declared.request.Task.TheVariants.{Check, Build, Run}
+use Rattle.command_line.specs.declared.request.Task.TheVariants.{Check, Build, Run, List as ListModule}
 use Rattle.command_line.specs.declared.request.TaskFault.{TaskFault}
 use Rattle.command_line.specs.declared.request.TaskFault.TheVariants.{OutOfMemory}
 use Rattle.command_line.proofs.Only.{spelled_so}
-use Rattle.command_line.proofs.Plain.{decimal_read, met_by, observer_rows, row, steps_rows, wish_taken}
+use Rattle.command_line.proofs.Plain.{decimal_read, met_by, observer_rows, row, steps_rows, request_taken}
 
-same_word : {x y : Text} → Some x ≡ Some y → y ≡ x
-same_word e = cc
+found_word : {x y : Text} → Some x ≡ Some y → x ≡ y
+found_word e = cc
 
 abbrev run_rows : Text → Text → Option Text → Option ℕ → List Row
 run_rows file world observer steps = row (codes "MODULE") file ∷ row (codes "WORLD") world ∷ (observer_rows observer ++ steps_rows steps)
@@ -37,26 +38,36 @@ steps_found file world (Some name) (Some steps) most = decimal_read steps most
 other_name : {X : Type 0} (a b : Text) → bytes_eq a b ≡ false → a ≡ b → X
 other_name a b differ same = absurd (true≢false (sym ((bytes_eq-Decides a b).1 same) ∙ differ))
 
-grants : (wish : Wish) (task : Task) → IsPlainWish wish → AsksFor (met_by wish).0 (met_by wish).1 task → Grants wish task
-grants (to_check hierarchy source) (Check h s) plain asks = (same_word asks.1, same_word asks.2)
+grants : (request : Request) (task : Task) → IsPlainRequest request → AsksFor (met_by request).0 (met_by request).1 task → Grants request task
+grants (to_check hierarchy source) (Check h s) plain asks = check h s (ap₂ to_check (found_word asks.1) (found_word asks.2)) refl
 grants (to_check hierarchy source) (Build h s o) plain asks = other_name _ _ refl asks.0
 grants (to_check hierarchy source) (Run f w o n) plain asks = other_name _ _ refl asks.0
+grants (to_check hierarchy source) (ListModule f) plain asks = other_name _ _ refl asks.0
 grants (to_build hierarchy source out) (Check h s) plain asks = other_name _ _ refl asks.0
-grants (to_build hierarchy source out) (Build h s o) plain asks = (same_word asks.1, same_word asks.2, same_word asks.3)
+grants (to_build hierarchy source out) (Build h s o) plain asks = build h s o (rw (found_word asks.1, found_word asks.2, found_word asks.3) refl) refl
 grants (to_build hierarchy source out) (Run f w o n) plain asks = other_name _ _ refl asks.0
+grants (to_build hierarchy source out) (ListModule f) plain asks = other_name _ _ refl asks.0
 grants (to_run file world observer steps) (Check h s) plain asks = other_name _ _ refl asks.0
 grants (to_run file world observer steps) (Build h s o) plain asks = other_name _ _ refl asks.0
 grants (to_run file world observer steps) (Run f w o n) plain asks =
-    (same_word asks.1, same_word asks.2, asks.3 ∙ observer_found file world observer steps, asks.4 ∙ steps_found file world observer steps plain.3)
+    run f w o steps
+    (ap₂ (λ code text. to_run code text observer steps) (found_word asks.1) (found_word asks.2)
+    ∙ ap (λ name. to_run (string_bytes f) (string_bytes w) name steps) (sym (asks.3 ∙ observer_found file world observer steps)))
+    (ap (Run f w o) (asks.4 ∙ steps_found file world observer steps plain.3))
+grants (to_run file world observer steps) (ListModule f) plain asks = other_name _ _ refl asks.0
+grants (to_list file) (Check h s) plain asks = other_name _ _ refl asks.0
+grants (to_list file) (Build h s o) plain asks = other_name _ _ refl asks.0
+grants (to_list file) (Run f w o n) plain asks = other_name _ _ refl asks.0
+grants (to_list file) (ListModule f) plain asks = list f (ap to_list (found_word asks.1)) refl
 
--- what is answered to the words of a plain wish
-pub wish_granted : (r : Result Task TaskFault) (words : List Text) → IfOk r (IsTaskOf (subcommand_of flowc_command words))
+-- what is answered to the words of a plain request
+pub request_granted : (r : Result Task TaskFault) (words : List Text) → IfOk r (IsTaskOf (subcommand_of flowc_command words))
     → IfErr r (λ fault. fault_of flowc_command words ≡ [] → fault ≡ OutOfMemory)
-    → (program : Text) (wish : Wish) → IsPlainWish wish → words ≡ program ∷ spelled wish → MatchResult r (Grants wish) (λ fault. fault ≡ OutOfMemory)
-wish_granted (Ok task) words matched taken program wish plain is =
-    let meets = ap (subcommand_of flowc_command) is ∙ (wish_taken program wish plain).meets in
-    grants wish task plain (subst (λ met. IsTaskOf met task) meets matched)
-wish_granted (Err fault) words matched taken program wish plain is = taken (ap (fault_of flowc_command) is ∙ (wish_taken program wish plain).passes)
+    → (program : Text) (request : Request) → IsPlainRequest request → words ≡ program ∷ spelled request → MatchResult r (Grants request) (λ fault. fault ≡ OutOfMemory)
+request_granted (Ok task) words matched taken program request plain is =
+    let meets = ap (subcommand_of flowc_command) is ∙ (request_taken program request plain).meets in
+    grants request task plain (subst (λ met. IsTaskOf met task) meets matched)
+request_granted (Err fault) words matched taken program request plain is = taken (ap (fault_of flowc_command) is ∙ (request_taken program request plain).passes)
 
 -- what is taken of the words, where none looks like an option
 pub only_granted : (r : Result Task TaskFault) (words : List Text) → IfOk r (IsTaskOf (subcommand_of flowc_command words)) → IfOk r (λ _. fault_of flowc_command words ≡ [])
@@ -64,5 +75,5 @@ pub only_granted : (r : Result Task TaskFault) (words : List Text) → IfOk r (I
 only_granted (Err fault) words matched passed plain = tt
 only_granted (Ok task) words matched passed plain =
     let so = spelled_so words plain passed in
-    let meets = ap (subcommand_of flowc_command) so.3 ∙ (wish_taken so.0 so.1 so.2).meets in
+    let meets = ap (subcommand_of flowc_command) so.3 ∙ (request_taken so.0 so.1 so.2).meets in
     (so.0, so.1, so.3, grants so.1 task so.2 (subst (λ met. IsTaskOf met task) meets matched))

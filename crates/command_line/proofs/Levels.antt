@@ -13,8 +13,8 @@ use Rattle.clap.specs.Kinds.{Kinds, or_else}
 use Rattle.clap.specs.Faults.{check_fault, entered_fault, fault_of, level_fault, other_fault, step_fault, turn_fault, walk_fault, word_fault}
 use Rattle.clap.specs.Values.{Accepts}
 use Rattle.clap.proofs.ValueTestLemmas.{accepts-Accepts}
-use Rattle.command_line.specs.Matched.{Enters, HasBuildWords, HasCheckWords, HasRunWords}
-use Rattle.command_line.specs.Command.{build_command, check_command, flowc_command, run_command, step_numbers}
+use Rattle.command_line.specs.Matched.{Enters, HasBuildWords, HasCheckWords, HasListWords, HasRunWords}
+use Rattle.command_line.specs.Command.{build_command, check_command, flowc_command, list_command, run_command, step_numbers}
 use Rattle.clap.specs.Walk.{action_of, reading_by}
 use Rattle.clap.specs.declared.builder.action.ArgAction.TheVariants.{Help}
 use Rattle.clap.specs.declared.builder.value_parser.Reading.TheVariants.{AsWritten}
@@ -127,6 +127,9 @@ build_leaf = leaf build_command.top
 abbrev pub run_leaf : Shape
 run_leaf = leaf run_command.top
 
+abbrev pub list_leaf : Shape
+list_leaf = leaf list_command.top
+
 passed_as : (b : Bool) (k : ErrorKind) → cond b [] (k ∷ []) ≡ [] → b ≡ true
 passed_as true k e = refl
 passed_as false k e = absurd (some_kind _ _ e)
@@ -164,6 +167,9 @@ run_rules = (
   ),
 )
 
+list_rules : AllWordRules list_leaf.rules
+list_rules = (any_word _ refl refl refl (inl (refl, refl)), (any_word _ refl refl refl (inr refl), tt))
+
 -- ---- what a command line without fault enters
 
 check_words : (words : List Text) → level_fault check_leaf [] nothing_held words false [] ≡ [] → HasCheckWords (rows_after check_leaf.rules [] words)
@@ -186,20 +192,27 @@ run_words words e =
     accepted None h = tt
     accepted (Some w) h = accepts-Accepts false step_numbers w h
 
--- the leaf that answers to the name
-abbrev first_leaf : Bool → Bool → Bool → Bool → Option Shape
-first_leaf is_check is_build is_run is_help =
-    cond is_check (Some check_leaf) (cond is_build (Some build_leaf) (cond is_run (Some run_leaf) (cond is_help (Some (built_leaf help_shape)) None)))
+list_words : (words : List Text) → level_fault list_leaf [] nothing_held words false [] ≡ [] → HasListWords (rows_after list_leaf.rules [] words)
+list_words words e =
+    let level = level_given list_leaf words list_rules refl e in
+    given_word _ _ level.0 (level.1.0 refl)
 
-leaf_words : (is_check is_build is_run is_help : Bool) (words : List Text) → is_help ≡ false
-    → option_map_or (λ s. level_fault s [] nothing_held words false []) (first_leaf is_check is_build is_run is_help) [] ≡ []
-    → is_some (option_map (λ s. rows_at s words) (first_leaf is_check is_build is_run is_help)) ≡ true
-    → Enters (option_map (λ s. rows_at s words) (first_leaf is_check is_build is_run is_help))
-leaf_words true is_build is_run is_help words own e there = inl (refl, check_words words e)
-leaf_words false true is_run is_help words own e there = inr (inl (refl, build_words words e))
-leaf_words false false true is_help words own e there = inr (inr (refl, run_words words e))
-leaf_words false false false true words own e there = absurd (true≢false own)
-leaf_words false false false false words own e there = absurd (true≢false (sym there))
+-- the leaf that answers to the name
+abbrev first_leaf : Bool → Bool → Bool → Bool → Bool → Option Shape
+first_leaf is_check is_build is_run is_list is_help =
+    cond is_check (Some check_leaf) (cond is_build (Some build_leaf) (cond is_run (Some run_leaf)
+    (cond is_list (Some list_leaf) (cond is_help (Some (built_leaf help_shape)) None))))
+
+leaf_words : (is_check is_build is_run is_list is_help : Bool) (words : List Text) → is_help ≡ false
+    → option_map_or (λ s. level_fault s [] nothing_held words false []) (first_leaf is_check is_build is_run is_list is_help) [] ≡ []
+    → is_some (option_map (λ s. rows_at s words) (first_leaf is_check is_build is_run is_list is_help)) ≡ true
+    → Enters (option_map (λ s. rows_at s words) (first_leaf is_check is_build is_run is_list is_help))
+leaf_words true is_build is_run is_list is_help words own e there = inl (refl, check_words words e)
+leaf_words false true is_run is_list is_help words own e there = inr (inl (refl, build_words words e))
+leaf_words false false true is_list is_help words own e there = inr (inr (inl (refl, run_words words e)))
+leaf_words false false false true is_help words own e there = inr (inr (inr (refl, list_words words e)))
+leaf_words false false false false true words own e there = absurd (true≢false own)
+leaf_words false false false false false words own e there = absurd (true≢false (sym there))
 
 named_help : (name : Text) → bytes_eq name (codes "help") ≡ false → (bytes_eq (codes "help") name || false) ≡ false
 named_help name other = go (bytes_eq (codes "help") name) refl
@@ -213,7 +226,7 @@ named_help name other = go (bytes_eq (codes "help") name) refl
 entered_words : (stop : Option (Text × List Text)) → IsOwn stop → entered_fault (built flowc_command) stop ≡ [] → is_some (entered (built flowc_command) stop) ≡ true
     → Enters (entered (built flowc_command) stop)
 entered_words None own e there = absurd (true≢false (sym there))
-entered_words (Some p) own e there = leaf_words _ _ _ _ p.1 (named_help p.0 own) e there
+entered_words (Some p) own e there = leaf_words _ _ _ _ _ p.1 (named_help p.0 own) e there
 
 -- the steps of a level that passed
 pub level_parts : (s : Shape) (names : Names) (words : List Text) (has : Bool) (below : Kinds) → level_fault s names nothing_held words has below ≡ []
@@ -233,7 +246,7 @@ subcommand_there s rows has wants e = go has s.subcommand_required wants (last_c
     go false true w f = absurd (true≢false f)
     go false false w f = absurd (true≢false (sym w))
 
--- a command line without fault enters one of the three, with each word that it needs
+-- a command line without fault enters one of the four, with each word that it needs
 pub enters : (words : List Text) → fault_of flowc_command words ≡ [] → Enters (subcommand_of flowc_command words)
 enters words e =
     let top = (built flowc_command).top in

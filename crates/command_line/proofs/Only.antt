@@ -1,4 +1,4 @@
--- A command line with no option that is taken is the spelling of a wish.
+-- A command line with no option that is taken is the spelling of a request.
 use Rattle.std.proofs.Common.{◌≡◌, ◌∙◌, ◌⊎◌, ◌||◌, ℕ, Bool, false, true, refl, sym, ap, ap₂, subst, List, [], ◌∷◌, None, codes, inl, inr, true≢false}
 use Rattle.std.specs.Prelude.{option_map}
 use Rattle.std.specs.List.{find, list_any}
@@ -13,8 +13,8 @@ use Rattle.clap.specs.Faults.{check_fault, entered_fault, fault_of, level_fault,
 use Rattle.clap.proofs.OnLiterals.{clap_on_literals}
 use Rattle.clap.specs.declared.error.kind.ErrorKind.TheVariants.{InvalidSubcommand, UnknownArgument}
 use Rattle.command_line.specs.Command.{flowc_command}
-use Rattle.command_line.specs.Wish.{HasNoOption, IsPlain, IsPlainWish, Wish, spelled, to_build, to_check, to_run}
-use Rattle.command_line.proofs.Levels.{build_leaf, check_leaf, level_parts, run_leaf}
+use Rattle.command_line.specs.Request.{HasNoOption, IsPlain, IsPlainRequest, Request, spelled, to_build, to_check, to_list, to_run}
+use Rattle.command_line.proofs.Levels.{build_leaf, check_leaf, level_parts, list_leaf, run_leaf}
 use Rattle.command_line.proofs.Plain.{Goes, at_name, goes_plain, named_walk, names, plain_or, plain_other, plain_turn_is, plain_walked, stays, stepped, top}
 use Rattle.command_line.proofs.Rows.{both_none, some_kind}
 
@@ -92,6 +92,18 @@ run_two (h ∷ s ∷ x ∷ more) plain e =
     let after_two = passed run_leaf one.held one.waiting one.position s (x ∷ more) q.0 after_one in
     absurd (some_kind _ _ (placed run_leaf two.held two.waiting two.position x more r.0 after_two))
 
+list_one : (rest : List Text) → AllPlain rest → level_fault list_leaf [] nothing_held rest false [] ≡ [] → (file : Text) × IsPlain file × (rest ≡ file ∷ [])
+unfolding clap_on_literals
+list_one [] plain e = absurd (some_kind _ _ (level_parts list_leaf [] [] false [] e).2)
+list_one (file ∷ []) plain e = (file, (or_parts _ _ plain).0, refl)
+list_one (file ∷ x ∷ more) plain e =
+    let p = or_parts _ _ plain in
+    let q = or_parts _ _ p.1 in
+    let start = walk_from nothing_held in
+    let one = stepped list_leaf.rules start file in
+    let after_one = passed list_leaf start.held start.waiting start.position file (x ∷ more) p.0 (level_parts list_leaf [] (file ∷ x ∷ more) false [] e).0 in
+    absurd (some_kind _ _ (placed list_leaf one.held one.waiting one.position x more q.0 after_one))
+
 build_three : (rest : List Text) → AllPlain rest → level_fault build_leaf [] nothing_held rest false [] ≡ []
     → (hierarchy : Text) × (source : Text) × (out : Text) × IsPlain hierarchy × IsPlain source × IsPlain out × (rest ≡ hierarchy ∷ source ∷ out ∷ [])
 unfolding clap_on_literals
@@ -154,7 +166,7 @@ below program name rest met e =
     ∙ (level_parts top names (name ∷ rest) (is_some (entered (built flowc_command) stop)) (entered_fault (built flowc_command) stop) e).1
 
 abbrev pub IsSpelled : List Text → Type 0
-IsSpelled words = (program : Text) × (wish : Wish) × IsPlainWish wish × (words ≡ program ∷ spelled wish)
+IsSpelled words = (program : Text) × (request : Request) × IsPlainRequest request × (words ≡ program ∷ spelled request)
 
 as_check : (program : Text) (rest : List Text) → AllPlain rest → fault_of flowc_command (program ∷ codes "check" ∷ rest) ≡ [] → IsSpelled (program ∷ codes "check" ∷ rest)
 unfolding clap_on_literals
@@ -174,26 +186,38 @@ as_run program rest plain e =
     let two = run_two rest plain (below program (codes "run") rest refl e) in
     (program, to_run two.0 two.1 None None, (two.2, two.3, tt, tt), ap (λ words. program ∷ codes "run" ∷ words) two.4)
 
+as_list : (program : Text) (rest : List Text) → AllPlain rest → fault_of flowc_command (program ∷ codes "list" ∷ rest) ≡ [] → IsSpelled (program ∷ codes "list" ∷ rest)
+unfolding clap_on_literals
+as_list program rest plain e =
+    let one = list_one rest plain (below program (codes "list") rest refl e) in
+    (program, to_list one.0, one.1, ap (λ words. program ∷ codes "list" ∷ words) one.2)
+
 not_help : (program : Text) (rest : List Text) → fault_of flowc_command (program ∷ codes "help" ∷ rest) ≡ [] → ⊥
 unfolding clap_on_literals
 not_help program rest e = some_kind _ _ (first_turn program (codes "help") rest e)
 
+-- a property of the words behind a name that is known
+at : (P : List Text → Type 0) (program name : Text) (rest : List Text) (known : Text) → known ≡ name
+    → (fault_of flowc_command (program ∷ known ∷ rest) ≡ [] → P (program ∷ known ∷ rest))
+    → fault_of flowc_command (program ∷ name ∷ rest) ≡ [] → P (program ∷ name ∷ rest)
+at P program name rest known is holds = subst (λ n. fault_of flowc_command (program ∷ n ∷ rest) ≡ [] → P (program ∷ n ∷ rest)) is holds
+
 named : (program name : Text) (rest : List Text) → IsPlain name → AllPlain rest → fault_of flowc_command (program ∷ name ∷ rest) ≡ [] → IsSpelled (program ∷ name ∷ rest)
-named program name rest plain others e = elim (same_or (codes "check") name) [
-  | inl is ↦ subst (λ n. fault_of flowc_command (program ∷ n ∷ rest) ≡ [] → IsSpelled (program ∷ n ∷ rest)) is (as_check program rest others) e
-  | inr no_check ↦ elim (same_or (codes "build") name) [
-    | inl is ↦ subst (λ n. fault_of flowc_command (program ∷ n ∷ rest) ≡ [] → IsSpelled (program ∷ n ∷ rest)) is (as_build program rest others) e
-    | inr no_build ↦ elim (same_or (codes "run") name) [
-      | inl is ↦ subst (λ n. fault_of flowc_command (program ∷ n ∷ rest) ≡ [] → IsSpelled (program ∷ n ∷ rest)) is (as_run program rest others) e
-      | inr no_run ↦ elim (same_or (codes "help") name) [
-        | inl is ↦ absurd (subst (λ n. fault_of flowc_command (program ∷ n ∷ rest) ≡ [] → ⊥) is (not_help program rest) e)
-        | inr no_help ↦
-            let none : find (answers_to name) names ≡ None = rw (no_check, no_build, no_run, no_help) refl in
-            absurd (some_kind _ _ (sym (unknown_turn name plain none) ∙ first_turn program name rest e))
-      ]
-    ]
-  ]
-]
+named program name rest plain others e =
+    go (same_or (codes "check") name) (same_or (codes "build") name) (same_or (codes "run") name) (same_or (codes "list") name) (same_or (codes "help") name)
+  where
+    Is : Text → Type 0
+    Is known = (known ≡ name) ⊎ (bytes_eq known name ≡ false)
+
+    go : Is (codes "check") → Is (codes "build") → Is (codes "run") → Is (codes "list") → Is (codes "help") → IsSpelled (program ∷ name ∷ rest)
+    go (inl is) build run list help = at IsSpelled program name rest _ is (as_check program rest others) e
+    go (inr _) (inl is) run list help = at IsSpelled program name rest _ is (as_build program rest others) e
+    go (inr _) (inr _) (inl is) list help = at IsSpelled program name rest _ is (as_run program rest others) e
+    go (inr _) (inr _) (inr _) (inl is) help = at IsSpelled program name rest _ is (as_list program rest others) e
+    go (inr _) (inr _) (inr _) (inr _) (inl is) = absurd (at (λ _. ⊥) program name rest _ is (not_help program rest) e)
+    go (inr no_check) (inr no_build) (inr no_run) (inr no_list) (inr no_help) =
+        let none : find (answers_to name) names ≡ None = rw (no_check, no_build, no_run, no_list, no_help) refl in
+        absurd (some_kind _ _ (sym (unknown_turn name plain none) ∙ first_turn program name rest e))
 
 -- a command line with no option that has no fault is spelled so
 pub spelled_so : (words : List Text) → HasNoOption words → fault_of flowc_command words ≡ [] → IsSpelled words

@@ -24,8 +24,8 @@ use Rattle.clap.proofs.ValueTestLemmas.{Accepts-accepts}
 use Rattle.command_line.specs.Command.{flowc_command, step_numbers}
 use Rattle.clap.specs.declared.error.kind.ErrorKind.TheVariants.{ValueValidation}
 use Rattle.command_line.specs.Task.{number_of}
-use Rattle.command_line.specs.Wish.{IsPlain, IsPlainWish, Wish, observer_words, spelled, steps_words, to_build, to_check, to_run}
-use Rattle.command_line.proofs.Levels.{build_leaf, check_leaf, run_leaf}
+use Rattle.command_line.specs.Request.{IsPlain, IsPlainRequest, Request, observer_words, spelled, steps_words, to_build, to_check, to_list, to_run}
+use Rattle.command_line.proofs.Levels.{build_leaf, check_leaf, list_leaf, run_leaf}
 
 -- ---- a plain word
 
@@ -152,6 +152,10 @@ build_found hierarchy source out h s o =
     (goes_plain build_leaf _ _ _ hierarchy _ _ h refl (goes_plain build_leaf _ _ _ source _ _ s refl (goes_plain build_leaf _ _ _ out _ _ o refl (stays build_leaf _))))
     refl refl refl
 
+pub list_found : (file : Text) → IsPlain file → Finds list_leaf (file ∷ []) (row (codes "MODULE") file ∷ [])
+unfolding clap_on_literals
+list_found file f = found_along list_leaf _ _ (goes_plain list_leaf _ _ _ file _ _ f refl (stays list_leaf _)) refl refl refl
+
 abbrev pub observer_rows : Option Text → List Row
 observer_rows None = []
 observer_rows (Some name) = row (codes "observer") name ∷ []
@@ -268,16 +272,18 @@ taken program name s rest rows met turned leaf found =
       meets = ap (λ (w : Walk). entered (built flowc_command) w.stopped) ends ∙ ap (option_map (λ x. rows_at x rest)) leaf ∙ ap (λ rs. Some (s.name, rs)) found.rows;
     }
 
--- the words of a plain wish, and what they are taken for
-abbrev pub met_by : Wish → Text × List Row
+-- the words of a plain request, and what they are taken for
+abbrev pub met_by : Request → Text × List Row
 met_by (to_check hierarchy source) = (codes "check", row (codes "HIER") hierarchy ∷ row (codes "SRC") source ∷ [])
 met_by (to_build hierarchy source out) = (codes "build", row (codes "HIER") hierarchy ∷ row (codes "SRC") source ∷ row (codes "OUT") out ∷ [])
 met_by (to_run file world observer steps) =
     (codes "run", row (codes "MODULE") file ∷ row (codes "WORLD") world ∷ (observer_rows observer ++ steps_rows steps))
+met_by (to_list file) = (codes "list", row (codes "MODULE") file ∷ [])
 
-pub wish_taken : (program : Text) (wish : Wish) → IsPlainWish wish → Takes (program ∷ spelled wish) (Some (met_by wish))
+pub request_taken : (program : Text) (request : Request) → IsPlainRequest request → Takes (program ∷ spelled request) (Some (met_by request))
 unfolding clap_on_literals
-wish_taken program (to_check hierarchy source) plain = taken program (codes "check") check_leaf _ _ refl refl refl (check_found hierarchy source plain.0 plain.1)
-wish_taken program (to_build hierarchy source out) plain = taken program (codes "build") build_leaf _ _ refl refl refl (build_found hierarchy source out plain.0 plain.1 plain.2)
-wish_taken program (to_run file world observer steps) plain =
+request_taken program (to_check hierarchy source) plain = taken program (codes "check") check_leaf _ _ refl refl refl (check_found hierarchy source plain.0 plain.1)
+request_taken program (to_build hierarchy source out) plain = taken program (codes "build") build_leaf _ _ refl refl refl (build_found hierarchy source out plain.0 plain.1 plain.2)
+request_taken program (to_run file world observer steps) plain =
     taken program (codes "run") run_leaf _ _ refl refl refl (run_found file world observer steps plain.0 plain.1 plain.2 plain.3)
+request_taken program (to_list file) plain = taken program (codes "list") list_leaf _ _ refl refl refl (list_found file plain)

@@ -48,9 +48,13 @@ run_command =
     command (codes "run")
     (file_rule (codes "MODULE") ∷ file_rule (codes "WORLD") ∷ observer_rule ∷ steps_rule ∷ [])
 
--- `flowc`, which wants one of the three
+-- `list MODULE`
+abbrev pub list_command : App
+list_command = command (codes "list") (file_rule (codes "MODULE") ∷ [])
+
+-- `flowc`, which wants one of the four
 abbrev pub flowc_command : App
 flowc_command =
     fold (λ above below. with_subcommand above below.top)
     (on_top (λ top. record top { subcommand_required = true }) (new_app (codes "flowc")))
-    (check_command ∷ build_command ∷ run_command ∷ [])
+    (check_command ∷ build_command ∷ run_command ∷ list_command ∷ [])

@@ -1,4 +1,4 @@
 pub mod Command
 pub mod Matched
 pub mod Task
-pub mod Wish
+pub mod Request

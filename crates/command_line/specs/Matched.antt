@@ -32,10 +32,16 @@ abbrev pub HasRunWords : List Row → Type 0
 HasRunWords rows =
     IsGiven (codes "MODULE") rows × IsGiven (codes "WORLD") rows × HasStepsInRange rows
 
--- the subcommand is one of the three, with each word that it needs
+-- the word that `list` needs
+abbrev pub HasListWords : List Row → Type 0
+HasListWords rows = IsGiven (codes "MODULE") rows
+
+-- the subcommand is one of the four, with each word that it needs
 abbrev pub HasWords : Text → List Row → Type 0
 HasWords name rows = ((name ≡ codes "check") × HasCheckWords rows)
-    ⊎ (((name ≡ codes "build") × HasBuildWords rows) ⊎ ((name ≡ codes "run") × HasRunWords rows))
+    ⊎ (((name ≡ codes "build") × HasBuildWords rows)
+    ⊎ (((name ≡ codes "run") × HasRunWords rows)
+    ⊎ ((name ≡ codes "list") × HasListWords rows)))
 
 -- a subcommand was met, with each word that it needs
 abbrev pub Enters : Option (Text × List Row) → Type 0

@@ -6,19 +6,21 @@ use Rattle.std.specs.String.{string_bytes}
 use Rattle.std.specs.Str.Parse.{digits_value, without_leading_plus}
 use Rattle.clap.specs.Words.{Row, Text, first_of}
 use Rattle.command_line.specs.declared.request.Task.{Task}
-use Rattle.command_line.specs.declared.request.Task.TheVariants.{Check, Build, Run}
+use Rattle.command_line.specs.declared.request.Task.TheVariants.{Check, Build, Run, List as ListModule}
 
 -- at most so many steps; a task that runs nothing takes none
 abbrev pub steps_of : Task → ℕ
 steps_of (Check hierarchy source) = 0
 steps_of (Build hierarchy source out) = 0
 steps_of (Run file world observer steps) = steps
+steps_of (ListModule file) = 0
 
 -- the files that a task reads, in the order in which it names them
 abbrev pub paths_of : Task → List (List ℕ)
 paths_of (Check hierarchy source) = string_bytes hierarchy ∷ string_bytes source ∷ []
 paths_of (Build hierarchy source out) = string_bytes hierarchy ∷ string_bytes source ∷ []
 paths_of (Run file world observer steps) = string_bytes file ∷ string_bytes world ∷ []
+paths_of (ListModule file) = string_bytes file ∷ []
 
 -- the number that a word writes in decimal, after a + or none
 abbrev pub number_of : Text → ℕ
@@ -44,6 +46,8 @@ AsksFor name rows (Run file world observer steps) =
     (name ≡ codes "run") × IsWordOf rows (codes "MODULE") (string_bytes file) × IsWordOf rows (codes "WORLD") (string_bytes world)
     × (option_map string_bytes observer ≡ first_of (codes "observer") rows)
     × (steps ≡ steps_in rows)
+AsksFor name rows (ListModule file) =
+    (name ≡ codes "list") × IsWordOf rows (codes "MODULE") (string_bytes file)
 
 -- what was met on the command line asks for the task
 abbrev pub IsTaskOf : Option (Text × List Row) → Task → Type 0

@@ -32,21 +32,29 @@ pub enum Task {
         observer: Option<String>,
         steps: u64,
     },
+    /// List the code of a module.
+    List {
+        file: String,
+    },
 }
 
 impl Task {
     ghost use Rattle.command_line.specs.Task.{paths_of};
-    ghost use Rattle.std.specs.Prelude.{map, ◌≡◌};
+    ghost use Rattle.std.specs.Prelude.{option_map, slice_get, ◌≡◌};
 
-    /// The paths of the two files that the task reads, in the order in which it names them.
-    pub fn paths(&self) -> [&str; 2]
-        ensures { map (λ path. path.now) result ≡ paths_of self.now }
+    /// The path of one of the files that the task reads, which count from 0 in the order in which the task names them.
+    pub fn path(&self, index: usize) -> Option<&str>
+        ensures { option_map (λ path. path.now) result ≡ slice_get (paths_of self.now) index }
     {
-        match self {
-            Task::Check { hier, src } | Task::Build { hier, src, .. } => {
-                [hier.as_str(), src.as_str()]
-            }
-            Task::Run { file, world, .. } => [file.as_str(), world.as_str()],
+        let (first, second) = match self {
+            Task::Check { hier, src } | Task::Build { hier, src, .. } => (hier, Some(src)),
+            Task::Run { file, world, .. } => (file, Some(world)),
+            Task::List { file } => (file, None),
+        };
+        match index {
+            0 => Some(first.as_str()),
+            1 => second.map(|path| path.as_str()),
+            _ => None,
         }
     }
 }
@@ -54,7 +62,7 @@ impl Task {
 /// Why a command line is no task.
 #[derive(Debug, Drop, Error)]
 pub enum TaskFault {
-    /// Wrong words, or a wish for help: the text for standard error.
+    /// Wrong words, or words that ask for help: the text for standard error.
     #[error("{0}")]
     Words(String),
     #[error("no memory")]

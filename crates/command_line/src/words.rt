@@ -1,10 +1,10 @@
-ghost use Rattle.clap.specs.Words.{app_of, fault_of, first_of, kind_of, rule_of, subcommand_of, subcommand_rows_of};
+ghost use Rattle.clap.specs.Words.{app_of, fault_of, first_of, kind_of, new_app, rule_of, subcommand_of, subcommand_rows_of};
 ghost use Rattle.clap.specs.Walk.{texts};
 ghost use Rattle.clap.specs.declared.builder.command.Command.TheViews.{out-Command};
-ghost use Rattle.command_line.specs.Command.{build_command, check_command, file_rule, flowc_command, observer_rule, run_command, steps_rule};
-ghost use Rattle.command_line.specs.Matched.{Enters, HasBuildWords, HasCheckWords, HasRunWords, HasStepsInRange, IsGiven, rows_in};
+ghost use Rattle.command_line.specs.Command.{build_command, check_command, file_rule, flowc_command, list_command, observer_rule, run_command, steps_rule};
+ghost use Rattle.command_line.specs.Matched.{Enters, HasBuildWords, HasCheckWords, HasListWords, HasRunWords, HasStepsInRange, IsGiven, rows_in};
 ghost use Rattle.command_line.specs.Task.{AsksFor, IsTaskOf, IsWordOf, steps_in, steps_of};
-ghost use Rattle.command_line.specs.Wish.{Grants, HasNoOption, IsPlainWish, IsSpelling, Wish, spelled};
+ghost use Rattle.command_line.specs.Request.{GrantsPlainRequests, HasNoOption, IsSpelling};
 ghost use Rattle.command_line.specs.declared.request.TaskFault.TheVariants.{OutOfMemory};
 ghost use Rattle.std.specs.String.{string_bytes};
 ghost use Rattle.std.specs.Prelude.{◌≡◌, ◌≤◌, ◌∷◌, ℕ, IfErr, IfOk, List, MatchResult, [], codes, false, option_map};
@@ -18,14 +18,14 @@ use std::alloc::{AllocError, Global};
 ///
 /// # Errors
 ///
-/// The text of the parser of command lines where the words are wrong or ask for help, or want of
+/// The text of the parser of command lines where the words are wrong or ask for help, or out of
 /// memory.
 pub fn task<'a>(alloc: Global, words: &'a [&'a str]) -> Result<Task, TaskFault>
     ensures matched { IfOk result (IsTaskOf (subcommand_of flowc_command (texts words.now))) }
     ensures steps { IfOk result (λ task. steps_of task ≤ MOST_STEPS) }
     ensures refused { IfOk result (λ _. fault_of flowc_command (texts words.now) ≡ []) }
     ensures taken { IfErr result (λ fault. fault_of flowc_command (texts words.now) ≡ [] → fault ≡ OutOfMemory) }
-    ensures plain { (program : List ℕ) (wish : Wish) → IsPlainWish wish → texts words.now ≡ program ∷ spelled wish → MatchResult result (Grants wish) (λ fault. fault ≡ OutOfMemory) }
+    ensures plain { GrantsPlainRequests (texts words.now) result }
     ensures only { HasNoOption (texts words.now) → IfOk result (IsSpelling (texts words.now)) }
 {
     let command = whole_command(alloc)?;
@@ -45,8 +45,9 @@ fn asked(alloc: Global, matches: &ArgMatches<'_>) -> Result<Task, TaskFault>
     match matches.subcommand() {
         Some(("check", inner)) => check_task(alloc, inner),
         Some(("build", inner)) => build_task(alloc, inner),
-        Some((_, inner)) => run_task(alloc, inner),
-        None => unreachable!(),
+        Some(("run", inner)) => run_task(alloc, inner),
+        Some(("list", inner)) => list_task(alloc, inner),
+        _ => unreachable!(),
     }
 }
 
@@ -59,40 +60,74 @@ fn whole_command<'a>(alloc: Global) -> Result<Command<'a>, AllocError>
         .subcommand_required(true)
         .subcommand(check_command(alloc)?)?
         .subcommand(build_command(alloc)?)?
-        .subcommand(run_command(alloc)?)
+        .subcommand(run_command(alloc)?)?
+        .subcommand(list_command(alloc)?)
+}
+
+// A subcommand that takes no words as yet, and what its help says.
+fn subcommand<'a>(alloc: Global, name: &'a str, about: &'a str, example: &'a str) -> Command<'a>
+    ensures shape { app_of result ≡ new_app name.now }
+    ensures local { (out-Command result).has_globals ≡ false }
+{
+    Command::new(alloc, name).about(about).after_help(example)
 }
 
 fn check_command<'a>(alloc: Global) -> Result<Command<'a>, AllocError>
     ensures shape { IfOk result (λ command. app_of command ≡ check_command) }
     ensures local { IfOk result (λ command. (out-Command command).has_globals ≡ false) }
 {
-    Command::new(alloc, "check")
-        .about("Checks a source under a hierarchy, and prints ok")
-        .arg(hierarchy(alloc))?
-        .arg(source(alloc))
+    subcommand(
+        alloc,
+        "check",
+        "Checks a source under a hierarchy, and prints ok",
+        "Example: flowc check hierarchy.txt payroll.flow",
+    )
+    .arg(hierarchy(alloc))?
+    .arg(source(alloc))
 }
 
 fn build_command<'a>(alloc: Global) -> Result<Command<'a>, AllocError>
     ensures shape { IfOk result (λ command. app_of command ≡ build_command) }
     ensures local { IfOk result (λ command. (out-Command command).has_globals ≡ false) }
 {
-    Command::new(alloc, "build")
-        .about("Compiles a source under a hierarchy, and writes the module")
-        .arg(hierarchy(alloc))?
-        .arg(source(alloc))?
-        .arg(file(alloc, "OUT", "the file that the module is written to"))
+    subcommand(
+        alloc,
+        "build",
+        "Compiles a source under a hierarchy, and writes the module",
+        "Example: flowc build hierarchy.txt payroll.flow payroll.flob",
+    )
+    .arg(hierarchy(alloc))?
+    .arg(source(alloc))?
+    .arg(file(alloc, "OUT", "the file that the module is written to"))
 }
 
 fn run_command<'a>(alloc: Global) -> Result<Command<'a>, AllocError>
     ensures shape { IfOk result (λ command. app_of command ≡ run_command) }
     ensures local { IfOk result (λ command. (out-Command command).has_globals ≡ false) }
 {
-    Command::new(alloc, "run")
-        .about("Runs a module on a world, and prints what it sent")
-        .arg(file(alloc, "MODULE", "the file of the module"))?
-        .arg(file(alloc, "WORLD", "the file with the numbers of each input"))?
-        .arg(observer(alloc))?
-        .arg(steps(alloc))
+    subcommand(
+        alloc,
+        "run",
+        "Runs a module on a world, and prints what it sent",
+        "Example: flowc run payroll.flob november.txt --observer Staff --steps 1000",
+    )
+    .arg(module(alloc))?
+    .arg(file(alloc, "WORLD", "the file with the numbers of each input"))?
+    .arg(observer(alloc))?
+    .arg(steps(alloc))
+}
+
+fn list_command<'a>(alloc: Global) -> Result<Command<'a>, AllocError>
+    ensures shape { IfOk result (λ command. app_of command ≡ list_command) }
+    ensures local { IfOk result (λ command. (out-Command command).has_globals ≡ false) }
+{
+    subcommand(
+        alloc,
+        "list",
+        "Lists the code of a module, with its principals, channels and labels",
+        "Example: flowc list payroll.flob",
+    )
+    .arg(module(alloc))
 }
 
 fn hierarchy<'a>(alloc: Global) -> Arg<'a>
@@ -107,6 +142,13 @@ fn source<'a>(alloc: Global) -> Arg<'a>
     ensures local { result.global ≡ false }
 {
     file(alloc, "SRC", "the file of the source")
+}
+
+fn module<'a>(alloc: Global) -> Arg<'a>
+    ensures rule { rule_of result ≡ file_rule (codes "MODULE") }
+    ensures local { result.global ≡ false }
+{
+    file(alloc, "MODULE", "the file of the module")
 }
 
 fn file<'a>(alloc: Global, name: &'a str, help: &'a str) -> Arg<'a>
@@ -191,6 +233,17 @@ fn run_task(alloc: Global, matches: &ArgMatches<'_>) -> Result<Task, TaskFault>
         world: word(alloc, matches, "WORLD")?,
         observer: observer_word(alloc, matches)?,
         steps: steps_number(matches),
+    })
+}
+
+fn list_task(alloc: Global, matches: &ArgMatches<'_>) -> Result<Task, TaskFault>
+    requires given { HasListWords (rows_in matches.now) }
+    ensures matched { IfOk result (AsksFor (codes "list") (rows_in matches.now)) }
+    ensures steps { IfOk result (λ task. steps_of task ≤ MOST_STEPS) }
+    ensures taken { IfErr result (λ fault. fault ≡ OutOfMemory) }
+{
+    Ok(Task::List {
+        file: word(alloc, matches, "MODULE")?,
     })
 }
 

@@ -7,8 +7,8 @@ use Rattle.command_line.specs.Command.{flowc_command}
 use Rattle.command_line.specs.Matched.{Enters}
 use Rattle.std.proofs.lemmas.Result.{IfErr-weaker}
 use Rattle.command_line.specs.Task.{IsTaskOf}
-use Rattle.command_line.proofs.Grants.{only_granted, wish_granted}
-use Rattle.command_line.proofs.Plain.{wish_taken}
+use Rattle.command_line.proofs.Grants.{only_granted, request_granted}
+use Rattle.command_line.proofs.Plain.{request_taken}
 use Rattle.command_line.proofs.Levels.{enters}
 use Rattle.command_line.proofs.Getters.{always_ok, memory_only}
 use Rattle.command_line.proofs.words.task.Goals as goal
@@ -45,7 +45,7 @@ pub returns-in-Ok-clause-plain : goal.returns-in-Ok-clause-plain
 returns-in-Ok-clause-plain c =
     let words = texts c.args.words.now in
     let met = met_here c.in_ok-command.command words c.in-Ok.matches c.in_ok-command.ensures.shape c.in-Ok.ensures.matches in
-    wish_granted c.asked.result words (subst (λ m. IfOk c.asked.result (IsTaskOf m)) met c.asked.ensures.matched)
+    request_granted c.asked.result words (subst (λ m. IfOk c.asked.result (IsTaskOf m)) met c.asked.ensures.matched)
     (IfErr-weaker c.asked.result _ _ (λ fault memory none. memory) c.asked.ensures.taken)
 
 pub returns-in-Ok-clause-only : goal.returns-in-Ok-clause-only
@@ -55,5 +55,5 @@ returns-in-Ok-clause-only c =
     only_granted c.asked.result words (subst (λ m. IfOk c.asked.result (IsTaskOf m)) met c.asked.ensures.matched) (returns-in-Ok-clause-refused c)
 
 pub returns-in-Err-clause-plain : goal.returns-in-Err-clause-plain
-returns-in-Err-clause-plain c = λ program wish plain is.
-    returns-in-Err-clause-taken c (ap (fault_of flowc_command) is ∙ (wish_taken program wish plain).passes)
+returns-in-Err-clause-plain c = λ program request plain is.
+    returns-in-Err-clause-taken c (ap (fault_of flowc_command) is ∙ (request_taken program request plain).passes)
