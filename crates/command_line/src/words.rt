@@ -124,7 +124,7 @@ fn list_command<'a>(alloc: Global) -> Result<Command<'a>, AllocError>
     subcommand(
         alloc,
         "list",
-        "Lists the code of a module, with its principals, channels and labels",
+        "Lists the channels of a module with their labels, and its code",
         "Example: flowc list payroll.flob",
     )
     .arg(module(alloc))

@@ -20,7 +20,7 @@ use Rattle.flowc.specs.Messages.{IsEndLine, reported_line}
 use Rattle.flowc.specs.Stdout.{CanRun, ShowsRun, ShowsSome, numbers_in, text_shown}
 use Rattle.flowc.specs.Task.{reported_status}
 use Rattle.flowc.specs.declared.fault.PerformFault.{PerformFault}
-use Rattle.flowc.specs.declared.running.Ended.{Ended}
+use Rattle.flowc.specs.declared.ended.Ended.{Ended}
 use Rattle.flowc.specs.View.{IsObserver, shown, view_text}
 
 pub on_err : {X Y : Type 0} (result : Result X Y) (P : Type 0) → P → OnErr result P

@@ -1,4 +1,5 @@
 pub mod Cut
+pub mod Listed
 pub mod Promises
 pub mod Refusals
 pub mod Sessions

@@ -13,7 +13,7 @@ use Rattle.verifier.specs.declared.fault.VerifyFault.{VerifyFault}
 use Rattle.verifier.specs.declared.fault.VerifyFault.TheVariants.{Wrong}
 use Rattle.flowc.specs.Stdout.{CannotRun, ShowsRun, ShowsSome}
 use Rattle.flowc.specs.Task.{status_of_fault}
-use Rattle.flowc.specs.declared.running.Ended.{Ended}
+use Rattle.flowc.specs.declared.ended.Ended.{Ended}
 use Rattle.flowc.specs.declared.fault.PerformFault.{PerformFault}
 use Rattle.flowc.specs.declared.fault.PerformFault.TheVariants.{Refused, CannotWrite, NoMemory}
 

@@ -23,11 +23,11 @@ use Rattle.verifier.specs.declared.fault.VerifyFault.{VerifyFault}
 use Rattle.verifier.specs.declared.fault.VerifyFault.TheVariants.{Wrong}
 use Rattle.flowc.specs.Lines.{IsPerformFault, cannot_write, fault_line, line_of_fault, no_memory, refusal_line, world_line}
 use Rattle.flowc.specs.Task.{status_of_fault}
-use Rattle.flowc.specs.Messages.{IsCompilingLine, IsEndLine, IsModuleLine, IsObserverLine, IsRefusedLine, IsRunLine, IsTextsLine, IsWorldLine, WroteLine}
+use Rattle.flowc.specs.Messages.{IsEndLine, IsFaultLine, IsModuleLine, IsObserverLine, IsRefusedLine, IsRunLine, IsTextsLine, IsWorldLine, WroteLine}
 use Rattle.flowc.specs.Messages.IsModuleLine.{faulty, refused}
 use Rattle.flowc.specs.Messages.IsRefusedLine.{of_module, of_observer, of_world}
 use Rattle.flowc.specs.Messages.IsWorldLine.{wrong}
-use Rattle.flowc.specs.declared.running.Ended.{Ended}
+use Rattle.flowc.specs.declared.ended.Ended.{Ended}
 use Rattle.flowc.specs.declared.fault.PerformFault.{PerformFault}
 use Rattle.flowc.specs.declared.fault.PerformFault.TheVariants.{Refused, CannotWrite, NoMemory}
 
@@ -101,24 +101,31 @@ wrong_line m path text bytes line fault number defect is message same encoded sa
 
 -- ---- tasks
 
--- what a check or a build reports
-pub texts_message : {X : Type 0} (line_of : X → List ℕ) (status_of : X → ℕ) (outcome : Result X PerformFault)
-    (hierarchy_path source_path hierarchy source hierarchy_path' source_path' hierarchy' source' : List ℕ)
+-- what a task reports that is silent where all is well
+pub fault_message : {X : Type 0} (line_of : X → List ℕ) (status_of : X → ℕ) (outcome : Result X PerformFault) (P Q : List ℕ → Type 0)
     (status : ℕ) (out_failed : Bool) (old new : Option (List ℕ)) (failed : Bool)
     → IfOk outcome (λ x. line_of x ≡ []) → IfOk outcome (λ x. status_of x ≡ 0)
-    → IfErr outcome (IsPerformFault (IsTextsLine hierarchy_path' source_path' hierarchy' source') out_failed)
+    → IfErr outcome (IsPerformFault P out_failed) → ((line : List ℕ) → P line → Q line)
     → MatchResult outcome (λ x. status ≡ status_of x) (λ fault. status ≡ status_of_fault fault)
     → MatchResult outcome (λ x. WroteLine (line_of x) old new failed) (λ fault. WroteLine (line_of_fault fault) old new failed)
-    → hierarchy_path' ≡ hierarchy_path → source_path' ≡ source_path → hierarchy' ≡ hierarchy → source' ≡ source
-    → (line : List ℕ) × IsCompilingLine hierarchy_path source_path hierarchy source status out_failed line × WroteLine line old new failed
-texts_message line_of status_of (Ok x) hp sp h s hp' sp' h' s' status out_failed old new failed silent zero message is out p q e f =
+    → (line : List ℕ) × IsFaultLine Q status out_failed line × WroteLine line old new failed
+fault_message line_of status_of (Ok x) P Q status out_failed old new failed silent zero message also is out =
     (line_of x, inl (is ∙ zero, silent), out)
-texts_message line_of status_of (Err (Refused line)) hp sp h s hp' sp' h' s' status out_failed old new failed silent zero message is out p q e f =
-    (string_bytes line, inr (inl (is, rw (sym p, sym q, sym e, sym f) message)), out)
-texts_message line_of status_of (Err CannotWrite) hp sp h s hp' sp' h' s' status out_failed old new failed silent zero message is out p q e f =
+fault_message line_of status_of (Err (Refused line)) P Q status out_failed old new failed silent zero message also is out =
+    (string_bytes line, inr (inl (is, also (string_bytes line) message)), out)
+fault_message line_of status_of (Err CannotWrite) P Q status out_failed old new failed silent zero message also is out =
     (cannot_write, inr (inr (is, inl (message, refl))), out)
-texts_message line_of status_of (Err NoMemory) hp sp h s hp' sp' h' s' status out_failed old new failed silent zero message is out p q e f =
+fault_message line_of status_of (Err NoMemory) P Q status out_failed old new failed silent zero message also is out =
     (no_memory, inr (inr (is, inr refl)), out)
+
+-- a line that reports two texts reports the same texts under other names
+pub texts_line : (hierarchy_path source_path hierarchy source hierarchy_path' source_path' hierarchy' source' : List ℕ)
+    → hierarchy_path' ≡ hierarchy_path → source_path' ≡ source_path → hierarchy' ≡ hierarchy → source' ≡ source
+    → (line : List ℕ) → IsTextsLine hierarchy_path' source_path' hierarchy' source' line → IsTextsLine hierarchy_path source_path hierarchy source line
+texts_line hp sp h s hp' sp' h' s' p q e f line message = rw (sym p, sym q, sym e, sym f) message
+
+pub module_line : (path code path' code' : List ℕ) → path' ≡ path → code' ≡ code → (line : List ℕ) → IsModuleLine path' code' line → IsModuleLine path code line
+module_line path code path' code' p e line message = rw (sym p, sym e) message
 
 -- what a run reports
 pub run_message : (outcome : Result Ended PerformFault) (code_path text_path code text code_path' text_path' code' text' : List ℕ)

@@ -55,7 +55,7 @@ cause_line path cause at = at_two path at.line at.column (saying (cause_number c
 abbrev pub observer_line : (name : List ℕ) → List ℕ
 observer_line name = name ++ saying 153 (codes "unknown principal")
 
--- ---- troubles
+-- ---- failures
 
 -- standard output did not take what was written, or memory ran out
 abbrev pub cannot_write : List ℕ

@@ -27,7 +27,7 @@ use Rattle.verifier.specs.Faults as faults
 use Rattle.verifier.specs.Faults.{HasNoFault}
 use Rattle.verifier.specs.declared.fault.Fault.{Fault}
 use Rattle.command_line.specs.declared.request.Task.{Task}
-use Rattle.command_line.specs.declared.request.Task.TheVariants.{Check, Build, Run}
+use Rattle.command_line.specs.declared.request.Task.TheVariants.{Check, Build, Run, List as ListModule}
 use Rattle.flowc.specs.Compiled.{bytes_at}
 use Rattle.flowc.specs.Lines.{cannot_write, cause_line, encoding_line, end_line, fault_line, no_memory, observer_line, refusal_line, world_line}
 use Rattle.flowc.specs.Stdout.{CanRun, numbers_in}
@@ -101,11 +101,17 @@ pub record IsEndLine (code text : List ℕ) (observer : Option (List ℕ)) (step
 
 -- ---- tasks
 
--- the line of a check or a build of two texts: with status 0 none, with status 1 that of the first fault
-abbrev pub IsCompilingLine : (hierarchy_path source_path hierarchy source : List ℕ) → (status : ℕ) → (out_failed : Bool) → (line : List ℕ) → Type 0
-IsCompilingLine hierarchy_path source_path hierarchy source status out_failed line =
+-- the line of a task of which faults alone are reported: with status 0 none, with status 1 that of a refusal, else that it was
+-- not done
+abbrev pub IsFaultLine : (IsRefusal : List ℕ → Type 0) → (status : ℕ) → (out_failed : Bool) → (line : List ℕ) → Type 0
+IsFaultLine IsRefusal status out_failed line =
     ((status ≡ 0) × (line ≡ []))
-    ⊎ (((status ≡ 1) × IsTextsLine hierarchy_path source_path hierarchy source line) ⊎ IsFailureLine status out_failed line)
+    ⊎ (((status ≡ 1) × IsRefusal line) ⊎ IsFailureLine status out_failed line)
+
+-- the same of a check or a build of two texts, which are refused for the first fault of them
+abbrev pub IsCompilingLine : (hierarchy_path source_path hierarchy source : List ℕ) → (status : ℕ) → (out_failed : Bool) → (line : List ℕ) → Type 0
+IsCompilingLine hierarchy_path source_path hierarchy source =
+    IsFaultLine (IsTextsLine hierarchy_path source_path hierarchy source)
 
 -- the line of a run: with status 1 that of a refusal, else that of its end or that it was not done
 abbrev pub IsRunLine : (code_path text_path code text : List ℕ) → (observer : Option (List ℕ)) → (steps status : ℕ) → (out_failed : Bool) → (line : List ℕ) → Type 0
@@ -121,6 +127,8 @@ IsLine (Build hierarchy source out) files status out_failed line =
     IsCompilingLine (string_bytes hierarchy) (string_bytes source) (bytes_at files 0) (bytes_at files 1) status false line
 IsLine (Run file world observer steps) files status out_failed line =
     IsRunLine (string_bytes file) (string_bytes world) (bytes_at files 0) (bytes_at files 1) (option_map string_bytes observer) steps status out_failed line
+IsLine (ListModule file) files status out_failed line =
+    IsFaultLine (IsModuleLine (string_bytes file) (bytes_at files 0)) status out_failed line
 
 -- what a task has written to standard error when it ends with this status, and standard output has failed or not
 abbrev pub WritesMessage : Task → List (Vec ℕ Global) → (status : ℕ) → (out_failed : Bool) → (old new : Option (List ℕ)) → (failed : Bool) → Type 0

@@ -13,11 +13,12 @@ use Rattle.bytecode.specs.Machine.{after_steps, program_of, sent_after}
 use Rattle.channels.specs.Sink.{AppendsPrefix}
 use Rattle.channels.specs.World.{input_names, numbers_of_channel}
 use Rattle.channels.specs.WorldText.{IsWorldText, lines_of, world_of}
+use Rattle.listing.specs.Listing.{listing_text}
 use Rattle.verifier.specs.Faults.{HasNoFault}
 use Rattle.machine.specs.Run.{IsTold}
 use Rattle.machine.specs.declared.status.Status.{Status}
 use Rattle.command_line.specs.declared.request.Task.{Task}
-use Rattle.command_line.specs.declared.request.Task.TheVariants.{Check, Build, Run}
+use Rattle.command_line.specs.declared.request.Task.TheVariants.{Check, Build, Run, List as ListModule}
 use Rattle.flowc.specs.Compiled.{bytes_at}
 use Rattle.flowc.specs.Task.{reported_status}
 use Rattle.flowc.specs.View.{IsObserver, shown, view_text}
@@ -70,6 +71,27 @@ abbrev pub ShowsSome : (code text : List ℕ) (observer : Option (List ℕ)) (st
 ShowsSome code text observer steps old new =
     (old ≡ new) ⊎ ((out : List ℕ) × IsShown code text observer steps out × Appends old new out)
 
+-- what can be listed: the bytes of a module without a fault
+pub record CanList (code : List ℕ) (program : ModuleContents) : Type 0 where
+  pub spelled : Spells module_file program code
+  pub faultless : HasNoFault program
+
+-- nothing can be listed
+abbrev pub CannotList : List ℕ → Type 0
+CannotList code = (program : ModuleContents) → ¬ CanList code program
+
+-- the module was listed
+abbrev pub Lists : (code : List ℕ) → (old new : Option (List ℕ)) → Type 0
+Lists code old new =
+    (program : ModuleContents) × CanList code program × Appends old new (listing_text program)
+
+-- where a stream failed or memory ran out, nothing was written, or a prefix of the listing
+abbrev pub ListsSome : (code : List ℕ) → (old new : Option (List ℕ)) → Type 0
+ListsSome code old new =
+    (old ≡ new)
+    ⊎ ((program : ModuleContents) × CanList code program
+    × AppendsPrefix old new (listing_text program))
+
 -- what a task has written to standard output when it ends with this status; nothing where what it read is refused, and no more
 -- than a prefix where a stream failed or memory ran out
 abbrev pub Shows : Task → List (Vec ℕ Global) → ℕ → Option (List ℕ) → Option (List ℕ) → Type 0
@@ -83,3 +105,7 @@ Shows (Run file world observer steps) files status old new =
     let name = option_map string_bytes observer in
     ((status ≡ 1) × (old ≡ new) × CannotRun code text name)
     ⊎ (((status ≡ 3) × ShowsSome code text name steps old new) ⊎ ShowsRun code text name steps status old new)
+Shows (ListModule file) files status old new =
+    let code = bytes_at files 0 in
+    ((status ≡ 1) × (old ≡ new) × CannotList code)
+    ⊎ (((status ≡ 3) × ListsSome code old new) ⊎ ((status ≡ 0) × Lists code old new))

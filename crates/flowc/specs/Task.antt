@@ -3,7 +3,7 @@
 use Rattle.std.specs.Prelude.{ℕ, ◌==◌, ◌||◌, length, Bool, true, false, Option, Some, None}
 use Rattle.command_line.specs.Task.{paths_of}
 use Rattle.command_line.specs.declared.request.Task.{Task}
-use Rattle.command_line.specs.declared.request.Task.TheVariants.{Build, Run}
+use Rattle.command_line.specs.declared.request.Task.TheVariants.{Check, Build, Run, List as ListModule}
 use Rattle.flowc.specs.declared.fault.PerformFault.{PerformFault}
 use Rattle.flowc.specs.declared.fault.PerformFault.TheVariants.{Refused, CannotWrite, NoMemory}
 use Rattle.machine.specs.declared.status.Status.{Status}
@@ -15,13 +15,17 @@ files_of task = length (paths_of task)
 
 -- whether a task leaves bytes for a file
 abbrev pub makes_file : Task → Bool
+makes_file (Check hierarchy source) = false
 makes_file (Build hierarchy source out) = true
-makes_file task = false
+makes_file (Run file world observer steps) = false
+makes_file (ListModule file) = false
 
 -- whether a task looks at a source
 abbrev pub reads_source : Task → Bool
+reads_source (Check hierarchy source) = true
+reads_source (Build hierarchy source out) = true
 reads_source (Run file world observer steps) = false
-reads_source task = true
+reads_source (ListModule file) = false
 
 -- the status that reports how a run ended
 abbrev pub status_of_end : Status → ℕ
@@ -51,5 +55,8 @@ is_end_status status = (status == 4) || ((status == 5) || (status == 6))
 
 -- whether a task may end with a status: only a run that is not for an observer reports its end
 abbrev pub may_end : Task → ℕ → Bool
+may_end (Check hierarchy source) status = is_plain_status status
+may_end (Build hierarchy source out) status = is_plain_status status
 may_end (Run file world None steps) status = is_plain_status status || is_end_status status
-may_end task status = is_plain_status status
+may_end (Run file world (Some observer) steps) status = is_plain_status status
+may_end (ListModule file) status = is_plain_status status

@@ -1,9 +1,12 @@
 //! `flowc` as a library: the commands of the program, and what they do; and what a host needs of the crates below.
 #![tactic(auto)]
 
+mod ended;
 mod fault;
 pub mod laws;
+mod list;
 mod messages;
+mod reading;
 mod running;
 mod tasks;
 mod view;

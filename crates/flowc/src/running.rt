@@ -5,12 +5,12 @@ ghost use Rattle.bytecode.specs.Form.{Spells};
 ghost use Rattle.bytecode.specs.Format.{module_file};
 ghost use Rattle.bytecode.specs.Machine.{Running, first_state};
 ghost use Rattle.channels.specs.World.{input_names};
-ghost use Rattle.channels.specs.WorldText.{IsWorldText, lines_of, world_of};
+ghost use Rattle.channels.specs.WorldText.{IsWorldText, lines_of};
 ghost use Rattle.flowc.specs.Lines as lines;
 ghost use Rattle.flowc.specs.Lines.{IsPerformFault};
 ghost use Rattle.flowc.specs.Stdout.{CannotRun, ShowsRun, ShowsSome, numbers_in};
 ghost use Rattle.flowc.specs.Task.{status_of_fault, reported_status};
-ghost use Rattle.flowc.specs.Messages.{IsEndLine, IsModuleLine, IsObserverLine, IsRefusedLine, IsWorldLine, reported_line};
+ghost use Rattle.flowc.specs.Messages.{IsEndLine, IsObserverLine, IsRefusedLine, reported_line};
 ghost use Rattle.flowc.specs.View.{IsObserver};
 ghost use Rattle.flowc.specs.declared.fault.PerformFault.TheVariants.{NoMemory};
 ghost use Rattle.machine.specs.Run.{machine_of};
@@ -18,29 +18,16 @@ ghost use Rattle.std.specs.Prelude.{◌≡◌, IfErr, IfOk, IsUtf8, List, ℕ, O
 ghost use Rattle.std.specs.String.{string_bytes};
 ghost use Rattle.verifier.specs.Faults.{HasNoFault};
 
+use crate::ended::Ended;
 use crate::fault::PerformFault;
-use crate::messages::{encoding_line, fault_line, observer_line, refusal_line, world_line};
+use crate::messages::{observer_line, world_line};
+use crate::reading::{File, read_module, read_world};
 use crate::view::show;
-use bytecode::{FormatFault, Module, decode};
-use channels::{Sink, World, WorldDefect, WorldFault};
+use bytecode::Module;
+use channels::{Sink, WorldDefect};
 use machine::{Machine, NewFault, Status};
 use principals::Hierarchy;
 use std::alloc::Global;
-use verifier::{Verified, VerifyFault, verify};
-
-/// A file that was read: its path and its bytes.
-#[derive(Clone, Copy)]
-pub struct File<'a> {
-    pub path: &'a str,
-    pub bytes: &'a [u8],
-}
-
-/// How a run ended, as the program reports it: its exit status, and the line for standard error.
-#[derive(Drop)]
-pub struct Ended {
-    pub status: u8,
-    pub line: String,
-}
 
 /// Runs a module on a world for at most so many steps, and writes what it sent: all of it, or what the observer may read.
 pub fn run<O: Sink>(
@@ -89,52 +76,6 @@ fn start(alloc: Global, code: File<'_>, world: File<'_>) -> Result<Machine, Perf
     }
 }
 
-// The verified module that the bytes of a file spell.
-fn read_module(alloc: Global, file: File<'_>) -> Result<Verified, PerformFault>
-    ensures spelled { IfOk result (λ verified. Spells module_file verified file.entry.bytes.now) }
-    ensures only { IfOk result (λ verified. (program : ModuleContents) → Spells module_file program file.entry.bytes.now → verified ≡ program) }
-    ensures faultless { IfOk result (λ verified. HasNoFault verified) }
-    ensures refused { IfErr result (λ fault. status_of_fault fault ≡ 1 → (program : ModuleContents) → Spells module_file program file.entry.bytes.now → ¬ HasNoFault program) }
-    ensures message { IfErr result (IsPerformFault (IsModuleLine file.entry.path.now file.entry.bytes.now) false) }
-{
-    let program = match decode(alloc, file.bytes) {
-        Ok(program) => program,
-        Err(FormatFault::NoMemory) => return Err(PerformFault::NoMemory),
-        Err(FormatFault::Refused(refusal, offset)) => {
-            let line = refusal_line(alloc, file.path, refusal, offset)?;
-            return Err(PerformFault::Refused(line));
-        }
-    };
-    match verify(alloc, program) {
-        Ok(verified) => Ok(verified),
-        Err(VerifyFault::NoMemory) => Err(PerformFault::NoMemory),
-        Err(VerifyFault::Wrong(fault)) => {
-            Err(PerformFault::Refused(fault_line(alloc, file.path, fault)?))
-        }
-    }
-}
-
-// The world that the bytes of a file write for a module.
-fn read_world(alloc: Global, program: &Module, file: File<'_>) -> Result<World, PerformFault>
-    ensures encoded { OnOk result (IsUtf8 file.entry.bytes.now) }
-    ensures right { OnOk result (IsWorldText (input_names program.now) (lines_of file.entry.bytes.now)) }
-    ensures world { IfOk result (λ world. world ≡ world_of (input_names program.now) (lines_of file.entry.bytes.now)) }
-    ensures refused { IfErr result (λ fault. status_of_fault fault ≡ 1 → IsUtf8 file.entry.bytes.now → ¬ IsWorldText (input_names program.now) (lines_of file.entry.bytes.now)) }
-    ensures message { IfErr result (IsPerformFault (IsWorldLine program.now file.entry.path.now file.entry.bytes.now) false) }
-{
-    let path = file.path;
-    let Ok(text) = std::str::from_utf8(file.bytes) else {
-        return Err(PerformFault::Refused(encoding_line(alloc, path)?));
-    };
-    match World::read(alloc, program, text) {
-        Ok(world) => Ok(world),
-        Err(WorldFault::NoMemory) => Err(PerformFault::NoMemory),
-        Err(WorldFault::Line { line, defect }) => {
-            Err(PerformFault::Refused(world_line(alloc, path, line, defect)?))
-        }
-    }
-}
-
 // The number of the principal who observes, if one is named.
 fn principal_of(
     alloc: Global,
@@ -166,10 +107,7 @@ fn report_end(
     ensures memory { IfErr result (λ fault. fault ≡ NoMemory) }
 {
     if observer.is_some() {
-        return Ok(Ended {
-            status: 0,
-            line: String::new(alloc),
-        });
+        return Ok(Ended::silent(alloc));
     }
     let (status, line) = match status {
         Status::Finished => (0, String::from_str(alloc, "finished\n")?),

@@ -9,9 +9,12 @@ ghost use Rattle.std.specs.Io.KnownBytes.{Appends};
 ghost use Rattle.std.specs.Prelude.{[], ◌≡◌, ◌≤◌, ◌<◌, ◌↔◌, IfErr, IfOk, IfSome, IsSome, IsTrue, MatchResult, None, OnOk, codes, false, length, option_map};
 ghost use Rattle.std.specs.String.{string_bytes};
 
+use crate::ended::Ended;
 use crate::fault::PerformFault;
+use crate::list::list_module;
 use crate::messages::cause_line;
-use crate::running::{Ended, File, run};
+use crate::reading::File;
+use crate::running::run;
 use acceptance::Text;
 use channels::{Sink, write_all};
 use command_line::Task;
@@ -48,15 +51,14 @@ pub fn perform<O: Sink, E: Sink>(
     ensures shown { Shows task.now files.now result.status (O.taken out.old) (O.taken out.new) }
     ensures message { WritesMessage task.now files.now result.status (O.has_failed out.new) (E.taken err.old) (E.taken err.new) (E.has_failed err.new) }
 {
-    let (first, second) = (bytes_of(files, 0), bytes_of(files, 1));
     match task {
         Task::Check { hier, src } => {
-            let checked = check(alloc, file_at(hier, first), file_at(src, second), out);
-            finish(checked, err)
+            let (hierarchy, source) = (file_at(hier, files, 0), file_at(src, files, 1));
+            finish(check(alloc, hierarchy, source, out), err)
         }
         Task::Build { hier, src, .. } => {
-            let built = build(alloc, file_at(hier, first), file_at(src, second));
-            finish_build(built, err)
+            let (hierarchy, source) = (file_at(hier, files, 0), file_at(src, files, 1));
+            finish_build(build(alloc, hierarchy, source), err)
         }
         Task::Run {
             file,
@@ -64,18 +66,11 @@ pub fn perform<O: Sink, E: Sink>(
             observer,
             steps,
         } => {
-            let (code, world) = (file_at(file, first), file_at(world, second));
+            let (code, world) = (file_at(file, files, 0), file_at(world, files, 1));
             finish(run(alloc, code, world, name_of(observer), *steps, out), err)
         }
+        Task::List { file } => finish(list_module(alloc, file_at(file, files, 0), out), err),
     }
-}
-
-// The bytes of one of the files.
-fn bytes_of(files: &[Vec<u8>], index: usize) -> &[u8]
-    requires { index < length files.now }
-    ensures { result.now ≡ bytes_at files.now index }
-{
-    files[index].as_slice()
 }
 
 // The name of an observer, if one is named.
@@ -88,14 +83,15 @@ fn name_of(observer: &Option<String>) -> Option<&str>
     }
 }
 
-// A file that was read, by its path.
-fn file_at<'a>(path: &'a String, bytes: &'a [u8]) -> File<'a>
+// One of the files that were read, by its path.
+fn file_at<'a>(path: &'a String, files: &'a [Vec<u8>], index: usize) -> File<'a>
+    requires { index < length files.now }
     ensures path { result.path.now ≡ string_bytes path.now }
-    ensures bytes { result.bytes.now ≡ bytes.now }
+    ensures bytes { result.bytes.now ≡ bytes_at files.now index }
 {
     File {
         path: path.as_str(),
-        bytes,
+        bytes: files[index].as_slice(),
     }
 }
 
@@ -117,10 +113,7 @@ fn check<O: Sink>(
 {
     let _code = build(alloc, hierarchy, source)?;
     write_all(out, b"ok\n")?;
-    Ok(Ended {
-        status: 0,
-        line: String::new(alloc),
-    })
+    Ok(Ended::silent(alloc))
 }
 
 // The bytes of the module that a source under a hierarchy is compiled to.

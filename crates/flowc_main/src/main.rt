@@ -1,6 +1,9 @@
 //! The program `flowc`: takes the words, reads the files, does the task, and ends with its status.
 #![tactic(auto)]
 
+ghost use Rattle.flowc.specs.Task.{files_of};
+ghost use Rattle.std.specs.Prelude.{◌≡◌, IfOk, length};
+
 use channels::{Device, write_all};
 use flowc::{Task, TaskFault, perform, task};
 use std::alloc::{AllocError, AllocFailed};
@@ -68,8 +71,7 @@ fn perform_words(rt: &HostRuntime) -> Result<u8, Failure> {
         lent.push(word.as_str())?;
     }
     let asked = task(rt.alloc(), &lent)?;
-    let [first, second] = asked.paths();
-    let files = [read(rt, first)?, read(rt, second)?];
+    let files = read_files(rt, &asked)?;
     let mut out = Device::new(rt.stdout());
     let mut err = Device::new(rt.stderr());
     let done = perform(rt.alloc(), &asked, &files, &mut out, &mut err);
@@ -78,6 +80,20 @@ fn perform_words(rt: &HostRuntime) -> Result<u8, Failure> {
         write(rt, out.as_str(), code)?;
     }
     Ok(done.status)
+}
+
+// The bytes of each file that the task reads, one or two, in the order in which it names them.
+fn read_files(rt: &HostRuntime, asked: &Task) -> Result<Vec<Vec<u8>>, Failure>
+    ensures { IfOk result (λ files. length files.items ≡ files_of asked.now) }
+{
+    let mut files = Vec::new(rt.alloc());
+    if let Some(path) = asked.path(0) {
+        files.push(read(rt, path)?)?;
+    }
+    if let Some(path) = asked.path(1) {
+        files.push(read(rt, path)?)?;
+    }
+    Ok(files)
 }
 
 // All bytes of a file.

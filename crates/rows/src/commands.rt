@@ -1,7 +1,7 @@
 //! Rows that ask the program `flowc` for something.
 
 ghost use Rattle.flowc.specs.Task.{files_of};
-ghost use Rattle.std.specs.Prelude.{◌≡◌, length};
+ghost use Rattle.std.specs.Prelude.{◌≡◌, IfOk, length};
 
 use crate::answer::{write_lines, write_status};
 use crate::fault::LineFault;
@@ -34,10 +34,23 @@ fn task_of(alloc: Global, line: &str) -> Result<Result<Task, TaskFault>, LineFau
 }
 
 fn answer_task(texts: &mut Texts, asked: &Task, answer: &mut Vec<u8>) -> Result<(), LineFault> {
-    let [first, second] = asked.paths();
-    let files = [texts.copy(first)?, texts.copy(second)?];
+    let files = copy_texts(texts, asked)?;
     let done = answer_files(texts.alloc(), asked, &files, answer)?;
     keep(texts, asked, done)
+}
+
+// The texts that stand in for the files that the task reads, one or two, in the order in which it names them.
+fn copy_texts(texts: &Texts, asked: &Task) -> Result<Vec<Vec<u8>>, LineFault>
+    ensures { IfOk result (λ files. length files.items ≡ files_of asked.now) }
+{
+    let mut files = Vec::new(texts.alloc());
+    if let Some(name) = asked.path(0) {
+        files.push(texts.copy(name)?)?;
+    }
+    if let Some(name) = asked.path(1) {
+        files.push(texts.copy(name)?)?;
+    }
+    Ok(files)
 }
 
 // Does the task, and writes what went to standard output and standard error.

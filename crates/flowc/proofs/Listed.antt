@@ -1,0 +1,15 @@
+-- What a listing has shown where a stream failed or memory ran out.
+use Rattle.std.proofs.Common.{◌≡◌, ℕ, List, inr, subst, Option}
+use Rattle.bytecode.specs.Contents.{ModuleContents}
+use Rattle.bytecode.specs.Form.{Spells}
+use Rattle.bytecode.specs.Format.{module_file}
+use Rattle.channels.specs.Sink.{AppendsPrefix}
+use Rattle.listing.specs.Listing.{listing_text}
+use Rattle.verifier.specs.Faults.{HasNoFault}
+use Rattle.flowc.specs.Stdout.{ListsSome}
+
+-- a prefix of the listing of a module that was lent
+pub listed_some : (code : List ℕ) (m lent : ModuleContents) (old new : Option (List ℕ)) → Spells module_file m code → HasNoFault m → lent ≡ m
+    → AppendsPrefix old new (listing_text lent) → ListsSome code old new
+listed_some code m lent old new spelled faultless is part =
+    inr (m, record { spelled = spelled; faultless = faultless }, subst (λ (w : ModuleContents). AppendsPrefix old new (listing_text w)) is part)

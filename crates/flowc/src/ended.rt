@@ -1,0 +1,26 @@
+//! How tasks end that are done.
+
+ghost use Rattle.std.specs.Prelude.{[], ◌≡◌};
+ghost use Rattle.std.specs.String.{string_bytes};
+
+use std::alloc::Global;
+
+/// How a task ended that was done, as the program reports it: its exit status, and the line for standard error.
+#[derive(Drop)]
+pub struct Ended {
+    pub status: u8,
+    pub line: String,
+}
+
+impl Ended {
+    /// The end of a task where all is well, of which nothing is reported.
+    pub fn silent(alloc: Global) -> Ended
+        ensures status { result.status ≡ 0 }
+        ensures line { string_bytes result.line ≡ [] }
+    {
+        Ended {
+            status: 0,
+            line: String::new(alloc),
+        }
+    }
+}

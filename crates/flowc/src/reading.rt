@@ -1,0 +1,72 @@
+//! Reads the files of modules and worlds, and reports what is wrong with them.
+
+ghost use Rattle.bytecode.specs.Contents.{ModuleContents};
+ghost use Rattle.bytecode.specs.Form.{Spells};
+ghost use Rattle.bytecode.specs.Format.{module_file};
+ghost use Rattle.channels.specs.World.{input_names};
+ghost use Rattle.channels.specs.WorldText.{IsWorldText, lines_of, world_of};
+ghost use Rattle.flowc.specs.Lines.{IsPerformFault};
+ghost use Rattle.flowc.specs.Task.{status_of_fault};
+ghost use Rattle.flowc.specs.Messages.{IsModuleLine, IsWorldLine};
+ghost use Rattle.std.specs.Prelude.{◌≡◌, IfErr, IfOk, IsUtf8, OnOk, false};
+ghost use Rattle.verifier.specs.Faults.{HasNoFault};
+
+use crate::fault::PerformFault;
+use crate::messages::{encoding_line, fault_line, refusal_line, world_line};
+use bytecode::{FormatFault, Module, decode};
+use channels::{World, WorldFault};
+use std::alloc::Global;
+use verifier::{Verified, VerifyFault, verify};
+
+/// A file that was read: its path and its bytes.
+#[derive(Clone, Copy)]
+pub struct File<'a> {
+    pub path: &'a str,
+    pub bytes: &'a [u8],
+}
+
+/// The verified module that the bytes of a file spell.
+pub fn read_module(alloc: Global, file: File<'_>) -> Result<Verified, PerformFault>
+    ensures spelled { IfOk result (λ verified. Spells module_file verified file.entry.bytes.now) }
+    ensures only { IfOk result (λ verified. (program : ModuleContents) → Spells module_file program file.entry.bytes.now → verified ≡ program) }
+    ensures faultless { IfOk result (λ verified. HasNoFault verified) }
+    ensures refused { IfErr result (λ fault. status_of_fault fault ≡ 1 → (program : ModuleContents) → Spells module_file program file.entry.bytes.now → ¬ HasNoFault program) }
+    ensures message { IfErr result (IsPerformFault (IsModuleLine file.entry.path.now file.entry.bytes.now) false) }
+{
+    let program = match decode(alloc, file.bytes) {
+        Ok(program) => program,
+        Err(FormatFault::NoMemory) => return Err(PerformFault::NoMemory),
+        Err(FormatFault::Refused(refusal, offset)) => {
+            let line = refusal_line(alloc, file.path, refusal, offset)?;
+            return Err(PerformFault::Refused(line));
+        }
+    };
+    match verify(alloc, program) {
+        Ok(verified) => Ok(verified),
+        Err(VerifyFault::NoMemory) => Err(PerformFault::NoMemory),
+        Err(VerifyFault::Wrong(fault)) => {
+            Err(PerformFault::Refused(fault_line(alloc, file.path, fault)?))
+        }
+    }
+}
+
+/// The world that the bytes of a file write for a module.
+pub fn read_world(alloc: Global, program: &Module, file: File<'_>) -> Result<World, PerformFault>
+    ensures encoded { OnOk result (IsUtf8 file.entry.bytes.now) }
+    ensures right { OnOk result (IsWorldText (input_names program.now) (lines_of file.entry.bytes.now)) }
+    ensures world { IfOk result (λ world. world ≡ world_of (input_names program.now) (lines_of file.entry.bytes.now)) }
+    ensures refused { IfErr result (λ fault. status_of_fault fault ≡ 1 → IsUtf8 file.entry.bytes.now → ¬ IsWorldText (input_names program.now) (lines_of file.entry.bytes.now)) }
+    ensures message { IfErr result (IsPerformFault (IsWorldLine program.now file.entry.path.now file.entry.bytes.now) false) }
+{
+    let path = file.path;
+    let Ok(text) = std::str::from_utf8(file.bytes) else {
+        return Err(PerformFault::Refused(encoding_line(alloc, path)?));
+    };
+    match World::read(alloc, program, text) {
+        Ok(world) => Ok(world),
+        Err(WorldFault::NoMemory) => Err(PerformFault::NoMemory),
+        Err(WorldFault::Line { line, defect }) => {
+            Err(PerformFault::Refused(world_line(alloc, path, line, defect)?))
+        }
+    }
+}
