@@ -9,6 +9,7 @@ mod messages;
 mod reading;
 mod running;
 mod tasks;
+mod texts;
 mod view;
 
 pub use acceptance::{Cause, Text};

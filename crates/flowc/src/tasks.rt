@@ -12,13 +12,11 @@ ghost use Rattle.std.specs.String.{string_bytes};
 use crate::ended::Ended;
 use crate::fault::PerformFault;
 use crate::list::list_module;
-use crate::messages::cause_line;
 use crate::reading::File;
 use crate::running::run;
-use acceptance::Text;
+use crate::texts::{build, check};
 use channels::{Sink, write_all};
 use command_line::Task;
-use compiler::{Fault, compile};
 use std::alloc::Global;
 
 /// What the program leaves to do: its exit status, and the bytes for the output file if it makes one.
@@ -92,47 +90,6 @@ fn file_at<'a>(path: &'a String, files: &'a [Vec<u8>], index: usize) -> File<'a>
     File {
         path: path.as_str(),
         bytes: files[index].as_slice(),
-    }
-}
-
-// Checks a source under a hierarchy, and says so on standard output.
-fn check<O: Sink>(
-    alloc: Global,
-    hierarchy: File<'_>,
-    source: File<'_>,
-    out: &mut O,
-) -> Result<Ended, PerformFault>
-    ensures accepted { OnOk result (AreAccepted hierarchy.entry.bytes.now source.entry.bytes.now) }
-    ensures refused { IfErr result (λ fault. status_of_fault fault ≡ 1 → ¬ AreAccepted hierarchy.entry.bytes.now source.entry.bytes.now) }
-    ensures status { IfOk result (λ ended. ended.status ≡ 0) }
-    ensures shown { OnOk result (Appends (O.taken out.old) (O.taken out.new) (codes "ok\n")) }
-    ensures quiet { IfErr result (λ fault. status_of_fault fault ≡ 1 → O.taken out.old ≡ O.taken out.new) }
-    ensures some { IfErr result (λ fault. status_of_fault fault ≡ 3 → AppendsPrefix (O.taken out.old) (O.taken out.new) (codes "ok\n")) }
-    ensures silent { IfOk result (λ ended. string_bytes ended.line ≡ []) }
-    ensures message { IfErr result (IsPerformFault (IsTextsLine hierarchy.entry.path.now source.entry.path.now hierarchy.entry.bytes.now source.entry.bytes.now) (O.has_failed out.new)) }
-{
-    let _code = build(alloc, hierarchy, source)?;
-    write_all(out, b"ok\n")?;
-    Ok(Ended::silent(alloc))
-}
-
-// The bytes of the module that a source under a hierarchy is compiled to.
-fn build(alloc: Global, hierarchy: File<'_>, source: File<'_>) -> Result<Vec<u8>, PerformFault>
-    ensures accepted { OnOk result (AreAccepted hierarchy.entry.bytes.now source.entry.bytes.now) }
-    ensures compiled { IfOk result (λ code. IsCompiled hierarchy.entry.bytes.now source.entry.bytes.now code.items) }
-    ensures refused { IfErr result (λ fault. status_of_fault fault ≡ 1 → ¬ AreAccepted hierarchy.entry.bytes.now source.entry.bytes.now) }
-    ensures message { IfErr result (IsPerformFault (IsTextsLine hierarchy.entry.path.now source.entry.path.now hierarchy.entry.bytes.now source.entry.bytes.now) false) }
-{
-    match compile(alloc, hierarchy.bytes, source.bytes) {
-        Ok(code) => Ok(code),
-        Err(Fault::NoMemory) => Err(PerformFault::NoMemory),
-        Err(Fault::Refused { text, cause, at }) => {
-            let path = match text {
-                Text::Hierarchy => hierarchy.path,
-                Text::Source => source.path,
-            };
-            Err(PerformFault::Refused(cause_line(alloc, path, cause, at)?))
-        }
     }
 }
 
