@@ -1,10 +1,8 @@
-use Rattle.std.proofs.Common.{◌≡◌, List, map, take, ap, ◌∙◌, sym, length, arith}
+use Rattle.std.proofs.Common.{◌≡◌, List, map, ap, ◌∙◌, length, arith}
 use Rattle.std.specs.List.{flat_map}
 use Rattle.std.proofs.lemmas.List.{take_all}
 use Rattle.bytecode.specs.Machine.{first_global, slot_of}
 use Rattle.bytecode.specs.declared.declaration.Global.{Global}
-use Rattle.bytecode.specs.declared.declaration.Slot.{Slot}
-use Rattle.bytecode.specs.declared.value.Cell.{Cell}
 use Rattle.machine.specs.Slab.{cells_in, cut, total}
 use Rattle.machine.proofs.OfGlobals.{cut_first, total_first}
 use Rattle.machine.proofs.globals.Globals.new.Goals as goal

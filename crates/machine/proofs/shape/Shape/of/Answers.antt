@@ -1,4 +1,4 @@
-use Rattle.std.proofs.Common.{◌≡◌, ◌<◌, ◌^◌, map, take, ap, ◌∙◌, List, arith, length}
+use Rattle.std.proofs.Common.{◌≡◌, map, take, ap, ◌∙◌, List, arith}
 use Rattle.std.proofs.lemmas.List.{take_all}
 use Rattle.machine.specs.Slab.{cells_in, total, spans_of}
 use Rattle.machine.specs.declared.shape.Span.{Span}

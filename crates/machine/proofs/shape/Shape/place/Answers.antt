@@ -1,4 +1,4 @@
-use Rattle.std.proofs.Common.{refl, ◌+◌, ◌<◌, ◌^◌, ◌≡◌, sym, ap, ◌∙◌, slice_get, List, arith, Some}
+use Rattle.std.proofs.Common.{refl, ◌+◌, ◌<◌, ◌^◌, sym, ap, ◌∙◌, slice_get, List, arith}
 use Rattle.machine.specs.declared.shape.Span.{Span}
 use Rattle.machine.proofs.Cuts.{placed, by_span_in, by_span_out, span_within}
 use Rattle.machine.proofs.shape.Shape.place.Goals as goal
