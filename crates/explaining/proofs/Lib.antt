@@ -2,4 +2,5 @@ mod Walking
 mod Naming
 mod Texts
 mod Counts
+mod Kept
 mod Lists

@@ -6,7 +6,6 @@ use Rattle.std.proofs.lemmas.List.{append-nil, length-map, length-take-le, map-a
 use Rattle.std.specs.Io.KnownBytes.{Appends}
 use Rattle.labels.specs.Label.{Label}
 use Rattle.labels.proofs.Begins.{Begins-itself}
-use Rattle.labels.proofs.FlowTests.{IsLattice-flows}
 use Rattle.resolved.specs.CoreOf.{program_of}
 use Rattle.resolved.specs.Labelled.{OfLocal}
 use Rattle.resolved.specs.Program.{ProcedureEntry, SlotEntry}
@@ -16,6 +15,7 @@ use Rattle.resolved.specs.declared.tables.Slot.{Slot}
 use Rattle.channels.specs.Sink.{AppendsPrefix}
 use Rattle.checker.specs.Least.{least_label}
 use Rattle.checker.specs.declared.checked.Checked.{Checked}
+use Rattle.explaining.proofs.Kept.{kept, kept-above, kept-below, kept-canonical}
 use Rattle.explaining.specs.Text.{Writes, WritesPrefix}
 use Rattle.explaining.specs.Locals.{AreLines, IsLine, LocalEntry, if_unlabelled, local_line, local_of, locals_from, locals_in}
 use Rattle.explaining.specs.Locals.AreLines.{none, one_more}
@@ -107,10 +107,12 @@ module _ (source : List ℕ) (checked : Checked) where
   lines-there (local ∷ locals) =
       let h = (program_of checked.core).hierarchy in
       let least = least_label checked (OfLocal local.procedure local.number) in
-      let same = (IsLattice-flows h).reflexive least in
-      let line = local_line source h local least in
-      let rest = lines-there locals in
-      (line ++ rest.0, one_more local locals line rest.0 (least, record { to = same; from = same }, refl) rest.1)
+      let line = local_line source h local (kept least) in
+      let rest = lines-there locals in (
+        line ++ rest.0,
+        one_more local locals line rest.0
+            (kept least, kept-canonical least, record { to = kept-above h least; from = kept-below h least }, refl) rest.1,
+      )
 
   -- the line of a local that has no written label
   module _ (mid new : Option (List ℕ)) (local : LocalEntry) (written : Option Label) (unlabelled : is_some written ≡ false) (line : List ℕ)

@@ -1,6 +1,7 @@
 -- The text that lists the least labels of locals that are written without one.
 -- Source: our own; labels of locals may be left out, and are then inferred, as in JFlow (Myers 1999).
 use Rattle.std.specs.Prelude.{ℕ, suc, ◌≡◌, List, [], ◌∷◌, ◌++◌, Option, Some, None, codes}
+use Rattle.labels.specs.Canonical.{IsCanonicalLabel}
 use Rattle.labels.specs.Constraints.{label_lattice}
 use Rattle.labels.specs.Label.{Label}
 use Rattle.labels.specs.Printed.{printed_label}
@@ -54,10 +55,10 @@ abbrev pub local_line : (source : List ℕ) → PrincipalHierarchy → LocalEntr
 local_line source h local label =
     at_place source local.at (codes " " ++ (local.name ++ (codes " " ++ (printed_label h label ++ codes "\n"))))
 
--- the line of a local, with a label that flows both ways with its least one
+-- the line of a local, with a label that flows both ways with its least one, each policy once and in order
 abbrev pub IsLine : (source : List ℕ) → Checked → LocalEntry → (line : List ℕ) → Type 0
 IsLine source checked local line =
-    (label : Label) × IsLeastLabel checked local label
+    (label : Label) × IsCanonicalLabel label × IsLeastLabel checked local label
     × (line ≡ local_line source (program_of checked.core).hierarchy local label)
 
 -- a line for each of these locals, in order
