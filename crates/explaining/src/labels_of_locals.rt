@@ -48,7 +48,7 @@ pub fn write_labels<O: Sink>(
 }
 
 // Writes a line for each local of a procedure that is written without a label. The number of the procedure's first unknown is
-// counted along the way, so that no label needs a walk along the procedures.
+// counted from procedure to procedure, so that no label needs a walk along all of them.
 fn write_locals<O: Sink>(
     alloc: Global,
     checked: &Checked,
