@@ -1,12 +1,10 @@
 -- The earliest of the constraints that are broken: over lists put together, and what it is the earliest of.
 use Rattle.std.proofs.Common.{◌≡◌, refl, sym, ap, ◌∙◌, subst, ℕ, suc, ◌<◌, ◌+◌, length, get_or, take, List, [], ◌∷◌, ◌++◌, Bool, arith, add-zero, zero-add, add-one, append_assoc, append-nil, ⊎_elim, Option}
 use Rattle.std.specs.Prelude.{Contains}
-use Rattle.std.specs.Global.{Global}
-use Rattle.std.specs.declared.vec.Vec.{Vec}
 use Rattle.std.proofs.lemmas.List.{take_more, length-take-le}
 use Rattle.std.proofs.lemmas.List.Elements.{Contains-get_or}
 use Rattle.principals.proofs.Closure.{none_in_nil, Contains-cons_cases}
-use Rattle.solver.specs.Broken.{RightsInside, broken_by, candidates, earlier, earliest, found_candidates, value_candidates}
+use Rattle.solver.specs.Broken.{RightsInside, broken_by, candidates, earlier, earliest, found_candidates}
 use Rattle.solver.specs.Reach.{row_of, edge}
 use Rattle.solver.specs.declared.broken.Broken.{Broken}
 use Rattle.solver.specs.declared.edges.Edge.{Edge}
@@ -70,38 +68,6 @@ module _ (below : ℕ → ℕ → Bool) (value : ℕ) where
       ∙ (ap (λ b. earliest b step) so_far
       ∙ (sym (earliest-append start (first ++ before) step)
       ∙ ap (earliest start) (append_assoc first before step ∙ ap (λ x. first ++ x) (sym longer)))))
-
-module _ (edges : Edges) (below : ℕ → ℕ → Bool) where
-  value-append : (value : ℕ) (a b : List (Vec Found Global)) → value_candidates edges below value (a ++ b) ≡
-      value_candidates edges below value a ++ value_candidates edges below (value + length a) b
-  value-append value [] b = ap (λ n. value_candidates edges below n b) (sym (add-zero value))
-  value-append value (f ∷ a) b =
-      let first = candidates below value 0 (row_of edges (Written value)) ++ found_candidates edges below value 0 f.items in
-      let e : suc value + length a ≡ value + length (f ∷ a) = omega arith in
-      ap (λ x. first ++ x) (value-append (suc value) a b ∙ ap (λ n. value_candidates edges below (suc value) a ++ value_candidates edges below n b) e)
-      ∙ sym (append_assoc first (value_candidates edges below (suc value) a) (value_candidates edges below (value + length (f ∷ a)) b))
-
-  -- the step of a loop over written elements
-  pub values_step : (reached : List (Vec Found Global)) (i : ℕ) (found : Vec Found Global) (slice : List Found) (start best after : Option Broken) → i < length reached →
-      found ≡ get_or reached i found → slice ≡ found.items →
-      best ≡ earliest start (value_candidates edges below 0 (take i reached)) →
-      after ≡ earliest best (candidates below i 0 (row_of edges (Written i)) ++ found_candidates edges below i 0 slice) →
-      after ≡ earliest start (value_candidates edges below 0 (take (i + 1) reached))
-  values_step reached i found slice start best after h is slice_is so_far more =
-      let last = get_or reached i found in
-      let before = value_candidates edges below 0 (take i reached) in
-      let len : 0 + length (take i reached) ≡ i = zero-add (length (take i reached)) ∙ length-take-le i reached (omega (arith, h)) in
-      let step = candidates below i 0 (row_of edges (Written i)) ++ found_candidates edges below i 0 last.items in
-      let step_is : candidates below i 0 (row_of edges (Written i)) ++ found_candidates edges below i 0 slice ≡ step =
-      ap (λ fs. candidates below i 0 (row_of edges (Written i)) ++ found_candidates edges below i 0 fs) (slice_is ∙ ap (λ r. r.items) is) in
-      let longer : value_candidates edges below 0 (take (i + 1) reached) ≡ before ++ step =
-      ap (value_candidates edges below 0) (take_more reached i found h)
-      ∙ (value-append 0 (take i reached) (last ∷ [])
-      ∙ (ap (λ n. before ++ value_candidates edges below n (last ∷ [])) len ∙ ap (λ x. before ++ x) (append-nil step))) in
-      more
-      ∙ (ap (earliest best) step_is
-      ∙ (ap (λ b. earliest b step) so_far
-      ∙ (sym (earliest-append start before step) ∙ ap (earliest start) (sym longer))))
 
 pub one-right_inside : (edges : List Edge) (i : ℕ) (d : Edge) (count : ℕ) → i < length edges → RightsInside count edges → RightsInside count (get_or edges i d ∷ [])
 one-right_inside edges i d count h inside by n in' =

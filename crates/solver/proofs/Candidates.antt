@@ -1,13 +1,11 @@
 -- Which constraints are candidates for the first that is broken, and that the earliest is one of them and before all.
 use Rattle.std.proofs.Common.{◌≡◌, refl, sym, ap, subst, ℕ, zero, suc, ◌<◌, ◌≤◌, ◌+◌, length, get_or, List, [], ◌∷◌, ◌++◌, Bool, true, false, arith, add-zero, nat_lt, ⊎_elim, Option, Some, None}
 use Rattle.std.specs.Prelude.{Contains}
-use Rattle.std.specs.Global.{Global}
-use Rattle.std.specs.declared.vec.Vec.{Vec}
 use Rattle.std.proofs.lemmas.Bool.{ltb-true, ltb-false}
 use Rattle.std.proofs.lemmas.List.Elements.{Contains-append_cases, Contains-append_left, Contains-append_right}
 use Rattle.principals.proofs.Closure.{none_in_nil, Contains-cons_cases, Contains-later, Contains-first}
-use Rattle.solver.specs.Broken.{broken_by, candidates, earliest, found_candidates, value_candidates}
-use Rattle.solver.specs.Reach.{edge, found_at, nothing_found, row_of}
+use Rattle.solver.specs.Broken.{broken_by, candidates, earliest, found_candidates}
+use Rattle.solver.specs.Reach.{edge, nothing_found, row_of}
 use Rattle.solver.specs.declared.broken.Broken.{Broken}
 use Rattle.solver.specs.declared.edges.Edge.{Edge}
 use Rattle.solver.specs.declared.edges.Edges.{Edges}
@@ -93,27 +91,6 @@ module _ (edges : Edges) (below : ℕ → ℕ → Bool) where
 
   abbrev pub of_value : ℕ → List Found → List Broken
   of_value value found = candidates below value 0 (row_of edges (Written value)) ++ found_candidates edges below value 0 found
-
-  pub value_candidates-only : (k : ℕ) (rows : List (Vec Found Global)) (b : Broken) → Contains (value_candidates edges below k rows) b →
-      (i : ℕ) × (i < length rows) × Contains (of_value (k + i) (found_at rows i)) b
-  value_candidates-only k [] b h = absurd (none_in_nil b h)
-  value_candidates-only k (row ∷ rows) b h =
-      ⊎_elim
-      (λ here. (0, omega arith, subst (λ n. Contains (of_value n row.items) b) (sym (add-zero k)) here))
-      (λ later. let more = value_candidates-only (suc k) rows b later in
-      let e : suc k + more.0 ≡ k + suc more.0 = omega arith in
-      (suc more.0, omega (arith, more.1), subst (λ n. Contains (of_value n (found_at rows more.0)) b) e more.2))
-      (Contains-append_cases (of_value k row.items) (value_candidates edges below (suc k) rows) b h)
-
-  pub value_candidates-has : (k : ℕ) (rows : List (Vec Found Global)) (i : ℕ) (b : Broken) → i < length rows → Contains (of_value (k + i) (found_at rows i)) b →
-      Contains (value_candidates edges below k rows) b
-  value_candidates-has k [] i b h in' = absurd (omega arith)
-  value_candidates-has k (row ∷ rows) zero b h in' =
-      Contains-append_left (of_value k row.items) (value_candidates edges below (suc k) rows) b (subst (λ n. Contains (of_value n row.items) b) (add-zero k) in')
-  value_candidates-has k (row ∷ rows) (suc i) b h in' =
-      let e : k + suc i ≡ suc k + i = omega arith in
-      Contains-append_right (of_value k row.items) (value_candidates edges below (suc k) rows) b
-      (value_candidates-has (suc k) rows i b (omega (arith, h)) (subst (λ n. Contains (of_value n (found_at rows i)) b) e in'))
 
 -- ---- the earliest
 pub record IsFirst (cs : List Broken) (b : Broken) : Type 0 where

@@ -1,9 +1,13 @@
 pub mod Breaking
 pub mod Candidates
 pub mod Chains
-pub mod Found
+pub mod Comparing
+pub mod Filling
 pub mod Meaning
+pub mod Members
+pub mod Refusing
 pub mod Rows
 pub mod Searching
 pub mod Solved
+pub mod Spreading
 pub mod Values

@@ -1,84 +1,67 @@
--- What a search for each written element says of the constraints: the joins of what reaches the unknowns are least, they fit all
--- constraints where none is broken, and the earliest that is broken is the first that they do not fit, with a chain to it.
+-- What rows of what reaches each unknown say of the constraints: the joins of what reaches the unknowns are least, they fit all
+-- constraints where none is broken, and a chain to the first that is broken refuses them.
 use Rattle.std.proofs.Common.{◌≡◌, refl, sym, ap, ◌∙◌, subst, ℕ, zero, suc, ◌<◌, ◌≤◌, ◌+◌, length, get_or, map, List, [], ◌∷◌, Bool, true, false, not, ◌&&◌, ◌||◌, arith, zero-add, add-zero, ⊎_elim, Some}
-use Rattle.std.specs.Prelude.{All, Contains, slice_get, IsTrue, IsFalse, find, ◌==◌}
+use Rattle.std.specs.Prelude.{Contains, slice_get, IsTrue, IsFalse, find}
 use Rattle.std.specs.List.{list_any}
-use Rattle.std.specs.Global.{Global}
-use Rattle.std.specs.declared.vec.Vec.{Vec}
 use Rattle.std.proofs.lemmas.Bool.{eqb-true, eq-eqb, or_left, or_right, or_cases}
-use Rattle.std.proofs.lemmas.List.Elements.{All-contains, Contains-append_left, Contains-append_right, Contains-append_cases}
+use Rattle.std.proofs.lemmas.List.Elements.{All-contains}
 use Rattle.principals.proofs.Closure.{none_in_nil, Contains-cons_cases, Contains-later, Contains-first}
-use Rattle.labels.specs.Constraints.{FitsAll, FitsUnknowns, IsChain, IsLeast, IsRefusedAt, Linked, LatticeLaws, Lattice, Occurs, Reaches, first_unmet, holds, is_written, join_of, value}
+use Rattle.labels.specs.Constraints.{FitsAll, IsLeast, IsRefusedAt, Linked, LatticeLaws, Lattice, holds, is_written, join_of, value}
 use Rattle.labels.specs.Constraints as formal
 use Rattle.labels.proofs.Constraints.{all-from, join_all, join_all-above, join_all-least, not_below-one, not_below-part, part-below, reaches-below, join_of-least}
-use Rattle.solver.specs.Broken.{AllRightsInside, FoundInside, candidates, found_candidates, is_below, value_candidates, written_at}
+use Rattle.solver.specs.Breaker.{Arrives, Breaks, BreaksAlong, BreaksFirst, IsBreakChain, itself, onward}
+use Rattle.solver.specs.Broken.{AllRightsInside, is_below, written_at}
 use Rattle.solver.specs.Links.{AreBelow, InRange, IsBelow, edges_at, links_of, row_at}
 use Rattle.solver.specs.Reach as reach
-use Rattle.solver.specs.Reach.{AreTraces, CameFrom, EndsAt, Has, IsStep, IsTrail, Leads, LeadsOn, ReachesBy, StaysInside, edge, found_at, nothing_found, row_of}
-use Rattle.solver.specs.System.{Picks, atom_of, constraint_of, row_join, rows_with, values_of}
-use Rattle.solver.specs.declared.broken.Broken.{Broken}
+use Rattle.solver.specs.Reach.{CameFrom, IsTrail, Leads, LeadsOn, ReachesBy, StaysInside, nothing_found, row_of}
+use Rattle.solver.specs.Rows.{AreRows, atom_has, has_at, left_has, reached_by, unknowns_with}
+use Rattle.solver.specs.System.{Picks, atom_of, constraint_of, is_among, row_join, rows_with, values_of}
 use Rattle.solver.specs.declared.edges.Edges.{Edges}
+use Rattle.solver.specs.declared.row.Row.{Row}
 use Rattle.solver.specs.declared.search.Found.{Found}
 use Rattle.solver.specs.declared.system.Atom.{Atom}
 use Rattle.solver.specs.declared.system.Atom.TheVariants.{Unknown, Written}
 use Rattle.solver.specs.declared.system.Constraint.{Constraint}
-use Rattle.solver.proofs.Candidates.{IsFirst, IsOfEdge, broken, candidates-has, candidates-only, found_candidates-has, found_candidates-only, of_value, value_candidates-has, value_candidates-only}
-use Rattle.solver.proofs.Found.{found_at-read}
-use Rattle.solver.proofs.Searching.{found-inside}
 use Rattle.solver.proofs.Meaning.{AreEdges, Contains-at, Contains-map, Contains-map_only, at-contains, at-map, at-map_only, in_table, leads-part, part-leads, reaches-to, some-same}
+use Rattle.solver.proofs.Values.{is_among-row}
 
 by_test : {P : Type 0} (b : Bool) → (b ≡ true → P) → (b ≡ false → P) → P
 by_test true held fails = held refl
 by_test false held fails = fails refl
 
--- ---- rows of numbers
-abbrev pub numbers : List (Vec Found Global) → List (List ℕ)
-numbers reached = map (λ row. map (λ found. found.unknown) row.items) reached
-
-has-any : (found : List Found) (u : ℕ) → Has found u → IsTrue (list_any (λ w. w == u) (map (λ (f : Found). f.unknown) found))
-has-any [] u h = absurd (omega (arith, h.1))
-has-any (f ∷ found) u (zero, h, e) = or_left (f.unknown == u) _ (eq-eqb f.unknown u e)
-has-any (f ∷ found) u (suc k, h, e) = or_right (f.unknown == u) _ (has-any found u (k, omega (arith, h), e))
-
-any-has : (found : List Found) (u : ℕ) → IsTrue (list_any (λ w. w == u) (map (λ (f : Found). f.unknown) found)) → Has found u
-any-has [] u h = absurd (cc)
-any-has (f ∷ found) u h =
-    ⊎_elim
-    (λ e. (0, omega arith, eqb-true f.unknown u e))
-    (λ k. let more = any-has found u k in (suc more.0, omega (arith, more.1), more.2))
-    (or_cases (f.unknown == u) (list_any (λ w. w == u) (map (λ (f : Found). f.unknown) found)) h)
-
-rows_with-has : (k : ℕ) (reached : List (Vec Found Global)) (u i : ℕ) → i < length reached → Has (found_at reached i) u → Contains (rows_with k (numbers reached) u) (k + i)
-rows_with-has k [] u i h has = absurd (omega arith)
-rows_with-has k (row ∷ reached) u zero h has =
-    rw (has-any row.items u has) (subst (λ n. Contains (k ∷ rows_with (suc k) (numbers reached) u) n) (sym (add-zero k)) (Contains-first k (rows_with (suc k) (numbers reached) u)))
-rows_with-has k (row ∷ reached) u (suc i) h has =
+-- ---- the written elements in whose row an unknown stands
+rows_with-has : (k count : ℕ) (rows : List Row) (u i : ℕ) → i < count → IsTrue (has_at rows u (k + i)) → Contains (rows_with k (reached_by k count rows) u) (k + i)
+rows_with-has k zero rows u i h has = absurd (omega (arith, h))
+rows_with-has k (suc count) rows u zero h has =
+    let first : is_among u (unknowns_with k 0 rows) ≡ true = is_among-row rows k u ∙ (ap (has_at rows u) (sym (add-zero k)) ∙ has) in
+    rw first (subst (λ n. Contains (k ∷ rows_with (suc k) (reached_by (suc k) count rows) u) n) (sym (add-zero k)) (Contains-first k (rows_with (suc k) (reached_by (suc k) count rows) u)))
+rows_with-has k (suc count) rows u (suc i) h has =
     let e : suc k + i ≡ k + suc i = omega arith in
-    go (list_any (λ w. w == u) (map (λ (f : Found). f.unknown) row.items)) refl
-    (subst (λ n. Contains (rows_with (suc k) (numbers reached) u) n) e (rows_with-has (suc k) reached u i (omega (arith, h)) has))
+    go (is_among u (unknowns_with k 0 rows)) refl
+    (subst (λ n. Contains (rows_with (suc k) (reached_by (suc k) count rows) u) n) e
+    (rows_with-has (suc k) count rows u i (omega (arith, h)) (subst (λ n. IsTrue (has_at rows u n)) (sym e) has)))
   where
-    go : (t : Bool) → list_any (λ w. w == u) (map (λ (f : Found). f.unknown) row.items) ≡ t → Contains (rows_with (suc k) (numbers reached) u) (k + suc i) →
-        Contains (rows_with k (numbers (row ∷ reached)) u) (k + suc i)
-    go true e more = rw e (Contains-later k (rows_with (suc k) (numbers reached) u) (k + suc i) more)
+    go : (t : Bool) → is_among u (unknowns_with k 0 rows) ≡ t → Contains (rows_with (suc k) (reached_by (suc k) count rows) u) (k + suc i) →
+        Contains (rows_with k (reached_by k (suc count) rows) u) (k + suc i)
+    go true e more = rw e (Contains-later k (rows_with (suc k) (reached_by (suc k) count rows) u) (k + suc i) more)
     go false e more = rw e more
 
-rows_with-only : (k : ℕ) (reached : List (Vec Found Global)) (u n : ℕ) → Contains (rows_with k (numbers reached) u) n →
-    (i : ℕ) × (n ≡ k + i) × (i < length reached) × Has (found_at reached i) u
-rows_with-only k [] u n h = absurd (none_in_nil n h)
-rows_with-only k (row ∷ reached) u n h = go (list_any (λ w. w == u) (map (λ (f : Found). f.unknown) row.items)) refl (rows_with-only (suc k) reached u n)
+rows_with-only : (k count : ℕ) (rows : List Row) (u n : ℕ) → Contains (rows_with k (reached_by k count rows) u) n → (n < k + count) × IsTrue (has_at rows u n)
+rows_with-only k zero rows u n h = absurd (none_in_nil n h)
+rows_with-only k (suc count) rows u n h = go (is_among u (unknowns_with k 0 rows)) refl (rows_with-only (suc k) count rows u n)
   where
-    go : (t : Bool) → list_any (λ w. w == u) (map (λ (f : Found). f.unknown) row.items) ≡ t →
-        (Contains (rows_with (suc k) (numbers reached) u) n → (i : ℕ) × (n ≡ suc k + i) × (i < length reached) × Has (found_at reached i) u) →
-        (i : ℕ) × (n ≡ k + i) × (i < length (row ∷ reached)) × Has (found_at (row ∷ reached) i) u
+    go : (t : Bool) → is_among u (unknowns_with k 0 rows) ≡ t →
+        (Contains (rows_with (suc k) (reached_by (suc k) count rows) u) n → (n < suc k + count) × IsTrue (has_at rows u n)) →
+        (n < k + suc count) × IsTrue (has_at rows u n)
     go true e more =
-        let k' : Contains (k ∷ rows_with (suc k) (numbers reached) u) n = rw e at h in
+        let k' : Contains (k ∷ rows_with (suc k) (reached_by (suc k) count rows) u) n = rw e at h in
         ⊎_elim
-        (λ (is : k ≡ n). (0, sym is ∙ sym (add-zero k), omega arith, any-has row.items u e))
-        (λ later. let found = more later in (suc found.0, omega (arith, found.1), omega (arith, found.2), found.3))
-        (Contains-cons_cases k (rows_with (suc k) (numbers reached) u) n k')
+        (λ (is : k ≡ n). (omega (arith, is), ap (has_at rows u) (sym is) ∙ (sym (is_among-row rows k u) ∙ e)))
+        (λ later. let found = more later in (omega (arith, found.0), found.1))
+        (Contains-cons_cases k (rows_with (suc k) (reached_by (suc k) count rows) u) n k')
     go false e more =
-        let k' : Contains (rows_with (suc k) (numbers reached) u) n = rw e at h in
-        let found = more k' in (suc found.0, omega (arith, found.1), omega (arith, found.2), found.3)
+        let k' : Contains (rows_with (suc k) (reached_by (suc k) count rows) u) n = rw e at h in
+        let found = more k' in (omega (arith, found.0), found.1)
 
 -- ---- trails are sound
 trail-sound : (edges : Edges) (n : ℕ) (found : List Found) → IsTrail edges n found → (bound k : ℕ) → k < bound → k < length found →
@@ -96,6 +79,21 @@ trail-sound edges n found trail (suc bound) k lt h =
 
 pub found-sound : (edges : Edges) (n : ℕ) (found : List Found) → IsTrail edges n found → (k : ℕ) → k < length found → ReachesBy edges n (get_or found k nothing_found).unknown
 found-sound edges n found trail k h = trail-sound edges n found trail (suc k) k (omega arith) h
+
+-- ---- some element that passes a test
+list_any-has : {X : Type 0} (test : X → Bool) (xs : List X) (x : X) → Contains xs x → IsTrue (test x) → IsTrue (list_any test xs)
+list_any-has test [] x h passes = absurd (none_in_nil x h)
+list_any-has {X} test (y ∷ ys) x h passes =
+    ⊎_elim (λ (is : y ≡ x). or_left (test y) (list_any test ys) (subst (λ (z : X). IsTrue (test z)) (sym is) passes))
+    (λ k. or_right (test y) (list_any test ys) (list_any-has test ys x k passes))
+    (Contains-cons_cases y ys x h)
+
+list_any-only : {X : Type 0} (test : X → Bool) (xs : List X) → IsTrue (list_any test xs) → (x : X) × Contains xs x × IsTrue (test x)
+list_any-only test [] h = absurd (cc)
+list_any-only test (y ∷ ys) h =
+    ⊎_elim (λ here. (y, Contains-first y ys, here))
+    (λ k. let found = list_any-only test ys k in (found.0, Contains-later y ys found.0 found.1, found.2))
+    (or_cases (test y) (list_any test ys) h)
 
 -- ---- the first element that passes a test
 find-at : {X : Type 0} (test : X → Bool) (xs : List X) (i : ℕ) (x : X) → slice_get xs i ≡ Some x → test x ≡ true →
@@ -135,25 +133,19 @@ pub rights-inside : {T : Type 0} (cs : List (Constraint T)) (edges : Edges) → 
 rights-inside cs edges are written unknowns range count is from by n leads =
     subst (λ m. n < m) (sym is) (right-below cs edges are written unknowns range from by (Written n) leads)
 
-pub found-all_inside : (edges : Edges) (reached : List (Vec Found Global)) → AreTraces edges reached → StaysInside edges →
-    All (λ (row : Vec Found Global). FoundInside (length edges.unknown.items) row.items) reached
-found-all_inside edges reached traces inside k d h =
-    subst (λ (fs : List Found). FoundInside (length edges.unknown.items) fs) (sym (found_at-read reached k d h))
-    (λ i lt. found-inside edges k (found_at reached k) i (traces.each k h).trail inside lt)
-
 module _ {T V : Type 0} (l : Lattice V) (laws : LatticeLaws l) (table : List V) (cs : List (Constraint T)) (edges : Edges) (are : AreEdges cs edges) (unknowns : ℕ)
-    (range : InRange (length table) unknowns cs) (reached : List (Vec Found Global)) (traces : AreTraces edges reached) (count : length reached ≡ length table) where
+    (range : InRange (length table) unknowns cs) (rows : List Row) (are_rows : AreRows edges rows) where
   abbrev all_meant : List (formal.Constraint T ℕ V)
   all_meant = map (constraint_of l table) cs
 
   abbrev vals : ℕ → V
-  vals = values_of l table (numbers reached)
+  vals = values_of l table (reached_by 0 (length table) rows)
+
+  abbrev reaching : ℕ → List ℕ
+  reaching u = rows_with 0 (reached_by 0 (length table) rows) u
 
   abbrev below : ℕ → ℕ → Bool
   below = is_below l table
-
-  abbrev all_candidates : List Broken
-  all_candidates = value_candidates edges below 0 reached
 
   abbrev one_meant : Constraint T → formal.Constraint T ℕ V
   one_meant = constraint_of l table
@@ -165,33 +157,27 @@ module _ {T V : Type 0} (l : Lattice V) (laws : LatticeLaws l) (table : List V) 
 
   below-vals : (n u : ℕ) → n < length table → ReachesBy edges n u → IsTrue (l.leq (written_at l table n) (vals u))
   below-vals n u h r =
-      let has = (traces.each n (omega (arith, h, count))).complete u r in
-      let in' : Contains (rows_with 0 (numbers reached) u) n = subst (λ m. Contains (rows_with 0 (numbers reached) u) m) (zero-add n) (rows_with-has 0 reached u n (omega (arith, h, count)) has) in
-      subst (λ x. IsTrue (l.leq (written_at l table n) x)) (sym (join-is (rows_with 0 (numbers reached) u)))
-      (join_all-above l laws (map (written_at l table) (rows_with 0 (numbers reached) u)) (written_at l table n) (Contains-map (written_at l table) (rows_with 0 (numbers reached) u) n in'))
+      let has = are_rows.complete u n r in
+      let in' : Contains (reaching u) n =
+      subst (λ m. Contains (reaching u) m) (zero-add n) (rows_with-has 0 (length table) rows u n h (subst (λ m. IsTrue (has_at rows u m)) (sym (zero-add n)) has)) in
+      subst (λ x. IsTrue (l.leq (written_at l table n) x)) (sym (join-is (reaching u)))
+      (join_all-above l laws (map (written_at l table) (reaching u)) (written_at l table n) (Contains-map (written_at l table) (reaching u) n in'))
 
-  row-reaches : (u n : ℕ) → Contains (rows_with 0 (numbers reached) u) n → (n < length table) × ReachesBy edges n u
-  row-reaches u n h =
-      let found = rows_with-only 0 reached u n h in
-      let is : found.0 ≡ n = sym (found.1 ∙ zero-add found.0) in
-      let trace = traces.each found.0 found.2 in
-      let k = found.3.0 in (
-        omega (arith, is, found.2, count),
-        subst (λ m. ReachesBy edges m u) is (subst (λ w. ReachesBy edges found.0 w) found.3.2 (found-sound edges found.0 (found_at reached found.0) trace.trail k found.3.1)),
-      )
+  row-reaches : (u n : ℕ) → Contains (reaching u) n → (n < length table) × ReachesBy edges n u
+  row-reaches u n h = let found = rows_with-only 0 (length table) rows u n h in (omega (arith, found.0), are_rows.sound u n found.1)
 
   vals-least : (u : ℕ) (b : V) → ((n : ℕ) → n < length table → ReachesBy edges n u → IsTrue (l.leq (written_at l table n) b)) → IsTrue (l.leq (vals u) b)
   vals-least u b each =
-      subst (λ x. IsTrue (l.leq x b)) (sym (join-is (rows_with 0 (numbers reached) u)))
-      (join_all-least l laws (map (written_at l table) (rows_with 0 (numbers reached) u)) b (λ v h.
-      let source = Contains-map_only (written_at l table) (rows_with 0 (numbers reached) u) v h in
+      subst (λ x. IsTrue (l.leq x b)) (sym (join-is (reaching u)))
+      (join_all-least l laws (map (written_at l table) (reaching u)) b (λ v h.
+      let source = Contains-map_only (written_at l table) (reaching u) v h in
       let r = row-reaches u source.0 source.1 in
       subst (λ x. IsTrue (l.leq x b)) source.2 (each source.0 r.0 r.1)))
 
   vals-not_below : (u : ℕ) (b : V) → IsFalse (l.leq (vals u) b) → (n : ℕ) × (n < length table) × ReachesBy edges n u × IsFalse (l.leq (written_at l table n) b)
   vals-not_below u b fails =
-      let one = not_below-one l laws (map (written_at l table) (rows_with 0 (numbers reached) u)) b (subst (λ x. IsFalse (l.leq x b)) (join-is (rows_with 0 (numbers reached) u)) fails) in
-      let source = Contains-map_only (written_at l table) (rows_with 0 (numbers reached) u) one.0 one.1 in
+      let one = not_below-one l laws (map (written_at l table) (reaching u)) b (subst (λ x. IsFalse (l.leq x b)) (join-is (reaching u)) fails) in
+      let source = Contains-map_only (written_at l table) (reaching u) one.0 one.1 in
       let r = row-reaches u source.0 source.1 in
       (source.0, r.0, r.1, subst (λ x. IsFalse (l.leq x b)) (sym source.2) one.2)
 
@@ -226,89 +212,30 @@ module _ {T V : Type 0} (l : Lattice V) (laws : LatticeLaws l) (table : List V) 
   }
 
   -- ---- what is broken
-  value-has : (n i : ℕ) (b : Broken) → n < length table → Contains (of_value edges below n (found_at reached n)) b → Contains all_candidates b
-  value-has n i b h in' =
-      value_candidates-has edges below 0 reached n b (omega (arith, h, count)) (subst (λ m. Contains (of_value edges below m (found_at reached n)) b) (sym (zero-add n)) in')
+  pub record PartBreaks (c : Constraint T) (to : ℕ) : Type 0 where
+    pub number : ℕ
+    pub inside : number < length table
+    pub member : IsTrue (left_has rows c.left.items number)
+    pub fails : below number to ≡ false
 
-  direct-candidate : (n i to : ℕ) → n < length table → Leads edges (Written n) i (Written to) → below n to ≡ false → (b : Broken) × Contains all_candidates b × (b.by ≡ i)
-  direct-candidate n i to h leads fails = (
-    broken n 0 i to,
-    value-has n i (broken n 0 i to) h
-        (Contains-append_left (candidates below n 0 (row_of edges (Written n))) (found_candidates edges below n 0 (found_at reached n)) (broken n 0 i to)
-        (candidates-has below n 0 (row_of edges (Written n)) i to leads fails)),
-    refl,
-  )
-
-  onward-candidate : (n i to u : ℕ) → n < length table → ReachesBy edges n u → Leads edges (Unknown u) i (Written to) → below n to ≡ false →
-      (b : Broken) × Contains all_candidates b × (b.by ≡ i)
-  onward-candidate n i to u h r leads fails =
-      let found = found_at reached n in
-      let has = (traces.each n (omega (arith, h, count))).complete u r in
-      let k = has.0 in
-      let leads' : Leads edges (Unknown (get_or found k nothing_found).unknown) i (Written to) = subst (λ w. Leads edges (Unknown w) i (Written to)) (sym has.2) leads in
-      let b = broken n (suc (0 + k)) i to in (
-        b,
-        value-has n i b h
-            (Contains-append_right (candidates below n 0 (row_of edges (Written n))) (found_candidates edges below n 0 found) b
-            (found_candidates-has edges below n 0 found k b has.1
-            (candidates-has below n (suc (0 + k)) (row_of edges (Unknown (get_or found k nothing_found).unknown)) i to leads' fails))),
-        refl,
-      )
-
-  pub record IsBreak (b : Broken) : Type 0 where
-    pub inside : b.value < length reached
-    pub entered : EndsAt edges b.value (found_at reached b.value) b.parent b.by (Written b.to)
-    pub parent : b.parent ≤ length (found_at reached b.value)
-    pub fails : below b.value b.to ≡ false
-
-  direct-break : (n : ℕ) (b : Broken) → n < length reached → IsOfEdge below n 0 (row_of edges (Written n)) b → IsBreak b
-  direct-break n b h one =
-      subst (λ (x : Broken). IsBreak x) (sym one.is) (record {
-        inside = h;
-        entered = record { from = Written n; came = reach.itself; leads = one.along };
-        parent = omega arith;
-        fails = one.not_below;
-      })
-
-  onward-break : (n k : ℕ) (b : Broken) → n < length reached → k < length (found_at reached n) →
-      IsOfEdge below n (suc k) (row_of edges (Unknown (get_or (found_at reached n) k nothing_found).unknown)) b → IsBreak b
-  onward-break n k b h in' one =
-      subst (λ (x : Broken). IsBreak x) (sym one.is) (record {
-        inside = h;
-        entered = record {
-          from = Unknown (get_or (found_at reached n) k nothing_found).unknown;
-          came = reach.earlier k (get_or (found_at reached n) k nothing_found).unknown in' refl;
-          leads = one.along;
-        };
-        parent = omega (arith, in');
-        fails = one.not_below;
-      })
-
-  pub candidate-breaks : (b : Broken) → Contains all_candidates b → IsBreak b
-  candidate-breaks b h =
-      let found = value_candidates-only edges below 0 reached b h in
-      let n = found.0 in
-      let in' : Contains (of_value edges below n (found_at reached n)) b = subst (λ m. Contains (of_value edges below m (found_at reached n)) b) (zero-add n) found.2 in
-      ⊎_elim
-      (λ direct. direct-break n b found.1 (candidates-only below n 0 (row_of edges (Written n)) b direct))
-      (λ later.
-      let step = found_candidates-only edges below n 0 (found_at reached n) b later in
-      let row = row_of edges (Unknown (get_or (found_at reached n) step.0 nothing_found).unknown) in
-      onward-break n step.0 b found.1 step.1
-      (candidates-only below n (suc step.0) row b (subst (λ m. Contains (candidates below n (suc m) row) b) (zero-add step.0) step.2)))
-      (Contains-append_cases (candidates below n 0 (row_of edges (Written n))) (found_candidates edges below n 0 (found_at reached n)) b in')
-
-  -- a constraint that no candidate names holds
-  unbroken-part : (i : ℕ) (c : Constraint T) (to : ℕ) → slice_get cs i ≡ Some c → c.right ≡ Written to → (a : Atom) → Contains c.left.items a →
-      IsFalse (l.leq (value vals (atom_of l table a)) (written_at l table to)) → (b : Broken) × Contains all_candidates b × (b.by ≡ i)
-  unbroken-part i c to at right (Written n) part fails =
-      direct-candidate n i to (in_table l table cs edges are unknowns range c n (at-contains cs i c at) part)
-      (subst (λ r. Leads edges (Written n) i r) right (part-leads cs edges are i c (Written n) at part)) fails
-  unbroken-part i c to at right (Unknown u) part fails =
+  unbroken-part : (i : ℕ) (c : Constraint T) (to : ℕ) → slice_get cs i ≡ Some c → (a : Atom) → Contains c.left.items a →
+      IsFalse (l.leq (value vals (atom_of l table a)) (written_at l table to)) → PartBreaks c to
+  unbroken-part i c to at (Written n) part fails = record {
+    number = n;
+    inside = in_table l table cs edges are unknowns range c n (at-contains cs i c at) part;
+    member = list_any-has (atom_has rows n) c.left.items (Written n) part (eq-eqb n n refl);
+    fails = fails;
+  }
+  unbroken-part i c to at (Unknown u) part fails =
       let one = vals-not_below u (written_at l table to) fails in
-      onward-candidate one.0 i to u one.1 one.2 (subst (λ r. Leads edges (Unknown u) i r) right (part-leads cs edges are i c (Unknown u) at part)) one.3
+      record {
+        number = one.0;
+        inside = one.1;
+        member = list_any-has (atom_has rows one.0) c.left.items (Unknown u) part (are_rows.complete u one.0 one.2);
+        fails = one.3;
+      }
 
-  unbroken-holds : (i : ℕ) (c : Constraint T) (r : Atom) → slice_get cs i ≡ Some c → c.right ≡ r → ((b : Broken) → Contains all_candidates b → b.by ≡ i → ⊥) →
+  unbroken-holds : (i : ℕ) (c : Constraint T) (r : Atom) → slice_get cs i ≡ Some c → c.right ≡ r → ((n : ℕ) → n < length table → Breaks below rows cs n i → ⊥) →
       IsTrue (holds l vals (one_meant c))
   unbroken-holds i c (Unknown u) at right none = unknown-fits i c u at right
   unbroken-holds i c (Written to) at right none =
@@ -316,36 +243,50 @@ module _ {T V : Type 0} (l : Lattice V) (laws : LatticeLaws l) (table : List V) 
       let part = not_below-part l laws vals (map (atom_of l table) c.left.items) (written_at l table to)
       (subst (λ r. IsFalse (l.leq (join_of l.join l.least vals (map (atom_of l table) c.left.items)) (value vals (atom_of l table r)))) right fails) in
       let source = Contains-map_only (atom_of l table) c.left.items part.0 part.1 in
-      let found = unbroken-part i c to at right source.0 source.1 (subst (λ x. IsFalse (l.leq (value vals x) (written_at l table to))) (sym source.2) part.2) in
-      absurd (none found.0 found.1 found.2))
+      let found = unbroken-part i c to at source.0 source.1 (subst (λ x. IsFalse (l.leq (value vals x) (written_at l table to))) (sym source.2) part.2) in
+      absurd (none found.number found.inside (record { constraint = c; at = at; sides = record { to = to; is = right; member = found.member; fails = found.fails } })))
 
-  pub solved-fits : ((b : Broken) → Contains all_candidates b → ⊥) → FitsAll l all_meant vals
+  pub solved-fits : ((n i : ℕ) → n < length table → Breaks below rows cs n i → ⊥) → FitsAll l all_meant vals
   solved-fits none = all-from (λ d. holds l vals d) all_meant (λ d h.
       let source = Contains-map_only one_meant cs d h in
       let at = Contains-at cs source.0 source.1 in
-      subst (λ (x : formal.Constraint T ℕ V). IsTrue (holds l vals x)) source.2 (unbroken-holds at.0 source.0 source.0.right at.1 refl (λ b in' e. none b in')))
+      subst (λ (x : formal.Constraint T ℕ V). IsTrue (holds l vals x)) source.2 (unbroken-holds at.0 source.0 source.0.right at.1 refl (λ n h' breaks. none n at.0 h' breaks)))
 
-  -- a constraint that a candidate names does not hold
-  came-below : (n : ℕ) (found : List Found) (b parent : ℕ) (from : Atom) → n < length table → IsTrail edges n found → b ≤ length found → CameFrom n found b parent from →
-      IsTrue (l.leq (written_at l table n) (value vals (atom_of l table from)))
-  came-below n found b _ _ h trail le reach.itself = laws.reflexive (written_at l table n)
-  came-below n found b _ _ h trail le (reach.earlier p u before e) =
-      below-vals n u h (subst (λ w. ReachesBy edges n w) e (found-sound edges n found trail p (omega (arith, before, le))))
+  -- along edges
+  atom-arrives : (n : ℕ) (a : Atom) → IsTrue (atom_has rows n a) → Arrives edges n a
+  atom-arrives n (Written m) h = subst (λ k. Arrives edges n (Written k)) (eqb-true n m h) itself
+  atom-arrives n (Unknown u) h = onward u (are_rows.sound u n h)
 
-  pub broken-fails : (b : Broken) → IsBreak b → (c : Constraint T) → slice_get cs b.by ≡ Some c → (c.right ≡ Written b.to) × IsFalse (holds l vals (one_meant c))
-  broken-fails b is c at =
-      let part = leads-part cs edges are is.entered.from b.by (Written b.to) is.entered.leads in
+  pub breaks-along : (n i : ℕ) → Breaks below rows cs n i → BreaksAlong edges below n i
+  breaks-along n i breaks =
+      let c = breaks.constraint in
+      let part = list_any-only (atom_has rows n) c.left.items breaks.sides.member in
+      record {
+        from = part.0;
+        arrives = atom-arrives n part.0 part.2;
+        to = breaks.sides.to;
+        leads = subst (λ r. Leads edges part.0 i r) breaks.sides.is (part-leads cs edges are i c part.0 breaks.at part.1);
+        fails = breaks.sides.fails;
+      }
+
+  -- a constraint that is broken along edges does not hold
+  arrives-below : (n : ℕ) (from : Atom) → n < length table → Arrives edges n from → IsTrue (l.leq (written_at l table n) (value vals (atom_of l table from)))
+  arrives-below n _ h itself = laws.reflexive (written_at l table n)
+  arrives-below n _ h (onward u r) = below-vals n u h r
+
+  broken-fails : (n i to : ℕ) (from : Atom) → n < length table → Arrives edges n from → Leads edges from i (Written to) → below n to ≡ false → (c : Constraint T) → slice_get cs i ≡ Some c →
+      (c.right ≡ Written to) × IsFalse (holds l vals (one_meant c))
+  broken-fails n i to from h arrives leads fails c at =
+      let part = leads-part cs edges are from i (Written to) leads in
       let same_c : part.constraint ≡ c = some-same part.constraint c (sym part.at ∙ at) in
-      let right : c.right ≡ Written b.to = ap (λ (x : Constraint T). x.right) (sym same_c) ∙ part.right in
-      let here : Contains c.left.items is.entered.from = subst (λ (x : Constraint T). Contains x.left.items is.entered.from) same_c part.part in
-      let from_below = came-below b.value (found_at reached b.value) (length (found_at reached b.value)) b.parent is.entered.from (omega (arith, is.inside, count))
-      (traces.each b.value is.inside).trail (omega arith) is.entered.came in (
+      let right : c.right ≡ Written to = ap (λ (x : Constraint T). x.right) (sym same_c) ∙ part.right in
+      let here : Contains c.left.items from = subst (λ (x : Constraint T). Contains x.left.items from) same_c part.part in (
         right,
         by_test (holds l vals (one_meant c)) (λ held.
-            let flows = laws.transitive (written_at l table b.value) (value vals (atom_of l table is.entered.from)) (value vals (atom_of l table c.right)) from_below
-            (part-below l laws all_meant vals (one_meant c) held (atom_of l table is.entered.from) (Contains-map (atom_of l table) c.left.items is.entered.from here)) in
-            let flows_to : l.leq (written_at l table b.value) (written_at l table b.to) ≡ true = subst (λ r. IsTrue (l.leq (written_at l table b.value) (value vals (atom_of l table r)))) right flows in
-            let i : true ≡ false = sym flows_to ∙ is.fails in absurd (cc))
+            let flows = laws.transitive (written_at l table n) (value vals (atom_of l table from)) (value vals (atom_of l table c.right)) (arrives-below n from h arrives)
+            (part-below l laws all_meant vals (one_meant c) held (atom_of l table from) (Contains-map (atom_of l table) c.left.items from here)) in
+            let flows_to : l.leq (written_at l table n) (written_at l table to) ≡ true = subst (λ r. IsTrue (l.leq (written_at l table n) (value vals (atom_of l table r)))) right flows in
+            let no : true ≡ false = sym flows_to ∙ fails in absurd (cc))
             (λ e. e),
       )
 
@@ -370,21 +311,32 @@ module _ {T V : Type 0} (l : Lattice V) (laws : LatticeLaws l) (table : List V) 
             (Contains-map (atom_of l table) d.left.items from part.part) (ap (atom_of l table) part.right) onward.2,
       )
 
-  pub record IsRefusedBy (b : Broken) (chain : List ℕ) : Type 0 where
+  pub record IsRefusedBy (n : ℕ) (chain : List ℕ) : Type 0 where
     pub picked : List (formal.Constraint T ℕ V)
     pub last : formal.Constraint T ℕ V
     pub picks : Picks all_meant chain picked
-    pub refused : IsRefusedAt l all_meant (written_at l table b.value) picked last
+    pub refused : IsRefusedAt l all_meant (written_at l table n) picked last
 
-  pub refused-by : (b : Broken) → IsFirst all_candidates b → (chain : List ℕ) → LeadsOn edges (Written b.value) chain b.by (Written b.to) → IsRefusedBy b chain
-  refused-by b first chain leads =
-      let is = candidate-breaks b first.one in
-      let part = leads-part cs edges are is.entered.from b.by (Written b.to) is.entered.leads in
+  -- the end of a chain is a constraint that is broken
+  end-arrives : (n : ℕ) (from : Atom) (chain : List ℕ) (last : ℕ) (to : Atom) → Arrives edges n from → LeadsOn edges from chain last to → (end : Atom) × Arrives edges n end × Leads edges end last to
+  end-arrives n _ _ _ _ arrives (reach.ends from to by leads) = (from, arrives, leads)
+  end-arrives n _ _ _ _ arrives (reach.goes_on from to by u last rest leads more) =
+      end-arrives n (Unknown u) rest last to (onward u (arrives-on n from by u arrives leads)) more
+    where
+      arrives-on : (n : ℕ) (from : Atom) (by u : ℕ) → Arrives edges n from → Leads edges from by (Unknown u) → ReachesBy edges n u
+      arrives-on n _ by u itself leads = reach.directly by u leads
+      arrives-on n _ by u (onward w r) leads = reach.onward by w u r leads
+
+  pub refused-by : (n : ℕ) → BreaksFirst below (length table) rows cs n → (chain : List ℕ) → IsBreakChain edges below n chain → IsRefusedBy n chain
+  refused-by n first chain is =
+      let end = end-arrives n (Written n) chain is.last (Written is.to) itself is.leads in
+      let part = leads-part cs edges are end.0 is.last (Written is.to) end.2 in
       let c = part.constraint in
-      let fails = broken-fails b is c part.at in
-      let joined = leads-joined (Written b.value) chain b.by (Written b.to) leads c part.at in
-      let right : (one_meant c).right ≡ formal.Written (written_at l table b.to) = ap (atom_of l table) fails.0 in
+      let fails = broken-fails n is.last is.to end.0 first.inside end.1 end.2 is.fails c part.at in
+      let joined = leads-joined (Written n) chain is.last (Written is.to) is.leads c part.at in
+      let right : (one_meant c).right ≡ formal.Written (written_at l table is.to) = ap (atom_of l table) fails.0 in
       let passes : (is_written (one_meant c).right && not (holds l vals (one_meant c))) ≡ true = rw (ap (λ r. is_written r) right, fails.1) refl in
+      let before : is.last ≤ first.index = is.first first.index (breaks-along n first.index first.breaks) in
       record {
         picked = joined.0;
         last = one_meant c;
@@ -392,12 +344,12 @@ module _ {T V : Type 0} (l : Lattice V) (laws : LatticeLaws l) (table : List V) 
         refused = record {
           values = vals;
           least = solved-least;
-          first = find-at (λ d. is_written d.right && not (holds l vals d)) all_meant b.by (one_meant c) (at-map one_meant cs b.by c part.at) passes (λ j d before at.
+          first = find-at (λ d. is_written d.right && not (holds l vals d)) all_meant is.last (one_meant c) (at-map one_meant cs is.last c part.at) passes (λ j d lt at.
               let source = at-map_only one_meant cs j d at in
               let held : holds l vals d ≡ true = subst (λ (x : formal.Constraint T ℕ V). IsTrue (holds l vals x)) source.2
-              (unbroken-holds j source.0 source.0.right source.1 refl (λ other in' e. let after : b.by ≤ other.by = first.first other in' in absurd (omega (arith, after, e, before)))) in
+              (unbroken-holds j source.0 source.0.right source.1 refl (λ m h breaks. first.before m j h (omega (arith, lt, before)) breaks)) in
               holding-fails (is_written d.right) (holds l vals d) held);
-          chained = record { linked = joined.2; to = written_at l table b.to; right_is = right; not_below = is.fails };
+          chained = record { linked = joined.2; to = written_at l table is.to; right_is = right; not_below = is.fails };
         };
       }
     where

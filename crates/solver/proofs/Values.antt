@@ -1,27 +1,19 @@
 -- The join of written elements one after the other, in place of all together.
-use Rattle.std.proofs.Common.{◌≡◌, refl, sym, ap, ◌∙◌, subst, ℕ, suc, ◌<◌, ◌+◌, length, get_or, map, take, List, [], ◌∷◌, ◌++◌, Bool, true, false, arith, add-zero, zero-add, append-nil, ⊎_elim, ◌||◌}
+use Rattle.std.proofs.Common.{◌≡◌, ◌≢◌, refl, sym, ap, ◌∙◌, subst, ℕ, zero, suc, ◌<◌, ◌+◌, length, List, [], ◌∷◌, ◌++◌, Bool, true, false, arith, add-zero, zero-add, add-one, append-nil, ⊎_elim, eq-eqb}
 use Rattle.std.specs.Prelude.{Contains, if◌then◌else◌, IsTrue, ◌==◌}
-use Rattle.std.specs.List.{list_any}
-use Rattle.std.specs.Global.{Global}
-use Rattle.std.specs.declared.vec.Vec.{Vec}
-use Rattle.std.proofs.lemmas.List.{length-map, length-take-le, map-append, take_more}
+use Rattle.std.proofs.lemmas.Bool.{or_left}
 use Rattle.std.proofs.lemmas.List.Elements.{Contains-append_cases, Contains-append_left, Contains-append_right}
 use Rattle.principals.proofs.Closure.{none_in_nil, Contains-cons_cases, Contains-later, Contains-first}
 use Rattle.labels.specs.Constraints.{LatticeLaws, Lattice}
+use Rattle.solver.specs.Bits.{has_bit}
 use Rattle.solver.specs.Broken.{written_at}
+use Rattle.solver.specs.Rows.{has_at, reached_by, unknowns_with}
 use Rattle.solver.specs.System.{AreAlike, JoinTo, is_among, row_join, rows_with}
-use Rattle.solver.specs.declared.search.Found.{Found}
-
-abbrev pub numbers_in : Vec Found Global → List ℕ
-numbers_in row = map (λ (found : Found). found.unknown) row.items
+use Rattle.solver.specs.declared.row.Row.{Row}
+use Rattle.solver.proofs.Members.{neq-eqb}
 
 abbrev pub one_row : ℕ → ℕ → Bool → List ℕ
 one_row n u t = if t then (n ∷ []) else []
-
--- a test of each after a function
-list_any-map : {X Y : Type 0} (test : Y → Bool) (f : X → Y) (xs : List X) → list_any test (map f xs) ≡ list_any (λ x. test (f x)) xs
-list_any-map test f [] = refl
-list_any-map test f (x ∷ xs) = ap (λ b. test (f x) || b) (list_any-map test f xs)
 
 rows_with-append : (k : ℕ) (a b : List (List ℕ)) (u : ℕ) → rows_with k (a ++ b) u ≡ rows_with k a u ++ rows_with (k + length a) b u
 rows_with-append k [] b u = ap (λ n. rows_with n b u) (sym (add-zero k))
@@ -35,6 +27,55 @@ rows_with-append k (row ∷ a) b u = go (is_among u row) refl (rows_with-append 
     go false e more =
         let n : suc k + length a ≡ k + length (row ∷ a) = omega arith in
         rw e (more ∙ ap (λ m. rows_with (suc k) a u ++ rows_with m b u) n)
+
+-- ---- rows by unknowns and by written elements
+none_before : (rows : List Row) (n from u : ℕ) → u < from → is_among u (unknowns_with n from rows) ≡ false
+none_before [] n from u h = refl
+none_before (row ∷ rows) n from u h = go (has_bit row.words.items n) refl (none_before rows n (suc from) u (omega (arith, h)))
+  where
+    apart : (from == u) ≡ false
+    apart = neq-eqb from u (let ne : from ≢ u = omega (arith, h) in ne)
+
+    go : (t : Bool) → has_bit row.words.items n ≡ t → is_among u (unknowns_with n (suc from) rows) ≡ false → is_among u (unknowns_with n from (row ∷ rows)) ≡ false
+    go true e more = rw (e, apart) more
+    go false e more = rw e more
+
+among_from : (rows : List Row) (n from u : ℕ) → is_among (from + u) (unknowns_with n from rows) ≡ has_at rows u n
+among_from [] n from u = refl
+among_from (row ∷ rows) n from zero = go (has_bit row.words.items n) refl
+  where
+    go : (t : Bool) → has_bit row.words.items n ≡ t → is_among (from + 0) (unknowns_with n from (row ∷ rows)) ≡ has_bit row.words.items n
+    go true e = rw e (or_left (from == from + 0) _ (eq-eqb from (from + 0) (sym (add-zero from))))
+    go false e = rw e (none_before rows n (suc from) (from + 0) (omega arith))
+among_from (row ∷ rows) n from (suc u) = go (has_bit row.words.items n) refl (among_from rows n (suc from) u)
+  where
+    next : suc from + u ≡ from + suc u
+    next = omega arith
+
+    apart : (from == from + suc u) ≡ false
+    apart = neq-eqb from (from + suc u) (let ne : from ≢ from + suc u = omega arith in ne)
+
+    go : (t : Bool) → has_bit row.words.items n ≡ t → is_among (suc from + u) (unknowns_with n (suc from) rows) ≡ has_at rows u n →
+        is_among (from + suc u) (unknowns_with n from (row ∷ rows)) ≡ has_at rows u n
+    go true e more = rw (e, apart) (ap (λ w. is_among w (unknowns_with n (suc from) rows)) (sym next) ∙ more)
+    go false e more = rw e (ap (λ w. is_among w (unknowns_with n (suc from) rows)) (sym next) ∙ more)
+
+pub is_among-row : (rows : List Row) (n u : ℕ) → is_among u (unknowns_with n 0 rows) ≡ has_at rows u n
+is_among-row rows n u = ap (λ w. is_among w (unknowns_with n 0 rows)) (sym (zero-add u)) ∙ among_from rows n 0 u
+
+pub length-reached_by : (n count : ℕ) (rows : List Row) → length (reached_by n count rows) ≡ count
+length-reached_by n zero rows = refl
+length-reached_by n (suc count) rows = ap suc (length-reached_by (suc n) count rows)
+
+more_from : (n count : ℕ) (rows : List Row) → reached_by n (suc count) rows ≡ reached_by n count rows ++ unknowns_with (n + count) 0 rows ∷ []
+more_from n zero rows = ap (λ m. unknowns_with m 0 rows ∷ []) (sym (add-zero n))
+more_from n (suc count) rows =
+    let next : suc n + count ≡ n + suc count = omega arith in
+    ap (λ (ls : List (List ℕ)). unknowns_with n 0 rows ∷ ls) (more_from (suc n) count rows ∙ ap (λ m. reached_by (suc n) count rows ++ unknowns_with m 0 rows ∷ []) next)
+
+pub reached_by-more : (i : ℕ) (rows : List Row) → reached_by 0 (i + 1) rows ≡ reached_by 0 i rows ++ unknowns_with i 0 rows ∷ []
+reached_by-more i rows =
+    ap (λ m. reached_by 0 m rows) (add-one i) ∙ (more_from 0 i rows ∙ ap (λ m. reached_by 0 i rows ++ unknowns_with m 0 rows ∷ []) (zero-add i))
 
 -- above each of these written elements, and below all that are
 pub record IsLeastAbove {V : Type 0} (l : Lattice V) (table : List V) (value : V) (ns : List ℕ) : Type 0 where
@@ -82,20 +123,16 @@ module _ {V : Type 0} (l : Lattice V) (laws : LatticeLaws l) (table : List V) wh
             (subst (λ v. IsTrue (l.leq v b)) (sym is) (each n (Contains-append_right ns (n ∷ []) n (Contains-first n []))));
       }
 
-  pub values_step : (reached : List (Vec Found Global)) (i : ℕ) (row : Vec Found Global) (u : ℕ) (slice : List Found) (t : Bool) (element value result : V) → i < length reached →
-      row ≡ get_or reached i row → slice ≡ row.items → t ≡ list_any (λ (found : Found). found.unknown == u) slice → element ≡ written_at l table i →
-      IsLeastAbove l table value (rows_with 0 (map numbers_in (take i reached)) u) → JoinTo l t value element result →
-      IsLeastAbove l table result (rows_with 0 (map numbers_in (take (i + 1) reached)) u)
-  values_step reached i row u slice t element value result h row_is slice_is t_is is so_far join =
-      let last = get_or reached i row in
-      let before = rows_with 0 (map numbers_in (take i reached)) u in
-      let test : t ≡ is_among u (numbers_in last) =
-      t_is ∙ (ap (λ (fs : List Found). list_any (λ (found : Found). found.unknown == u) fs) (slice_is ∙ ap (λ r. r.items) row_is)
-      ∙ sym (list_any-map (λ w. w == u) (λ (found : Found). found.unknown) last.items)) in
-      let len : 0 + length (map numbers_in (take i reached)) ≡ i = zero-add (length (map numbers_in (take i reached))) ∙ (length-map (take i reached) numbers_in ∙ length-take-le i reached (omega (arith, h))) in
-      let longer : rows_with 0 (map numbers_in (take (i + 1) reached)) u ≡ before ++ one_row i u t =
-      ap (λ (rows : List (Vec Found Global)). rows_with 0 (map numbers_in rows) u) (take_more reached i row h)
-      ∙ (ap (λ rows. rows_with 0 rows u) (map-append numbers_in (take i reached) (last ∷ []))
-      ∙ (rows_with-append 0 (map numbers_in (take i reached)) (numbers_in last ∷ []) u
-      ∙ (ap (λ n. before ++ rows_with n (numbers_in last ∷ []) u) len ∙ ap (λ b. before ++ one_row i u b) (sym test)))) in
+  pub values_step : (rows : List Row) (i u : ℕ) (t : Bool) (element value result : V) → t ≡ has_at rows u i → element ≡ written_at l table i →
+      IsLeastAbove l table value (rows_with 0 (reached_by 0 i rows) u) → JoinTo l t value element result →
+      IsLeastAbove l table result (rows_with 0 (reached_by 0 (i + 1) rows) u)
+  values_step rows i u t element value result t_is is so_far join =
+      let before = rows_with 0 (reached_by 0 i rows) u in
+      let last = unknowns_with i 0 rows in
+      let test : t ≡ is_among u last = t_is ∙ sym (is_among-row rows i u) in
+      let len : 0 + length (reached_by 0 i rows) ≡ i = zero-add (length (reached_by 0 i rows)) ∙ length-reached_by 0 i rows in
+      let longer : rows_with 0 (reached_by 0 (i + 1) rows) u ≡ before ++ one_row i u t =
+      ap (λ (ls : List (List ℕ)). rows_with 0 ls u) (reached_by-more i rows)
+      ∙ (rows_with-append 0 (reached_by 0 i rows) (last ∷ []) u
+      ∙ (ap (λ n. before ++ rows_with n (last ∷ []) u) len ∙ ap (λ b. before ++ one_row i u b) (sym test))) in
       subst (λ xs. IsLeastAbove l table result xs) (sym longer) (least-above_more value result before i u t element is so_far join)

@@ -1,8 +1,6 @@
--- The constraints with a written right side that written elements break, and the earliest of them.
+-- The constraints with a written right side that one written element breaks, and the earliest of them.
 -- Source: our own.
 use Rattle.std.specs.Prelude.{ℕ, suc, ◌<◌, List, [], ◌∷◌, ◌++◌, length, Bool, true, Option, Some, None, if◌then◌else◌, Contains, slice_index_or, nat_lt}
-use Rattle.std.specs.Global.{Global}
-use Rattle.std.specs.declared.vec.Vec.{Vec}
 use Rattle.labels.specs.Constraints.{Lattice}
 use Rattle.solver.specs.Reach.{edge, nothing_found, row_of}
 use Rattle.solver.specs.declared.broken.Broken.{Broken}
@@ -45,13 +43,6 @@ abbrev pub found_candidates : Edges → (below : ℕ → ℕ → Bool) → (valu
 found_candidates edges below value k [] = []
 found_candidates edges below value k (f ∷ found) =
     candidates below value (suc k) (row_of edges (Unknown f.unknown)) ++ found_candidates edges below value (suc k) found
-
--- of all written elements, from a number on, with what each of them reaches
-abbrev pub value_candidates : Edges → (below : ℕ → ℕ → Bool) → (value : ℕ) → List (Vec Found Global) → List Broken
-value_candidates edges below value [] = []
-value_candidates edges below value (found ∷ reached) =
-    (candidates below value 0 (row_of edges (Written value)) ++ found_candidates edges below value 0 found.items)
-    ++ value_candidates edges below (suc value) reached
 
 -- the earliest, of equals the first
 abbrev pub precedes : ℕ → Option Broken → Bool

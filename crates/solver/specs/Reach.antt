@@ -1,8 +1,6 @@
 -- What a written element reaches along edges, and the ways to it, as a search finds them.
 -- Source: our own.
-use Rattle.std.specs.Prelude.{◌≡◌, ℕ, zero, suc, ◌<◌, ◌≤◌, List, [], ◌∷◌, ◌++◌, length, set, map, Bool, true, false, IsTrue, Contains, slice_index_or}
-use Rattle.std.specs.Global.{Global}
-use Rattle.std.specs.declared.vec.Vec.{Vec}
+use Rattle.std.specs.Prelude.{◌≡◌, ℕ, suc, ◌<◌, ◌≤◌, List, [], ◌∷◌, ◌++◌, length, set, Bool, true, false, IsTrue, Contains, slice_index_or}
 use Rattle.solver.specs.Links.{row_at}
 use Rattle.solver.specs.declared.edges.Edge.{Edge}
 use Rattle.solver.specs.declared.edges.Edges.{Edges}
@@ -85,18 +83,3 @@ pub data LeadsOn (edges : Edges) : Atom → List ℕ → (last : ℕ) → Atom �
   ends : (from to : Atom) (by : ℕ) → Leads edges from by to → LeadsOn edges from (by ∷ []) by to
   goes_on : (from to : Atom) (by u last : ℕ) (rest : List ℕ) → Leads edges from by (Unknown u) → LeadsOn edges (Unknown u) rest last to →
       LeadsOn edges from (by ∷ rest) last to
-
--- what was found for a written element, of those of all
-abbrev pub found_at : List (Vec Found Global) → ℕ → List Found
-found_at [] n = []
-found_at (found ∷ rest) zero = found.items
-found_at (found ∷ rest) (suc n) = found_at rest n
-
--- the unknowns that were found, by their numbers
-abbrev pub numbers_of : List (Vec Found Global) → List (List ℕ)
-numbers_of reached = map (λ row. map (λ found. found.unknown) row.items) reached
-
--- each is all that its written element reaches
-pub record AreTraces (edges : Edges) (reached : List (Vec Found Global)) : Type 0 where
-  pub all : length reached ≡ length edges.written.items
-  pub each : (n : ℕ) → n < length reached → IsTrace edges n (found_at reached n)

@@ -1,9 +1,9 @@
-//! The first constraint with a written right side that some written element breaks: it reaches the left side, and does not lie below
+//! The first constraint with a written right side that one written element breaks: it reaches the left side, and does not lie below
 //! the right side.
-ghost use Rattle.solver.specs.Broken.{AllRightsInside, FoundInside, RightsInside, broken_by, candidates, earliest, found_candidates, is_below, precedes, value_candidates};
+ghost use Rattle.solver.specs.Broken.{AllRightsInside, FoundInside, RightsInside, broken_by, candidates, earliest, found_candidates, is_below, precedes};
 ghost use Rattle.solver.specs.Reach.{row_of};
 ghost use Rattle.solver.specs.declared.system.Atom.TheVariants.{Written};
-ghost use Rattle.std.specs.Prelude.{All, None, [], length, ◌++◌, ◌<◌, ◌∷◌, ◌≡◌};
+ghost use Rattle.std.specs.Prelude.{[], length, ◌++◌, ◌<◌, ◌∷◌, ◌≡◌};
 
 use crate::edges::{Edge, Edges};
 use crate::search::Found;
@@ -21,8 +21,8 @@ pub struct Broken {
     pub parent: usize,
 }
 
-// Whether a written element lies below another one.
-fn lies_below<L: Lattice>(lattice: &L, written: &[L::Elem], value: usize, to: usize) -> bool
+/// Whether a written element lies below another one.
+pub fn lies_below<L: Lattice>(lattice: &L, written: &[L::Elem], value: usize, to: usize) -> bool
     requires value { value < length written.now }
     requires to { to < length written.now }
     ensures { result ≡ is_below (L.order lattice.now) written.now value to }
@@ -94,8 +94,8 @@ fn earlier_of_edges<L: Lattice>(
     best
 }
 
-// The same of the edges from a written element and from all that it reaches.
-fn earlier_of_value<L: Lattice>(
+/// The same of the edges from a written element and from all that it reaches.
+pub fn earlier_of_value<L: Lattice>(
     lattice: &L,
     written: &[L::Elem],
     edges: &Edges,
@@ -117,28 +117,6 @@ fn earlier_of_value<L: Lattice>(
     for (k, step) in found.iter().enumerate() {
         let row = edges.unknown[step.unknown as usize].as_slice();
         best = earlier_of_edges(lattice, written, row, value, k + 1, best);
-    }
-    best
-}
-
-/// The first constraint that a written element breaks, given what each of them reaches.
-pub fn first_broken<L: Lattice>(
-    lattice: &L,
-    written: &[L::Elem],
-    edges: &Edges,
-    reached: &[Vec<Found>],
-) -> Option<Broken>
-    requires values { length reached.now ≡ length written.now }
-    requires rows { length edges.now.written.items ≡ length written.now }
-    requires inside { AllRightsInside (length written.now) edges.now }
-    requires found { All (λ found. FoundInside (length
-        edges.now.unknown.items) found.items) reached.now }
-    ensures { result ≡ earliest None (value_candidates edges.now
-        (is_below (L.order lattice.now) written.now) 0 reached.now) }
-{
-    let mut best = None;
-    for (value, found) in reached.iter().enumerate() {
-        best = earlier_of_value(lattice, written, edges, found.as_slice(), value, best);
     }
     best
 }

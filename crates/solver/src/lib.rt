@@ -2,13 +2,17 @@
 //! rules out every solution.
 #![tactic(auto)]
 
+mod breaker;
 mod broken;
 mod chain;
 mod edges;
 pub mod fault;
+mod reached;
+mod row;
 mod search;
 pub mod solution;
 pub mod solving;
+mod spread;
 pub mod system;
 
 pub use fault::{Refusal, SolveFault};

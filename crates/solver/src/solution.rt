@@ -1,19 +1,22 @@
 //! The least values of the unknowns.
-ghost use Rattle.solver.specs.Reach.{numbers_of};
+ghost use Rattle.solver.specs.Rows.{AreSized, has_at, reached_by};
 ghost use Rattle.solver.specs.System.{AreAlike, JoinTo, values_of};
-ghost use Rattle.std.specs.List.{list_any};
-ghost use Rattle.std.specs.Prelude.{IfOk, length, ◌==◌, ◌≡◌, ◌≤◌};
+ghost use Rattle.std.specs.Prelude.{IfOk, length, ◌<◌, ◌≡◌, ◌≤◌};
 
-use crate::search::Found;
+use crate::row::Row;
 use labels::Lattice;
 use std::alloc::{AllocError, Global};
 use std::marker::Model;
 
-/// The least values of the unknowns of constraints: for each written element, by its number, the unknowns that it reaches. The value
-/// of an unknown is the join of the written elements that reach it.
+/// The least values of the unknowns of constraints: for each unknown the written elements that reach it, as a row of bits. The value
+/// of an unknown is the join of the written elements that reach it. A contract sees for each written element, by its number, the
+/// unknowns that it reaches.
 #[derive(Debug, Drop)]
 pub struct Solution {
-    reached: Vec<Vec<Found>>,
+    /// How many written elements there are.
+    count: usize,
+    rows: Vec<Row>,
+    ghost sized: { AreSized count rows.items },
 }
 
 impl Model for Solution {
@@ -21,21 +24,22 @@ impl Model for Solution {
 
     ghost Value = { List (List ℕ) };
 
-    ghost use Rattle.solver.specs.Reach.{numbers_of};
+    ghost use Rattle.solver.specs.Rows.{reached_by};
 
-    ghost view = { λ solution. numbers_of solution.reached.items };
+    ghost view = { λ solution. reached_by 0 solution.count solution.rows.items };
 }
 
 impl Solution {
-    // The solution with these rows.
-    pub(crate) fn of(reached: Vec<Vec<Found>>) -> Solution
-        ensures { result ≡ numbers_of reached.items }
+    // The solution with these rows of numbers below this.
+    pub(crate) fn of(count: usize, rows: Vec<Row>) -> Solution
+        requires { AreSized count rows.items }
+        ensures { result ≡ reached_by 0 count rows.items }
     {
-        Solution { reached }
+        Solution { count, rows }
     }
 
     /// The value of an unknown, exact up to the order: the join of the written elements that reach it. The precondition holds of the
-    /// table of written elements that was solved. It fails only where memory ran out, and goes through the whole solution.
+    /// table of written elements that was solved. It fails only where memory ran out, and goes through the row of the unknown alone.
     pub fn value<L: Lattice>(
         &self,
         alloc: Global,
@@ -47,16 +51,18 @@ impl Solution {
         ensures { IfOk result (AreAlike (L.order lattice.now)
             (values_of (L.order lattice.now) written.now self.now unknown)) }
     {
-        let reached = self.reached.as_slice();
-        value_in(alloc, lattice, written, reached, unknown)
+        let rows = self.rows.as_slice();
+        value_in(alloc, lattice, written, self.count, rows, unknown as usize)
     }
 }
 
-// Whether an unknown is among what was found.
-fn is_found(found: &[Found], unknown: u32) -> bool
-    ensures { result ≡ list_any (λ found. found.unknown == unknown) found.now }
+// Whether a number is in the row of an unknown.
+fn reaches(rows: &[Row], count: usize, unknown: usize, number: usize) -> bool
+    requires sized { AreSized count rows.now }
+    requires inside { number < count }
+    ensures { result ≡ has_at rows.now unknown number }
 {
-    found.iter().any(|found| found.unknown == unknown)
+    unknown < rows.len() && rows[unknown].has(number)
 }
 
 // The join with a written element, if it is one that reaches the unknown.
@@ -75,29 +81,25 @@ fn join_if<L: Lattice>(
     Ok(value)
 }
 
-// The join of the written elements in whose row an unknown stands.
+// The join of the written elements that stand in the row of an unknown.
 fn value_in<L: Lattice>(
     alloc: Global,
     lattice: &L,
     written: &[L::Elem],
-    reached: &[Vec<Found>],
-    unknown: u32,
+    count: usize,
+    rows: &[Row],
+    unknown: usize,
 ) -> Result<L::Elem, AllocError>
-    requires { length reached.now ≤ length written.now }
+    requires count { count ≤ length written.now }
+    requires sized { AreSized count rows.now }
     ensures { IfOk result (AreAlike (L.order lattice.now) (values_of (L.order lattice.now)
-        written.now
-        (numbers_of reached.now) unknown)) }
+        written.now (reached_by 0 count rows.now) unknown)) }
 {
     lattice.keep_laws();
     let mut value = lattice.least(alloc);
-    for (n, row) in reached.iter().enumerate() {
-        value = join_if(
-            alloc,
-            lattice,
-            value,
-            &written[n],
-            is_found(row.as_slice(), unknown),
-        )?;
+    for n in 0..count {
+        let reaches = reaches(rows, count, unknown, n);
+        value = join_if(alloc, lattice, value, &written[n], reaches)?;
     }
     Ok(value)
 }

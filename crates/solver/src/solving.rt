@@ -1,17 +1,18 @@
 //! The least solution of constraints, or why there is none.
+ghost use Rattle.solver.specs.Breaker.{BreaksAlong, IsBreakChain};
+ghost use Rattle.solver.specs.Broken.{AllRightsInside, is_below};
 ghost use Rattle.solver.specs.Links.{InRange};
-ghost use Rattle.solver.specs.Reach.{AreTraces, EndsAt, IsTrail, LeadsOn, ParentsFall, StaysInside, found_at};
+ghost use Rattle.solver.specs.Reach.{StaysInside};
 ghost use Rattle.solver.specs.System.{IsSolution, Refuses};
-ghost use Rattle.solver.specs.declared.edges.Edges.{Edges};
-ghost use Rattle.solver.specs.declared.system.Atom.{Atom};
-ghost use Rattle.solver.specs.declared.system.Atom.TheVariants.{Written};
-ghost use Rattle.std.specs.Prelude.{IfErr, IfOk, length, ℕ, ◌<◌, ◌≡◌, ◌≤◌};
+ghost use Rattle.std.specs.Prelude.{IfErr, IfOk, length, ℕ, ◌<◌, ◌≡◌};
 
-use crate::broken::{Broken, first_broken};
+use crate::breaker::first_breaker;
+use crate::broken::earlier_of_value;
 use crate::chain::chain_to;
 use crate::edges::{Edges, edges_of};
 use crate::fault::{Refusal, SolveFault};
-use crate::search::{Found, trace};
+use crate::reached::rows_of;
+use crate::search::trace;
 use crate::solution::Solution;
 use crate::system::System;
 use labels::Lattice;
@@ -22,8 +23,8 @@ use std::alloc::{AllocError, Global};
 /// constraints are refused exactly where no values fit them all. It is a precondition that the numbers of written elements and of
 /// unknowns are in range.
 ///
-/// It takes time in proportion to the constraints for each written element, and looks at a constraint again only when one more
-/// written element reaches its left side.
+/// It takes a bit for each pair of an unknown and a written element. A constraint is looked at for 64 written elements at a time,
+/// and again only when one more of them reaches its left side.
 pub fn solve<L: Lattice, T>(
     alloc: Global,
     lattice: &L,
@@ -36,51 +37,43 @@ pub fn solve<L: Lattice, T>(
 {
     lattice.keep_laws();
     let count = system.written.len();
-    let edges = edges_of(
-        alloc,
-        system.constraints.as_slice(),
-        count,
-        system.unknowns as usize,
-    )?;
-    let reached = trace_all(alloc, &edges, count)?;
-    match first_broken(
-        lattice,
-        system.written.as_slice(),
-        &edges,
-        reached.as_slice(),
-    ) {
-        None => Ok(Solution::of(reached)),
-        Some(broken) => Err(SolveFault::Unmet(refusal(alloc, reached.as_slice(), broken)?)),
+    let unknowns = system.unknowns as usize;
+    let written = system.written.as_slice();
+    let constraints = system.constraints.as_slice();
+    let edges = edges_of(alloc, constraints, count, unknowns)?;
+    let rows = rows_of(alloc, &edges)?;
+    match first_breaker(alloc, lattice, written, constraints, rows.as_slice())? {
+        None => Ok(Solution::of(count, rows)),
+        Some(value) => {
+            let refusal = refusal(alloc, lattice, written, &edges, value)?;
+            Err(SolveFault::Unmet(refusal))
+        }
     }
 }
 
-// What each written element reaches.
-fn trace_all(alloc: Global, edges: &Edges, count: usize) -> Result<Vec<Vec<Found>>, AllocError>
-    requires count { count ≡ length edges.now.written.items }
+// The refusal for a written element that breaks a constraint: the first one that it breaks.
+fn refusal<L: Lattice>(
+    alloc: Global,
+    lattice: &L,
+    written: &[L::Elem],
+    edges: &Edges,
+    value: usize,
+) -> Result<Refusal, AllocError>
+    requires value { value < length written.now }
+    requires written { length edges.now.written.items ≡ length written.now }
     requires inside { StaysInside edges.now }
-    ensures { IfOk result (λ reached. AreTraces edges.now reached.items) }
+    requires rights { AllRightsInside (length written.now) edges.now }
+    requires breaks { (i : ℕ) × BreaksAlong edges.now
+        (is_below (L.order lattice.now) written.now) value i }
+    ensures from { IfOk result (λ refusal. refusal.from ≡ value) }
+    ensures chain { IfOk result (λ refusal. IsBreakChain edges.now
+        (is_below (L.order lattice.now) written.now) value refusal.chain.items) }
 {
-    let mut reached = Vec::new(alloc);
-    for value in 0..count {
-        reached.push(trace(alloc, edges, value)?)?;
-    }
-    Ok(reached)
-}
-
-// The refusal for a constraint that a written element breaks.
-fn refusal(alloc: Global, reached: &[Vec<Found>], broken: Broken) -> Result<Refusal, AllocError>
-    requires value { broken.value < length reached.now }
-    requires parent { broken.parent ≤ length (found_at reached.now broken.value) }
-    requires falls { ParentsFall (found_at reached.now broken.value) }
-    ensures from { IfOk result (λ refusal. refusal.from ≡ broken.value) }
-    ensures chain { IfOk result (λ refusal. (edges : Edges) (n : ℕ) (to : Atom)
-        → IsTrail edges n (found_at reached.now broken.value) →
-        EndsAt edges n (found_at reached.now broken.value) broken.parent broken.by to →
-        LeadsOn edges (Written n) refusal.chain.items broken.by to) }
-{
-    let found = reached[broken.value].as_slice();
-    Ok(Refusal {
-        from: broken.value,
-        chain: chain_to(alloc, found, broken.parent, broken.by)?,
-    })
+    let found = trace(alloc, edges, value)?;
+    let found = found.as_slice();
+    let Some(broken) = earlier_of_value(lattice, written, edges, found, value, None) else {
+        unreachable!();
+    };
+    let chain = chain_to(alloc, found, broken.parent, broken.by)?;
+    Ok(Refusal { from: value, chain })
 }

@@ -1,0 +1,81 @@
+-- The constraints with a written right side that a written element breaks: by rows of bits, and along edges with a chain.
+-- Source: our own.
+use Rattle.std.specs.Prelude.{◌≡◌, ℕ, ◌<◌, ◌≤◌, List, Bool, true, false, Option, Some, None, IsTrue, length, slice_get, slice_index_or}
+use Rattle.solver.specs.Reach.{Leads, LeadsOn, ReachesBy}
+use Rattle.solver.specs.Bits.{has_bit}
+use Rattle.solver.specs.Rows.{left_has}
+use Rattle.solver.specs.declared.edges.Edges.{Edges}
+use Rattle.solver.specs.declared.row.Row.{Row}
+use Rattle.solver.specs.declared.system.Atom.{Atom}
+use Rattle.solver.specs.declared.system.Atom.TheVariants.{Unknown, Written}
+use Rattle.solver.specs.declared.system.Constraint.{Constraint}
+
+-- an element reaches a left side, and does not lie below the written right side
+pub record BreaksSides (below : ℕ → ℕ → Bool) (rows : List Row) (left : List Atom) (right : Atom) (n : ℕ) : Type 0 where
+  pub to : ℕ
+  pub is : right ≡ Written to
+  pub member : IsTrue (left_has rows left n)
+  pub fails : below n to ≡ false
+
+-- so it is of the constraint at an index
+pub record Breaks {T : Type 0} (below : ℕ → ℕ → Bool) (rows : List Row) (cs : List (Constraint T)) (n i : ℕ) : Type 0 where
+  pub constraint : Constraint T
+  pub at : slice_get cs i ≡ Some constraint
+  pub sides : BreaksSides below rows constraint.left.items constraint.right n
+
+-- no element below a count breaks a constraint below an index
+abbrev pub NoneBreaks : {T : Type 0} → (below : ℕ → ℕ → Bool) → (count : ℕ) → List Row → List (Constraint T) → (bound : ℕ) → Type 0
+NoneBreaks below count rows cs bound = (n i : ℕ) → n < count → i < bound → Breaks below rows cs n i → ⊥
+
+-- an element that breaks the first constraint that is broken, or nothing where none is
+pub record BreaksFirst {T : Type 0} (below : ℕ → ℕ → Bool) (count : ℕ) (rows : List Row) (cs : List (Constraint T)) (n : ℕ) : Type 0 where
+  pub inside : n < count
+  pub index : ℕ
+  pub breaks : Breaks below rows cs n index
+  pub before : NoneBreaks below count rows cs index
+
+abbrev pub IsFirstBreaker : {T : Type 0} → (below : ℕ → ℕ → Bool) → (count : ℕ) → List Row → List (Constraint T) → Option ℕ → Type 0
+IsFirstBreaker below count rows cs None = (n i : ℕ) → n < count → Breaks below rows cs n i → ⊥
+IsFirstBreaker below count rows cs (Some n) = BreaksFirst below count rows cs n
+
+-- members lie below an element; and so it is kept for each element of which something is known
+abbrev pub IsKnown : (below : ℕ → ℕ → Bool) → List ℕ → (to : ℕ) → Type 0
+IsKnown below words to = (n : ℕ) → IsTrue (has_bit words n) → below n to ≡ true
+
+pub data IsKept (below : ℕ → ℕ → Bool) (count to : ℕ) : Option Row → Type 0 where
+  nothing : IsKept below count to None
+  some : (row : Row) → row.count ≡ count → IsKnown below row.words.items to → IsKept below count to (Some row)
+
+abbrev pub AreKept : (below : ℕ → ℕ → Bool) → (count : ℕ) → List (Option Row) → Type 0
+AreKept below count known = (to : ℕ) (d : Option Row) → to < length known → IsKept below count to (slice_index_or known to d)
+
+-- a member of a row that does not lie below an element, or none where all do
+abbrev pub IsAbove : (below : ℕ → ℕ → Bool) → (count : ℕ) → List ℕ → (to : ℕ) → Option ℕ → Type 0
+IsAbove below count words to None = (n : ℕ) → n < count → IsTrue (has_bit words n) → below n to ≡ true
+IsAbove below count words to (Some n) = (n < count) × IsTrue (has_bit words n) × (below n to ≡ false)
+
+-- an element that breaks a constraint with these sides, or none where none does
+abbrev pub IsBreakerOf : (below : ℕ → ℕ → Bool) → (count : ℕ) → List Row → List Atom → Atom → Option ℕ → Type 0
+IsBreakerOf below count rows left right None = (n : ℕ) → n < count → BreaksSides below rows left right n → ⊥
+IsBreakerOf below count rows left right (Some n) = (n < count) × BreaksSides below rows left right n
+
+-- an element reaches an atom along edges
+pub data Arrives (edges : Edges) (n : ℕ) : Atom → Type 0 where
+  itself : Arrives edges n (Written n)
+  onward : (u : ℕ) → ReachesBy edges n u → Arrives edges n (Unknown u)
+
+-- an element breaks a constraint along edges
+pub record BreaksAlong (edges : Edges) (below : ℕ → ℕ → Bool) (n i : ℕ) : Type 0 where
+  pub from : Atom
+  pub arrives : Arrives edges n from
+  pub to : ℕ
+  pub leads : Leads edges from i (Written to)
+  pub fails : below n to ≡ false
+
+-- a chain from an element to the first constraint that it breaks
+pub record IsBreakChain (edges : Edges) (below : ℕ → ℕ → Bool) (n : ℕ) (chain : List ℕ) : Type 0 where
+  pub last : ℕ
+  pub to : ℕ
+  pub leads : LeadsOn edges (Written n) chain last (Written to)
+  pub fails : below n to ≡ false
+  pub first : (i : ℕ) → BreaksAlong edges below n i → last ≤ i

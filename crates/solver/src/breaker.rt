@@ -1,0 +1,204 @@
+//! A written element that breaks a constraint with a written right side: it reaches the left side, and does not lie below the right
+//! side.
+ghost use Rattle.solver.specs.Breaker.{AreKept, IsAbove, IsBreakerOf, IsFirstBreaker, IsKept, IsKnown};
+ghost use Rattle.solver.specs.Broken.{is_below};
+ghost use Rattle.solver.specs.Links.{AreBelow, InRange, IsBelow};
+ghost use Rattle.solver.specs.Bits.{has_bit};
+ghost use Rattle.solver.specs.Rows.{AreSized, atom_has, left_has};
+ghost use Rattle.std.specs.Prelude.{Bool, IfOk, IsTrue, OnOk, Some, false, length, true, ℕ, ◌<◌, ◌||◌, ◌≡◌};
+
+use crate::broken::lies_below;
+use crate::row::Row;
+use crate::system::{Atom, Constraint};
+use labels::Lattice;
+use std::alloc::{AllocError, Global};
+
+/// A written element that breaks the first constraint that is broken, if one is. Each element is compared at most once with each
+/// right side.
+pub fn first_breaker<L: Lattice, T>(
+    alloc: Global,
+    lattice: &L,
+    written: &[L::Elem],
+    constraints: &[Constraint<T>],
+    rows: &[Row],
+) -> Result<Option<usize>, AllocError>
+    requires range { InRange (length written.now) (length rows.now) constraints.now }
+    requires sized { AreSized (length written.now) rows.now }
+    ensures { IfOk result (IsFirstBreaker (is_below (L.order lattice.now) written.now)
+        (length written.now) rows.now constraints.now) }
+{
+    let mut known = nothing_known(alloc, written.len())?;
+    for constraint in constraints {
+        match breaker_of(alloc, lattice, written, constraint, rows, &mut known)? {
+            Some(value) => return Ok(Some(value)),
+            None => {}
+        }
+    }
+    Ok(None)
+}
+
+// A written element that breaks this constraint, if one does.
+fn breaker_of<L: Lattice, T>(
+    alloc: Global,
+    lattice: &L,
+    written: &[L::Elem],
+    constraint: &Constraint<T>,
+    rows: &[Row],
+    known: &mut Vec<Option<Row>>,
+) -> Result<Option<usize>, AllocError>
+    requires left { AreBelow (length written.now) (length rows.now) constraint.now.left.items }
+    requires right { IsBelow (length written.now) (length rows.now) constraint.now.right }
+    requires sized { AreSized (length written.now) rows.now }
+    requires all { length known.old.items ≡ length written.now }
+    requires kept { AreKept (is_below (L.order lattice.now) written.now)
+        (length written.now) known.old.items }
+    ensures all { OnOk result (length known.new.items ≡ length written.now) }
+    ensures kept { OnOk result (AreKept (is_below (L.order lattice.now) written.now)
+        (length written.now) known.new.items) }
+    ensures breaker { IfOk result (IsBreakerOf (is_below (L.order lattice.now) written.now)
+        (length written.now) rows.now constraint.now.left.items constraint.now.right) }
+{
+    let Atom::Written(to) = constraint.right else {
+        return Ok(None);
+    };
+    let to = to as usize;
+    let left = left_row(alloc, constraint.left.as_slice(), rows, written.len())?;
+    first_above(alloc, lattice, written, &left, &mut known[to], to)
+}
+
+// For each written element, that nothing is known yet of what lies below it.
+fn nothing_known(alloc: Global, count: usize) -> Result<Vec<Option<Row>>, AllocError>
+    ensures all { IfOk result (λ known. length known.items ≡ count) }
+    ensures kept { IfOk result (λ known. (below : ℕ → ℕ → Bool) → AreKept below count known.items) }
+{
+    let mut known = Vec::with_capacity(alloc, count)?;
+    for _n in 0..count {
+        known.push(None)?;
+    }
+    Ok(known)
+}
+
+// The written elements that are a part of a left side or reach one.
+fn left_row(alloc: Global, left: &[Atom], rows: &[Row], count: usize) -> Result<Row, AllocError>
+    requires range { AreBelow count (length rows.now) left.now }
+    requires sized { AreSized count rows.now }
+    ensures count { IfOk result (λ row. row.count ≡ count) }
+    ensures members { IfOk result (λ row. (n : ℕ) → has_bit row.words.items n
+        ≡ left_has rows.now left.now n) }
+{
+    let mut row = Row::new(alloc, count)?;
+    for atom in left {
+        add_atom(&mut row, *atom, rows);
+    }
+    Ok(row)
+}
+
+// Adds the written elements of one atom.
+fn add_atom(row: &mut Row, atom: Atom, rows: &[Row])
+    requires range { IsBelow row.old.count (length rows.now) atom }
+    requires sized { AreSized row.old.count rows.now }
+    ensures count { row.new.count ≡ row.old.count }
+    ensures members { (n : ℕ) → has_bit row.new.words.items n
+        ≡ (has_bit row.old.words.items n || atom_has rows.now n atom) }
+{
+    match atom {
+        Atom::Written(n) => row.set(n as usize),
+        Atom::Unknown(u) => {
+            row.join_from(&rows[u as usize]);
+        }
+    }
+}
+
+// The first number in a row whose element does not lie below another one. What is found to lie below is known from then on.
+fn first_above<L: Lattice>(
+    alloc: Global,
+    lattice: &L,
+    written: &[L::Elem],
+    left: &Row,
+    known: &mut Option<Row>,
+    to: usize,
+) -> Result<Option<usize>, AllocError>
+    requires to { to < length written.now }
+    requires left { left.now.count ≡ length written.now }
+    requires known { IsKept (is_below (L.order lattice.now) written.now)
+        (length written.now) to known.old }
+    ensures known { OnOk result (IsKept (is_below (L.order lattice.now) written.now)
+        (length written.now) to known.new) }
+    ensures above { IfOk result (IsAbove (is_below (L.order lattice.now) written.now)
+        (length written.now) left.now.words.items to) }
+{
+    let mut below = known_row(alloc, known.take(), written.len())?;
+    let above = compare(lattice, written, left, &mut below, to);
+    *known = Some(below);
+    Ok(above)
+}
+
+// What is known, as a row.
+fn known_row(alloc: Global, known: Option<Row>, count: usize) -> Result<Row, AllocError>
+    ensures { IfOk result (λ row. (below : ℕ → ℕ → Bool) (to : ℕ) → IsKept below count to known →
+        IsKept below count to (Some row)) }
+{
+    match known {
+        Some(row) => Ok(row),
+        None => Ok(Row::new(alloc, count)?),
+    }
+}
+
+// The same, given what is known to lie below.
+fn compare<L: Lattice>(
+    lattice: &L,
+    written: &[L::Elem],
+    left: &Row,
+    known: &mut Row,
+    to: usize,
+) -> Option<usize>
+    requires to { to < length written.now }
+    requires left { left.now.count ≡ length written.now }
+    requires count { known.old.count ≡ length written.now }
+    requires known { IsKnown (is_below (L.order lattice.now) written.now) known.old.words.items to }
+    ensures count { known.new.count ≡ known.old.count }
+    ensures known { IsKnown (is_below (L.order lattice.now) written.now) known.new.words.items to }
+    ensures above { IsAbove (is_below (L.order lattice.now) written.now)
+        (length written.now) left.now.words.items to result }
+{
+    if known.covers(left) {
+        return None;
+    }
+    for n in 0..written.len() {
+        if !stays_below(lattice, written, left, known, to, n) {
+            return Some(n);
+        }
+    }
+    None
+}
+
+// Whether a number is no member of a row, or its element lies below another one. It is then known.
+fn stays_below<L: Lattice>(
+    lattice: &L,
+    written: &[L::Elem],
+    left: &Row,
+    known: &mut Row,
+    to: usize,
+    n: usize,
+) -> bool
+    requires to { to < length written.now }
+    requires n { n < length written.now }
+    requires left { left.now.count ≡ length written.now }
+    requires count { known.old.count ≡ length written.now }
+    requires known { IsKnown (is_below (L.order lattice.now) written.now) known.old.words.items to }
+    ensures count { known.new.count ≡ known.old.count }
+    ensures known { IsKnown (is_below (L.order lattice.now) written.now) known.new.words.items to }
+    ensures below { result ≡ true → IsTrue (has_bit left.now.words.items n) →
+        is_below (L.order lattice.now) written.now n to ≡ true }
+    ensures above { result ≡ false → IsTrue (has_bit left.now.words.items n) ×
+        (is_below (L.order lattice.now) written.now n to ≡ false) }
+{
+    if !left.has(n) || known.has(n) {
+        return true;
+    }
+    if !lies_below(lattice, written, n, to) {
+        return false;
+    }
+    known.set(n);
+    true
+}
