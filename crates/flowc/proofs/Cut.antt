@@ -14,7 +14,7 @@ use Rattle.channels.specs.Sink.{AppendsPrefix}
 use Rattle.channels.specs.World.{input_names}
 use Rattle.channels.specs.WorldText.{IsWorldText, lines_of}
 use Rattle.verifier.specs.Faults.{HasNoFault}
-use Rattle.machine.specs.Run.{IsTold}
+use Rattle.machine.specs.Run.{ReportsStatus}
 use Rattle.machine.specs.declared.status.Status.{Status}
 use Rattle.flowc.specs.Messages.{IsEndLine, reported_line}
 use Rattle.flowc.specs.Stdout.{CanRun, ShowsRun, ShowsSome, numbers_in, text_shown}
@@ -59,7 +59,7 @@ cut_off code text name steps old new m program principal taken pairs before afte
 module _ (code text : List ℕ) (name : Option (List ℕ)) (steps : ℕ) (m program : ModuleContents) (principal : Option ℕ) (taken : ℕ)
     (before after : Machine) (end : Status) (can : CanRun code text name m principal) (within : taken ≤ steps) (is : program ≡ m)
     (first : before ≡ Running (first_state m (numbers_in m text))) (reached : after ≡ exec (program_of m) taken before)
-    (stands : IsTold (program_of m) steps taken end after) where
+    (stands : ReportsStatus (program_of m) steps taken end after) where
   there : after ≡ after_steps m (numbers_in m text) taken
   there = reached ∙ ap (λ (x : Machine). exec (program_of m) taken x) first
 
@@ -81,7 +81,7 @@ module _ (code text : List ℕ) (name : Option (List ℕ)) (steps : ℕ) (m prog
         within = within;
         view = subst (λ (t : List ℕ). Appends old new t) all view;
         end = end;
-        ended = subst (λ (x : Machine). IsTold (program_of m) steps taken end x) there stands;
+        ended = subst (λ (x : Machine). ReportsStatus (program_of m) steps taken end x) there stands;
         reported = status;
       }
 
@@ -97,7 +97,7 @@ module _ (code text : List ℕ) (name : Option (List ℕ)) (steps : ℕ) (m prog
     can_run = can;
     within = within;
     end = end;
-    ended = subst (λ (x : Machine). IsTold (program_of m) steps taken end x) there stands;
+    ended = subst (λ (x : Machine). ReportsStatus (program_of m) steps taken end x) there stands;
     reported = status;
     says = line ∙ ap (λ (w : ModuleContents). reported_line w principal end) is;
   }

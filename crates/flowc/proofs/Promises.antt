@@ -23,7 +23,7 @@ use Rattle.compiler.specs.Compiled.{IsCompiled}
 use Rattle.channels.specs.WorldText.{IsWorldText, lines_of}
 use Rattle.compiler.proofs.Readers.{seen-module}
 use Rattle.lowering.proofs.Sent.{exec-keeps}
-use Rattle.machine.proofs.Told.{exec_more}
+use Rattle.machine.proofs.Reporting.{exec_more}
 use Rattle.machine.specs.Run.{HasEnded}
 use Rattle.machine.specs.declared.status.Status.{Status}
 use Rattle.verifier.specs.Faults.{HasNoFault}

@@ -7,7 +7,7 @@ use Rattle.bytecode.specs.Machine as machine
 use Rattle.bytecode.specs.Machine.{Machine, Running, Ended, Stuck, Ending, Program, exec, program_of, sent_after, sent_of, step}
 use Rattle.channels.specs.World.{InputNumbers, numbers_of_channel}
 use Rattle.verifier.specs.Safety.{HasRow, IsNeverStuck}
-use Rattle.machine.specs.Run.{IsRunning, IsTold, WasRunning}
+use Rattle.machine.specs.Run.{IsRunning, ReportsStatus, WasRunning}
 use Rattle.machine.specs.declared.status.Status.{Status}
 use Rattle.machine.specs.declared.status.Status.TheVariants as status
 use Rattle.host.specs.Laws.{Shows, ending_of}
@@ -22,10 +22,10 @@ record Stop (p : Program) (n : ℕ) (from : Machine) : Type 0 where
   stands : Status
   within : taken ≤ n
   running : WasRunning p taken from
-  is : IsTold p n taken stands (exec p taken from)
+  is : ReportsStatus p n taken stands (exec p taken from)
   far : (taken ≡ n) ⊎ ((ending : Ending) × (ending_of stands ≡ Some ending))
 
-one_more : (p : Program) (n taken : ℕ) (stands : Status) (machine : Machine) → IsTold p n taken stands machine → IsTold p (suc n) (suc taken) stands machine
+one_more : (p : Program) (n taken : ℕ) (stands : Status) (machine : Machine) → ReportsStatus p n taken stands machine → ReportsStatus p (suc n) (suc taken) stands machine
 one_more p n taken status.Running machine is = (ap suc is.0, is.1)
 one_more p n taken status.Finished machine is = is
 one_more p n taken (status.Threw exception) machine is = is

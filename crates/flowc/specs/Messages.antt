@@ -21,7 +21,7 @@ use Rattle.acceptance.specs.declared.cause.Cause.{Cause}
 use Rattle.acceptance.specs.declared.cause.Text.{Text}
 use Rattle.acceptance.specs.declared.cause.Text.TheVariants.{Hierarchy, Source}
 use Rattle.compiler.specs.Reported.{IsFirstFault}
-use Rattle.machine.specs.Run.{IsTold}
+use Rattle.machine.specs.Run.{ReportsStatus}
 use Rattle.machine.specs.declared.status.Status.{Status}
 use Rattle.verifier.specs.Faults as faults
 use Rattle.verifier.specs.Faults.{HasNoFault}
@@ -95,7 +95,7 @@ pub record IsEndLine (code text : List ℕ) (observer : Option (List ℕ)) (step
   pub can_run : CanRun code text observer program principal
   pub within : taken ≤ steps
   pub end : Status
-  pub ended : IsTold (program_of program) steps taken end (after_steps program (numbers_in program text) taken)
+  pub ended : ReportsStatus (program_of program) steps taken end (after_steps program (numbers_in program text) taken)
   pub reported : status ≡ reported_status principal end
   pub says : line ≡ reported_line program principal end
 

@@ -15,7 +15,7 @@ use Rattle.channels.specs.World.{input_names, numbers_of_channel}
 use Rattle.channels.specs.WorldText.{IsWorldText, lines_of, world_of}
 use Rattle.listing.specs.Listing.{listing_text}
 use Rattle.verifier.specs.Faults.{HasNoFault}
-use Rattle.machine.specs.Run.{IsTold}
+use Rattle.machine.specs.Run.{ReportsStatus}
 use Rattle.machine.specs.declared.status.Status.{Status}
 use Rattle.command_line.specs.declared.request.Task.{Task}
 use Rattle.command_line.specs.declared.request.Task.TheVariants.{Check, Build, Run, List as ListModule}
@@ -54,7 +54,7 @@ pub record ShowsRun (code text : List ℕ) (observer : Option (List ℕ)) (steps
   pub within : taken ≤ steps
   pub view : Appends old new (text_shown program text principal taken)
   pub end : Status
-  pub ended : IsTold (program_of program) steps taken end (after_steps program (numbers_in program text) taken)
+  pub ended : ReportsStatus (program_of program) steps taken end (after_steps program (numbers_in program text) taken)
   pub reported : status ≡ reported_status principal end
 
 -- a text shows nothing else than a run on the world: it begins what is shown of the run after at most so many steps

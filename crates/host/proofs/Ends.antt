@@ -3,10 +3,10 @@ use Rattle.std.proofs.Common.{◌≡◌, ℕ, zero, suc, ◌+◌, ◌-◌, ◌�
 use Rattle.std.proofs.lemmas.Option.{none-some, same_Some}
 use Rattle.labels.specs.declared.sent.Pair.{Pair}
 use Rattle.bytecode.specs.Machine.{Machine, Ended, Ending, Program, exec, sent_of}
-use Rattle.machine.specs.Run.{HasEnded, IsTold}
+use Rattle.machine.specs.Run.{HasEnded, ReportsStatus}
 use Rattle.machine.specs.declared.status.Status.{Status}
 use Rattle.machine.specs.declared.status.Status.TheVariants as status
-use Rattle.machine.proofs.Told.{exec_more}
+use Rattle.machine.proofs.Reporting.{exec_more}
 use Rattle.host.specs.Laws.{ending_of}
 
 -- a machine that has ended stays so
@@ -25,7 +25,7 @@ pub still_ended_at : (p : Program) (i j : ℕ) (ending : Ending) (machine : Mach
 still_ended_at p i j ending machine h ended = subst (HasEnded ending) (sym (same_at p i j ending machine h ended)) ended
 
 -- what a status that reports an end says of a machine
-pub end_of_status : (p : Program) (n taken : ℕ) (reported : Status) (machine : Machine) (ending : Ending) → ending_of reported ≡ Some ending → IsTold p n taken reported machine → HasEnded ending machine
+pub end_of_status : (p : Program) (n taken : ℕ) (reported : Status) (machine : Machine) (ending : Ending) → ending_of reported ≡ Some ending → ReportsStatus p n taken reported machine → HasEnded ending machine
 end_of_status p n taken status.Running machine ending e h = absurd (none-some ending e)
 end_of_status p n taken status.Finished machine ending e h = subst (λ x. HasEnded x machine) (same_Some _ _ e) h
 end_of_status p n taken (status.Threw exception) machine ending e h = subst (λ x. HasEnded x machine) (same_Some _ _ e) h

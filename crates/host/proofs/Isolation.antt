@@ -6,7 +6,7 @@ use Rattle.bytecode.specs.Format.{module_file}
 use Rattle.bytecode.specs.Machine.{sent_after}
 use Rattle.channels.specs.World.{numbers_of_channel}
 use Rattle.bytecode.specs.Isolated.{seen_of, OneBegins}
-use Rattle.host.specs.Laws.{SessionsAreFreshRuns, SessionsEndAsReported, SessionsAreIsolated, SessionsStandAsTold, SessionsGoOn, SessionsShowOn, TranscriptsJoin, StepsAddUp, IdsGoUp, steps_of}
+use Rattle.host.specs.Laws.{SessionsAreFreshRuns, SessionsEndAsReported, SessionsAreIsolated, SessionsStandAsReported, SessionsGoOn, SessionsShowOn, TranscriptsJoin, StepsAddUp, IdsGoUp, steps_of}
 use Rattle.host.proofs.Lives.{shown_fresh, ended_fresh, stands, goes_on, shows_on, joined, steps_add_up, ids_go_up}
 
 -- bytes spell one module at most
@@ -29,8 +29,8 @@ module _ (one : (m n : ModuleContents) (bytes : List ℕ) → Spells module_file
       (subst (λ ys. OneBegins (seen_of m p (sent_after m (numbers_of_channel m first) i)) ys) (sym (fresh_runs bytes second p others m spelled other_shown))
       (isolated_module p (numbers_of_channel m first) (numbers_of_channel m second) agree i j))
 
-  pub stand_as_told : SessionsStandAsTold
-  stand_as_told bytes world m spelled limit old events answers new by id opened opens opened_so session there =
+  pub stand_as_reported : SessionsStandAsReported
+  stand_as_reported bytes world m spelled limit old events answers new by id opened opens opened_so session there =
       stands limit id bytes world m (λ n h. one n m bytes h spelled) events answers old new by opened opens opened_so session there
 
 pub go_on : SessionsGoOn

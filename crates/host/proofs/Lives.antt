@@ -9,11 +9,11 @@ use Rattle.bytecode.specs.Format.{module_file}
 use Rattle.bytecode.specs.Machine.{Machine, Ending, exec, program_of, sent_of}
 use Rattle.channels.specs.World.{InputNumbers}
 use Rattle.bytecode.specs.Isolated.{seen_of}
-use Rattle.machine.proofs.Told.{exec_more}
+use Rattle.machine.proofs.Reporting.{exec_more}
 use Rattle.host.specs.Meaning.{SessionContents, HostContents, HostEvent, Open, Turn, View, Close, HostAnswer, Opened, Turned, Viewed, Closed, Refused, Answers, Answered, session_of, with_machine, without, IsOpen, IsNotOpen, first_machine, with_opened}
 use Rattle.machine.specs.Run.{HasEnded}
 use Rattle.machine.specs.declared.status.Status.{Status}
-use Rattle.host.specs.Laws.{ending_of, moved_by, told_of, steps_told}
+use Rattle.host.specs.Laws.{ending_of, moved_by, reported_of, steps_reported}
 use Rattle.host.proofs.Ends.{still_ended_at, end_of_status}
 
 -- the steps that a session takes, and then more
@@ -94,7 +94,7 @@ one_session host id other first second e h k =
 
 live_event : (limit id : ℕ) (s : SessionContents) (old new : HostContents) (event : HostEvent) (answer : HostAnswer)
     → Answers limit old event answer new → IsLive id s old
-    → IsLive id (moved_by s (told_of id event answer)) new ⊎ IsClosed id new
+    → IsLive id (moved_by s (reported_of id event answer)) new ⊎ IsClosed id new
 live_event limit id s old new (Open bytes world) (Opened n) by live =
     inl (subst (λ h. IsLive id s h) (sym by.2.2) (record {
       given = omega (arith, live.given);
@@ -197,11 +197,11 @@ module _ (limit id p : ℕ) (pairs : List Pair) where
   never_shown (event ∷ events) (answer ∷ answers) old new by closed (suc k) asked reported =
       never_shown events answers by.0 new by.2 (closed_event limit id old by.0 event answer by.1 closed) k asked reported
 
-  -- a session that is there is shown as many steps on as its turns told
+  -- a session that is there is shown as many steps on as its turns reported
   shown_moved : (events : List HostEvent) (answers : List HostAnswer) (old new : HostContents) (s : SessionContents)
       → Answered limit old events answers new → IsLive id s old
       → (k : ℕ) → slice_get events k ≡ Some (View id p) → slice_get answers k ≡ Some (Viewed pairs)
-      → pairs ≡ seen_of s.program p (sent_of (exec (program_of s.program) (steps_told id (take k events) (take k answers)) s.machine))
+      → pairs ≡ seen_of s.program p (sent_of (exec (program_of s.program) (steps_reported id (take k events) (take k answers)) s.machine))
   shown_moved [] answers old new s by live k asked reported = absurd (none-some (View id p) asked)
   shown_moved (event ∷ events) [] old new s by live k asked reported = absurd by
   shown_moved (event ∷ events) (answer ∷ answers) old new s by live zero asked reported =
@@ -211,8 +211,8 @@ module _ (limit id p : ℕ) (pairs : List Pair) where
   shown_moved (event ∷ events) (answer ∷ answers) old new s by live (suc k) asked reported =
       ⊎_elim
       (λ next.
-      shown_moved events answers by.0 new (moved_by s (told_of id event answer)) by.2 next k asked reported
-      ∙ ap (λ m. seen_of s.program p (sent_of m)) (steps_join s (told_of id event answer) (steps_told id (take k events) (take k answers))))
+      shown_moved events answers by.0 new (moved_by s (reported_of id event answer)) by.2 next k asked reported
+      ∙ ap (λ m. seen_of s.program p (sent_of m)) (steps_join s (reported_of id event answer) (steps_reported id (take k events) (take k answers))))
       (λ closed. absurd (never_shown events answers by.0 new by.2 closed k asked reported))
       (live_event limit id s old by.0 event answer by.1 live)
 
@@ -220,7 +220,7 @@ module _ (limit id p : ℕ) (pairs : List Pair) where
 
 -- the steps that are reported grow with the list
 steps_grow : (id : ℕ) (events : List HostEvent) (answers : List HostAnswer) (j k : ℕ) → j ≤ k
-    → steps_told id (take j events) (take j answers) ≤ steps_told id (take k events) (take k answers)
+    → steps_reported id (take j events) (take j answers) ≤ steps_reported id (take k events) (take k answers)
 steps_grow id events answers zero k h = omega arith
 steps_grow id events answers (suc j) zero h = absurd (omega (arith, h))
 steps_grow id [] answers (suc j) (suc k) h = omega arith
@@ -245,16 +245,16 @@ module _ (limit id steps taken : ℕ) (reported : Status) (ending : Ending) (end
   ended_moved : (events : List HostEvent) (answers : List HostAnswer) (old new : HostContents) (s : SessionContents)
       → Answered limit old events answers new → IsLive id s old
       → (k : ℕ) → slice_get events k ≡ Some (Turn id steps) → slice_get answers k ≡ Some (Turned taken reported)
-      → HasEnded ending (exec (program_of s.program) (steps_told id (take (suc k) events) (take (suc k) answers)) s.machine)
+      → HasEnded ending (exec (program_of s.program) (steps_reported id (take (suc k) events) (take (suc k) answers)) s.machine)
   ended_moved [] answers old new s by live k asked said = absurd (none-some (Turn id steps) asked)
   ended_moved (event ∷ events) [] old new s by live k asked said = absurd by
   ended_moved (event ∷ events) (answer ∷ answers) old new s by live zero asked said =
       let turned = known limit old by.0 event (Turn id steps) answer (Turned taken reported) asked said by.1 in
       let same = one_session old id id turned.0 s refl turned.1 live.is_open in
-      let here : told_of id event answer ≡ taken =
-      ap (λ e. told_of id e answer) (some_is event (Turn id steps) asked) ∙ ap (told_of id (Turn id steps)) (some_is answer (Turned taken reported) said)
+      let here : reported_of id event answer ≡ taken =
+      ap (λ e. reported_of id e answer) (some_is event (Turn id steps) asked) ∙ ap (reported_of id (Turn id steps)) (some_is answer (Turned taken reported) said)
       ∙ ap (λ b. cond b taken 0) (eq-eqb id id refl) in
-      let all : told_of id event answer + 0 ≡ taken = omega (arith, here) in
+      let all : reported_of id event answer + 0 ≡ taken = omega (arith, here) in
       let after : HasEnded ending turned.2.0 = end_of_status (program_of turned.0.program) steps taken reported turned.2.0 ending ends turned.2.1.reported in
       subst (HasEnded ending)
       (turned.2.1.machine ∙ ap (λ (x : SessionContents). exec (program_of x.program) taken x.machine) same
@@ -263,8 +263,8 @@ module _ (limit id steps taken : ℕ) (reported : Status) (ending : Ending) (end
   ended_moved (event ∷ events) (answer ∷ answers) old new s by live (suc k) asked said =
       ⊎_elim
       (λ next.
-      subst (HasEnded ending) (steps_join s (told_of id event answer) (steps_told id (take (suc k) events) (take (suc k) answers)))
-      (ended_moved events answers by.0 new (moved_by s (told_of id event answer)) by.2 next k asked said))
+      subst (HasEnded ending) (steps_join s (reported_of id event answer) (steps_reported id (take (suc k) events) (take (suc k) answers)))
+      (ended_moved events answers by.0 new (moved_by s (reported_of id event answer)) by.2 next k asked said))
       (λ closed. absurd (never_turned events answers by.0 new by.2 closed k asked said))
       (live_event limit id s old by.0 event answer by.1 live)
 
@@ -285,7 +285,7 @@ module _ (limit id p : ℕ) (pairs : List Pair) (bytes : List ℕ) (world : List
       → (i j : ℕ) → i < j
       → slice_get events i ≡ Some (Open bytes world) → slice_get answers i ≡ Some (Opened id)
       → slice_get events j ≡ Some (View id p) → slice_get answers j ≡ Some (Viewed pairs)
-      → pairs ≡ seen_of m p (sent_of (exec (program_of m) (steps_told id (drop i (take j events)) (drop i (take j answers))) (first_machine m world)))
+      → pairs ≡ seen_of m p (sent_of (exec (program_of m) (steps_reported id (drop i (take j events)) (drop i (take j answers))) (first_machine m world)))
   shown_fresh events answers old new by i zero later opens opened views viewed = absurd (omega arith)
   shown_fresh [] answers old new by i (suc j) later opens opened views viewed = absurd (none-some (Open bytes world) opens)
   shown_fresh (event ∷ events) [] old new by i (suc j) later opens opened views viewed = absurd by
@@ -293,10 +293,10 @@ module _ (limit id p : ℕ) (pairs : List Pair) (bytes : List ℕ) (world : List
       let at = known limit old by.0 event (Open bytes world) answer (Opened id) opens opened by.1 in
       let n : ModuleContents = at.2.0 in
       let live = subst (λ h. IsLive id (record { id = old.next; program = n; machine = first_machine n world }) h) (sym at.2.2) (opened_live id old n world at.1) in
-      let first : told_of id event answer ≡ 0 = ap (λ e. told_of id e answer) (some_is event (Open bytes world) opens) ∙ ap (told_of id (Open bytes world)) (some_is answer (Opened id) opened) in
-      let steps : steps_told id (take j events) (take j answers) ≡ told_of id event answer + steps_told id (take j events) (take j answers) = omega (arith, first) in
+      let first : reported_of id event answer ≡ 0 = ap (λ e. reported_of id e answer) (some_is event (Open bytes world) opens) ∙ ap (reported_of id (Open bytes world)) (some_is answer (Opened id) opened) in
+      let steps : steps_reported id (take j events) (take j answers) ≡ reported_of id event answer + steps_reported id (take j events) (take j answers) = omega (arith, first) in
       shown_moved limit id p pairs events answers by.0 new (record { id = old.next; program = n; machine = first_machine n world }) by.2 live j views viewed
-      ∙ ap (λ (x : ModuleContents). seen_of x p (sent_of (exec (program_of x) (steps_told id (take j events) (take j answers)) (first_machine x world)))) (unique n at.2.1.spelled)
+      ∙ ap (λ (x : ModuleContents). seen_of x p (sent_of (exec (program_of x) (steps_reported id (take j events) (take j answers)) (first_machine x world)))) (unique n at.2.1.spelled)
       ∙ ap (λ k. seen_of m p (sent_of (exec (program_of m) k (first_machine m world)))) steps
   shown_fresh (event ∷ events) (answer ∷ answers) old new by (suc i) (suc j) later opens opened views viewed =
       shown_fresh events answers by.0 new by.2 i j (omega arith) opens opened views viewed
@@ -307,7 +307,7 @@ module _ (limit id steps taken : ℕ) (reported : Status) (ending : Ending) (end
       → (i k j : ℕ) → i < k → k < j
       → slice_get events i ≡ Some (Open bytes world) → slice_get answers i ≡ Some (Opened id)
       → slice_get events k ≡ Some (Turn id steps) → slice_get answers k ≡ Some (Turned taken reported)
-      → HasEnded ending (exec (program_of m) (steps_told id (drop i (take j events)) (drop i (take j answers))) (first_machine m world))
+      → HasEnded ending (exec (program_of m) (steps_reported id (drop i (take j events)) (drop i (take j answers))) (first_machine m world))
   ended_fresh events answers old new by i k zero later before opens opened asked said = absurd (omega (arith, before))
   ended_fresh events answers old new by i zero (suc j) later before opens opened asked said = absurd (omega (arith, later))
   ended_fresh [] answers old new by i (suc k) (suc j) later before opens opened asked said = absurd (none-some (Open bytes world) opens)
@@ -316,13 +316,13 @@ module _ (limit id steps taken : ℕ) (reported : Status) (ending : Ending) (end
       let at = known limit old by.0 event (Open bytes world) answer (Opened id) opens opened by.1 in
       let n : ModuleContents = at.2.0 in
       let live = subst (λ h. IsLive id (record { id = old.next; program = n; machine = first_machine n world }) h) (sym at.2.2) (opened_live id old n world at.1) in
-      let first : told_of id event answer ≡ 0 = ap (λ e. told_of id e answer) (some_is event (Open bytes world) opens) ∙ ap (told_of id (Open bytes world)) (some_is answer (Opened id) opened) in
-      let total : steps_told id (take j events) (take j answers) ≡ told_of id event answer + steps_told id (take j events) (take j answers) = omega (arith, first) in
+      let first : reported_of id event answer ≡ 0 = ap (λ e. reported_of id e answer) (some_is event (Open bytes world) opens) ∙ ap (reported_of id (Open bytes world)) (some_is answer (Opened id) opened) in
+      let total : steps_reported id (take j events) (take j answers) ≡ reported_of id event answer + steps_reported id (take j events) (take j answers) = omega (arith, first) in
       let ended = ended_moved limit id steps taken reported ending ends events answers by.0 new (record { id = old.next; program = n; machine = first_machine n world }) by.2 live k asked said in
-      let grown = still_ended_at (program_of n) (steps_told id (take (suc k) events) (take (suc k) answers)) (steps_told id (take j events) (take j answers)) ending
+      let grown = still_ended_at (program_of n) (steps_reported id (take (suc k) events) (take (suc k) answers)) (steps_reported id (take j events) (take j answers)) ending
       (first_machine n world) (steps_grow id events answers (suc k) j (omega (arith, before))) ended in
       subst (λ t. HasEnded ending (exec (program_of m) t (first_machine m world))) total
-      (subst (λ (x : ModuleContents). HasEnded ending (exec (program_of x) (steps_told id (take j events) (take j answers)) (first_machine x world))) (unique n at.2.1.spelled) grown)
+      (subst (λ (x : ModuleContents). HasEnded ending (exec (program_of x) (steps_reported id (take j events) (take j answers)) (first_machine x world))) (unique n at.2.1.spelled) grown)
   ended_fresh (event ∷ events) (answer ∷ answers) old new by (suc i) (suc k) (suc j) later before opens opened asked said =
       ended_fresh events answers by.0 new by.2 i k j (omega (arith, later)) (omega (arith, before)) opens opened asked said
 
@@ -339,16 +339,16 @@ module _ (limit id : ℕ) where
 
   still_moved : (events : List HostEvent) (answers : List HostAnswer) (old new : HostContents) (s : SessionContents)
       → Answered limit old events answers new → IsLive id s old
-      → IsLive id (moved_by s (steps_told id events answers)) new ⊎ IsClosed id new
+      → IsLive id (moved_by s (steps_reported id events answers)) new ⊎ IsClosed id new
   still_moved [] [] old new s by live = inl (subst (λ h. IsLive id s h) (sym by) live)
   still_moved [] (answer ∷ answers) old new s by live = absurd by
   still_moved (event ∷ events) [] old new s by live = absurd by
   still_moved (event ∷ events) (answer ∷ answers) old new s by live =
       ⊎_elim
       (λ next. ⊎_elim
-      (λ l. inl (subst (λ (m : Machine). IsLive id (record s { machine = m }) new) (steps_join s (told_of id event answer) (steps_told id events answers)) l))
+      (λ l. inl (subst (λ (m : Machine). IsLive id (record s { machine = m }) new) (steps_join s (reported_of id event answer) (steps_reported id events answers)) l))
       (λ g. inr g)
-      (still_moved events answers by.0 new (moved_by s (told_of id event answer)) by.2 next))
+      (still_moved events answers by.0 new (moved_by s (reported_of id event answer)) by.2 next))
       (λ closed. inr (still_closed events answers by.0 new by.2 closed))
       (live_event limit id s old by.0 event answer by.1 live)
 
@@ -357,19 +357,19 @@ module _ (limit id : ℕ) (bytes : List ℕ) (world : List InputNumbers) (m : Mo
   pub stands : (events : List HostEvent) (answers : List HostAnswer) (old new : HostContents) → Answered limit old events answers new
       → (i : ℕ) → slice_get events i ≡ Some (Open bytes world) → slice_get answers i ≡ Some (Opened id)
       → (session : SessionContents) → IsOpen new id session
-      → session ≡ record { id = id; program = m; machine = exec (program_of m) (steps_told id (drop i events) (drop i answers)) (first_machine m world) }
+      → session ≡ record { id = id; program = m; machine = exec (program_of m) (steps_reported id (drop i events) (drop i answers)) (first_machine m world) }
   stands [] answers old new by i opens opened session there = absurd (none-some (Open bytes world) opens)
   stands (event ∷ events) [] old new by i opens opened session there = absurd by
   stands (event ∷ events) (answer ∷ answers) old new by zero opens opened session there =
       let at = known limit old by.0 event (Open bytes world) answer (Opened id) opens opened by.1 in
       let n : ModuleContents = at.2.0 in
       let live = subst (λ h. IsLive id (record { id = old.next; program = n; machine = first_machine n world }) h) (sym at.2.2) (opened_live id old n world at.1) in
-      let first : told_of id event answer ≡ 0 = ap (λ e. told_of id e answer) (some_is event (Open bytes world) opens) ∙ ap (told_of id (Open bytes world)) (some_is answer (Opened id) opened) in
-      let steps : steps_told id events answers ≡ told_of id event answer + steps_told id events answers = omega (arith, first) in
+      let first : reported_of id event answer ≡ 0 = ap (λ e. reported_of id e answer) (some_is event (Open bytes world) opens) ∙ ap (reported_of id (Open bytes world)) (some_is answer (Opened id) opened) in
+      let steps : steps_reported id events answers ≡ reported_of id event answer + steps_reported id events answers = omega (arith, first) in
       let same = unique n at.2.1.spelled in
       ⊎_elim
       (λ l.
-      one_session new id id session (moved_by (record { id = old.next; program = n; machine = first_machine n world }) (steps_told id events answers)) refl there l.is_open
+      one_session new id id session (moved_by (record { id = old.next; program = n; machine = first_machine n world }) (steps_reported id events answers)) refl there l.is_open
       ∙ (λ i. record { id = sym at.1 i; program = same i; machine = exec (program_of (same i)) (steps i) (first_machine (same i) world) }))
       (λ g. absurd (none-some session (sym g.is_shut ∙ there)))
       (still_moved limit id events answers by.0 new (record { id = old.next; program = n; machine = first_machine n world }) by.2 live)
@@ -380,15 +380,15 @@ module _ (limit id : ℕ) (bytes : List ℕ) (world : List InputNumbers) (m : Mo
 
 module _ (limit : ℕ) (events : List HostEvent) (answers : List HostAnswer) (old new : HostContents) (by : Answered limit old events answers new)
     (id : ℕ) (s : SessionContents) (given : id < old.next) (is_open : IsOpen old id s) where
-  pub goes_on : (later : SessionContents) → IsOpen new id later → later ≡ moved_by s (steps_told id events answers)
+  pub goes_on : (later : SessionContents) → IsOpen new id later → later ≡ moved_by s (steps_reported id events answers)
   goes_on later there =
       ⊎_elim
-      (λ l. one_session new id id later (moved_by s (steps_told id events answers)) refl there l.is_open)
+      (λ l. one_session new id id later (moved_by s (steps_reported id events answers)) refl there l.is_open)
       (λ g. absurd (none-some later (sym g.is_shut ∙ there)))
       (still_moved limit id events answers old new s by (record { given = given; is_open = is_open }))
 
   pub shows_on : (k p : ℕ) (pairs : List Pair) → slice_get events k ≡ Some (View id p) → slice_get answers k ≡ Some (Viewed pairs)
-      → pairs ≡ seen_of s.program p (sent_of (exec (program_of s.program) (steps_told id (take k events) (take k answers)) s.machine))
+      → pairs ≡ seen_of s.program p (sent_of (exec (program_of s.program) (steps_reported id (take k events) (take k answers)) s.machine))
   shows_on k p pairs views viewed =
       shown_moved limit id p pairs events answers old new s by (record { given = given; is_open = is_open }) k views viewed
 
@@ -405,7 +405,7 @@ joined limit (event ∷ events) more (answer ∷ answers) others old middle new 
 
 pub steps_add_up : (limit : ℕ) (events more : List HostEvent) (answers others : List HostAnswer) (old middle : HostContents)
     → Answered limit old events answers middle
-    → (id : ℕ) → steps_told id (events ++ more) (answers ++ others) ≡ steps_told id events answers + steps_told id more others
+    → (id : ℕ) → steps_reported id (events ++ more) (answers ++ others) ≡ steps_reported id events answers + steps_reported id more others
 steps_add_up limit [] more [] others old middle before id = omega arith
 steps_add_up limit [] more (answer ∷ answers) others old middle before id = absurd before
 steps_add_up limit (event ∷ events) more [] others old middle before id = absurd before

@@ -16,15 +16,15 @@ use Rattle.machine.specs.declared.status.Status.TheVariants as status
 use Rattle.host.specs.Meaning.{SessionContents, HostContents, HostEvent, Open, Turn, View, HostAnswer, Opened, Turned, Viewed, Answered, IsOpen, view_of}
 
 -- the steps that an event's answer reports of the session of an id
-abbrev pub told_of : ℕ → HostEvent → HostAnswer → ℕ
-told_of id (Turn other n) (Turned taken status) = if other == id then taken else 0
-told_of id event answer = 0
+abbrev pub reported_of : ℕ → HostEvent → HostAnswer → ℕ
+reported_of id (Turn other n) (Turned taken status) = if other == id then taken else 0
+reported_of id event answer = 0
 
 -- the steps that the turns of an id report in sum
-abbrev pub steps_told : ℕ → List HostEvent → List HostAnswer → ℕ
-steps_told id [] answers = 0
-steps_told id (event ∷ events) [] = 0
-steps_told id (event ∷ events) (answer ∷ answers) = told_of id event answer + steps_told id events answers
+abbrev pub steps_reported : ℕ → List HostEvent → List HostAnswer → ℕ
+steps_reported id [] answers = 0
+steps_reported id (event ∷ events) [] = 0
+steps_reported id (event ∷ events) (answer ∷ answers) = reported_of id event answer + steps_reported id events answers
 
 -- some host was asked these events and gave these answers. In one place a session of these bytes on this world is opened,
 -- and in a later one a principal is shown these pairs of it
@@ -47,7 +47,7 @@ pub record Shows (bytes : List ℕ) (world : List InputNumbers) (p : ℕ) (pairs
 -- the steps that the session's own turns reported before it was viewed
 abbrev pub steps_of : (bytes : List ℕ) (world : List InputNumbers) (p : ℕ) (pairs : List Pair) → Shows bytes world p pairs → ℕ
 steps_of bytes world p pairs shows =
-    steps_told shows.id (drop shows.opened (take shows.viewed shows.events)) (drop shows.opened (take shows.viewed shows.answers))
+    steps_reported shows.id (drop shows.opened (take shows.viewed shows.events)) (drop shows.opened (take shows.viewed shows.answers))
 
 -- whatever a session is asked, and whatever events of other sessions come between: what is shown of it is what a fresh run of the
 -- module that the bytes spell, alone on the world, has sent after the steps that the session's own turns reported
@@ -94,8 +94,8 @@ SessionsAreIsolated =
 
 -- a session that is opened among any events and is open after them stands where a fresh run of the module that the bytes spell,
 -- alone on the world, stands after the steps that the session's own turns reported
-abbrev pub SessionsStandAsTold : Type 0
-SessionsStandAsTold =
+abbrev pub SessionsStandAsReported : Type 0
+SessionsStandAsReported =
     (bytes : List ℕ) (world : List InputNumbers) (m : ModuleContents) → Spells module_file m bytes
     → (limit : ℕ) (old : HostContents) (events : List HostEvent) (answers : List HostAnswer) (new : HostContents)
     → Answered limit old events answers new
@@ -104,7 +104,7 @@ SessionsStandAsTold =
     → session ≡ record {
       id = id;
       program = m;
-      machine = after_steps m (numbers_of_channel m world) (steps_told id (drop opened events) (drop opened answers));
+      machine = after_steps m (numbers_of_channel m world) (steps_reported id (drop opened events) (drop opened answers));
     }
 
 -- a session some steps on
@@ -118,7 +118,7 @@ SessionsGoOn =
     (limit : ℕ) (old : HostContents) (events : List HostEvent) (answers : List HostAnswer) (new : HostContents)
     → Answered limit old events answers new
     → (id : ℕ) (session later : SessionContents) → id < old.next → IsOpen old id session → IsOpen new id later
-    → later ≡ moved_by session (steps_told id events answers)
+    → later ≡ moved_by session (steps_reported id events answers)
 
 -- and what is shown of it is its view after the steps that its own turns reported before
 abbrev pub SessionsShowOn : Type 0
@@ -127,7 +127,7 @@ SessionsShowOn =
     → Answered limit old events answers new
     → (id : ℕ) (session : SessionContents) → id < old.next → IsOpen old id session
     → (viewed p : ℕ) (pairs : List Pair) → slice_get events viewed ≡ Some (View id p) → slice_get answers viewed ≡ Some (Viewed pairs)
-    → pairs ≡ view_of (moved_by session (steps_told id (take viewed events) (take viewed answers))) p
+    → pairs ≡ view_of (moved_by session (steps_reported id (take viewed events) (take viewed answers))) p
 
 -- events that are answered after others: both lists in a row are answered by both lists of answers in a row
 abbrev pub TranscriptsJoin : Type 0
@@ -141,7 +141,7 @@ abbrev pub StepsAddUp : Type 0
 StepsAddUp =
     (limit : ℕ) (old middle : HostContents) (events more : List HostEvent) (answers others : List HostAnswer)
     → Answered limit old events answers middle
-    → (id : ℕ) → steps_told id (events ++ more) (answers ++ others) ≡ steps_told id events answers + steps_told id more others
+    → (id : ℕ) → steps_reported id (events ++ more) (answers ++ others) ≡ steps_reported id events answers + steps_reported id more others
 
 -- no id is given twice: of two sessions that a host opens, the later one has the greater id
 abbrev pub IdsGoUp : Type 0

@@ -9,7 +9,7 @@ use Rattle.bytecode.specs.Form.{Spells}
 use Rattle.bytecode.specs.Format.{module_file}
 use Rattle.bytecode.specs.Machine.{Machine, after_steps, exec, program_of, sent_of}
 use Rattle.channels.specs.World.{InputNumbers, input_names, numbers_of_channel}
-use Rattle.machine.specs.Run.{IsTold, WasRunning, names_of}
+use Rattle.machine.specs.Run.{ReportsStatus, WasRunning, names_of}
 use Rattle.machine.specs.declared.status.Status.{Status}
 use Rattle.verifier.specs.Faults as faults
 use Rattle.verifier.specs.Faults.{HasNoFault}
@@ -118,7 +118,7 @@ pub record Takes (session : SessionContents) (n taken : ℕ) (status : Status) (
   pub within : taken ≤ n
   pub running : WasRunning (program_of session.program) taken session.machine
   pub machine : after ≡ exec (program_of session.program) taken session.machine
-  pub reported : IsTold (program_of session.program) n taken status after
+  pub reported : ReportsStatus (program_of session.program) n taken status after
 
 -- a number is that of a principal of a session's module
 abbrev pub IsPrincipal : SessionContents → ℕ → Type 0

@@ -1,6 +1,6 @@
 //! Laws of hosts, proved for every host and every list of events. They do nothing when they are called.
 
-ghost use Rattle.host.specs.Laws.{IdsGoUp, SessionsAreFreshRuns, SessionsAreIsolated, SessionsEndAsReported, SessionsGoOn, SessionsShowOn, SessionsStandAsTold, StepsAddUp, TranscriptsJoin};
+ghost use Rattle.host.specs.Laws.{IdsGoUp, SessionsAreFreshRuns, SessionsAreIsolated, SessionsEndAsReported, SessionsGoOn, SessionsShowOn, SessionsStandAsReported, StepsAddUp, TranscriptsJoin};
 
 /// A session is a run of its module alone on its world. What is shown of it is what that run has sent after the steps that the
 /// session's own turns reported, it has ended where one of them reported an end, and after all events it stands where that run
@@ -8,7 +8,7 @@ ghost use Rattle.host.specs.Laws.{IdsGoUp, SessionsAreFreshRuns, SessionsAreIsol
 pub fn sessions_are_fresh_runs()
     ensures shown { SessionsAreFreshRuns }
     ensures ended { SessionsEndAsReported }
-    ensures stands { SessionsStandAsTold }
+    ensures stands { SessionsStandAsReported }
 {
     bytecode::laws::one_spelling();
 }

@@ -11,7 +11,7 @@ pub mod Stores
 pub mod Calling
 pub mod Numbers
 pub mod Declared
-pub mod Told
+pub mod Reporting
 pub mod First
 pub mod Clearing
 pub mod Stepping

@@ -37,7 +37,7 @@ returns-clause-shown g c =
     let can = can_run _ _ _ m c.in_ok-principal.principal c.hierarchy.result.now c.in_ok-machine.ensures.spelled c.in_ok-machine.ensures.faultless c.in_ok-machine.ensures.encoded c.in_ok-machine.ensures.right c.in_ok-principal.ensures.found
     (c.hierarchy.ensures.hierarchy ∙ ap (λ (w : ModuleContents). w.hierarchy) c.module.ensures) in
     shows_run _ _ _ c.args.steps m c.module-program.result.now c.in_ok-principal.principal c.run-status.result.0 _ _ c.run-status.result.1 can c.run-status.ensures.within
-    (c.module-program.ensures ∙ c.run-status.ensures.kept) c.in_ok-machine.ensures.first c.run-status.ensures.after c.run-status.ensures.told _ _ c.sent.result.now
+    (c.module-program.ensures ∙ c.run-status.ensures.kept) c.in_ok-machine.ensures.first c.run-status.ensures.after c.run-status.ensures.reported _ _ c.sent.result.now
     c.report_end.result c.sent.ensures c.in_ok-show.ensures.view c.report_end.ensures.message
 
 pub returns-clause-end : goal.returns-clause-end
@@ -46,5 +46,5 @@ returns-clause-end g c =
     let can = can_run _ _ _ m c.in_ok-principal.principal c.hierarchy.result.now c.in_ok-machine.ensures.spelled c.in_ok-machine.ensures.faultless c.in_ok-machine.ensures.encoded c.in_ok-machine.ensures.right c.in_ok-principal.ensures.found
     (c.hierarchy.ensures.hierarchy ∙ ap (λ (w : ModuleContents). w.hierarchy) c.module.ensures) in
     ends_so _ _ _ c.args.steps m c.module-program.result.now c.in_ok-principal.principal c.run-status.result.0 _ _ c.run-status.result.1 can c.run-status.ensures.within
-    (c.module-program.ensures ∙ c.run-status.ensures.kept) c.in_ok-machine.ensures.first c.run-status.ensures.after c.run-status.ensures.told
+    (c.module-program.ensures ∙ c.run-status.ensures.kept) c.in_ok-machine.ensures.first c.run-status.ensures.after c.run-status.ensures.reported
     c.report_end.result c.report_end.ensures.message c.report_end.ensures.line

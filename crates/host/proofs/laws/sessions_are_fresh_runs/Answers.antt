@@ -1,11 +1,11 @@
-use Rattle.host.proofs.Isolation.{end_as_reported, fresh_runs, stand_as_told}
+use Rattle.host.proofs.Isolation.{end_as_reported, fresh_runs, stand_as_reported}
 use Rattle.host.proofs.laws.sessions_are_fresh_runs.Goals as goal
 
 pub returns-clause-shown : goal.returns-clause-shown
 returns-clause-shown c = fresh_runs c.one_spelling.ensures.contents
 
 pub returns-clause-stands : goal.returns-clause-stands
-returns-clause-stands c = stand_as_told c.one_spelling.ensures.contents
+returns-clause-stands c = stand_as_reported c.one_spelling.ensures.contents
 
 pub returns-clause-ended : goal.returns-clause-ended
 returns-clause-ended c = end_as_reported c.one_spelling.ensures.contents
