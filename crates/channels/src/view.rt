@@ -149,8 +149,12 @@ fn write_lines<S: Sink>(
     out: &mut S,
 ) -> Result<(), ViewFault>
     ensures sink { result ≡ Err ViewFault.Sink → IsTrue (S.has_failed out.new) }
-    ensures prefix { OnErr result (AppendsPrefix (S.taken out.old) (S.taken out.new) (view_text observer.now.program.now (shown observer.now.program.now observer.now.principal pairs.now))) }
-    ensures accepted { OnOk result (Appends (S.taken out.old) (S.taken out.new) (view_text observer.now.program.now (shown observer.now.program.now observer.now.principal pairs.now))) }
+    ensures prefix { OnErr result (AppendsPrefix (S.taken out.old) (S.taken out.new)
+        (view_text observer.now.program.now (shown observer.now.program.now observer.now.principal
+        pairs.now))) }
+    ensures accepted { OnOk result (Appends (S.taken out.old) (S.taken out.new)
+        (view_text observer.now.program.now (shown observer.now.program.now observer.now.principal
+        pairs.now))) }
 {
     for pair in pairs {
         if observer.sees(*pair) {
@@ -174,8 +178,10 @@ pub fn write_view<S: Sink>(
     observer: Option<u32>,
     out: &mut S,
 ) -> Result<(), ViewFault>
-    ensures accepted { OnOk result (ShowsAll program.now observer sent.now (S.taken out.old) (S.taken out.new)) }
-    ensures prefix { OnErr result (ShowsPrefix program.now observer sent.now (S.taken out.old) (S.taken out.new)) }
+    ensures accepted { OnOk result (ShowsAll program.now observer sent.now (S.taken out.old)
+        (S.taken out.new)) }
+    ensures prefix { OnErr result (ShowsPrefix program.now observer sent.now (S.taken out.old)
+        (S.taken out.new)) }
     ensures sink { result ≡ Err ViewFault.Sink → IsTrue (S.has_failed out.new) }
 {
     let viewer = Observer::of(alloc, program, observer)?;
@@ -184,7 +190,8 @@ pub fn write_view<S: Sink>(
 
 // The pairs of a list that the observer is shown.
 fn shown_pairs(alloc: Global, observer: &Observer, sent: &[Pair]) -> Result<Vec<Pair>, AllocError>
-    ensures { IfOk result (λ pairs. pairs.items ≡ filter (is_shown observer.now.program.now observer.now.principal) sent.now) }
+    ensures { IfOk result (λ pairs. pairs.items ≡ filter
+        (is_shown observer.now.program.now observer.now.principal) sent.now) }
 {
     let mut pairs = Vec::new(alloc);
     for pair in sent {

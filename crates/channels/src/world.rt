@@ -79,8 +79,10 @@ impl World {
     /// the module, an input that an earlier line names, or a number outside 32 bits, the first of these that it has.
     pub fn read(alloc: Global, program: &Module, text: &str) -> Result<World, WorldFault>
         ensures accepted { OnOk result (IsWorldText (input_names program.now) (lines_of text.now)) }
-        ensures exact { IfOk result (λ world. world ≡ world_of (input_names program.now) (lines_of text.now)) }
-        ensures first_fault { IfErr result (λ fault. IsTextFault (input_names program.now) (lines_of text.now) fault) }
+        ensures exact { IfOk result (λ world. world
+            ≡ world_of (input_names program.now) (lines_of text.now)) }
+        ensures first_fault { IfErr result (λ fault. IsTextFault (input_names program.now)
+            (lines_of text.now) fault) }
     {
         let Ok(names) = names_of(alloc, program.channels()) else {
             return Err(WorldFault::NoMemory);

@@ -14,7 +14,8 @@ use std::collections::BTreeMap;
 
 /// The names of the inputs among channels.
 pub fn names_of(alloc: Global, channels: &[Channel]) -> Result<Vec<&str>, AllocError>
-    ensures { IfOk result (λ names. texts_of names.items ≡ map (λ c. c.name) (filter (λ c. is_input c.direction) channels.now)) }
+    ensures { IfOk result (λ names. texts_of names.items
+        ≡ map (λ c. c.name) (filter (λ c. is_input c.direction) channels.now)) }
 {
     let mut names = Vec::new(alloc);
     for channel in channels {
@@ -27,7 +28,8 @@ pub fn names_of(alloc: Global, channels: &[Channel]) -> Result<Vec<&str>, AllocE
 
 // A table in which nothing is given so far.
 fn empty_table<'a>(alloc: Global, names: &[&'a str]) -> Result<Inputs<'a>, AllocError>
-    ensures { IfOk result (λ inputs. (name : List ℕ) → table_of inputs name ≡ table_after (texts_of names.now) [] name) }
+    ensures { IfOk result (λ inputs. (name : List ℕ) → table_of inputs name
+        ≡ table_after (texts_of names.now) [] name) }
 {
     let mut inputs = BTreeMap::new(alloc);
     for name in names {
@@ -43,8 +45,10 @@ pub fn read_lines<'a>(
     text: &'a str,
 ) -> Result<Inputs<'a>, WorldFault>
     ensures right { OnOk result (IsWorldText (texts_of names.now) (spec.lines_of text.now)) }
-    ensures table { IfOk result (λ inputs. (name : List ℕ) → table_of inputs name ≡ table_after (texts_of names.now) (spec.lines_of text.now) name) }
-    ensures wrong { IfErr result (λ fault. spec.IsTextFault (texts_of names.now) (spec.lines_of text.now) fault) }
+    ensures table { IfOk result (λ inputs. (name : List ℕ) → table_of inputs name
+        ≡ table_after (texts_of names.now) (spec.lines_of text.now) name) }
+    ensures wrong { IfErr result (λ fault. spec.IsTextFault (texts_of names.now)
+        (spec.lines_of text.now) fault) }
 {
     let Ok(mut inputs) = empty_table(alloc, names) else {
         return Err(WorldFault::NoMemory);
@@ -92,7 +96,8 @@ pub fn inputs_of(
     names: &[&str],
     inputs: &Inputs<'_>,
 ) -> Result<Vec<InputList>, AllocError>
-    ensures { IfOk result (λ lists. lists.items ≡ map (input_of (table_of inputs.now)) (texts_of names.now)) }
+    ensures { IfOk result (λ lists. lists.items ≡ map (input_of (table_of inputs.now))
+        (texts_of names.now)) }
 {
     let mut lists = Vec::new(alloc);
     for name in names {

@@ -39,7 +39,8 @@ fn numbers_of(alloc: Global, words: &[&str]) -> Result<Option<Vec<i32>>, AllocEr
 
 /// What a table holds for a name: nothing where no input has it, else the numbers of its line if there was one.
 pub fn entry_of<'t>(inputs: &'t Inputs<'_>, name: &str) -> Option<&'t Option<Vec<i32>>>
-    ensures { option_map (λ entry. option_map (λ n. n.items) entry.now) result ≡ table_of inputs.now name.now }
+    ensures { option_map (λ entry. option_map (λ n. n.items) entry.now) result
+        ≡ table_of inputs.now name.now }
 {
     inputs.get(name)
 }
@@ -51,8 +52,10 @@ pub fn read_line<'a>(
     words: &[&'a str],
 ) -> Result<(), LineFault>
     ensures right { OnOk result (table_defect (table_of inputs.old) (texts_of words.now) ≡ None) }
-    ensures table { OnOk result ((name : List ℕ) → table_of inputs.new name ≡ table_with (table_of inputs.old) (texts_of words.now) name) }
-    ensures wrong { IfErr result (λ fault. spec.IsLineFault (table_of inputs.old) (texts_of words.now) fault) }
+    ensures table { OnOk result ((name : List ℕ) → table_of inputs.new name
+        ≡ table_with (table_of inputs.old) (texts_of words.now) name) }
+    ensures wrong { IfErr result (λ fault. spec.IsLineFault (table_of inputs.old)
+        (texts_of words.now) fault) }
 {
     if !has_form(words) {
         return Err(LineFault::Wrong(WorldDefect::Syntax));

@@ -9,14 +9,16 @@ use std::alloc::{AllocError, Global};
 
 // The lines of a text.
 pub fn lines_of(alloc: Global, text: &str) -> Result<Vec<&str>, AllocError>
-    ensures { IfOk result (λ lines. texts_of lines.items ≡ slice_split (λ byte. byte == 10) text.now) }
+    ensures { IfOk result (λ lines. texts_of lines.items
+        ≡ slice_split (λ byte. byte == 10) text.now) }
 {
     text.split('\n').collect(alloc)
 }
 
 // What stands between the spaces of a line.
 fn parts_of(alloc: Global, line: &str) -> Result<Vec<&str>, AllocError>
-    ensures { IfOk result (λ parts. texts_of parts.items ≡ slice_split (λ byte. byte == 32) line.now) }
+    ensures { IfOk result (λ parts. texts_of parts.items
+        ≡ slice_split (λ byte. byte == 32) line.now) }
 {
     line.split(' ').collect(alloc)
 }
@@ -59,7 +61,8 @@ fn is_number(word: &str) -> bool
 // The number that a word writes, where it has 32 bits.
 pub fn number_of(word: &str) -> Option<i32>
     requires { IsTrue (spec.is_number word.now) }
-    ensures { result ≡ (if spec.is_int (spec.number_of word.now) then Some (spec.number_of word.now) else None) }
+    ensures { result ≡ (if spec.is_int (spec.number_of word.now) then Some (spec.number_of word.now)
+        else None) }
 {
     word.parse::<i32>().ok()
 }

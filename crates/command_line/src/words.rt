@@ -24,7 +24,8 @@ pub fn task<'a>(alloc: Global, words: &'a [&'a str]) -> Result<Task, TaskFault>
     ensures matched { IfOk result (IsTaskOf (subcommand_of flowc_command (texts words.now))) }
     ensures steps { IfOk result (λ task. steps_of task ≤ MOST_STEPS) }
     ensures refused { IfOk result (λ _. fault_of flowc_command (texts words.now) ≡ []) }
-    ensures taken { IfErr result (λ fault. fault_of flowc_command (texts words.now) ≡ [] → fault ≡ OutOfMemory) }
+    ensures taken { IfErr result (λ fault. fault_of flowc_command (texts words.now) ≡ [] → fault
+        ≡ OutOfMemory) }
     ensures plain { GrantsPlainRequests (texts words.now) result }
     ensures only { HasNoOption (texts words.now) → IfOk result (IsSpelling (texts words.now)) }
 {
@@ -257,7 +258,8 @@ fn word(alloc: Global, matches: &ArgMatches<'_>, id: &str) -> Result<String, All
 
 // The word of `--observer`, where it was given.
 fn observer_word(alloc: Global, matches: &ArgMatches<'_>) -> Result<Option<String>, AllocError>
-    ensures { IfOk result (λ observer. option_map string_bytes observer ≡ first_of (codes "observer") (rows_in matches.now)) }
+    ensures { IfOk result (λ observer. option_map string_bytes observer
+        ≡ first_of (codes "observer") (rows_in matches.now)) }
 {
     match matches.get_str("observer") {
         Some(name) => Ok(Some(String::from_str(alloc, name)?)),

@@ -56,7 +56,8 @@ impl Host {
     /// code; the names of the world's inputs are not those of the module's inputs. Out of memory may be answered
     /// in place of all but the first.
     pub fn open(&mut self, bytes: &[u8], world: World) -> Result<Id, HostFault>
-        ensures { Answers MAX_SESSIONS (host_of self.old) (Open bytes.now world) (opened_or result) (host_of self.new) }
+        ensures { Answers MAX_SESSIONS (host_of self.old) (Open bytes.now world) (opened_or result)
+            (host_of self.new) }
     {
         let Some(id) = self.next else {
             return Err(HostFault::Full);
@@ -79,7 +80,8 @@ impl Host {
     ///
     /// No open session has the id. Out of memory is a status, and no error. The refusal takes no memory.
     pub fn turn(&mut self, id: Id, steps: u64) -> Result<(u64, Status), HostFault>
-        ensures { Answers MAX_SESSIONS (host_of self.old) (Turn id steps) (turned_or result) (host_of self.new) }
+        ensures { Answers MAX_SESSIONS (host_of self.old) (Turn id steps) (turned_or result)
+            (host_of self.new) }
     {
         let Some(place) = find(&self.sessions, id) else {
             return Err(HostFault::UnknownId);
@@ -96,7 +98,8 @@ impl Host {
     /// No open session has the id, else its module has no principal of this number, else out of memory. The first
     /// two take no memory.
     pub fn view(&self, id: Id, principal: u32) -> Result<Vec<Pair>, HostFault>
-        ensures { Answers MAX_SESSIONS (host_of self.now) (View id principal) (viewed_or result) (host_of self.now) }
+        ensures { Answers MAX_SESSIONS (host_of self.now) (View id principal) (viewed_or result)
+            (host_of self.now) }
     {
         let Some(place) = find(&self.sessions, id) else {
             return Err(HostFault::UnknownId);
@@ -118,7 +121,8 @@ impl Host {
     ///
     /// No open session has the id.
     pub fn close(&mut self, id: Id) -> Result<(), HostFault>
-        ensures { Answers MAX_SESSIONS (host_of self.old) (Close id) (closed_or result) (host_of self.new) }
+        ensures { Answers MAX_SESSIONS (host_of self.old) (Close id) (closed_or result)
+            (host_of self.new) }
     {
         let Some(_) = find(&self.sessions, id) else {
             return Err(HostFault::UnknownId);
@@ -133,7 +137,8 @@ impl Host {
     ///
     /// There is no memory for the list of answers. It is asked for first, and nothing has happened then.
     pub fn run(&mut self, events: Vec<Event>) -> Result<Vec<Answer>, AllocError>
-        ensures answered { IfOk result (λ answers. Answered MAX_SESSIONS (host_of self.old) (map event_of events.items) (map answer_of answers.items) (host_of self.new)) }
+        ensures answered { IfOk result (λ answers. Answered MAX_SESSIONS (host_of self.old)
+            (map event_of events.items) (map answer_of answers.items) (host_of self.new)) }
         ensures refused { OnErr result (self.new ≡ self.old) }
     {
         let mut answers = Vec::with_capacity(self.alloc, events.len())?;
@@ -148,7 +153,8 @@ impl Host {
 
     // Answers one event.
     fn answer(&mut self, event: Event) -> Answer
-        ensures { Answers MAX_SESSIONS (host_of self.old) (event_of event) (answer_of result) (host_of self.new) }
+        ensures { Answers MAX_SESSIONS (host_of self.old) (event_of event) (answer_of result)
+            (host_of self.new) }
     {
         match event {
             Event::Open(bytes, world) => match self.open(&bytes, world) {

@@ -58,7 +58,8 @@ impl Session {
     pub fn turn(&mut self, steps: u64) -> (u64, Status)
         ensures id { self.new.id ≡ self.old.id }
         ensures program { self.new.run.program ≡ self.old.run.program }
-        ensures takes { Takes (contents_of self.old) steps result.0 result.1 (machine_of self.new.run) }
+        ensures takes { Takes (contents_of self.old) steps result.0 result.1
+            (machine_of self.new.run) }
     {
         self.machine.run(steps)
     }

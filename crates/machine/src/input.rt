@@ -76,7 +76,8 @@ impl Inputs {
     /// Takes the next number of a channel off.
     pub fn advance(&mut self, channel: u32)
         requires { channel < length self.old }
-        ensures { self.new ≡ slice_set self.old channel (drop 1 (slice_index_or self.old channel [])) }
+        ensures { self.new ≡ slice_set self.old channel
+            (drop 1 (slice_index_or self.old channel [])) }
     {
         let input = &mut self.inputs[channel as usize];
         input.advance();
