@@ -7,9 +7,9 @@ use Rattle.std.specs.String.{string_bytes}
 use Rattle.clap.specs.Words.{Row, Text, fault_of, first_of, subcommand_of}
 use Rattle.command_line.specs.Command.{flowc_command}
 use Rattle.command_line.specs.Task.{AsksFor, IsTaskOf, steps_in}
-use Rattle.command_line.specs.Request.{Grants, build, check, list, run, HasNoOption, IsPlainRequest, IsSpelling, Request, spelled, to_build, to_check, to_list, to_run}
+use Rattle.command_line.specs.Request.{Grants, build, check, explain, list, run, HasNoOption, IsPlainRequest, IsSpelling, Request, spelled, to_build, to_check, to_explain, to_list, to_run}
 use Rattle.command_line.specs.declared.request.Task.{Task}
-use Rattle.command_line.specs.declared.request.Task.TheVariants.{Check, Build, Run, List as ListModule}
+use Rattle.command_line.specs.declared.request.Task.TheVariants.{Check, Build, Run, Explain, List as ListModule}
 use Rattle.command_line.specs.declared.request.TaskFault.{TaskFault}
 use Rattle.command_line.specs.declared.request.TaskFault.TheVariants.{OutOfMemory}
 use Rattle.command_line.proofs.Only.{spelled_so}
@@ -43,10 +43,12 @@ grants (to_check hierarchy source) (Check h s) plain asks = check h s (ap₂ to_
 grants (to_check hierarchy source) (Build h s o) plain asks = other_name _ _ refl asks.0
 grants (to_check hierarchy source) (Run f w o n) plain asks = other_name _ _ refl asks.0
 grants (to_check hierarchy source) (ListModule f) plain asks = other_name _ _ refl asks.0
+grants (to_check hierarchy source) (Explain h s) plain asks = other_name _ _ refl asks.0
 grants (to_build hierarchy source out) (Check h s) plain asks = other_name _ _ refl asks.0
 grants (to_build hierarchy source out) (Build h s o) plain asks = build h s o (rw (found_word asks.1, found_word asks.2, found_word asks.3) refl) refl
 grants (to_build hierarchy source out) (Run f w o n) plain asks = other_name _ _ refl asks.0
 grants (to_build hierarchy source out) (ListModule f) plain asks = other_name _ _ refl asks.0
+grants (to_build hierarchy source out) (Explain h s) plain asks = other_name _ _ refl asks.0
 grants (to_run file world observer steps) (Check h s) plain asks = other_name _ _ refl asks.0
 grants (to_run file world observer steps) (Build h s o) plain asks = other_name _ _ refl asks.0
 grants (to_run file world observer steps) (Run f w o n) plain asks =
@@ -55,10 +57,17 @@ grants (to_run file world observer steps) (Run f w o n) plain asks =
     ∙ ap (λ name. to_run (string_bytes f) (string_bytes w) name steps) (sym (asks.3 ∙ observer_found file world observer steps)))
     (ap (Run f w o) (asks.4 ∙ steps_found file world observer steps plain.3))
 grants (to_run file world observer steps) (ListModule f) plain asks = other_name _ _ refl asks.0
+grants (to_run file world observer steps) (Explain h s) plain asks = other_name _ _ refl asks.0
 grants (to_list file) (Check h s) plain asks = other_name _ _ refl asks.0
 grants (to_list file) (Build h s o) plain asks = other_name _ _ refl asks.0
 grants (to_list file) (Run f w o n) plain asks = other_name _ _ refl asks.0
 grants (to_list file) (ListModule f) plain asks = list f (ap to_list (found_word asks.1)) refl
+grants (to_list file) (Explain h s) plain asks = other_name _ _ refl asks.0
+grants (to_explain hierarchy source) (Check h s) plain asks = other_name _ _ refl asks.0
+grants (to_explain hierarchy source) (Build h s o) plain asks = other_name _ _ refl asks.0
+grants (to_explain hierarchy source) (Run f w o n) plain asks = other_name _ _ refl asks.0
+grants (to_explain hierarchy source) (ListModule f) plain asks = other_name _ _ refl asks.0
+grants (to_explain hierarchy source) (Explain h s) plain asks = explain h s (ap₂ to_explain (found_word asks.1) (found_word asks.2)) refl
 
 -- what is answered to the words of a plain request
 pub request_granted : (r : Result Task TaskFault) (words : List Text) → IfOk r (IsTaskOf (subcommand_of flowc_command words))

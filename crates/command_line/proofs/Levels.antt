@@ -13,8 +13,8 @@ use Rattle.clap.specs.Kinds.{Kinds, or_else}
 use Rattle.clap.specs.Faults.{check_fault, entered_fault, fault_of, level_fault, other_fault, step_fault, turn_fault, walk_fault, word_fault}
 use Rattle.clap.specs.Values.{Accepts}
 use Rattle.clap.proofs.ValueTestLemmas.{accepts-Accepts}
-use Rattle.command_line.specs.Matched.{Enters, HasBuildWords, HasCheckWords, HasListWords, HasRunWords}
-use Rattle.command_line.specs.Command.{build_command, check_command, flowc_command, list_command, run_command, step_numbers}
+use Rattle.command_line.specs.Matched.{Enters, HasBuildWords, HasListWords, HasRunWords, IsGiven}
+use Rattle.command_line.specs.Command.{build_command, check_command, command, explain_command, file_rule, flowc_command, list_command, run_command, step_numbers}
 use Rattle.clap.specs.Walk.{action_of, reading_by}
 use Rattle.clap.specs.declared.builder.action.ArgAction.TheVariants.{Help}
 use Rattle.clap.specs.declared.builder.value_parser.Reading.TheVariants.{AsWritten}
@@ -118,8 +118,15 @@ above = (on_top with_leaf_noted (on_top marked_built flowc_command)).top
 abbrev pub leaf : Shape → Shape
 leaf s = built_leaf (inherited above s)
 
+-- a subcommand that takes a hierarchy and a source, by its name
+abbrev pub texts_leaf : Text → Shape
+texts_leaf name = leaf (command name (file_rule (codes "HIER") ∷ file_rule (codes "SRC") ∷ [])).top
+
 abbrev pub check_leaf : Shape
 check_leaf = leaf check_command.top
+
+abbrev pub explain_leaf : Shape
+explain_leaf = leaf explain_command.top
 
 abbrev pub build_leaf : Shape
 build_leaf = leaf build_command.top
@@ -143,8 +150,8 @@ any_word a other how none action = record {
   action = action;
 }
 
-check_rules : AllWordRules check_leaf.rules
-check_rules =
+texts_rules : (name : Text) → AllWordRules (texts_leaf name).rules
+texts_rules name =
     let one = λ (a : Rule) (other : bytes_eq a.id (codes "steps") ≡ false) (how : reading_by a ≡ AsWritten) (none : a.defaults ≡ []) (takes : TakesOne a). any_word a other how none (inl takes) in
     (one _ refl refl refl (refl, refl), (one _ refl refl refl (refl, refl), (any_word _ refl refl refl (inr refl), tt)))
 
@@ -172,9 +179,10 @@ list_rules = (any_word _ refl refl refl (inl (refl, refl)), (any_word _ refl ref
 
 -- ---- what a command line without fault enters
 
-check_words : (words : List Text) → level_fault check_leaf [] nothing_held words false [] ≡ [] → HasCheckWords (rows_after check_leaf.rules [] words)
-check_words words e =
-    let level = level_given check_leaf words check_rules refl e in
+texts_words : (name : Text) (words : List Text) → level_fault (texts_leaf name) [] nothing_held words false [] ≡ []
+    → IsGiven (codes "HIER") (rows_after (texts_leaf name).rules [] words) × IsGiven (codes "SRC") (rows_after (texts_leaf name).rules [] words)
+texts_words name words e =
+    let level = level_given (texts_leaf name) words (texts_rules name) refl e in
     (given_word _ _ level.0 (level.1.0 refl), given_word _ _ level.0 (level.1.1.0 refl))
 
 build_words : (words : List Text) → level_fault build_leaf [] nothing_held words false [] ≡ [] → HasBuildWords (rows_after build_leaf.rules [] words)
@@ -198,21 +206,22 @@ list_words words e =
     given_word _ _ level.0 (level.1.0 refl)
 
 -- the leaf that answers to the name
-abbrev first_leaf : Bool → Bool → Bool → Bool → Bool → Option Shape
-first_leaf is_check is_build is_run is_list is_help =
+abbrev first_leaf : Bool → Bool → Bool → Bool → Bool → Bool → Option Shape
+first_leaf is_check is_build is_run is_list is_explain is_help =
     cond is_check (Some check_leaf) (cond is_build (Some build_leaf) (cond is_run (Some run_leaf)
-    (cond is_list (Some list_leaf) (cond is_help (Some (built_leaf help_shape)) None))))
+    (cond is_list (Some list_leaf) (cond is_explain (Some explain_leaf) (cond is_help (Some (built_leaf help_shape)) None)))))
 
-leaf_words : (is_check is_build is_run is_list is_help : Bool) (words : List Text) → is_help ≡ false
-    → option_map_or (λ s. level_fault s [] nothing_held words false []) (first_leaf is_check is_build is_run is_list is_help) [] ≡ []
-    → is_some (option_map (λ s. rows_at s words) (first_leaf is_check is_build is_run is_list is_help)) ≡ true
-    → Enters (option_map (λ s. rows_at s words) (first_leaf is_check is_build is_run is_list is_help))
-leaf_words true is_build is_run is_list is_help words own e there = inl (refl, check_words words e)
-leaf_words false true is_run is_list is_help words own e there = inr (inl (refl, build_words words e))
-leaf_words false false true is_list is_help words own e there = inr (inr (inl (refl, run_words words e)))
-leaf_words false false false true is_help words own e there = inr (inr (inr (refl, list_words words e)))
-leaf_words false false false false true words own e there = absurd (true≢false own)
-leaf_words false false false false false words own e there = absurd (true≢false (sym there))
+leaf_words : (is_check is_build is_run is_list is_explain is_help : Bool) (words : List Text) → is_help ≡ false
+    → option_map_or (λ s. level_fault s [] nothing_held words false []) (first_leaf is_check is_build is_run is_list is_explain is_help) [] ≡ []
+    → is_some (option_map (λ s. rows_at s words) (first_leaf is_check is_build is_run is_list is_explain is_help)) ≡ true
+    → Enters (option_map (λ s. rows_at s words) (first_leaf is_check is_build is_run is_list is_explain is_help))
+leaf_words true is_build is_run is_list is_explain is_help words own e there = inl (refl, texts_words (codes "check") words e)
+leaf_words false true is_run is_list is_explain is_help words own e there = inr (inl (refl, build_words words e))
+leaf_words false false true is_list is_explain is_help words own e there = inr (inr (inl (refl, run_words words e)))
+leaf_words false false false true is_explain is_help words own e there = inr (inr (inr (inl (refl, list_words words e))))
+leaf_words false false false false true is_help words own e there = inr (inr (inr (inr (refl, texts_words (codes "explain") words e))))
+leaf_words false false false false false true words own e there = absurd (true≢false own)
+leaf_words false false false false false false words own e there = absurd (true≢false (sym there))
 
 named_help : (name : Text) → bytes_eq name (codes "help") ≡ false → (bytes_eq (codes "help") name || false) ≡ false
 named_help name other = go (bytes_eq (codes "help") name) refl
@@ -226,7 +235,7 @@ named_help name other = go (bytes_eq (codes "help") name) refl
 entered_words : (stop : Option (Text × List Text)) → IsOwn stop → entered_fault (built flowc_command) stop ≡ [] → is_some (entered (built flowc_command) stop) ≡ true
     → Enters (entered (built flowc_command) stop)
 entered_words None own e there = absurd (true≢false (sym there))
-entered_words (Some p) own e there = leaf_words _ _ _ _ _ p.1 (named_help p.0 own) e there
+entered_words (Some p) own e there = leaf_words _ _ _ _ _ _ p.1 (named_help p.0 own) e there
 
 -- the steps of a level that passed
 pub level_parts : (s : Shape) (names : Names) (words : List Text) (has : Bool) (below : Kinds) → level_fault s names nothing_held words has below ≡ []
@@ -246,7 +255,7 @@ subcommand_there s rows has wants e = go has s.subcommand_required wants (last_c
     go false true w f = absurd (true≢false f)
     go false false w f = absurd (true≢false (sym w))
 
--- a command line without fault enters one of the four, with each word that it needs
+-- a command line without fault enters one of the five, with each word that it needs
 pub enters : (words : List Text) → fault_of flowc_command words ≡ [] → Enters (subcommand_of flowc_command words)
 enters words e =
     let top = (built flowc_command).top in

@@ -13,8 +13,8 @@ use Rattle.clap.specs.Faults.{check_fault, entered_fault, fault_of, level_fault,
 use Rattle.clap.proofs.OnLiterals.{clap_on_literals}
 use Rattle.clap.specs.declared.error.kind.ErrorKind.TheVariants.{InvalidSubcommand, UnknownArgument}
 use Rattle.command_line.specs.Command.{flowc_command}
-use Rattle.command_line.specs.Request.{HasNoOption, IsPlain, IsPlainRequest, Request, spelled, to_build, to_check, to_list, to_run}
-use Rattle.command_line.proofs.Levels.{build_leaf, check_leaf, level_parts, list_leaf, run_leaf}
+use Rattle.command_line.specs.Request.{HasNoOption, IsPlain, IsPlainRequest, Request, spelled, to_build, to_check, to_explain, to_list, to_run}
+use Rattle.command_line.proofs.Levels.{build_leaf, level_parts, list_leaf, run_leaf, texts_leaf}
 use Rattle.command_line.proofs.Plain.{Goes, at_name, goes_plain, named_walk, names, plain_or, plain_other, plain_turn_is, plain_walked, stays, stepped, top}
 use Rattle.command_line.proofs.Rows.{both_none, some_kind}
 
@@ -48,27 +48,27 @@ checked_after : (s : Shape) (words : List Text) (after : Walk) → Goes s (walk_
     → check_fault s (finished s.rules after.held) false ≡ []
 checked_after s words after goes e = subst (λ (w : Walk). check_fault s (finished s.rules w.held) false ≡ []) goes.ends e
 
-check_two : (rest : List Text) → AllPlain rest → level_fault check_leaf [] nothing_held rest false [] ≡ []
+texts_two : (name : Text) (rest : List Text) → AllPlain rest → level_fault (texts_leaf name) [] nothing_held rest false [] ≡ []
     → (hierarchy : Text) × (source : Text) × IsPlain hierarchy × IsPlain source × (rest ≡ hierarchy ∷ source ∷ [])
 unfolding clap_on_literals
-check_two [] plain e = absurd (some_kind _ _ (level_parts check_leaf [] [] false [] e).2)
-check_two (h ∷ []) plain e =
+texts_two name [] plain e = absurd (some_kind _ _ (level_parts (texts_leaf name) [] [] false [] e).2)
+texts_two name (h ∷ []) plain e =
     let p = or_parts _ _ plain in
-    absurd (some_kind _ _ (checked_after check_leaf (h ∷ []) _ (goes_plain check_leaf _ _ _ h _ _ p.0 refl (stays check_leaf _)) (level_parts check_leaf [] (h ∷ []) false [] e).2))
-check_two (h ∷ s ∷ []) plain e =
+    absurd (some_kind _ _ (checked_after (texts_leaf name) (h ∷ []) _ (goes_plain (texts_leaf name) _ _ _ h _ _ p.0 refl (stays (texts_leaf name) _)) (level_parts (texts_leaf name) [] (h ∷ []) false [] e).2))
+texts_two name (h ∷ s ∷ []) plain e =
     let p = or_parts _ _ plain in
     let q = or_parts _ _ p.1 in
     (h, s, p.0, q.0, refl)
-check_two (h ∷ s ∷ x ∷ more) plain e =
+texts_two name (h ∷ s ∷ x ∷ more) plain e =
     let p = or_parts _ _ plain in
     let q = or_parts _ _ p.1 in
     let r = or_parts _ _ q.1 in
     let start = walk_from nothing_held in
-    let one = stepped check_leaf.rules start h in
-    let two = stepped check_leaf.rules one s in
-    let after_one = passed check_leaf start.held start.waiting start.position h (s ∷ x ∷ more) p.0 (level_parts check_leaf [] (h ∷ s ∷ x ∷ more) false [] e).0 in
-    let after_two = passed check_leaf one.held one.waiting one.position s (x ∷ more) q.0 after_one in
-    absurd (some_kind _ _ (placed check_leaf two.held two.waiting two.position x more r.0 after_two))
+    let one = stepped (texts_leaf name).rules start h in
+    let two = stepped (texts_leaf name).rules one s in
+    let after_one = passed (texts_leaf name) start.held start.waiting start.position h (s ∷ x ∷ more) p.0 (level_parts (texts_leaf name) [] (h ∷ s ∷ x ∷ more) false [] e).0 in
+    let after_two = passed (texts_leaf name) one.held one.waiting one.position s (x ∷ more) q.0 after_one in
+    absurd (some_kind _ _ (placed (texts_leaf name) two.held two.waiting two.position x more r.0 after_two))
 
 run_two : (rest : List Text) → AllPlain rest → level_fault run_leaf [] nothing_held rest false [] ≡ []
     → (file : Text) × (world : Text) × IsPlain file × IsPlain world × (rest ≡ file ∷ world ∷ [])
@@ -171,7 +171,7 @@ IsSpelled words = (program : Text) × (request : Request) × IsPlainRequest requ
 as_check : (program : Text) (rest : List Text) → AllPlain rest → fault_of flowc_command (program ∷ codes "check" ∷ rest) ≡ [] → IsSpelled (program ∷ codes "check" ∷ rest)
 unfolding clap_on_literals
 as_check program rest plain e =
-    let two = check_two rest plain (below program (codes "check") rest refl e) in
+    let two = texts_two (codes "check") rest plain (below program (codes "check") rest refl e) in
     (program, to_check two.0 two.1, (two.2, two.3), ap (λ words. program ∷ codes "check" ∷ words) two.4)
 
 as_build : (program : Text) (rest : List Text) → AllPlain rest → fault_of flowc_command (program ∷ codes "build" ∷ rest) ≡ [] → IsSpelled (program ∷ codes "build" ∷ rest)
@@ -192,6 +192,12 @@ as_list program rest plain e =
     let one = list_one rest plain (below program (codes "list") rest refl e) in
     (program, to_list one.0, one.1, ap (λ words. program ∷ codes "list" ∷ words) one.2)
 
+as_explain : (program : Text) (rest : List Text) → AllPlain rest → fault_of flowc_command (program ∷ codes "explain" ∷ rest) ≡ [] → IsSpelled (program ∷ codes "explain" ∷ rest)
+unfolding clap_on_literals
+as_explain program rest plain e =
+    let two = texts_two (codes "explain") rest plain (below program (codes "explain") rest refl e) in
+    (program, to_explain two.0 two.1, (two.2, two.3), ap (λ words. program ∷ codes "explain" ∷ words) two.4)
+
 not_help : (program : Text) (rest : List Text) → fault_of flowc_command (program ∷ codes "help" ∷ rest) ≡ [] → ⊥
 unfolding clap_on_literals
 not_help program rest e = some_kind _ _ (first_turn program (codes "help") rest e)
@@ -204,19 +210,21 @@ at P program name rest known is holds = subst (λ n. fault_of flowc_command (pro
 
 named : (program name : Text) (rest : List Text) → IsPlain name → AllPlain rest → fault_of flowc_command (program ∷ name ∷ rest) ≡ [] → IsSpelled (program ∷ name ∷ rest)
 named program name rest plain others e =
-    go (same_or (codes "check") name) (same_or (codes "build") name) (same_or (codes "run") name) (same_or (codes "list") name) (same_or (codes "help") name)
+    go (same_or (codes "check") name) (same_or (codes "build") name) (same_or (codes "run") name) (same_or (codes "list") name) (same_or (codes "explain") name)
+    (same_or (codes "help") name)
   where
     Is : Text → Type 0
     Is known = (known ≡ name) ⊎ (bytes_eq known name ≡ false)
 
-    go : Is (codes "check") → Is (codes "build") → Is (codes "run") → Is (codes "list") → Is (codes "help") → IsSpelled (program ∷ name ∷ rest)
-    go (inl is) build run list help = at IsSpelled program name rest _ is (as_check program rest others) e
-    go (inr _) (inl is) run list help = at IsSpelled program name rest _ is (as_build program rest others) e
-    go (inr _) (inr _) (inl is) list help = at IsSpelled program name rest _ is (as_run program rest others) e
-    go (inr _) (inr _) (inr _) (inl is) help = at IsSpelled program name rest _ is (as_list program rest others) e
-    go (inr _) (inr _) (inr _) (inr _) (inl is) = absurd (at (λ _. ⊥) program name rest _ is (not_help program rest) e)
-    go (inr no_check) (inr no_build) (inr no_run) (inr no_list) (inr no_help) =
-        let none : find (answers_to name) names ≡ None = rw (no_check, no_build, no_run, no_list, no_help) refl in
+    go : Is (codes "check") → Is (codes "build") → Is (codes "run") → Is (codes "list") → Is (codes "explain") → Is (codes "help") → IsSpelled (program ∷ name ∷ rest)
+    go (inl is) build run list explain help = at IsSpelled program name rest _ is (as_check program rest others) e
+    go (inr _) (inl is) run list explain help = at IsSpelled program name rest _ is (as_build program rest others) e
+    go (inr _) (inr _) (inl is) list explain help = at IsSpelled program name rest _ is (as_run program rest others) e
+    go (inr _) (inr _) (inr _) (inl is) explain help = at IsSpelled program name rest _ is (as_list program rest others) e
+    go (inr _) (inr _) (inr _) (inr _) (inl is) help = at IsSpelled program name rest _ is (as_explain program rest others) e
+    go (inr _) (inr _) (inr _) (inr _) (inr _) (inl is) = absurd (at (λ _. ⊥) program name rest _ is (not_help program rest) e)
+    go (inr no_check) (inr no_build) (inr no_run) (inr no_list) (inr no_explain) (inr no_help) =
+        let none : find (answers_to name) names ≡ None = rw (no_check, no_build, no_run, no_list, no_explain, no_help) refl in
         absurd (some_kind _ _ (sym (unknown_turn name plain none) ∙ first_turn program name rest e))
 
 -- a command line with no option that has no fault is spelled so

@@ -24,8 +24,8 @@ use Rattle.clap.proofs.ValueTestLemmas.{Accepts-accepts}
 use Rattle.command_line.specs.Command.{flowc_command, step_numbers}
 use Rattle.clap.specs.declared.error.kind.ErrorKind.TheVariants.{ValueValidation}
 use Rattle.command_line.specs.Task.{number_of}
-use Rattle.command_line.specs.Request.{IsPlain, IsPlainRequest, Request, observer_words, spelled, steps_words, to_build, to_check, to_list, to_run}
-use Rattle.command_line.proofs.Levels.{build_leaf, check_leaf, list_leaf, run_leaf}
+use Rattle.command_line.specs.Request.{IsPlain, IsPlainRequest, Request, observer_words, spelled, steps_words, to_build, to_check, to_explain, to_list, to_run}
+use Rattle.command_line.proofs.Levels.{build_leaf, check_leaf, explain_leaf, list_leaf, run_leaf, texts_leaf}
 
 -- ---- a plain word
 
@@ -136,12 +136,12 @@ found_along s words after goes settles fills checks =
 abbrev pub row : Text → Text → Row
 row id word = record { id = id; values = word ∷ []; count = None; source = Some CommandLine; reading = AsWritten }
 
-pub check_found : (hierarchy source : Text) → IsPlain hierarchy → IsPlain source
-    → Finds check_leaf (hierarchy ∷ source ∷ []) (row (codes "HIER") hierarchy ∷ row (codes "SRC") source ∷ [])
+pub texts_found : (name hierarchy source : Text) → IsPlain hierarchy → IsPlain source
+    → Finds (texts_leaf name) (hierarchy ∷ source ∷ []) (row (codes "HIER") hierarchy ∷ row (codes "SRC") source ∷ [])
 unfolding clap_on_literals
-check_found hierarchy source h s =
-    found_along check_leaf _ _
-    (goes_plain check_leaf _ _ _ hierarchy _ _ h refl (goes_plain check_leaf _ _ _ source _ _ s refl (stays check_leaf _)))
+texts_found name hierarchy source h s =
+    found_along (texts_leaf name) _ _
+    (goes_plain (texts_leaf name) _ _ _ hierarchy _ _ h refl (goes_plain (texts_leaf name) _ _ _ source _ _ s refl (stays (texts_leaf name) _)))
     refl refl refl
 
 pub build_found : (hierarchy source out : Text) → IsPlain hierarchy → IsPlain source → IsPlain out
@@ -279,11 +279,13 @@ met_by (to_build hierarchy source out) = (codes "build", row (codes "HIER") hier
 met_by (to_run file world observer steps) =
     (codes "run", row (codes "MODULE") file ∷ row (codes "WORLD") world ∷ (observer_rows observer ++ steps_rows steps))
 met_by (to_list file) = (codes "list", row (codes "MODULE") file ∷ [])
+met_by (to_explain hierarchy source) = (codes "explain", row (codes "HIER") hierarchy ∷ row (codes "SRC") source ∷ [])
 
 pub request_taken : (program : Text) (request : Request) → IsPlainRequest request → Takes (program ∷ spelled request) (Some (met_by request))
 unfolding clap_on_literals
-request_taken program (to_check hierarchy source) plain = taken program (codes "check") check_leaf _ _ refl refl refl (check_found hierarchy source plain.0 plain.1)
+request_taken program (to_check hierarchy source) plain = taken program (codes "check") check_leaf _ _ refl refl refl (texts_found (codes "check") hierarchy source plain.0 plain.1)
 request_taken program (to_build hierarchy source out) plain = taken program (codes "build") build_leaf _ _ refl refl refl (build_found hierarchy source out plain.0 plain.1 plain.2)
 request_taken program (to_run file world observer steps) plain =
     taken program (codes "run") run_leaf _ _ refl refl refl (run_found file world observer steps plain.0 plain.1 plain.2 plain.3)
 request_taken program (to_list file) plain = taken program (codes "list") list_leaf _ _ refl refl refl (list_found file plain)
+request_taken program (to_explain hierarchy source) plain = taken program (codes "explain") explain_leaf _ _ refl refl refl (texts_found (codes "explain") hierarchy source plain.0 plain.1)

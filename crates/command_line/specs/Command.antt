@@ -52,9 +52,14 @@ run_command =
 abbrev pub list_command : App
 list_command = command (codes "list") (file_rule (codes "MODULE") ∷ [])
 
--- `flowc`, which wants one of the four
+-- `explain HIER SRC`
+abbrev pub explain_command : App
+explain_command =
+    command (codes "explain") (file_rule (codes "HIER") ∷ file_rule (codes "SRC") ∷ [])
+
+-- `flowc`, which wants one of the five
 abbrev pub flowc_command : App
 flowc_command =
     fold (λ above below. with_subcommand above below.top)
     (on_top (λ top. record top { subcommand_required = true }) (new_app (codes "flowc")))
-    (check_command ∷ build_command ∷ run_command ∷ list_command ∷ [])
+    (check_command ∷ build_command ∷ run_command ∷ list_command ∷ explain_command ∷ [])

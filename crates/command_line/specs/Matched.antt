@@ -36,12 +36,17 @@ HasRunWords rows =
 abbrev pub HasListWords : List Row → Type 0
 HasListWords rows = IsGiven (codes "MODULE") rows
 
--- the subcommand is one of the four, with each word that it needs
+-- the words that `explain` needs
+abbrev pub HasExplainWords : List Row → Type 0
+HasExplainWords rows = IsGiven (codes "HIER") rows × IsGiven (codes "SRC") rows
+
+-- the subcommand is one of the five, with each word that it needs
 abbrev pub HasWords : Text → List Row → Type 0
 HasWords name rows = ((name ≡ codes "check") × HasCheckWords rows)
     ⊎ (((name ≡ codes "build") × HasBuildWords rows)
     ⊎ (((name ≡ codes "run") × HasRunWords rows)
-    ⊎ ((name ≡ codes "list") × HasListWords rows)))
+    ⊎ (((name ≡ codes "list") × HasListWords rows)
+    ⊎ ((name ≡ codes "explain") × HasExplainWords rows))))
 
 -- a subcommand was met, with each word that it needs
 abbrev pub Enters : Option (Text × List Row) → Type 0

@@ -10,7 +10,7 @@ use Rattle.clap.specs.Words.{Text}
 use Rattle.command_line.specs.declared.request.Task.{Task}
 use Rattle.command_line.specs.declared.request.TaskFault.{TaskFault}
 use Rattle.command_line.specs.declared.request.TaskFault.TheVariants.{OutOfMemory}
-use Rattle.command_line.specs.declared.request.Task.TheVariants.{Check, Build, Run, List as ListModule}
+use Rattle.command_line.specs.declared.request.Task.TheVariants.{Check, Build, Run, Explain, List as ListModule}
 
 -- a task in plain values; an observer and a number of steps may be left out
 pub data Request : Type 0 where
@@ -18,6 +18,7 @@ pub data Request : Type 0 where
   to_build : Text → Text → Text → Request
   to_run : Text → Text → Option Text → Option ℕ → Request
   to_list : Text → Request
+  to_explain : Text → Text → Request
 
 -- `--observer NAME`, or nothing
 abbrev pub observer_words : Option Text → List Text
@@ -36,6 +37,7 @@ spelled (to_build hierarchy source out) = codes "build" ∷ hierarchy ∷ source
 spelled (to_run file world observer steps) =
     codes "run" ∷ file ∷ world ∷ (observer_words observer ++ steps_words steps)
 spelled (to_list file) = codes "list" ∷ file ∷ []
+spelled (to_explain hierarchy source) = codes "explain" ∷ hierarchy ∷ source ∷ []
 
 -- the word does not look like an option
 abbrev pub IsPlain : Text → Type 0
@@ -49,6 +51,7 @@ IsPlainRequest (to_run file world observer steps) =
     IsPlain file × IsPlain world × IfSome observer IsPlain
     × IfSome steps (λ n. n ≤ 1000000000000)
 IsPlainRequest (to_list file) = IsPlain file
+IsPlainRequest (to_explain hierarchy source) = IsPlain hierarchy × IsPlain source
 
 -- the task is the one that is asked for, with just these names; a run takes a million steps where
 -- no number is given
@@ -65,6 +68,9 @@ pub data Grants (request : Request) (task : Task) : Type 0 where
       → task ≡ Run file world observer (unwrap_or steps 1000000) → Grants request task
   list : (file : String Global) → request ≡ to_list (string_bytes file)
       → task ≡ ListModule file → Grants request task
+  explain : (hierarchy source : String Global)
+      → request ≡ to_explain (string_bytes hierarchy) (string_bytes source)
+      → task ≡ Explain hierarchy source → Grants request task
 
 -- where the words are the program's name and a request that is written plainly, its task is
 -- answered, or out of memory

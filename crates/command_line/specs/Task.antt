@@ -6,7 +6,7 @@ use Rattle.std.specs.String.{string_bytes}
 use Rattle.std.specs.Str.Parse.{digits_value, without_leading_plus}
 use Rattle.clap.specs.Words.{Row, Text, first_of}
 use Rattle.command_line.specs.declared.request.Task.{Task}
-use Rattle.command_line.specs.declared.request.Task.TheVariants.{Check, Build, Run, List as ListModule}
+use Rattle.command_line.specs.declared.request.Task.TheVariants.{Check, Build, Run, Explain, List as ListModule}
 
 -- at most so many steps; a task that runs nothing takes none
 abbrev pub steps_of : Task → ℕ
@@ -14,6 +14,7 @@ steps_of (Check hierarchy source) = 0
 steps_of (Build hierarchy source out) = 0
 steps_of (Run file world observer steps) = steps
 steps_of (ListModule file) = 0
+steps_of (Explain hierarchy source) = 0
 
 -- the files that a task reads, in the order in which it names them
 abbrev pub paths_of : Task → List (List ℕ)
@@ -21,6 +22,7 @@ paths_of (Check hierarchy source) = string_bytes hierarchy ∷ string_bytes sour
 paths_of (Build hierarchy source out) = string_bytes hierarchy ∷ string_bytes source ∷ []
 paths_of (Run file world observer steps) = string_bytes file ∷ string_bytes world ∷ []
 paths_of (ListModule file) = string_bytes file ∷ []
+paths_of (Explain hierarchy source) = string_bytes hierarchy ∷ string_bytes source ∷ []
 
 -- the number that a word writes in decimal, after a + or none
 abbrev pub number_of : Text → ℕ
@@ -48,6 +50,9 @@ AsksFor name rows (Run file world observer steps) =
     × (steps ≡ steps_in rows)
 AsksFor name rows (ListModule file) =
     (name ≡ codes "list") × IsWordOf rows (codes "MODULE") (string_bytes file)
+AsksFor name rows (Explain hierarchy source) =
+    (name ≡ codes "explain") × IsWordOf rows (codes "HIER") (string_bytes hierarchy)
+    × IsWordOf rows (codes "SRC") (string_bytes source)
 
 -- what was met on the command line asks for the task
 abbrev pub IsTaskOf : Option (Text × List Row) → Task → Type 0

@@ -36,6 +36,11 @@ pub enum Task {
     List {
         file: String,
     },
+    /// Explain the labels of a source under a hierarchy, or why a flow is refused.
+    Explain {
+        hier: String,
+        src: String,
+    },
 }
 
 impl Task {
@@ -47,7 +52,9 @@ impl Task {
         ensures { option_map (λ path. path.now) result ≡ slice_get (paths_of self.now) index }
     {
         let (first, second) = match self {
-            Task::Check { hier, src } | Task::Build { hier, src, .. } => (hier, Some(src)),
+            Task::Check { hier, src }
+            | Task::Build { hier, src, .. }
+            | Task::Explain { hier, src } => (hier, Some(src)),
             Task::Run { file, world, .. } => (file, Some(world)),
             Task::List { file } => (file, None),
         };

@@ -1,8 +1,8 @@
 ghost use Rattle.clap.specs.Words.{app_of, fault_of, first_of, kind_of, new_app, rule_of, subcommand_of, subcommand_rows_of};
 ghost use Rattle.clap.specs.Walk.{texts};
 ghost use Rattle.clap.specs.declared.builder.command.Command.TheViews.{out-Command};
-ghost use Rattle.command_line.specs.Command.{build_command, check_command, file_rule, flowc_command, list_command, observer_rule, run_command, steps_rule};
-ghost use Rattle.command_line.specs.Matched.{Enters, HasBuildWords, HasCheckWords, HasListWords, HasRunWords, HasStepsInRange, IsGiven, rows_in};
+ghost use Rattle.command_line.specs.Command.{build_command, check_command, explain_command, file_rule, flowc_command, list_command, observer_rule, run_command, steps_rule};
+ghost use Rattle.command_line.specs.Matched.{Enters, HasBuildWords, HasCheckWords, HasExplainWords, HasListWords, HasRunWords, HasStepsInRange, IsGiven, rows_in};
 ghost use Rattle.command_line.specs.Task.{AsksFor, IsTaskOf, IsWordOf, steps_in, steps_of};
 ghost use Rattle.command_line.specs.Request.{GrantsPlainRequests, HasNoOption, IsSpelling};
 ghost use Rattle.command_line.specs.declared.request.TaskFault.TheVariants.{OutOfMemory};
@@ -24,8 +24,7 @@ pub fn task<'a>(alloc: Global, words: &'a [&'a str]) -> Result<Task, TaskFault>
     ensures matched { IfOk result (IsTaskOf (subcommand_of flowc_command (texts words.now))) }
     ensures steps { IfOk result (λ task. steps_of task ≤ MOST_STEPS) }
     ensures refused { IfOk result (λ _. fault_of flowc_command (texts words.now) ≡ []) }
-    ensures taken { IfErr result (λ fault. fault_of flowc_command (texts words.now) ≡ [] → fault
-        ≡ OutOfMemory) }
+    ensures taken { IfErr result (λ fault. fault_of flowc_command (texts words.now) ≡ [] → fault ≡ OutOfMemory) }
     ensures plain { GrantsPlainRequests (texts words.now) result }
     ensures only { HasNoOption (texts words.now) → IfOk result (IsSpelling (texts words.now)) }
 {
@@ -48,6 +47,7 @@ fn asked(alloc: Global, matches: &ArgMatches<'_>) -> Result<Task, TaskFault>
         Some(("build", inner)) => build_task(alloc, inner),
         Some(("run", inner)) => run_task(alloc, inner),
         Some(("list", inner)) => list_task(alloc, inner),
+        Some(("explain", inner)) => explain_task(alloc, inner),
         _ => unreachable!(),
     }
 }
@@ -62,7 +62,8 @@ fn whole_command<'a>(alloc: Global) -> Result<Command<'a>, AllocError>
         .subcommand(check_command(alloc)?)?
         .subcommand(build_command(alloc)?)?
         .subcommand(run_command(alloc)?)?
-        .subcommand(list_command(alloc)?)
+        .subcommand(list_command(alloc)?)?
+        .subcommand(explain_command(alloc)?)
 }
 
 // A subcommand that takes no words as yet, and what its help says.
@@ -81,7 +82,7 @@ fn check_command<'a>(alloc: Global) -> Result<Command<'a>, AllocError>
         alloc,
         "check",
         "Checks a source under a hierarchy, and prints ok",
-        "Example: flowc check hierarchy.txt payroll.flow",
+        "Example: flowc check hierarchy.txt payroll.flow\nWhere a flow is refused (601), flowc explain says why.",
     )
     .arg(hierarchy(alloc))?
     .arg(source(alloc))
@@ -129,6 +130,20 @@ fn list_command<'a>(alloc: Global) -> Result<Command<'a>, AllocError>
         "Example: flowc list payroll.flob",
     )
     .arg(module(alloc))
+}
+
+fn explain_command<'a>(alloc: Global) -> Result<Command<'a>, AllocError>
+    ensures shape { IfOk result (λ command. app_of command ≡ explain_command) }
+    ensures local { IfOk result (λ command. (out-Command command).has_globals ≡ false) }
+{
+    subcommand(
+        alloc,
+        "explain",
+        "Explains the labels of locals, or why a flow is refused (601)",
+        "Example: flowc explain hierarchy.txt payroll.flow",
+    )
+    .arg(hierarchy(alloc))?
+    .arg(source(alloc))
 }
 
 fn hierarchy<'a>(alloc: Global) -> Arg<'a>
@@ -248,6 +263,18 @@ fn list_task(alloc: Global, matches: &ArgMatches<'_>) -> Result<Task, TaskFault>
     })
 }
 
+fn explain_task(alloc: Global, matches: &ArgMatches<'_>) -> Result<Task, TaskFault>
+    requires given { HasExplainWords (rows_in matches.now) }
+    ensures matched { IfOk result (AsksFor (codes "explain") (rows_in matches.now)) }
+    ensures steps { IfOk result (λ task. steps_of task ≤ MOST_STEPS) }
+    ensures taken { IfErr result (λ fault. fault ≡ OutOfMemory) }
+{
+    Ok(Task::Explain {
+        hier: word(alloc, matches, "HIER")?,
+        src: word(alloc, matches, "SRC")?,
+    })
+}
+
 // The word that the parser matched for a required argument.
 fn word(alloc: Global, matches: &ArgMatches<'_>, id: &str) -> Result<String, AllocError>
     requires given { IsGiven id.now (rows_in matches.now) }
@@ -258,8 +285,7 @@ fn word(alloc: Global, matches: &ArgMatches<'_>, id: &str) -> Result<String, All
 
 // The word of `--observer`, where it was given.
 fn observer_word(alloc: Global, matches: &ArgMatches<'_>) -> Result<Option<String>, AllocError>
-    ensures { IfOk result (λ observer. option_map string_bytes observer
-        ≡ first_of (codes "observer") (rows_in matches.now)) }
+    ensures { IfOk result (λ observer. option_map string_bytes observer ≡ first_of (codes "observer") (rows_in matches.now)) }
 {
     match matches.get_str("observer") {
         Some(name) => Ok(Some(String::from_str(alloc, name)?)),

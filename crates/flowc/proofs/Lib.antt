@@ -1,4 +1,5 @@
 pub mod Cut
+mod Explaining
 pub mod Listed
 pub mod Promises
 pub mod Refusals

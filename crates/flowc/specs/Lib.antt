@@ -1,4 +1,5 @@
 pub mod Compiled
+pub mod Explained
 pub mod Lines
 pub mod Messages
 pub mod Promises

@@ -27,7 +27,7 @@ use Rattle.verifier.specs.Faults as faults
 use Rattle.verifier.specs.Faults.{HasNoFault}
 use Rattle.verifier.specs.declared.fault.Fault.{Fault}
 use Rattle.command_line.specs.declared.request.Task.{Task}
-use Rattle.command_line.specs.declared.request.Task.TheVariants.{Check, Build, Run, List as ListModule}
+use Rattle.command_line.specs.declared.request.Task.TheVariants.{Check, Build, Run, Explain, List as ListModule}
 use Rattle.flowc.specs.Compiled.{bytes_at}
 use Rattle.flowc.specs.Lines.{cannot_write, cause_line, encoding_line, end_line, fault_line, no_memory, observer_line, refusal_line, world_line}
 use Rattle.flowc.specs.Stdout.{CanRun, numbers_in}
@@ -129,6 +129,8 @@ IsLine (Run file world observer steps) files status out_failed line =
     IsRunLine (string_bytes file) (string_bytes world) (bytes_at files 0) (bytes_at files 1) (option_map string_bytes observer) steps status out_failed line
 IsLine (ListModule file) files status out_failed line =
     IsFaultLine (IsModuleLine (string_bytes file) (bytes_at files 0)) status out_failed line
+IsLine (Explain hierarchy source) files status out_failed line =
+    IsCompilingLine (string_bytes hierarchy) (string_bytes source) (bytes_at files 0) (bytes_at files 1) status out_failed line
 
 -- what a task has written to standard error when it ends with this status, and standard output has failed or not
 abbrev pub WritesMessage : Task → List (Vec ℕ Global) → (status : ℕ) → (out_failed : Bool) → (old new : Option (List ℕ)) → (failed : Bool) → Type 0

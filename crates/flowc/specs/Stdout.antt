@@ -18,8 +18,9 @@ use Rattle.verifier.specs.Faults.{HasNoFault}
 use Rattle.machine.specs.Run.{ReportsStatus}
 use Rattle.machine.specs.declared.status.Status.{Status}
 use Rattle.command_line.specs.declared.request.Task.{Task}
-use Rattle.command_line.specs.declared.request.Task.TheVariants.{Check, Build, Run, List as ListModule}
+use Rattle.command_line.specs.declared.request.Task.TheVariants.{Check, Build, Run, Explain, List as ListModule}
 use Rattle.flowc.specs.Compiled.{bytes_at}
+use Rattle.flowc.specs.Explained.{Explains, ExplainsRefusal, ExplainsSome}
 use Rattle.flowc.specs.Task.{reported_status}
 use Rattle.flowc.specs.View.{IsObserver, shown, view_text}
 
@@ -109,3 +110,8 @@ Shows (ListModule file) files status old new =
     let code = bytes_at files 0 in
     ((status ≡ 1) × (old ≡ new) × CannotList code)
     ⊎ (((status ≡ 3) × ListsSome code old new) ⊎ ((status ≡ 0) × Lists code old new))
+Shows (Explain hierarchy source) files status old new =
+    let h = bytes_at files 0 in
+    let s = bytes_at files 1 in
+    ((status ≡ 1) × ExplainsRefusal h s old new)
+    ⊎ (((status ≡ 3) × ExplainsSome h s old new) ⊎ ((status ≡ 0) × Explains h s old new))

@@ -3,7 +3,7 @@
 use Rattle.std.specs.Prelude.{ℕ, ◌==◌, ◌||◌, length, Bool, true, false, Option, Some, None}
 use Rattle.command_line.specs.Task.{paths_of}
 use Rattle.command_line.specs.declared.request.Task.{Task}
-use Rattle.command_line.specs.declared.request.Task.TheVariants.{Check, Build, Run, List as ListModule}
+use Rattle.command_line.specs.declared.request.Task.TheVariants.{Check, Build, Run, Explain, List as ListModule}
 use Rattle.flowc.specs.declared.fault.PerformFault.{PerformFault}
 use Rattle.flowc.specs.declared.fault.PerformFault.TheVariants.{Refused, CannotWrite, NoMemory}
 use Rattle.machine.specs.declared.status.Status.{Status}
@@ -19,6 +19,7 @@ makes_file (Check hierarchy source) = false
 makes_file (Build hierarchy source out) = true
 makes_file (Run file world observer steps) = false
 makes_file (ListModule file) = false
+makes_file (Explain hierarchy source) = false
 
 -- whether a task looks at a source
 abbrev pub reads_source : Task → Bool
@@ -26,6 +27,7 @@ reads_source (Check hierarchy source) = true
 reads_source (Build hierarchy source out) = true
 reads_source (Run file world observer steps) = false
 reads_source (ListModule file) = false
+reads_source (Explain hierarchy source) = true
 
 -- the status that reports how a run ended
 abbrev pub status_of_end : Status → ℕ
@@ -60,3 +62,4 @@ may_end (Build hierarchy source out) status = is_plain_status status
 may_end (Run file world None steps) status = is_plain_status status || is_end_status status
 may_end (Run file world (Some observer) steps) status = is_plain_status status
 may_end (ListModule file) status = is_plain_status status
+may_end (Explain hierarchy source) status = is_plain_status status

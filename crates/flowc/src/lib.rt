@@ -2,6 +2,7 @@
 #![tactic(auto)]
 
 mod ended;
+mod explain;
 mod fault;
 pub mod laws;
 mod list;

@@ -10,6 +10,7 @@ ghost use Rattle.std.specs.Prelude.{[], ◌≡◌, ◌≤◌, ◌<◌, ◌↔◌
 ghost use Rattle.std.specs.String.{string_bytes};
 
 use crate::ended::Ended;
+use crate::explain::explain;
 use crate::fault::PerformFault;
 use crate::list::list_module;
 use crate::reading::File;
@@ -68,6 +69,10 @@ pub fn perform<O: Sink, E: Sink>(
             finish(run(alloc, code, world, name_of(observer), *steps, out), err)
         }
         Task::List { file } => finish(list_module(alloc, file_at(file, files, 0), out), err),
+        Task::Explain { hier, src } => {
+            let (hierarchy, source) = (file_at(hier, files, 0), file_at(src, files, 1));
+            finish(explain(alloc, hierarchy, source, out), err)
+        }
     }
 }
 

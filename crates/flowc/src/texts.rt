@@ -58,8 +58,13 @@ pub fn build(alloc: Global, hierarchy: File<'_>, source: File<'_>) -> Result<Vec
     }
 }
 
-// The first fault of two texts, as the program reports it.
-fn texts_fault(alloc: Global, hierarchy: File<'_>, source: File<'_>, fault: Fault) -> PerformFault
+/// The first fault of two texts, as the program reports it.
+pub fn texts_fault(
+    alloc: Global,
+    hierarchy: File<'_>,
+    source: File<'_>,
+    fault: Fault,
+) -> PerformFault
     requires { ReportsFault hierarchy.bytes.now source.bytes.now fault }
     ensures refusal { status_of_fault result ≡ 1 → IsRefusal fault }
     ensures message { (out_failed : Bool) → IsPerformFault (IsTextsLine

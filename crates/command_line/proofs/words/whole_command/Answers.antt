@@ -15,7 +15,8 @@ returns c =
     let checks = c.in_ok-subcommand.ensures.shape c.in_ok-check_command.ensures.local ∙ ap₂ with_subcommand wants (ap top c.in_ok-check_command.ensures.shape) in
     let builds = c.in_ok-subcommand-2.ensures.shape c.in_ok-build_command.ensures.local ∙ ap₂ with_subcommand checks (ap top c.in_ok-build_command.ensures.shape) in
     let runs = c.in_ok-subcommand-3.ensures.shape c.in_ok-run_command.ensures.local ∙ ap₂ with_subcommand builds (ap top c.in_ok-run_command.ensures.shape) in
+    let lists = c.in_ok-subcommand-4.ensures.shape c.in_ok-list_command.ensures.local ∙ ap₂ with_subcommand runs (ap top c.in_ok-list_command.ensures.shape) in
     record {
-      shape = IfOk-weaker c.subcommand-4.result _ _
-          (λ r h. h.shape c.in_ok-list_command.ensures.local ∙ ap₂ with_subcommand runs (ap top c.in_ok-list_command.ensures.shape)) c.subcommand-4.ensures;
+      shape = IfOk-weaker c.subcommand-5.result _ _
+          (λ r h. h.shape c.in_ok-explain_command.ensures.local ∙ ap₂ with_subcommand lists (ap top c.in_ok-explain_command.ensures.shape)) c.subcommand-5.ensures;
     }

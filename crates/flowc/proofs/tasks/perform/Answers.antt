@@ -1,5 +1,6 @@
 use Rattle.std.proofs.Common.{[], sym}
 use Rattle.flowc.specs.declared.ended.Ended.{Ended}
+use Rattle.flowc.proofs.Explaining.{explain_shows}
 use Rattle.flowc.proofs.Refusals.{run_shows}
 use Rattle.std.specs.String.{string_bytes}
 use Rattle.flowc.proofs.Settled.{accepted_along, held_at_zero, ok_is_zero, refused_at_one}
@@ -61,3 +62,28 @@ returns-in-List-clause-message g c = rw c.in-List.is
     c.list_module.ensures.silent c.list_module.ensures.status c.list_module.ensures.message
     (module_line _ _ _ _ c.file_at.ensures.path c.file_at.ensures.bytes)
     c.finish-in-List.ensures.status c.finish-in-List.ensures.message)
+
+pub returns-in-Explain-clause-shown : goal.returns-in-Explain-clause-shown
+returns-in-Explain-clause-shown g c = rw c.in-Explain.is
+    (explain_shows _ _ _ _ _ _ _ c.explain.result c.explain.ensures.shown c.explain.ensures.chain c.explain.ensures.some c.explain.ensures.status
+    c.finish-in-Explain.ensures.status c.file_at-hierarchy-in-Explain.ensures.bytes c.file_at-source-in-Explain.ensures.bytes)
+
+pub returns-in-Explain-clause-accepted : goal.returns-in-Explain-clause-accepted
+returns-in-Explain-clause-accepted g c = λ source zero.
+    accepted_along _ _ _ _ c.file_at-hierarchy-in-Explain.ensures.bytes c.file_at-source-in-Explain.ensures.bytes
+    (held_at_zero _ (λ (ended : Ended). ended.status) c.explain.result c.finish-in-Explain.result.status
+    c.explain.ensures.accepted c.finish-in-Explain.ensures.status zero)
+
+pub returns-in-Explain-clause-refused : goal.returns-in-Explain-clause-refused
+returns-in-Explain-clause-refused g c = λ source one holds.
+    refused_at_one _ (λ (ended : Ended). ended.status) c.explain.result c.finish-in-Explain.result.status
+    c.explain.ensures.refused c.explain.ensures.status c.finish-in-Explain.ensures.status one
+    (accepted_along _ _ _ _ (sym c.file_at-hierarchy-in-Explain.ensures.bytes) (sym c.file_at-source-in-Explain.ensures.bytes) holds)
+
+pub returns-in-Explain-clause-message : goal.returns-in-Explain-clause-message
+returns-in-Explain-clause-message g c = rw c.in-Explain.is
+    (fault_message (λ (ended : Ended). string_bytes ended.line) (λ (ended : Ended). ended.status) c.explain.result _ _ _ _ _ _ _
+    c.explain.ensures.silent c.explain.ensures.status c.explain.ensures.message
+    (texts_line _ _ _ _ _ _ _ _ c.file_at-hierarchy-in-Explain.ensures.path c.file_at-source-in-Explain.ensures.path c.file_at-hierarchy-in-Explain.ensures.bytes
+    c.file_at-source-in-Explain.ensures.bytes)
+    c.finish-in-Explain.ensures.status c.finish-in-Explain.ensures.message)
