@@ -17,7 +17,7 @@ pub use acceptance::{Cause, Text};
 pub use bytecode::{FormatFault, Module, Refusal, decode};
 pub use channels::{Device, Pair, Sink, SinkFault, World, WorldDefect, WorldFault};
 pub use command_line::{MOST_STEPS, Task, TaskFault, USUAL_STEPS, task};
-pub use compiler::{Fault, compile};
+pub use compiler::{Fault, NotAccepted, check_texts, compile};
 pub use host::{Answer, Event, Host, HostFault, Id, MAX_SESSIONS};
 pub use machine::Status;
 pub use tasks::{Outcome, perform};

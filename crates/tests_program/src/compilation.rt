@@ -1,6 +1,6 @@
 //! Causes by number and words, and a compilation whose growths are refused.
 
-use flowc::{Cause, Fault, compile};
+use flowc::{Cause, Fault, check_texts, compile};
 use std::alloc::Global;
 use std::test::Fail;
 
@@ -58,5 +58,18 @@ fn a_refused_growth_changes_no_answer(rt: HostRuntime) -> Result<(), Fail> {
         answer = size_of(rt.alloc());
     }
     assert!(rt; matches!(&answer, Ok(76)));
+    Ok(())
+}
+
+#[test]
+fn gives_the_least_label_of_a_local(rt: HostRuntime) -> Result<(), Fail> {
+    let source = b"void main() { int{Alice:} x = 1; int a = x; int b = 0; }";
+    match check_texts(rt.alloc(), b"principal Alice;", source) {
+        Ok(checked) => {
+            assert_eq!(rt; checked.label(rt.alloc(), 0, 1)?.policies().len(), 1);
+            assert_eq!(rt; checked.label(rt.alloc(), 0, 2)?.policies().len(), 0);
+        }
+        Err(_) => assert!(rt; false, "refused"),
+    }
     Ok(())
 }
