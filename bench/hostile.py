@@ -66,6 +66,13 @@ def two_long_labels(size):
     return chain(256), source
 
 
+def nearly_equal_long_labels(size):
+    """A flow that is allowed, from a long label to one with a policy more: each policy is looked for in a list as long."""
+    one = policies(size // 2 - 100)
+    source = f"output{one[:-1]};P255:}} o;\nvoid main() {{ int{one} x = 0; send o, x; }}\n"
+    return flat(256), source
+
+
 def many_labels(size):
     parts, names, used = [], [], 0
     while used < size * 2 // 3:
@@ -105,7 +112,37 @@ def many_refused_flows(size):
     return flat(2), filled(head, "    send o, x;\n", "}\n", size)
 
 
-SHAPES = [one_long_label, two_long_labels, many_labels, long_names, many_names, open_comments, many_refused_flows]
+def labels_around_a_cycle(size):
+    """Many locals that are copied round a circle, each with a label of its own flowing in."""
+    head, tail = "void main() {\n", "}\n"
+    starts, copies, used, number = [], [], len(head) + len(tail), 0
+    while True:
+        owner, reader = number % 256, number // 256
+        start = f"int{{P{owner}: P{reader}}} x{number} = 0;\nint a{number} = x{number};\n"
+        copy = f"a{number + 1} = a{number};\n"
+        if used + len(start) + len(copy) > size:
+            return flat(256), head + "".join(starts) + "".join(copies[:-1]) + f"a0 = a{number - 1};\n" + tail
+        starts.append(start)
+        copies.append(copy)
+        used += len(start) + len(copy)
+        number += 1
+
+
+def copies_backwards(size):
+    """A chain of copies that is written from its end to its begin."""
+    head, tail = "void main() {\n", "}\n"
+    starts, copies, used, number = [], [], len(head) + len(tail), 0
+    while True:
+        start, copy = f"int a{number} = 0;\n", f"a{number + 1} = a{number};\n"
+        if used + len(start) + len(copy) > size:
+            return flat(2), head + "".join(starts) + "".join(reversed(copies[:-1])) + tail
+        starts.append(start)
+        copies.append(copy)
+        used += len(start) + len(copy)
+        number += 1
+
+
+SHAPES = [one_long_label, two_long_labels, nearly_equal_long_labels, many_labels, long_names, many_names, open_comments, many_refused_flows, labels_around_a_cycle, copies_backwards]
 
 
 def seconds(program, folder, hierarchy, source):
