@@ -8,6 +8,7 @@ seconds that `check` takes, how many times that of the benign source of the size
 same shape at half the size. The least of three runs counts, and a run is cut off after 120 seconds.
 """
 
+import itertools
 import subprocess
 import sys
 import tempfile
@@ -71,6 +72,20 @@ def nearly_equal_long_labels(size):
     one = policies(size // 2 - 100)
     source = f"output{one[:-1]};P255:}} o;\nvoid main() {{ int{one} x = 0; send o, x; }}\n"
     return flat(256), source
+
+
+def many_readers(size):
+    """A flow that is allowed between two labels whose policies have nearly all principals as readers: each policy of the one is held
+    against each of the other, and only the last one, which has one reader, covers it."""
+    names, sides, used = [f"P{n}" for n in range(256)], ([], []), 0
+    for number, left_out in enumerate(itertools.combinations(range(200, 255), 2)):
+        readers = ",".join(names[n] for n in range(1, 256) if n not in left_out)
+        if used + len(readers) > size - 300:
+            break
+        sides[number % 2].append(f"P0:{readers}")
+        used += len(readers) + 4
+    one, other = "{" + ";".join(sides[0]) + "}", "{" + ";".join(sides[1] + ["P0:P255"]) + "}"
+    return flat(256), f"output{other} o;\nvoid main() {{ int{one} x = 0; send o, x; }}\n"
 
 
 def many_labels(size):
@@ -142,7 +157,7 @@ def copies_backwards(size):
         number += 1
 
 
-SHAPES = [one_long_label, two_long_labels, nearly_equal_long_labels, many_labels, long_names, many_names, open_comments, many_refused_flows, labels_around_a_cycle, copies_backwards]
+SHAPES = [one_long_label, two_long_labels, nearly_equal_long_labels, many_readers, many_labels, long_names, many_names, open_comments, many_refused_flows, labels_around_a_cycle, copies_backwards]
 
 
 def seconds(program, folder, hierarchy, source):
