@@ -195,10 +195,10 @@ built_in_kept = record {
 
 -- ---- the tables
 
-abbrev channel_name : ChannelEntry → List ℕ
+abbrev pub channel_name : ChannelEntry → List ℕ
 channel_name entry = entry.name
 
-abbrev global_name : GlobalEntry → List ℕ
+abbrev pub global_name : GlobalEntry → List ℕ
 global_name entry = entry.name
 
 abbrev procedure_name : ProcedureEntry → List ℕ
@@ -210,11 +210,11 @@ pub record TableNames (named : ItemNames) (tables : Tables) : Type 0 where
   pub globals : map global_name tables.globals ≡ named.globals
   pub procedures : map procedure_name tables.procedures ≡ named.procedures
 
-channel_named : (h : PrincipalHierarchy) (channel : ChannelTree) → IfOk (channel_outcome h channel) (λ (entry : ChannelEntry). entry.name ≡ channel.name.text)
+pub channel_named : (h : PrincipalHierarchy) (channel : ChannelTree) → IfOk (channel_outcome h channel) (λ (entry : ChannelEntry). entry.name ≡ channel.name.text)
 unfolding channel_outcome
 channel_named h channel = then_finds (label_outcome h channel.label) _ (λ one. Unit {0}) _ (any_finds (label_outcome h channel.label)) (λ one nothing. refl)
 
-global_named : (h : PrincipalHierarchy) (global : GlobalTree) → IfOk (global_outcome h global) (λ (entry : GlobalEntry). entry.name ≡ global.name.text)
+pub global_named : (h : PrincipalHierarchy) (global : GlobalTree) → IfOk (global_outcome h global) (λ (entry : GlobalEntry). entry.name ≡ global.name.text)
 unfolding global_outcome
 global_named h global =
     then_finds (label_outcome h global.label) _ (λ one. Unit {0}) _ (any_finds (label_outcome h global.label)) (λ label nothing.

@@ -170,7 +170,7 @@ built_in_placed = record {
 
 -- ---- the whole
 
-finds_itself : {A : Type 0} (looked : Outcome A) → IfOk looked (λ x. looked ≡ give x)
+pub finds_itself : {A : Type 0} (looked : Outcome A) → IfOk looked (λ x. looked ≡ give x)
 finds_itself (Ok x) = refl
 finds_itself (Err fault) = tt
 

@@ -10,6 +10,8 @@ mod Later
 mod Loops
 mod Passing
 mod Procedures
+mod ReadBodies
+mod ReadExpressions
 mod Tables
 mod WellFormedExpressions
 mod WellFormedLabels

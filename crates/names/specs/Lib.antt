@@ -8,3 +8,4 @@ pub mod Statements
 pub mod Resolution
 pub mod Views
 pub mod Laws
+pub mod ReadBack

@@ -1,6 +1,7 @@
 //! Laws of the definitions, each the contract of a function that does nothing.
 
 ghost use Rattle.names.specs.Laws.{ChannelLabelsAreCanonical, HierarchyIsKept, NamesAreDifferent, NamesAreProper, NamesAreUtf8, NumbersReadAsNames, RunsBeginAtMain, WhatIsFoundIsWellFormed};
+ghost use Rattle.names.specs.ReadBack.{ProgramsReadAsWritten};
 
 /// The resolved program that a syntax tree stands for under a hierarchy is well formed: each expression has the type that its place
 /// wants, each number is that of an entry of the tables, arguments match parameters, and the limits are kept.
@@ -27,9 +28,11 @@ pub fn hierarchies_and_channel_labels_are_kept()
     ensures labels { ChannelLabelsAreCanonical }
 {}
 
-/// Each name in scope at the top level stands for the entry of that name in its table, under the number by which it is used; and a
-/// run begins at the procedure that is called `main`.
+/// Each name in scope at the top level stands for the entry of that name in its table, under the number by which it is used. The
+/// program reads as it is written: each number in a body is that of the innermost declaration in scope of the name that the text
+/// uses there. A run begins at the procedure that is called `main`.
 pub fn numbers_read_as_names()
     ensures numbers { NumbersReadAsNames }
+    ensures written { ProgramsReadAsWritten }
     ensures main { RunsBeginAtMain }
 {}
