@@ -14,3 +14,4 @@ pub mod Machine
 pub mod Decoded
 pub mod Writing
 pub mod Isolated
+pub mod Targets

@@ -15,7 +15,7 @@ use Rattle.bytecode.specs.Form.{Fits, FitEach, IsCoded, Code}
 use Rattle.bytecode.specs.Opcodes.{instructions}
 use Rattle.bytecode.specs.Format.{handler, handlers, procedure, procedures, may_start, main, program, contents, module_file}
 use Rattle.bytecode.proofs.Spelling.{is_spelled, spelled-length}
-use Rattle.layout.specs.Targets.{target_of, renamed_instruction, renamed_handler}
+use Rattle.bytecode.specs.Targets.{target_of, renamed_instruction, renamed_handler}
 use Rattle.layout.specs.Offsets.{offset, laid_out_procedure, laid_out}
 use Rattle.layout.specs.Graph.{HasTargetIn, IsHandlerIn, HasPositions, IsGraph}
 use Rattle.layout.proofs.Offsets.{width-renamed}

@@ -9,7 +9,7 @@ use Rattle.bytecode.specs.declared.instruction.Instruction.TheVariants.{Jump, Ju
 use Rattle.bytecode.specs.declared.declaration.Handler.{Handler}
 use Rattle.bytecode.specs.Code.{code_length, instruction_at}
 use Rattle.bytecode.specs.Contents.{ProcedureContents, ModuleContents}
-use Rattle.layout.specs.Targets.{target_of, renamed_instruction, renamed_handler}
+use Rattle.bytecode.specs.Targets.{target_of, renamed_instruction, renamed_handler}
 use Rattle.layout.specs.Offsets.{offset, laid_out_procedure, laid_out}
 use Rattle.layout.specs.Graph.{IsHandlerIn, HasPositions, IsGraph}
 use Rattle.layout.specs.Starts.{IsStart, IsHandlerOf, HasStarts}

@@ -8,7 +8,7 @@ use Rattle.bytecode.specs.declared.opcode.Operand.{Operand}
 use Rattle.bytecode.specs.declared.opcode.Operand.TheVariants.{Absent, Int, Boolean, Number}
 use Rattle.bytecode.specs.Code.{width_of, code_length}
 use Rattle.bytecode.specs.Opcodes.{row_of, operand_width}
-use Rattle.layout.specs.Targets.{renamed_instruction}
+use Rattle.bytecode.specs.Targets.{renamed_instruction}
 use Rattle.layout.specs.Offsets.{offset}
 use Rattle.layout.specs.Graph.{HasTargetIn}
 use Rattle.layout.specs.Tables.{IsTableOf}

@@ -7,7 +7,7 @@ use Rattle.bytecode.specs.declared.declaration.Handler.{Handler}
 use Rattle.bytecode.specs.Contents.{ProcedureContents, ModuleContents}
 use Rattle.bytecode.specs.Form.{Fits}
 use Rattle.bytecode.specs.Format.{module_file}
-use Rattle.layout.specs.Targets.{target_of}
+use Rattle.bytecode.specs.Targets.{target_of}
 
 -- a handler of code with so many instructions: its range is not empty and ends with the code at the latest, and its target is a
 -- position of the code

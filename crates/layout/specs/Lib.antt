@@ -1,4 +1,3 @@
-pub mod Targets
 pub mod Graph
 pub mod Offsets
 pub mod Starts

@@ -5,7 +5,7 @@ use Rattle.bytecode.specs.declared.instruction.Instruction.{Instruction}
 use Rattle.bytecode.specs.Code.{width_of}
 use Rattle.bytecode.specs.Contents.{ProcedureContents, ModuleContents}
 use Rattle.bytecode.specs.Machine.{code_of}
-use Rattle.layout.specs.Targets.{renamed_instruction, renamed_handler}
+use Rattle.bytecode.specs.Targets.{renamed_instruction, renamed_handler}
 
 -- the byte offset of a position: the bytes of the instructions before it. At the end of the code that is how many bytes the code
 -- takes, and behind the end it goes on by one

@@ -5,7 +5,7 @@ use Rattle.bytecode.specs.declared.instruction.Instruction.{Instruction}
 use Rattle.bytecode.specs.declared.declaration.Handler.{Handler}
 use Rattle.bytecode.specs.Code.{code_length, instruction_at}
 use Rattle.bytecode.specs.Contents.{ProcedureContents}
-use Rattle.layout.specs.Targets.{target_of}
+use Rattle.bytecode.specs.Targets.{target_of}
 
 -- a byte offset is that of an instruction's first byte
 abbrev pub IsStart : List Instruction → ℕ → Type 0

@@ -9,7 +9,8 @@ use Rattle.bytecode.specs.declared.instruction.Instruction.TheVariants as instru
 use Rattle.bytecode.specs.declared.value.Kind.{Kind}
 use Rattle.bytecode.specs.declared.value.Kind.TheVariants.{Boolean}
 use Rattle.verifier.specs.Fixed.{instruction_defect}
-use Rattle.verifier.specs.Flow.{Effect, Leaves, Misses, effect, goes_on, target_of}
+use Rattle.bytecode.specs.Targets.{target_of}
+use Rattle.verifier.specs.Flow.{Effect, Leaves, Misses, effect, goes_on}
 use Rattle.lowering.proofs.Places.{Stands, stands-front, stands-back}
 
 abbrev pub below_top : List Kind → List Kind

@@ -25,7 +25,8 @@ use Rattle.bytecode.specs.declared.value.Kind.TheVariants.{Int, Boolean}
 use Rattle.verifier.specs.declared.fault.Defect.{Defect}
 use Rattle.verifier.specs.declared.fault.Defect.TheVariants.{OperandKind, SlotOrIndex}
 use Rattle.verifier.specs.Fixed.{instruction_defect, is_scalar, is_array, is_input, is_output, unless}
-use Rattle.verifier.specs.Flow.{Effect, Leaves, Misses, exchange, exchanged, called, value_kinds, slot_kind, all_popped, and_then, pushed, effect, goes_on, target_of}
+use Rattle.bytecode.specs.Targets.{target_of}
+use Rattle.verifier.specs.Flow.{Effect, Leaves, Misses, exchange, exchanged, called, value_kinds, slot_kind, all_popped, and_then, pushed, effect, goes_on}
 use Rattle.lowering.specs.Interface.{kind_of_base, declared_slot, slot_contents, returned_kind}
 use Rattle.lowering.specs.Expressions.{load_of, store_of, load_element_of, store_element_of, prefix_instruction, operator_instruction}
 use Rattle.lowering.specs.Graphs.{procedure_contents}

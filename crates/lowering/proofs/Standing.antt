@@ -16,8 +16,7 @@ use Rattle.bytecode.specs.declared.instruction.Instruction.TheVariants.{Jump, Ju
 use Rattle.bytecode.specs.declared.value.Kind.{Kind}
 use Rattle.layout.specs.Graph.{IsHandlerIn, HasPositions}
 use Rattle.layout.specs.Offsets.{offset, laid_out_procedure}
-use Rattle.layout.specs.Targets as layout
-use Rattle.layout.specs.Targets.{renamed_instruction, renamed_handler}
+use Rattle.bytecode.specs.Targets.{target_of, renamed_instruction, renamed_handler}
 use Rattle.layout.proofs.Fitting.{length-renamed}
 use Rattle.layout.proofs.Offsets.{width-renamed, some_width, offset-start, offset-less, fetched, past}
 use Rattle.layout.proofs.Starts.{start-at}
@@ -25,7 +24,7 @@ use Rattle.layout.proofs.Tables.{offset-end}
 use Rattle.verifier.specs.declared.fault.Defect.{Defect}
 use Rattle.verifier.specs.declared.fault.Defect.TheVariants as defect
 use Rattle.verifier.specs.Fixed.{unless, is_start, is_end, instruction_defect, handler_defect, fault_list, instruction_faults, handler_faults}
-use Rattle.verifier.specs.Flow.{Edge, next, jumps, caught, Leaves, Misses, effect, goes_on, target_of, FlowsWell}
+use Rattle.verifier.specs.Flow.{Edge, next, jumps, caught, Leaves, Misses, effect, goes_on, FlowsWell}
 use Rattle.verifier.proofs.Laws.{no_fault}
 use Rattle.lowering.proofs.Flowing.{Fine, EachFine, fine-at, kinds_at, along, onward, following}
 use Rattle.lowering.proofs.Settled.{Catches}
@@ -111,13 +110,8 @@ same-target f (Jump target) = refl
 same-target f (JumpIfFalse target) = refl
 same-target f x = refl
 
-position-target : (x : Instruction) → layout.target_of x ≡ target_of x
-position-target (Jump target) = refl
-position-target (JumpIfFalse target) = refl
-position-target x = refl
-
-target-inside : (n : ℕ) (x : Instruction) → IfSome (layout.target_of x) (λ target. target < n) → (t : ℕ) → target_of x ≡ Some t → t < n
-target-inside n x h t e = subst (λ (o : Option ℕ). IfSome o (λ target. target < n)) (position-target x ∙ e) h
+target-inside : (n : ℕ) (x : Instruction) → IfSome (target_of x) (λ target. target < n) → (t : ℕ) → target_of x ≡ Some t → t < n
+target-inside n x h t e = subst (λ (o : Option ℕ). IfSome o (λ target. target < n)) e h
 
 -- a target that was renamed
 renamed-from : (f : ℕ → ℕ) (o : Option ℕ) (to : ℕ) → option_map f o ≡ Some to → (t : ℕ) × (o ≡ Some t) × (f t ≡ to)
@@ -250,7 +244,7 @@ module _ (m : ModuleContents) (g : ProcedureContents) (s : Sound m g) where
   jump-right : (t : ℕ) → t < length g.code → unless (is_start (laid_out_procedure g) (offset g.code t)) defect.Jump ≡ None
   jump-right t below = ap (λ (b : Bool). unless b defect.Jump) (start-at g.code t below)
 
-  instruction-right : (x : Instruction) (list : List Kind) → Fine m (laid_out_procedure g) g.code x list → IfSome (layout.target_of x) (λ target. target < length g.code)
+  instruction-right : (x : Instruction) (list : List Kind) → Fine m (laid_out_procedure g) g.code x list → IfSome (target_of x) (λ target. target < length g.code)
       → instruction_defect m (laid_out_procedure g) (renamed_instruction (offset g.code) x) ≡ None
   instruction-right (Jump target) list f below = jump-right target below
   instruction-right (JumpIfFalse target) list f below = jump-right target below
@@ -313,10 +307,10 @@ module _ (m : ModuleContents) (g : ProcedureContents) (s : Sound m g) where
       below (y ∷ code) zero x e = omega arith
       below (y ∷ code) (suc k) x e = omega (arith, below code k x e)
 
-      targets : (k : ℕ) (x : Instruction) → slice_get g.code k ≡ Some x → IfSome (layout.target_of x) (λ target. target < length g.code)
+      targets : (k : ℕ) (x : Instruction) → slice_get g.code k ≡ Some x → IfSome (target_of x) (λ target. target < length g.code)
       targets k x e =
           let there = slice_get-get_or g.code k Return (below g.code k x e) in
-          subst (λ (y : Instruction). IfSome (layout.target_of y) (λ target. target < length g.code)) (same_instruction (get_or g.code k Return) x (sym there ∙ e))
+          subst (λ (y : Instruction). IfSome (target_of y) (λ target. target < length g.code)) (same_instruction (get_or g.code k Return) x (sym there ∙ e))
           (s.positions.targets k Return (below g.code k x e))
 
   pub sound-handlers : (number : ℕ) → handler_faults m number (laid_out_procedure g) (laid_out_procedure g).handlers ≡ []

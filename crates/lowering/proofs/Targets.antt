@@ -14,7 +14,7 @@ use Rattle.resolved.specs.Tree.{Expression, Integer, Logical, Read, Element, Una
 use Rattle.resolved.specs.Value.{bool_eq}
 use Rattle.bytecode.specs.declared.instruction.Instruction.{Instruction}
 use Rattle.bytecode.specs.declared.instruction.Instruction.TheVariants as instruction
-use Rattle.layout.specs.Targets.{target_of}
+use Rattle.bytecode.specs.Targets.{target_of}
 use Rattle.lowering.specs.Expressions.{load_of, store_of, load_element_of, store_element_of, prefix_instruction, operator_instruction, value_size, value_code, rest_of_short, arguments_size, arguments_code, tested, deciding, branch_size, branch_code, test_code}
 use Rattle.lowering.specs.Code.{kept_code}
 

@@ -20,3 +20,4 @@ pub mod Fusing
 pub mod Each
 pub mod OnOperations
 pub mod OnWindow
+pub mod OpenCells

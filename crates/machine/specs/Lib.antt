@@ -8,3 +8,4 @@ pub mod Run
 pub mod Steps
 pub mod Operations
 pub mod Fusing
+pub mod OpenCells

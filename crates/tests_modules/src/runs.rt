@@ -1,6 +1,6 @@
 //! Runs of a machine, counted step by step.
 
-use bytecode::{Module, decode};
+use bytecode::{Cell, Instruction, Module, decode};
 use channels::{Pair, World};
 use machine::{Machine, NewFault, Status};
 use std::alloc::Global;
@@ -70,6 +70,18 @@ fn counts_its_steps(rt: HostRuntime) -> Result<(), Fail> {
     Ok(())
 }
 
+#[test]
+fn lends_the_values_of_its_frames(rt: HostRuntime) -> Result<(), Fail> {
+    let mut machine = machine_of(rt.alloc()).ok_or("no machine")?;
+    assert_eq!(rt; machine.slab().len(), 0);
+    assert_eq!(rt; machine.run(1).0, 1);
+    assert_eq!(rt; machine.slab(), [Cell::Int(7)].as_slice());
+    assert_eq!(rt; machine.cells(), 1);
+    assert_eq!(rt; machine.run(2), (2, Status::Finished));
+    assert_eq!(rt; machine.cells(), 0);
+    Ok(())
+}
+
 // A step for which memory runs out changes nothing, and is taken by the next call.
 #[test]
 fn tries_a_refused_step_again(rt: HostRuntime) -> Result<(), Fail> {
@@ -108,5 +120,8 @@ fn a_verified_module_is_lent(rt: HostRuntime) -> Result<(), Fail> {
     let module = decode(rt.alloc(), &SENDS)?;
     let verified = verify(rt.alloc(), module)?;
     assert_eq!(rt; verified.module().procedures().len(), 1);
+    let code = verified.code(0);
+    assert_eq!(rt; code.len(), 3);
+    assert!(rt; matches!(code[0], Instruction::Push(7)));
     Ok(())
 }

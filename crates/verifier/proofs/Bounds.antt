@@ -1,5 +1,5 @@
 -- What a module that has a spelling keeps to: lengths of four bytes, and a procedure in which a run may start.
-use Rattle.std.proofs.Common.{◌≡◌, ℕ, zero, suc, ◌<◌, ◌^◌, true, List, [], ◌∷◌, ◌++◌, length, slice_get, Option, Some, None, sym, ap, ◌∙◌, subst, arith}
+use Rattle.std.proofs.Common.{◌≡◌, ℕ, zero, suc, ◌<◌, ◌^◌, true, List, [], ◌∷◌, ◌++◌, length, slice_get, Some, None, subst, arith}
 use Rattle.bytecode.specs.Code.{code_length}
 use Rattle.bytecode.specs.Contents.{ProcedureContents, ModuleContents}
 use Rattle.bytecode.specs.Form.{Fits, FitEach}

@@ -1,5 +1,5 @@
 -- Calls and returns: a call makes a frame that stands at the start of the flow, and its own frame waits for what is returned.
-use Rattle.std.proofs.Common.{◌≡◌, ℕ, zero, suc, ◌+◌, ◌<◌, Bool, true, false, if◌then◌else◌, List, [], ◌∷◌, ◌++◌, length, map, take, reverse, slice_get, Option, Some, None, refl, sym, ap, ◌∙◌, subst, arith, append-nil, append_assoc}
+use Rattle.std.proofs.Common.{◌≡◌, ℕ, zero, suc, ◌+◌, Bool, true, false, if◌then◌else◌, List, [], ◌∷◌, ◌++◌, length, map, reverse, slice_get, Option, Some, None, refl, sym, ap, ◌∙◌, subst, append-nil, append_assoc}
 use Rattle.std.specs.Prelude.{nat_lt, is_none, is_some}
 use Rattle.std.proofs.lemmas.List.{reverse-append}
 use Rattle.bytecode.specs.Code.{width_of, instruction_at}
@@ -16,7 +16,7 @@ use Rattle.verifier.specs.declared.fault.Defect.TheVariants.{OperandKind}
 use Rattle.verifier.proofs.Holds.{same_of, holds_first}
 use Rattle.verifier.proofs.Laws.{start_in_flow}
 use Rattle.verifier.proofs.Rows.{right_kind}
-use Rattle.verifier.proofs.Runs.{Waits, Callers, inner, Stands, Good, runs, over, leaves_same, leaves_good, value_good}
+use Rattle.verifier.proofs.Runs.{Waits, inner, Stands, Good, runs, over, leaves_same, leaves_good, value_good}
 
 -- the machine pops what the effect pops
 record Pops (kinds : List Kind) (before operands : List Cell) (rest : List Kind) : Type 0 where

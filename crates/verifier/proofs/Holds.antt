@@ -1,14 +1,12 @@
 -- Cells of one kind, and slots that hold cells of their kinds.
-use Rattle.std.proofs.Common.{◌≡◌, ◌≢◌, ◌⊎◌, inl, inr, ℕ, zero, suc, ◌+◌, ◌<◌, ◌==◌, Bool, true, false, if◌then◌else◌, List, [], ◌∷◌, ◌++◌, length, map, take, reverse, replicate, slice_get, slice_set, Option, Some, None, refl, sym, ap, ◌∙◌, subst, arith, pos, negsuc, ℤ}
+use Rattle.std.proofs.Common.{◌≡◌, ℕ, zero, suc, ◌==◌, Bool, true, false, if◌then◌else◌, List, [], ◌∷◌, length, map, take, replicate, slice_get, slice_set, Option, Some, None, refl, sym, ap, ◌∙◌, subst, arith, pos, negsuc, ℤ}
 use Rattle.std.specs.Prelude.{nat_lt}
 use Rattle.std.proofs.lemmas.Bool.Decides.{nat_tests}
-use Rattle.std.proofs.lemmas.List.{reverse-append}
-use Rattle.bytecode.specs.Machine.{changed, element_at, with_element, scalar_cell, first_cells, first_slot, first_slots, first_global, slot_of, cells_of_global, kinds_of, popped}
-use Rattle.bytecode.specs.Values.{kind_of, zero_of, is_same_kind, has_kind}
+use Rattle.bytecode.specs.Machine.{changed, element_at, with_element, scalar_cell, first_cells, first_slot, first_slots, first_global, slot_of, cells_of_global, kinds_of}
+use Rattle.bytecode.specs.Values.{kind_of, zero_of, is_same_kind}
 use Rattle.bytecode.specs.declared.value.Kind.{Kind}
 use Rattle.bytecode.specs.declared.value.Kind.TheVariants as kind
 use Rattle.bytecode.specs.declared.value.Cell.{Cell}
-use Rattle.bytecode.specs.declared.value.Cell.TheVariants as cell
 use Rattle.bytecode.specs.declared.declaration.Slot.{Slot}
 use Rattle.bytecode.specs.declared.declaration.Slot.TheVariants as slot
 use Rattle.bytecode.specs.declared.declaration.Global.{Global}

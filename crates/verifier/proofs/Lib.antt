@@ -12,3 +12,4 @@ pub mod Reported
 pub mod Rows
 pub mod Runs
 pub mod Shared
+pub mod Positioned

@@ -1,8 +1,8 @@
 -- A module without a fault is never stuck.
-use Rattle.std.proofs.Common.{◌≡◌, ◌⊎◌, inl, inr, ℕ, zero, suc, ◌+◌, ◌<◌, ◌==◌, Bool, true, false, if◌then◌else◌, List, [], ◌∷◌, length, map, slice_get, Option, Some, None, refl, sym, ap, ◌∙◌, subst, arith, ℤ}
-use Rattle.std.specs.Prelude.{◌&&◌, nat_lt, is_none, is_some}
+use Rattle.std.proofs.Common.{◌≡◌, inl, inr, ℕ, zero, suc, ◌==◌, Bool, true, false, if◌then◌else◌, List, [], ◌∷◌, map, slice_get, Option, Some, None, refl, sym, ap, ◌∙◌, subst}
+use Rattle.std.specs.Prelude.{nat_lt, is_none, is_some}
 use Rattle.std.proofs.lemmas.Bool.{and_parts}
-use Rattle.bytecode.specs.Code.{width_of, code_length, instruction_at}
+use Rattle.bytecode.specs.Code.{instruction_at}
 use Rattle.bytecode.specs.Contents.{ProcedureContents, ModuleContents}
 use Rattle.bytecode.specs.Machine as machine
 use Rattle.bytecode.specs.Machine.{State, Machine, Running, Ended, Stuck, program_of, header_of, code_of, slots_of, slot_at, slots_in, with_slot, with_global, first_state, first_slots, act, acts, step, exec, after_steps}
@@ -14,20 +14,19 @@ use Rattle.bytecode.specs.declared.value.Kind.{Kind}
 use Rattle.bytecode.specs.declared.value.Cell.{Cell}
 use Rattle.bytecode.specs.declared.value.Cell.TheVariants as cell
 use Rattle.bytecode.specs.declared.declaration.Slot.{Slot}
-use Rattle.bytecode.specs.declared.declaration.Slot.TheVariants as slot
 use Rattle.verifier.specs.Faults.{HasNoFault}
 use Rattle.verifier.specs.Fixed.{instruction_defect, is_scalar, is_array, is_input, is_output}
-use Rattle.verifier.specs.Flow.{Edge, next, jumps, caught, Flow, starts, grows, nowhere, Effect, Leaves, Misses, and_then, all_popped, effect, slot_kind, kind_in, global_kind}
+use Rattle.verifier.specs.Flow.{Edge, next, jumps, caught, Flow, starts, grows, nowhere, Effect, Leaves, Misses, and_then, effect, slot_kind}
 use Rattle.verifier.specs.Safety.{HasRow, IsNeverStuck}
 use Rattle.verifier.specs.Boundaries.{IsBoundary, KeepsBoundaries}
 use Rattle.verifier.specs.declared.fault.Defect.TheVariants.{SlotOrIndex}
 use Rattle.verifier.proofs.Bounds.{IsBounded}
 use Rattle.verifier.proofs.Calls.{get_header, calls_good, returns_good, gives_back_good}
-use Rattle.verifier.proofs.FixedFaults.{IsRight, all_right, boundaries, right_of_unless}
+use Rattle.verifier.proofs.FixedFaults.{all_right, boundaries, right_of_unless}
 use Rattle.verifier.proofs.Holds.{AllOf, Holds, holds_changed, holds_empty, holds_globals}
 use Rattle.verifier.proofs.Laws.{IsInFlow, start_in_flow, changed_cases, flow_finds, flow_stays}
 use Rattle.verifier.proofs.Rows.{loads_good, stores_good, loads_element_good, stores_element_good, clears_good, computes_good, compares_good, matches_good, drops_good, negates_good, inverts_good, branches_good, sends_good, receives_good}
-use Rattle.verifier.proofs.Runs.{Callers, outermost, Stands, Good, GoodState, runs, over, leaves_same, flows, next_good, jump_good, raised_good}
+use Rattle.verifier.proofs.Runs.{outermost, Stands, Good, GoodState, runs, over, leaves_same, flows, next_good, jump_good, raised_good}
 
 unpushed : (e : Effect) → and_then e (λ rest. Leaves rest) ≡ e
 unpushed (Leaves kinds) = refl

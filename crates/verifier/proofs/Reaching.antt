@@ -1,5 +1,5 @@
 -- Control goes from a offset to another one.
-use Rattle.std.proofs.Common.{replicate, ◌≡◌, ◌≢◌, ◌⊎◌, inl, inr, ℕ, suc, zero, ◌+◌, ◌-◌, ◌<◌, ◌≤◌, ◌==◌, Bool, true, false, if◌then◌else◌, List, [], ◌∷◌, ◌++◌, length, get_or, set, take, slice_get, Option, Some, None, refl, sym, ap, ◌∙◌, subst, arith, length-append}
+use Rattle.std.proofs.Common.{replicate, ◌≡◌, ◌≢◌, ◌⊎◌, inl, inr, ℕ, suc, zero, ◌+◌, ◌<◌, ◌≤◌, ◌==◌, Bool, true, false, if◌then◌else◌, List, [], ◌∷◌, ◌++◌, length, get_or, set, take, Option, Some, None, refl, sym, ap, ◌∙◌, subst, arith, length-append}
 use Rattle.std.specs.List.{Contains}
 use Rattle.std.proofs.lemmas.Bool.Decides.{nat_tests}
 use Rattle.std.proofs.lemmas.List.{length-replicate, take_more, get_or-set_same, get_or-set_other, get_or_append_left}
@@ -11,11 +11,12 @@ use Rattle.bytecode.specs.declared.value.Kind.{Kind}
 use Rattle.bytecode.specs.declared.declaration.Handler.{Handler}
 use Rattle.bytecode.specs.declared.instruction.Instruction.{Instruction}
 use Rattle.verifier.specs.declared.fault.Defect.{Defect}
-use Rattle.verifier.specs.Flow.{Edge, next, jumps, caught, Flow, starts, nowhere, grows, misses, meets, falls, IsFlowDefect, FlowsWell, changed, between, effect, all_popped, pushed, exchanged, signature, is_own, and_then, Leaves, Misses, goes_on, target_of}
+use Rattle.bytecode.specs.Targets.{target_of}
+use Rattle.verifier.specs.Flow.{Edge, next, jumps, caught, Flow, starts, nowhere, grows, misses, meets, falls, IsFlowDefect, FlowsWell, changed, between, effect, all_popped, pushed, exchanged, signature, is_own, and_then, Leaves, Misses, goes_on}
 use Rattle.verifier.specs.Operands.{list_of, IsLonger}
 use Rattle.verifier.specs.Boundaries.{IsBoundary, KeepsBoundaries}
 use Rattle.verifier.specs.Search.{row, table, IsKept, IsGoing, IsAtEdge, Flowed, Steps, IsApplied, HasEffect, HasInstruction, IsFirst, left, unset}
-use Rattle.verifier.specs.declared.fault.Defect.TheVariants.{OperandKind, OperandDepth, FallsOffEnd}
+use Rattle.verifier.specs.declared.fault.Defect.TheVariants.{OperandKind, FallsOffEnd}
 use Rattle.verifier.specs.declared.search.Search.{Search}
 use Rattle.verifier.proofs.Offsets.{start_inside}
 use Rattle.verifier.proofs.Laws.{IsDone, no_fault, changed_at}

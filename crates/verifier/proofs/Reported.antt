@@ -1,13 +1,12 @@
 -- What the verifier reports.
-use Rattle.std.proofs.Common.{◌≡◌, ◌⊎◌, inl, inr, ℕ, zero, suc, ◌+◌, ◌<◌, ◌≤◌, List, [], ◌∷◌, length, get_or, slice_get, Option, Some, None, refl, sym, ap, ◌∙◌, subst, arith}
+use Rattle.std.proofs.Common.{◌≡◌, ◌⊎◌, inl, inr, ℕ, zero, suc, ◌+◌, ◌<◌, List, [], ◌∷◌, length, get_or, slice_get, Some, None, refl, sym, ap, ◌∙◌, subst, arith}
 use Rattle.bytecode.specs.Contents.{ProcedureContents, ModuleContents}
-use Rattle.verifier.specs.Faults.{HasNoFault, IsReported, IsReportedAfter, IsFlowFault, IsRefusal}
+use Rattle.verifier.specs.Faults.{HasNoFault, IsReported, IsReportedAfter, IsRefusal}
 use Rattle.verifier.specs.Fixed.{fixed_faults}
-use Rattle.verifier.specs.Flow.{FlowsWell, IsFlowDefect}
+use Rattle.verifier.specs.Flow.{FlowsWell}
 use Rattle.verifier.specs.Search.{IsStop, stop_fault}
 use Rattle.verifier.specs.declared.search.Stop.{Stop}
 use Rattle.verifier.specs.declared.search.Stop.TheVariants as stop
-use Rattle.verifier.specs.declared.fault.Defect.{Defect}
 use Rattle.verifier.specs.declared.fault.Fault.{Fault}
 use Rattle.verifier.specs.Boundaries.{KeepsBoundaries}
 use Rattle.verifier.specs.Verified.{IsVerified}

@@ -1,16 +1,12 @@
 -- Each instruction without a defect that finds its operands has a row, and leads to a state of a run again.
-use Rattle.std.proofs.Common.{◌≡◌, ◌⊎◌, inl, inr, ℕ, zero, suc, ◌+◌, ◌<◌, ◌≤◌, ◌==◌, Bool, true, false, if◌then◌else◌, List, [], ◌∷◌, ◌++◌, length, map, take, reverse, replicate, slice_get, Option, Some, None, refl, sym, ap, ◌∙◌, subst, arith, append-nil, append_assoc, ℤ}
-use Rattle.std.specs.Prelude.{nat_lt, is_none, is_some}
-use Rattle.std.proofs.lemmas.List.{reverse-append}
-use Rattle.bytecode.specs.Code.{width_of, code_length, instruction_at}
+use Rattle.std.proofs.Common.{◌≡◌, ℕ, Bool, true, false, if◌then◌else◌, List, [], ◌∷◌, ◌++◌, map, replicate, Option, Some, None, refl, sym, ap, ◌∙◌, subst, ℤ}
 use Rattle.bytecode.specs.Contents.{ProcedureContents, ModuleContents}
 use Rattle.bytecode.specs.Machine as machine
 use Rattle.bytecode.specs.Machine.{State, Caller, Machine, Running, Ended, Stuck, Deep, Header, program_of, header_of, code_of, slots_of, slot_at, with_slot, with_global, element_at, with_element, computed, bounds, arith as arithmetic, first_slots, kinds_of, frame_limit}
-use Rattle.bytecode.specs.Values.{kind_of, zero_of, is_same_kind, has_kind}
+use Rattle.bytecode.specs.Values.{kind_of, zero_of, is_same_kind}
 use Rattle.bytecode.specs.declared.instruction.Arithmetic.{Arithmetic}
 use Rattle.bytecode.specs.declared.instruction.Comparison.{Comparison}
 use Rattle.bytecode.specs.declared.instruction.Instruction.{Instruction}
-use Rattle.bytecode.specs.declared.instruction.Instruction.TheVariants.{Push, PushBoolean, Pop, Load, Store, LoadGlobal, StoreGlobal, LoadElement, StoreElement, LoadGlobalElement, StoreGlobalElement, Clear, Compute, Negate, Not, Compare, SameBoolean, OtherBoolean, Jump, JumpIfFalse, Call, Return, ReturnValue, Receive, Send, Throw}
 use Rattle.bytecode.specs.declared.value.Kind.{Kind}
 use Rattle.bytecode.specs.declared.value.Kind.TheVariants as kind
 use Rattle.bytecode.specs.declared.value.Cell.{Cell}
@@ -20,14 +16,12 @@ use Rattle.bytecode.specs.declared.declaration.Slot.TheVariants as slot
 use Rattle.bytecode.specs.declared.declaration.Direction.{Direction}
 use Rattle.bytecode.specs.declared.declaration.Direction.TheVariants.{Input, Output}
 use Rattle.verifier.specs.Faults.{HasNoFault}
-use Rattle.verifier.specs.Fixed.{instruction_defect, is_scalar, is_array, is_input, is_output}
-use Rattle.verifier.specs.Flow.{Effect, Leaves, Misses, and_then, all_popped, effect, exchanged, signature, is_own, goes_on, target_of, pushed, slot_kind, kind_in, global_kind}
-use Rattle.verifier.specs.declared.fault.Defect.{Defect}
-use Rattle.verifier.specs.declared.fault.Defect.TheVariants.{OperandKind, SlotOrIndex}
-use Rattle.verifier.proofs.FixedFaults.{right_of_unless}
-use Rattle.verifier.proofs.Holds.{AllOf, Holds, same_of, all_zero, element_kind, with_element_kind, scalar_kind, holds_changed, holds_first}
-use Rattle.verifier.proofs.Laws.{start_in_flow}
-use Rattle.verifier.proofs.Runs.{Waits, Callers, inner, Stands, Good, GoodState, runs, over, leaves_same, next_good, jump_good, raised_good, leaves_good, value_good}
+use Rattle.verifier.specs.Fixed.{is_scalar, is_array, is_input, is_output}
+use Rattle.bytecode.specs.Targets.{target_of}
+use Rattle.verifier.specs.Flow.{Effect, Leaves, Misses, and_then, all_popped, effect, goes_on, pushed, slot_kind}
+use Rattle.verifier.specs.declared.fault.Defect.TheVariants.{OperandKind}
+use Rattle.verifier.proofs.Holds.{AllOf, same_of, all_zero, element_kind, with_element_kind, scalar_kind}
+use Rattle.verifier.proofs.Runs.{Stands, Good, leaves_same, next_good, jump_good, raised_good}
 
 -- an operand that was popped was of the kind
 pub right_kind : (b : Bool) (kinds after : List Kind) (more : List Kind → Effect) → and_then (if b then Leaves kinds else Misses OperandKind) more ≡ Leaves after → (b ≡ true) × (more kinds ≡ Leaves after)

@@ -1,11 +1,11 @@
 -- No run of a module without a fault is stuck: each state of a run has the kinds of operands that the flow has for its offset,
 -- in the running frame and in each frame that waits at a call.
-use Rattle.std.proofs.Common.{◌≡◌, ◌⊎◌, inl, inr, ℕ, zero, suc, ◌+◌, ◌<◌, ◌≤◌, ◌==◌, Bool, true, false, if◌then◌else◌, List, [], ◌∷◌, ◌++◌, length, map, take, reverse, slice_get, Option, Some, None, refl, sym, ap, ◌∙◌, subst, arith, append-nil, ℤ}
+use Rattle.std.proofs.Common.{◌≡◌, ℕ, suc, ◌+◌, ◌<◌, ◌≤◌, ◌==◌, Bool, true, false, if◌then◌else◌, List, [], ◌∷◌, map, slice_get, Option, Some, None, refl, sym, ap, ◌∙◌, subst, arith}
 use Rattle.std.specs.Prelude.{◌&&◌, not, nat_lt}
 use Rattle.std.specs.List.{Contains}
 use Rattle.std.proofs.lemmas.Bool.{and_parts}
 use Rattle.std.proofs.lemmas.Bool.Decides.{nat_tests}
-use Rattle.bytecode.specs.Code.{width_of, code_length, instruction_at}
+use Rattle.bytecode.specs.Code.{width_of, instruction_at}
 use Rattle.bytecode.specs.Contents.{ProcedureContents, ModuleContents}
 use Rattle.bytecode.specs.Machine as machine
 use Rattle.bytecode.specs.Machine.{State, Frame, Caller, Machine, Running, Ended, Stuck, Finished, Threw, Deep, program_of, header_of, code_of, handlers_of, handler_for, position_after, handled, unwound, raised, leaves, leaves_value, new_frame, slots_of, slot_of}
@@ -14,13 +14,12 @@ use Rattle.bytecode.specs.declared.instruction.Instruction.{Instruction}
 use Rattle.bytecode.specs.declared.instruction.Instruction.TheVariants.{Call}
 use Rattle.bytecode.specs.declared.value.Kind.{Kind}
 use Rattle.bytecode.specs.declared.value.Cell.{Cell}
-use Rattle.bytecode.specs.declared.declaration.Slot.{Slot}
 use Rattle.bytecode.specs.declared.declaration.Handler.{Handler}
 use Rattle.verifier.specs.Faults.{HasNoFault}
-use Rattle.verifier.specs.Flow.{Edge, next, jumps, caught, Leaves, effect, goes_on, target_of, pushed, FlowsWell}
-use Rattle.verifier.proofs.FixedFaults.{all_right}
+use Rattle.bytecode.specs.Targets.{target_of}
+use Rattle.verifier.specs.Flow.{next, jumps, caught, Leaves, effect, goes_on, pushed, FlowsWell}
 use Rattle.verifier.proofs.Holds.{Holds}
-use Rattle.verifier.proofs.Laws.{IsInFlow, start_in_flow, along_in_flow}
+use Rattle.verifier.proofs.Laws.{IsInFlow, along_in_flow}
 
 -- the procedure of a number flows well
 pub flows : (m : ModuleContents) → HasNoFault m → (k : ℕ) (p : ProcedureContents) → slice_get m.procedures k ≡ Some p → FlowsWell m p

@@ -6,7 +6,7 @@ use Rattle.bytecode.specs.Contents.{ProcedureContents}
 use Rattle.bytecode.specs.Code.{width_of, code_length, instruction_at}
 use Rattle.bytecode.specs.declared.instruction.Instruction.{Instruction}
 use Rattle.bytecode.specs.declared.declaration.Handler.{Handler}
-use Rattle.verifier.specs.Flow.{target_of}
+use Rattle.bytecode.specs.Targets.{target_of}
 
 -- an instruction's offset, or the end
 abbrev pub IsBoundary : ProcedureContents → ℕ → Type 0

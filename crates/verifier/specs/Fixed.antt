@@ -1,6 +1,6 @@
 -- The faults that an instruction or a handler of a module has by itself, in the order in which the first is reported.
 -- Source: our own; the rules are those of a bytecode verifier, as that of the Java virtual machine.
-use Rattle.std.specs.Prelude.{◌≡◌, ℕ, ◌+◌, ◌==◌, nat_lt, Bool, true, false, ◌&&◌, ◌||◌, if◌then◌else◌, List, [], ◌∷◌, ◌++◌, slice_get, Option, Some, None, is_some}
+use Rattle.std.specs.Prelude.{ℕ, ◌+◌, ◌==◌, nat_lt, Bool, true, false, ◌&&◌, ◌||◌, if◌then◌else◌, List, [], ◌∷◌, ◌++◌, slice_get, Option, Some, None, is_some}
 use Rattle.bytecode.specs.Contents.{ProcedureContents, ModuleContents}
 use Rattle.bytecode.specs.Code.{width_of, code_length, instruction_at}
 use Rattle.bytecode.specs.Machine.{program_of}

@@ -5,6 +5,7 @@ use Rattle.std.specs.Prelude.{◌≡◌, ◌≢◌, ℕ, ◌+◌, ◌≤◌, ◌
 use Rattle.std.specs.List.{Contains}
 use Rattle.bytecode.specs.Contents.{ProcedureContents, ModuleContents}
 use Rattle.bytecode.specs.Code.{width_of, code_length, instruction_at}
+use Rattle.bytecode.specs.Targets.{target_of}
 use Rattle.bytecode.specs.Machine.{header_of, program_of}
 use Rattle.bytecode.specs.Values.{is_same_kind}
 use Rattle.bytecode.specs.declared.instruction.Instruction.{Instruction}
@@ -168,35 +169,6 @@ goes_on ReturnValue = false
 goes_on (Receive channel) = true
 goes_on (Send channel) = true
 goes_on (Throw exception) = false
-
--- where an instruction may jump
-abbrev pub target_of : Instruction → Option ℕ
-target_of (Push n) = None
-target_of (PushBoolean b) = None
-target_of Pop = None
-target_of (Load k) = None
-target_of (Store k) = None
-target_of (LoadGlobal k) = None
-target_of (StoreGlobal k) = None
-target_of (LoadElement k) = None
-target_of (StoreElement k) = None
-target_of (LoadGlobalElement k) = None
-target_of (StoreGlobalElement k) = None
-target_of (Clear k) = None
-target_of (Compute operator) = None
-target_of Negate = None
-target_of Not = None
-target_of (Compare comparison) = None
-target_of SameBoolean = None
-target_of OtherBoolean = None
-target_of (Jump target) = Some target
-target_of (JumpIfFalse target) = Some target
-target_of (Call callee) = None
-target_of Return = None
-target_of ReturnValue = None
-target_of (Receive channel) = None
-target_of (Send channel) = None
-target_of (Throw exception) = None
 
 -- control may go from an offset with operands of some kinds to another offset with operands of others: to the next instruction,
 -- to a target, or without operands to a handler whose range holds the offset, whatever the instruction there finds

@@ -7,3 +7,4 @@ pub mod Safety
 pub mod Search
 pub mod Verified
 pub mod Words
+pub mod Positions

@@ -47,7 +47,8 @@ impl<'a> Body<'a> {
     }
 }
 
-fn index_at(indices: &[Option<u32>], offset: u32) -> Option<u32>
+/// The number of the instruction that begins at an offset, if there is one.
+pub(crate) fn index_at(indices: &[Option<u32>], offset: u32) -> Option<u32>
     ensures { result ≡ slice_index_or indices.now offset None }
 {
     match indices.get(offset as usize) {

@@ -6,6 +6,7 @@ mod effects;
 pub mod fault;
 mod fixed;
 mod operands;
+mod positions;
 pub mod safety;
 mod search;
 pub mod verified;

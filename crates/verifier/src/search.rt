@@ -5,6 +5,7 @@ ghost use Rattle.bytecode.specs.Contents.{ModuleContents, ProcedureContents};
 ghost use Rattle.bytecode.specs.declared.declaration.Handler.{Handler};
 ghost use Rattle.std.specs.List.{Contains};
 ghost use Rattle.std.specs.Prelude.{Some, true, ℕ, [], ◌≡◌, ◌+◌, ◌<◌, ◌≤◌, ◌^◌, ◌∷◌, IfErr, IfOk, OnOk, length};
+ghost use Rattle.bytecode.specs.Targets as targets;
 ghost use Rattle.verifier.specs.Flow as flow;
 ghost use Rattle.verifier.specs.Flow.{FlowsWell};
 ghost use Rattle.verifier.specs.Operands.{list_of};
@@ -139,7 +140,7 @@ impl Search {
         requires list { list < length self.old.operands }
         requires boundaries { KeepsBoundaries body.now.procedure.now }
         ensures ok { OnOk result (Steps body.now.program.now body.now.procedure.now self.old self.new at) }
-        ensures there { OnOk result ((to : ℕ) → flow.target_of instruction ≡ Some to → table self.new to ≡ Some (list_of self.old.operands list)) }
+        ensures there { OnOk result ((to : ℕ) → targets.target_of instruction ≡ Some to → table self.new to ≡ Some (list_of self.old.operands list)) }
         ensures err { IfErr result (λ stop. IsStop body.now.program.now body.now.procedure.now stop) }
     {
         match target_of(instruction) {

@@ -1,15 +1,19 @@
-ghost use Rattle.std.specs.Prelude.{IfErr, IfOk, OnOk, [], ◌≡◌};
+ghost use Rattle.bytecode.specs.Machine.{code_of};
+ghost use Rattle.std.specs.Prelude.{IfErr, IfOk, OnOk, [], length, slice_get, ◌++◌, ◌<◌, ◌∷◌, ◌≡◌};
 ghost use Rattle.verifier.specs.Faults.{HasNoFault, IsRefusal};
 ghost use Rattle.verifier.specs.Fixed.{fixed_faults};
 ghost use Rattle.verifier.specs.Safety.{IsNeverStuck};
 ghost use Rattle.verifier.specs.Search.{stop_fault};
-ghost use Rattle.verifier.specs.Verified.{IsVerified};
+ghost use Rattle.verifier.specs.Positions.{positioned};
+ghost use Rattle.verifier.specs.Search.{IsBody};
+ghost use Rattle.verifier.specs.Verified.{HasCodes};
 
 use crate::body::Body;
 use crate::fault::{Fault, VerifyFault};
 use crate::fixed::fixed_fault;
+use crate::positions::Code;
 use crate::search::{Stop, find_defect};
-use bytecode::Module;
+use bytecode::{Instruction, Module};
 use std::alloc::Global;
 use std::marker::Model;
 
@@ -18,17 +22,19 @@ use std::marker::Model;
 #[derive(Debug, Drop)]
 pub struct Verified {
     inner: Module,
+    // The code of each procedure.
+    codes: Vec<Code>,
 }
 
 impl Model for Verified {
     ghost use Rattle.bytecode.specs.Contents.{ModuleContents};
-    ghost use Rattle.verifier.specs.Verified.{IsVerified};
+    ghost use Rattle.verifier.specs.Verified.{HasCodes};
 
     ghost Value = { ModuleContents };
 
     ghost view = { λ v. v.inner };
 
-    ghost invariant = { λ v. IsVerified v.inner };
+    ghost invariant = { λ v. HasCodes v.inner v.codes.items };
 }
 
 impl Verified {
@@ -39,6 +45,15 @@ impl Verified {
         ensures never_stuck { IsNeverStuck self.now }
     {
         &self.inner
+    }
+
+    /// The code of a procedure, with positions as targets: the number of an instruction in the code, and not the offset of its
+    /// first byte. It takes no memory. Precondition: there is a procedure of that number.
+    pub fn code(&self, procedure: u32) -> &[Instruction]
+        requires { procedure < length self.now.procedures }
+        ensures { result.now ≡ positioned (code_of (slice_get self.now.procedures procedure)) }
+    {
+        self.codes[procedure as usize].instructions()
     }
 }
 
@@ -53,13 +68,16 @@ pub fn verify(alloc: Global, program: Module) -> Result<Verified, VerifyFault>
     ensures faultless { OnOk result (HasNoFault program) }
     ensures fault { IfErr result (λ fault. IsRefusal program fault) }
 {
-    look_for_faults(alloc, &program)?;
-    Ok(Verified { inner: program })
+    let codes = look_for_faults(alloc, &program)?;
+    Ok(Verified {
+        inner: program,
+        codes,
+    })
 }
 
-// Looks for a fault of a module.
-fn look_for_faults(alloc: Global, program: &Module) -> Result<(), VerifyFault>
-    ensures ok { OnOk result (IsVerified program.now) }
+// Looks for a fault of a module, and answers the code of each procedure where there is none.
+fn look_for_faults(alloc: Global, program: &Module) -> Result<Vec<Code>, VerifyFault>
+    ensures ok { IfOk result (λ codes. HasCodes program.now codes.items) }
     ensures err { IfErr result (λ fault. IsRefusal program.now fault) }
 {
     match fixed_fault(alloc, program) {
@@ -70,12 +88,13 @@ fn look_for_faults(alloc: Global, program: &Module) -> Result<(), VerifyFault>
 }
 
 // Looks for a fault of the flow of a module, where no instruction and no handler has one by itself.
-fn look_for_flow_faults(alloc: Global, program: &Module) -> Result<(), VerifyFault>
+fn look_for_flow_faults(alloc: Global, program: &Module) -> Result<Vec<Code>, VerifyFault>
     requires { fixed_faults program.now ≡ [] }
-    ensures ok { OnOk result (IsVerified program.now) }
+    ensures ok { IfOk result (λ codes. HasCodes program.now codes.items) }
     ensures err { IfErr result (λ fault. IsRefusal program.now fault) }
 {
     let procedures = program.procedures();
+    let mut codes = Vec::new(alloc);
     let mut number = 0;
     for procedure in procedures {
         let Ok(body) = Body::new(alloc, program, procedure) else {
@@ -84,7 +103,24 @@ fn look_for_flow_faults(alloc: Global, program: &Module) -> Result<(), VerifyFau
         if let Err(stop) = find_defect(alloc, &body) {
             return Err(fault_at(number, stop));
         }
+        add_code(alloc, &mut codes, &body)?;
         number += 1;
+    }
+    Ok(codes)
+}
+
+// Adds the code of a procedure.
+fn add_code(alloc: Global, codes: &mut Vec<Code>, body: &Body) -> Result<(), VerifyFault>
+    requires { IsBody body.now }
+    ensures added { OnOk result (codes.new.items
+        ≡ codes.old.items ++ positioned body.now.procedure.now.code ∷ []) }
+    ensures no_memory { IfErr result (λ fault. fault ≡ VerifyFault.NoMemory) }
+{
+    let Ok(code) = Code::of(alloc, body) else {
+        return Err(VerifyFault::NoMemory);
+    };
+    if codes.push(code).is_err() {
+        return Err(VerifyFault::NoMemory);
     }
     Ok(())
 }

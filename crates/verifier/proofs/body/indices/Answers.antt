@@ -1,6 +1,6 @@
-use Rattle.std.proofs.Common.{rules, ◌≡◌, ◌+◌, ◌++◌, ◌<◌, ◌≤◌, take, drop, set, get_or, replicate, None, Some, Option, ℕ, arith, ap, sym, refl, length, ◌∙◌, pos, append-nil, length-append}
+use Rattle.std.proofs.Common.{◌≡◌, ◌+◌, ◌++◌, take, drop, set, get_or, replicate, None, Some, Option, ℕ, arith, ap, sym, length, ◌∙◌, pos, append-nil, length-append}
 use Rattle.std.proofs.lemmas.List.{take_more, length-take, length-replicate, drop_all}
-use Rattle.bytecode.specs.Code.{code_length, width_of}
+use Rattle.bytecode.specs.Code.{code_length}
 use Rattle.bytecode.specs.declared.instruction.Instruction.TheVariants.{Push}
 use Rattle.verifier.specs.Search.{indices_from}
 use Rattle.verifier.proofs.Offsets.{code_length_more, code_length_within, code_length_split, code_length_drop, few_instructions, width_of-pos}

@@ -1,4 +1,4 @@
-use Rattle.std.proofs.Common.{arith, ap, sym, ◌∙◌, pos}
+use Rattle.std.proofs.Common.{arith, ap, ◌∙◌, pos}
 use Rattle.bytecode.specs.Code.{code_length}
 use Rattle.bytecode.specs.declared.instruction.Instruction.TheVariants.{Push}
 use Rattle.verifier.proofs.Offsets.{code_length_more, code_length_within}

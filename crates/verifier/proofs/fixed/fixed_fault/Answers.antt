@@ -1,4 +1,4 @@
-use Rattle.std.proofs.Common.{◌≡◌, ◌+◌, Some, None, drop, slice_get, length, arith, ap, sym, ◌∙◌}
+use Rattle.std.proofs.Common.{slice_get, length, arith, ap, sym, ◌∙◌}
 use Rattle.verifier.specs.Fixed.{procedure_faults}
 use Rattle.verifier.proofs.Bounds.{bounded}
 use Rattle.verifier.proofs.Reported.{item_at}

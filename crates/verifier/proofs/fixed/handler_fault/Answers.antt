@@ -1,4 +1,4 @@
-use Rattle.std.proofs.Common.{arith, ap, sym, ◌∙◌, drop, ◌+◌, slice_get}
+use Rattle.std.proofs.Common.{ap, sym, ◌∙◌, slice_get}
 use Rattle.verifier.specs.Fixed.{handler_faults}
 use Rattle.verifier.proofs.FixedFaults.{handlers_on, first_handler}
 use Rattle.verifier.proofs.fixed.handler_fault.Goals as goal

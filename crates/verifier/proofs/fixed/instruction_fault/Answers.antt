@@ -1,5 +1,4 @@
 use Rattle.std.proofs.Common.{arith, ap, sym, ◌∙◌, drop, ◌+◌, pos, slice_get}
-use Rattle.std.proofs.lemmas.List.{drop_all}
 use Rattle.bytecode.specs.Code.{code_length}
 use Rattle.bytecode.specs.declared.instruction.Instruction.TheVariants.{Push}
 use Rattle.verifier.specs.Fixed.{instruction_faults}

@@ -1,4 +1,4 @@
-use Rattle.std.proofs.Common.{rules, ◌≡◌, ℕ, suc, ◌+◌, ◌-◌, ◌∷◌, [], length, set, replicate, Option, Some, None, arith, refl, sym, ap, ◌∙◌}
+use Rattle.std.proofs.Common.{rules, ◌≡◌, suc, ◌-◌, ◌∷◌, [], length, set, replicate, Some, None, arith, ap, ◌∙◌}
 use Rattle.bytecode.specs.Code.{code_length}
 use Rattle.verifier.proofs.Indices.{length-indices}
 use Rattle.verifier.proofs.Reaching.{empty_falls, started, start_left}

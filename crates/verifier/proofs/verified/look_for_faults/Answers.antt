@@ -1,5 +1,5 @@
 use Rattle.std.proofs.Common.{sym, ◌∙◌}
-use Rattle.verifier.proofs.Reported.{none_fixed, reported_first}
+use Rattle.verifier.proofs.Reported.{none_fixed}
 use Rattle.verifier.proofs.verified.look_for_faults.Goals as goal
 
 pub look_for_flow_faults-requires : goal.look_for_flow_faults-requires

@@ -1,8 +1,9 @@
-use Rattle.std.proofs.Common.{◌≡◌, ◌+◌, ◌<◌, ℕ, Some, slice_get, length, arith, ap, sym, subst, ◌∙◌, List}
+use Rattle.std.proofs.Common.{slice_get, length, arith, ap, sym, subst, ◌∙◌, List}
 use Rattle.bytecode.specs.Contents.{ProcedureContents}
 use Rattle.verifier.specs.Faults.{IsRefusal}
 use Rattle.verifier.proofs.Reported.{item_at, item_boundaries, item_reported, flow_more, all_flow, is_verified}
 use Rattle.verifier.proofs.Bounds.{bounded}
+use Rattle.verifier.proofs.Positioned.{codes_more, all_codes}
 use Rattle.verifier.proofs.verified.look_for_flow_faults.Goals as goal
 
 pub find_defect-requires-clause-boundaries : goal.find_defect-requires-clause-boundaries
@@ -21,6 +22,9 @@ loop-procedure-preserved c = record {
   flow =
       flow_more c.args.program.now c.requires c.procedures-procedures.result.now c.procedures-procedures.ensures.procedures c.loop-procedure.procedure-index c.procedure-item.result c.in-Ok.body.procedure.now c.procedure-item.is c.in-Ok.ensures.procedure c.loop-procedure-test.true
       c.in-Ok.body.program.now c.in-Ok.ensures.program c.in_default-find_defect.ensures.ok c.loop-procedure.invariant.flow;
+  codes_are =
+      codes_more c.procedures-procedures.result.now c.loop-procedure.codes.items c.add_code.new.codes.items c.loop-procedure.procedure-index _ c.in-Ok.body.procedure.now c.loop-procedure-test.true
+      c.loop-procedure.invariant.codes_are c.in_ok-add_code.ensures.added (c.in-Ok.ensures.procedure ∙ c.procedure-item.is);
 }
 
 pub new-requires : goal.new-requires
@@ -34,5 +38,8 @@ overflow_add-number c = omega (arith, c.loop-procedure.invariant.number_is, c.lo
 pub returns-clause-ok : goal.returns-clause-ok
 returns-clause-ok c =
     let bounds = bounded c.args.program.now c.procedures-procedures.ensures.spelled in
-    is_verified c.args.program.now bounds (all_flow c.args.program.now c.requires (λ k p below there.
-    c.loop-procedure.invariant.flow k p (omega (arith, below, c.loop-procedure-test.false, ap length c.procedures-procedures.ensures.procedures)) (ap (λ (all : List ProcedureContents). slice_get all k) c.procedures-procedures.ensures.procedures ∙ there)))
+    record {
+      codes_are = all_codes c.args.program.now.procedures c.procedures-procedures.result.now c.loop-procedure.codes.items c.loop-procedure.procedure-index c.procedures-procedures.ensures.procedures c.loop-procedure-test.false c.loop-procedure.invariant.codes_are;
+      verified = is_verified c.args.program.now bounds (all_flow c.args.program.now c.requires (λ k p below there.
+          c.loop-procedure.invariant.flow k p (omega (arith, below, c.loop-procedure-test.false, ap length c.procedures-procedures.ensures.procedures)) (ap (λ (all : List ProcedureContents). slice_get all k) c.procedures-procedures.ensures.procedures ∙ there)));
+    }

@@ -1,11 +1,13 @@
-use Rattle.std.proofs.Common.{◌≡◌, ◌<◌, ℕ, Some, slice_get}
+use Rattle.std.proofs.Common.{◌≡◌, ◌<◌, ℕ, Some, slice_get, map, take}
 use Rattle.bytecode.specs.Contents.{ProcedureContents}
 use Rattle.verifier.specs.Flow.{FlowsWell}
+use Rattle.verifier.proofs.Positioned.{code_at}
 use Rattle.verifier.proofs.verified.look_for_flow_faults.Given as goal
 
--- the procedures so far flow well
+-- the procedures so far flow well, and their code is there
 abbrev pub invariant-loop-procedure : goal.invariant-loop-procedure
 invariant-loop-procedure l = record {
   number_is : l.number ≡ l.procedure-index;
   flow : (k : ℕ) (p : ProcedureContents) → k < l.procedure-index → slice_get l.procedures k ≡ Some p → FlowsWell l.program p;
+  codes_are : l.codes.items ≡ map code_at (take l.procedure-index l.procedures);
 }

@@ -1,4 +1,4 @@
-use Rattle.std.proofs.Common.{◌≡◌, Some, None, List, Option, ℕ, get_or, slice_get, ap, sym, ◌∙◌}
+use Rattle.std.proofs.Common.{Some, None, List, Option, ℕ, get_or, slice_get, ap, sym, ◌∙◌}
 use Rattle.verifier.proofs.Indices.{by_index}
 use Rattle.verifier.proofs.body.Body.at.Goals as goal
 

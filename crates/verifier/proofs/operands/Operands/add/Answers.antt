@@ -1,5 +1,5 @@
-use Rattle.std.proofs.Common.{rules, ◌≡◌, ◌≢◌, ◌+◌, ◌<◌, ◌≤◌, ◌-◌, ℕ, ◌∷◌, [], ◌++◌, length, List, Option, Some, None, arith, sym, ap, subst, ◌∙◌}
-use Rattle.verifier.specs.Operands.{list_of, spelled}
+use Rattle.std.proofs.Common.{rules, ◌≡◌, ◌≢◌, ◌+◌, ◌<◌, ℕ, ◌∷◌, [], ◌++◌, length, None, arith, sym, ap, subst, ◌∙◌}
+use Rattle.verifier.specs.Operands.{list_of}
 use Rattle.verifier.proofs.Shared.{shared_int, shared_boolean, pushed}
 use Rattle.verifier.proofs.operands.Operands.add.Goals as goal
 

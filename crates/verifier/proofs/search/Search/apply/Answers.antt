@@ -1,4 +1,4 @@
-use Rattle.std.proofs.Common.{rules, ◌≡◌, ◌∷◌, [], Some, None, true, arith, refl, sym, ap, ◌∙◌}
+use Rattle.std.proofs.Common.{◌∷◌, [], refl, sym, ap, ◌∙◌}
 use Rattle.verifier.specs.Flow.{pushed}
 use Rattle.verifier.specs.Operands.{list_of}
 use Rattle.verifier.proofs.Reaching.{misses_at, misses_own, applied, has_effect}

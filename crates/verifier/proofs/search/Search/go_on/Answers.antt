@@ -1,4 +1,4 @@
-use Rattle.std.proofs.Common.{rules, ◌≡◌, ◌+◌, ap, sym, subst, arith, ℕ, ◌∙◌}
+use Rattle.std.proofs.Common.{◌+◌, ap, sym, subst, arith, ℕ, ◌∙◌}
 use Rattle.verifier.specs.Boundaries.{IsBoundary}
 use Rattle.verifier.proofs.Offsets.{ends_inside}
 use Rattle.verifier.proofs.Reaching.{edge_next}

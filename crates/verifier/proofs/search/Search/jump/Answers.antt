@@ -1,4 +1,4 @@
-use Rattle.std.proofs.Common.{rules, ◌≡◌, ap, sym, ◌∙◌}
+use Rattle.std.proofs.Common.{sym, ◌∙◌}
 use Rattle.verifier.proofs.Reaching.{edge_jump}
 use Rattle.verifier.proofs.search.Search.jump.Goals as goal
 

@@ -1,5 +1,4 @@
-use Rattle.std.proofs.Common.{rules, ◌≡◌, ◌≢◌, ◌+◌, ◌<◌, ◌≤◌, ℕ, ◌∷◌, [], length, get_or, List, Option, Some, None, arith, refl, sym, ap, subst, ◌∙◌}
-use Rattle.verifier.specs.Boundaries.{IsBoundary}
+use Rattle.std.proofs.Common.{rules, ◌≡◌, ◌∷◌, [], get_or, Some, None, arith, refl, sym, ap, ◌∙◌}
 use Rattle.verifier.specs.Operands.{list_of}
 use Rattle.verifier.specs.Search.{row}
 use Rattle.verifier.proofs.Shared.{any_default}

@@ -1,4 +1,4 @@
-use Rattle.std.proofs.Common.{rules, ◌≡◌, ◌+◌, ◌∷◌, [], length, Some, None, arith, refl, sym, ap, ◌∙◌}
+use Rattle.std.proofs.Common.{rules, ◌≡◌, arith, refl}
 use Rattle.std.specs.Vec.{vec_len}
 use Rattle.verifier.proofs.Reaching.{taken, taken_instruction, run_done}
 use Rattle.verifier.proofs.search.Search.run.Goals as goal

@@ -1,4 +1,4 @@
-use Rattle.std.proofs.Common.{◌≡◌, ◌≤◌, ◌<◌, ◌+◌, ◌-◌, ◌^◌, [], length}
+use Rattle.std.proofs.Common.{◌≤◌, ◌+◌, [], length}
 use Rattle.verifier.specs.Search.{IsGoing, left}
 use Rattle.verifier.proofs.search.Search.run.Given as goal
 

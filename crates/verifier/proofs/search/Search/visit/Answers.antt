@@ -1,4 +1,4 @@
-use Rattle.std.proofs.Common.{rules, ◌≡◌, ◌+◌, ◌∷◌, [], Some, arith, refl, sym, ap, ◌∙◌}
+use Rattle.std.proofs.Common.{Some, sym, ap, ◌∙◌}
 use Rattle.verifier.specs.Flow.{Leaves}
 use Rattle.verifier.specs.Operands.{list_of}
 use Rattle.verifier.proofs.Reaching.{all_followed}
