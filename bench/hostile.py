@@ -157,7 +157,21 @@ def copies_backwards(size):
         number += 1
 
 
-SHAPES = [one_long_label, two_long_labels, nearly_equal_long_labels, many_readers, many_labels, long_names, many_names, open_comments, many_refused_flows, labels_around_a_cycle, copies_backwards]
+def many_labels_to_one_channel(size):
+    """Many locals, each with a label of its own, that are sent to one channel: each label is compared with the channel's, and is
+    new where it is."""
+    head, tail = "output{P255:} o;\nvoid main() {\n", "}\n"
+    parts, used, number = [], len(head) + len(tail), 0
+    while True:
+        part = f"int{{P{number % 256}: P{number // 256 % 256}}} x{number} = 0; send o, x{number};\n"
+        if used + len(part) > size:
+            return chain(256), head + "".join(parts) + tail
+        parts.append(part)
+        used += len(part)
+        number += 1
+
+
+SHAPES = [one_long_label, two_long_labels, nearly_equal_long_labels, many_readers, many_labels, many_labels_to_one_channel, long_names, many_names, open_comments, many_refused_flows, labels_around_a_cycle, copies_backwards]
 
 
 def seconds(program, folder, hierarchy, source):

@@ -8,6 +8,7 @@ pub mod Merge
 pub mod Order
 pub mod Begins
 pub mod Tests
+mod Readers
 pub mod Written
 pub mod Constraints
 pub mod Gathered

@@ -1,5 +1,6 @@
 pub mod Canonical
 pub mod Constraints
+pub mod Inside
 pub mod Label
 pub mod Lattice
 pub mod PolicyOrder

@@ -1,11 +1,13 @@
 //! A policy: one owner's word on who may read.
 ghost use Rattle.labels.specs.Canonical.{IsCanonicalPolicy, policy_cmp, written_policy};
+ghost use Rattle.labels.specs.Inside.{IsRowOf};
 ghost use Rattle.labels.specs.PolicyOrder.{policy_cmp-partial, policy_cmp-total, policy_eq, policy_eq-equivalence, policy_eq-partial};
 ghost use Rattle.std.proofs.Common.{refl};
 ghost use Rattle.std.specs.List.Sorted.{IsStrictlyIncreasing};
 ghost use Rattle.std.specs.Ordering.{as_partial_cmp};
 ghost use Rattle.std.specs.Prelude.{Contains, IsTrue, ◌↔◌, ◌≡◌};
 
+use principals::Row;
 use std::alloc::AllocError;
 use std::cmp::Ordering;
 use std::marker::Model;
@@ -16,6 +18,8 @@ use std::marker::Model;
 pub struct Policy {
     owner: u32,
     readers: Vec<u32>,
+    // The readers that can be principals once more, as bits, so that a test whether one is acted for takes a few steps.
+    row: Row,
 }
 
 impl Model for Policy {
@@ -23,11 +27,11 @@ impl Model for Policy {
 
     ghost Value = { ReaderPolicy };
 
-    ghost use Rattle.labels.specs.Canonical.{IsCanonicalPolicy};
+    ghost use Rattle.labels.specs.Inside.{policy_of, IsKept};
 
-    ghost view = { λ policy. record { owner = policy.owner; readers = policy.readers.items } };
+    ghost view = { policy_of };
 
-    ghost invariant = { λ policy. IsCanonicalPolicy (record { owner = policy.owner; readers = policy.readers.items }) };
+    ghost invariant = { IsKept };
 }
 
 impl Policy {
@@ -37,7 +41,12 @@ impl Policy {
         requires owner_left_out { ¬ Contains readers.items owner }
         ensures { result ≡ record { owner = owner; readers = readers.items } }
     {
-        Policy { owner, readers }
+        let row = Row::of(readers.as_slice());
+        Policy {
+            owner,
+            readers,
+            row,
+        }
     }
 
     /// The policy that is written with these parts: the readers in any order and any number of times, the owner among them or
@@ -65,16 +74,28 @@ impl Policy {
     {
         self.readers.as_slice()
     }
+
+    // The readers below the greatest number of principals, as bits.
+    pub(crate) fn row(&self) -> &Row
+        ensures { IsRowOf self.now.readers result.now }
+    {
+        &self.row
+    }
 }
 
 impl Clone for Policy {
     ghost is_clone = { λ policy copy. copy ≡ policy };
 
     fn clone(&self) -> Result<Policy, AllocError> {
-        let Policy { owner, readers } = self;
+        let Policy {
+            owner,
+            readers,
+            row,
+        } = self;
         Ok(Policy {
             owner: *owner,
             readers: readers.clone()?,
+            row: *row,
         })
     }
 }
@@ -116,7 +137,7 @@ impl Ord for Policy {
     ghost matches_eq = { λ _ _. refl };
 
     fn cmp(&self, other: &Policy) -> Ordering {
-        let Policy { owner, readers } = self;
+        let Policy { owner, readers, .. } = self;
         owner
             .cmp(&other.owner)
             .then_with(|| readers.as_slice().cmp(&other.readers.as_slice()))

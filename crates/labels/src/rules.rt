@@ -8,7 +8,7 @@ use crate::label_sets::Label;
 use crate::policies::Policy;
 use principals::Hierarchy;
 
-// Whether a principal acts for some of the readers.
+// Whether a number acts for some of the readers, tried one after another.
 fn acts_for_some(hierarchy: &Hierarchy, principal: u32, readers: &[u32]) -> bool
     ensures { result ≡ list_any (λ reader. acts_for hierarchy.now.pairs principal reader) readers.now }
 {
@@ -36,13 +36,23 @@ fn covers_each(hierarchy: &Hierarchy, label: &Label, policies: &[Policy]) -> boo
 }
 
 impl Policy {
+    // Whether a number acts for some of the readers: of a principal in a few steps, however many the readers are.
+    fn is_read_by(&self, hierarchy: &Hierarchy, number: u32) -> bool
+        ensures { result ≡ list_any (λ reader. acts_for hierarchy.now.pairs number reader) self.now.readers }
+    {
+        if number < hierarchy.count() {
+            hierarchy.acts_for_some(number, self.row())
+        } else {
+            acts_for_some(hierarchy, number, self.readers())
+        }
+    }
+
     /// Whether the policy allows a principal to read: it acts for the owner or for some reader. It takes no memory.
     pub fn allows(&self, hierarchy: &Hierarchy, principal: u32) -> bool
         ensures allows { IsTrue result ↔ PolicyAllows hierarchy.now principal self.now }
         ensures test { result ≡ policy_allows hierarchy.now principal self.now }
     {
-        hierarchy.acts_for(principal, self.owner())
-            || acts_for_some(hierarchy, principal, self.readers())
+        hierarchy.acts_for(principal, self.owner()) || self.is_read_by(hierarchy, principal)
     }
 
     /// Whether the policy flows to another one: the other one's owner acts for its owner, and it allows each of the other

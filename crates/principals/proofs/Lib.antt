@@ -2,6 +2,7 @@ pub mod Closure
 mod Bits
 mod Paths
 mod Rows
+mod Meeting
 pub mod Names
 mod Inclusion
 mod Automaton

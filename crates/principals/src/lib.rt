@@ -2,7 +2,7 @@
 #![tactic(auto)]
 
 ghost use Rattle.principals.specs.ActsFor.{acts_for, ActsFor, AllBelow, AllDifferent, HasName, IsHierarchy, number_of};
-ghost use Rattle.principals.specs.Table.{names_of};
+ghost use Rattle.principals.specs.Table.{has, names_of};
 ghost use Rattle.std.specs.Prelude.{Contains, IfOk, IsTrue, None, Some, length, map, option_map, slice_get, string_bytes, vec_len, ℕ, ◌↔◌, ◌≡◌, ◌≤◌};
 
 mod contained;
@@ -17,7 +17,7 @@ mod table;
 pub use fault::HierFault;
 use indexmap::IndexSet;
 pub use read::GREATEST_TEXT;
-use row::Row;
+pub use row::Row;
 use std::alloc::{AllocError, Global};
 use std::marker::Model;
 
@@ -160,6 +160,16 @@ impl Hierarchy {
         match self.table.get(a as usize) {
             Some(row) => row.has(b),
             None => a == b,
+        }
+    }
+
+    /// Whether `a` acts for some number of a set, for all of them in a few steps.
+    pub fn acts_for_some(&self, a: u32, numbers: &Row) -> bool
+        ensures { IsTrue result ↔ ((b : ℕ) × IsTrue (has numbers.now b) × ActsFor self.now.pairs a b) }
+    {
+        match self.table.get(a as usize) {
+            Some(row) => row.meets(numbers),
+            None => numbers.has(a),
         }
     }
 }

@@ -1,23 +1,44 @@
 //! A set of numbers below 256, as bits.
 
 ghost use Rattle.principals.specs.Table.{has};
-ghost use Rattle.std.specs.Prelude.{ℕ, ◌&&◌, ◌<◌, ◌==◌, ◌||◌, ◌≡◌};
+ghost use Rattle.std.specs.Prelude.{Contains, IsTrue, ℕ, ◌&&◌, ◌<◌, ◌==◌, ◌||◌, ◌↔◌, ◌≡◌, ◌⊎◌};
 
 /// A set of numbers below [`Row::LIMIT`]. Number `n` is bit `n % 64` of word `n / 64`.
 #[derive(Clone, Copy, Debug)]
-pub(crate) struct Row {
+pub struct Row {
     words: [u64; 4],
 }
 
 impl Row {
     /// All members are below this number.
-    pub(crate) const LIMIT: usize = 256;
+    pub const LIMIT: usize = 256;
 
     /// The set without members.
     pub(crate) const EMPTY: Row = Row { words: [0; 4] };
 
+    /// The set of those of these numbers that are below [`Row::LIMIT`].
+    pub fn of(numbers: &[u32]) -> Row
+        ensures { (member : ℕ) → IsTrue (has result member) ↔ ((member < 256) × Contains numbers.now member) }
+    {
+        let mut row = Row::EMPTY;
+        for number in numbers {
+            row.insert_below_limit(*number);
+        }
+        row
+    }
+
+    // Makes `number` a member, if it is below the limit.
+    fn insert_below_limit(&mut self, number: u32)
+        ensures { (member : ℕ) → IsTrue (has self.new member)
+            ↔ (((member < 256) × (member ≡ number)) ⊎ IsTrue (has self.old member)) }
+    {
+        if (number as usize) < Row::LIMIT {
+            self.insert(number);
+        }
+    }
+
     /// Whether `number` is a member.
-    pub(crate) fn has(&self, number: u32) -> bool
+    pub fn has(&self, number: u32) -> bool
         ensures { result ≡ has self.now number }
     {
         match self.words.get((number / 64) as usize) {
@@ -32,6 +53,18 @@ impl Row {
         ensures { (member : ℕ) → has self.new member ≡ (member == number || has self.old member) }
     {
         self.words[(number / 64) as usize] |= 1 << (number % 64);
+    }
+
+    /// Whether some number is a member of both sets.
+    pub(crate) fn meets(&self, other: &Row) -> bool
+        ensures { IsTrue result ↔ ((member : ℕ) × IsTrue (has self.now member) × IsTrue (has other.now member)) }
+    {
+        for i in 0..4 {
+            if self.words[i] & other.words[i] != 0 {
+                return true;
+            }
+        }
+        false
     }
 
     /// Makes the members of `other` members.

@@ -1,10 +1,10 @@
 -- Members of sets that are kept as words: after a number is added, and of a union.
-use Rattle.std.proofs.Common.{◌≡◌, refl, sym, ap, ◌∙◌, ℕ, zero, suc, ◌<◌, ◌≤◌, ◌+◌, ◌*◌, ◌/◌, ◌%◌, ◌^◌, length, set, get_or, get_or-set_other, get_or-set_same, List, Bool, true, false, arith, nat_eq, ◌||◌, ◌≢◌, w64, max, ◌⊎◌, inl, inr, nat_lt, [], ◌∷◌, ⊎_elim, not}
+use Rattle.std.proofs.Common.{◌≡◌, refl, sym, ap, subst, ◌∙◌, ℕ, zero, suc, ◌<◌, ◌≤◌, ◌+◌, ◌*◌, ◌/◌, ◌%◌, ◌^◌, length, set, get_or, get_or-set_other, get_or-set_same, List, Bool, true, false, arith, nat_eq, ◌||◌, ◌≢◌, w64, max, ◌⊎◌, inl, inr, nat_lt, [], ◌∷◌, ⊎_elim, not}
 use Rattle.std.specs.Prelude.{Decides, IsTrue, bit_or, ◌==◌}
 use Rattle.std.specs.Int.{bit_at}
 use Rattle.std.proofs.lemmas.Bool.{eqb-true, eqb-false, eq-eqb, ltb-true, ltb-false}
-use Rattle.std.proofs.lemmas.Nat.Bits.{bit_at_or, bit_at_set_same, bit_at_set_other, bit_at-lt, bit_at_above, same_from_bits}
-use Rattle.solver.specs.Bits.{Includes, has_bit}
+use Rattle.std.proofs.lemmas.Nat.Bits.{bit_at_or, bit_at_set_same, bit_at_set_other, bit_at-lt, bit_at-zero, bit_at_above, same_from_bits}
+use Rattle.solver.specs.Bits.{Includes, IncludesWord, has_bit}
 
 pub neq-eqb : (a b : ℕ) → a ≢ b → nat_eq a b ≡ false
 neq-eqb a b ne = go (nat_eq a b) refl
@@ -80,6 +80,19 @@ kept-includes words other each n has =
     let one : bit_at (get_or other (n / 64) 0) (n % 64) ≡ 1 = eqb-true (bit_at (get_or other (n / 64) 0) (n % 64)) 1 has in
     eq-eqb (bit_at (get_or words (n / 64) 0) (n % 64)) 1 (kept-bit (get_or words (n / 64) 0) (get_or other (n / 64) 0) (n % 64) (each (n / 64)) one)
 
+-- the same of one word, whose union leaves it as it is
+pub kept-word : (words other : List ℕ) (at : ℕ) → bit_or (get_or words at 0) (get_or other at 0) ≡ get_or words at 0 → IncludesWord words other at
+kept-word words other at e n same has =
+    let one : bit_at (get_or other (n / 64) 0) (n % 64) ≡ 1 = eqb-true (bit_at (get_or other (n / 64) 0) (n % 64)) 1 has in
+    let here : bit_or (get_or words (n / 64) 0) (get_or other (n / 64) 0) ≡ get_or words (n / 64) 0 =
+    subst (λ k. bit_or (get_or words k 0) (get_or other k 0) ≡ get_or words k 0) (sym same) e in
+    eq-eqb (bit_at (get_or words (n / 64) 0) (n % 64)) 1 (kept-bit (get_or words (n / 64) 0) (get_or other (n / 64) 0) (n % 64) here one)
+
+-- a word without bits
+pub empty-bit : (words : List ℕ) (n : ℕ) → get_or words (n / 64) 0 ≡ 0 → has_bit words n ≡ false
+empty-bit words n e =
+    ap (λ x. bit_at x (n % 64) == 1) e ∙ ap (λ x. x == 1) (bit_at-zero (n % 64))
+
 -- and the other way round
 bits-kept : (a b i : ℕ) → (bit_at b i ≡ 1 → bit_at a i ≡ 1) → bit_at (bit_or a b) i ≡ bit_at a i
 bits-kept a b i each = bit_at_or a b i ∙ go (bit_at a i) (bit_at b i) (bit_at-lt a i) (bit_at-lt b i) each
@@ -109,7 +122,7 @@ includes-kept words other j small small' includes =
     (lt_or_ge i 64)))
 
 -- beyond the words there are none
-get_or-beyond : (words : List ℕ) (j : ℕ) → length words ≤ j → get_or words j 0 ≡ 0
+pub get_or-beyond : (words : List ℕ) (j : ℕ) → length words ≤ j → get_or words j 0 ≡ 0
 get_or-beyond [] j h = refl
 get_or-beyond (w ∷ words) zero h = absurd (omega (arith, h))
 get_or-beyond (w ∷ words) (suc j) h = get_or-beyond words j (omega (arith, h))
@@ -124,7 +137,7 @@ pub record IsJoinedTo (old other words : List ℕ) (grew : Bool) (k : ℕ) : Typ
   pub same : grew ≡ false → (j : ℕ) → j < k → bit_or (get_or old j 0) (get_or other j 0) ≡ get_or old j 0
   pub grown : grew ≡ true → Includes old other → ⊥
 
-last-of : (j k : ℕ) → j < k + 1 → (j < k) ⊎ (j ≡ k)
+pub last-of : (j k : ℕ) → j < k + 1 → (j < k) ⊎ (j ≡ k)
 last-of j k h = go (nat_eq j k) refl
   where
     go : (t : Bool) → nat_eq j k ≡ t → (j < k) ⊎ (j ≡ k)

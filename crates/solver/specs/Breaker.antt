@@ -1,6 +1,6 @@
 -- The constraints with a written right side that a written element breaks: by rows of bits, and along edges with a chain.
 -- Source: our own.
-use Rattle.std.specs.Prelude.{◌≡◌, ℕ, ◌<◌, ◌≤◌, List, Bool, true, false, Option, Some, None, IsTrue, length, slice_get, slice_index_or}
+use Rattle.std.specs.Prelude.{◌≡◌, ℕ, ◌/◌, ◌<◌, ◌≤◌, List, Bool, true, false, Option, Some, None, IsTrue, length, slice_get, slice_index_or}
 use Rattle.solver.specs.Reach.{Leads, LeadsOn, ReachesBy}
 use Rattle.solver.specs.Bits.{has_bit}
 use Rattle.solver.specs.Rows.{left_has}
@@ -53,6 +53,11 @@ AreKept below count known = (to : ℕ) (d : Option Row) → to < length known �
 abbrev pub IsAbove : (below : ℕ → ℕ → Bool) → (count : ℕ) → List ℕ → (to : ℕ) → Option ℕ → Type 0
 IsAbove below count words to None = (n : ℕ) → n < count → IsTrue (has_bit words n) → below n to ≡ true
 IsAbove below count words to (Some n) = (n < count) × IsTrue (has_bit words n) × (below n to ≡ false)
+
+-- so it is among the 64 numbers of one word
+abbrev pub IsAboveInWord : (below : ℕ → ℕ → Bool) → (count : ℕ) → List ℕ → (at to : ℕ) → Option ℕ → Type 0
+IsAboveInWord below count words at to None = (n : ℕ) → n < count → n / 64 ≡ at → IsTrue (has_bit words n) → below n to ≡ true
+IsAboveInWord below count words at to (Some n) = (n < count) × IsTrue (has_bit words n) × (below n to ≡ false)
 
 -- an element that breaks a constraint with these sides, or none where none does
 abbrev pub IsBreakerOf : (below : ℕ → ℕ → Bool) → (count : ℕ) → List Row → List Atom → Atom → Option ℕ → Type 0

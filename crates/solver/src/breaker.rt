@@ -1,11 +1,11 @@
 //! A written element that breaks a constraint with a written right side: it reaches the left side, and does not lie below the right
 //! side.
-ghost use Rattle.solver.specs.Breaker.{AreKept, IsAbove, IsBreakerOf, IsFirstBreaker, IsKept, IsKnown};
+ghost use Rattle.solver.specs.Breaker.{AreKept, IsAbove, IsAboveInWord, IsBreakerOf, IsFirstBreaker, IsKept, IsKnown};
 ghost use Rattle.solver.specs.Broken.{is_below};
 ghost use Rattle.solver.specs.Links.{AreBelow, InRange, IsBelow};
 ghost use Rattle.solver.specs.Bits.{has_bit};
 ghost use Rattle.solver.specs.Rows.{AreSized, atom_has, left_has};
-ghost use Rattle.std.specs.Prelude.{Bool, IfOk, IsTrue, OnOk, Some, false, length, true, ℕ, ◌<◌, ◌||◌, ◌≡◌};
+ghost use Rattle.std.specs.Prelude.{Bool, IfOk, IsTrue, OnOk, Some, false, length, true, ℕ, ◌+◌, ◌/◌, ◌<◌, ◌||◌, ◌≡◌};
 
 use crate::broken::lies_below;
 use crate::row::Row;
@@ -127,6 +127,9 @@ fn first_above<L: Lattice>(
     ensures above { IfOk result (IsAbove (is_below (L.order lattice.now) written.now)
         (length written.now) left.now.words.items to) }
 {
+    if left.is_empty() {
+        return Ok(None);
+    }
     let mut below = known_row(alloc, known.take(), written.len())?;
     let above = compare(lattice, written, left, &mut below, to);
     *known = Some(below);
@@ -144,7 +147,7 @@ fn known_row(alloc: Global, known: Option<Row>, count: usize) -> Result<Row, All
     }
 }
 
-// The same, given what is known to lie below.
+// The same, given what is known to lie below. A word of which all members are known costs one step.
 fn compare<L: Lattice>(
     lattice: &L,
     written: &[L::Elem],
@@ -161,10 +164,39 @@ fn compare<L: Lattice>(
     ensures above { IsAbove (is_below (L.order lattice.now) written.now)
         (length written.now) left.now.words.items to result }
 {
-    if known.covers(left) {
+    for at in 0..written.len() / 64 + 1 {
+        if let Some(n) = compare_word(lattice, written, left, known, to, at) {
+            return Some(n);
+        }
+    }
+    None
+}
+
+// The same of the 64 numbers of one word.
+fn compare_word<L: Lattice>(
+    lattice: &L,
+    written: &[L::Elem],
+    left: &Row,
+    known: &mut Row,
+    to: usize,
+    at: usize,
+) -> Option<usize>
+    requires to { to < length written.now }
+    requires at { at < length written.now / 64 + 1 }
+    requires left { left.now.count ≡ length written.now }
+    requires count { known.old.count ≡ length written.now }
+    requires known { IsKnown (is_below (L.order lattice.now) written.now) known.old.words.items to }
+    ensures count { known.new.count ≡ known.old.count }
+    ensures known { IsKnown (is_below (L.order lattice.now) written.now) known.new.words.items to }
+    ensures above { IsAboveInWord (is_below (L.order lattice.now) written.now)
+        (length written.now) left.now.words.items at to result }
+{
+    if known.covers_word(left, at) {
         return None;
     }
-    for n in 0..written.len() {
+    let first = at * 64;
+    let last = first + (written.len() - first).min(64);
+    for n in first..last {
         if !stays_below(lattice, written, left, known, to, n) {
             return Some(n);
         }

@@ -1,6 +1,6 @@
 //! Sets of numbers below a bound, a bit for each number.
-ghost use Rattle.solver.specs.Bits.{Includes, has_bit};
-ghost use Rattle.std.specs.Prelude.{Decides, IfOk, false, length, not, set, ℕ, ◌+◌, ◌/◌, ◌<◌, ◌==◌, ◌||◌, ◌≡◌};
+ghost use Rattle.solver.specs.Bits.{Includes, IncludesWord, has_bit};
+ghost use Rattle.std.specs.Prelude.{Decides, IfOk, false, length, not, set, true, ℕ, ◌+◌, ◌/◌, ◌<◌, ◌==◌, ◌||◌, ◌≡◌};
 
 use std::alloc::{AllocError, Global};
 
@@ -59,17 +59,25 @@ impl Row {
         grew
     }
 
-    /// Whether it includes the other set, which is of the same bound.
-    pub fn covers(&self, other: &Row) -> bool
-        requires { self.now.count ≡ other.now.count }
-        ensures { Decides result (Includes self.now.words.items other.now.words.items) }
+    /// Whether there is no number in the set.
+    pub fn is_empty(&self) -> bool
+        ensures { result ≡ true → (n : ℕ) → has_bit self.now.words.items n ≡ false }
     {
         for k in 0..self.words.len() {
-            if self.words[k] | other.words[k] != self.words[k] {
+            if self.words[k] != 0 {
                 return false;
             }
         }
         true
+    }
+
+    /// Whether it includes one word of the other set, which is of the same bound: those of its 64 numbers from 64 times `at` on.
+    pub fn covers_word(&self, other: &Row, at: usize) -> bool
+        requires count { self.now.count ≡ other.now.count }
+        requires at { at < self.now.count / 64 + 1 }
+        ensures { result ≡ true → IncludesWord self.now.words.items other.now.words.items at }
+    {
+        self.words[at] | other.words[at] == self.words[at]
     }
 
     /// Sets all bits of one word: the members from 64 times its number on.

@@ -1,19 +1,18 @@
-use Rattle.std.proofs.Common.{◌≡◌, sym, ◌∙◌, subst, arith, true, ⊎_elim}
-use Rattle.std.specs.Prelude.{IsTrue}
-use Rattle.solver.specs.Bits.{has_bit}
+use Rattle.std.proofs.Common.{◌∙◌, ◌/◌, ℕ, Option, arith, length, subst, ⊎_elim}
+use Rattle.solver.specs.Breaker.{IsAboveInWord}
 use Rattle.solver.specs.Broken.{is_below}
 use Rattle.solver.proofs.Searching.{lt_or_last}
 use Rattle.solver.proofs.breaker.compare.Goals as goal
 
-pub loop-n-preserved : goal.loop-n-preserved
-loop-n-preserved g c = record {
-  count = c.stays_below.ensures.count ∙ c.loop-n.invariant.count;
-  known = c.stays_below.ensures.known;
-  below = λ m lt has. ⊎_elim (λ before. c.loop-n.invariant.below m before has)
-      (λ last. subst (λ k. IsTrue (has_bit c.args.left.now.words.items k) → is_below (g.L.Lattice.order c.args.lattice.now) c.args.written.now k c.args.to ≡ true) (sym last)
-      (c.stays_below.ensures.below c.if-not-stays_below.false) has)
-      (lt_or_last m c.loop-n.n lt);
+pub loop-at-preserved : goal.loop-at-preserved
+loop-at-preserved g c = record {
+  count = c.compare_word.ensures.count ∙ c.loop-at.invariant.count;
+  known = c.compare_word.ensures.known;
+  below = λ m h lt has. ⊎_elim (λ before. c.loop-at.invariant.below m h before has)
+      (λ last. subst (λ (o : Option ℕ). IsAboveInWord (is_below (g.L.Lattice.order c.args.lattice.now) c.args.written.now) (length c.args.written.now) c.args.left.now.words.items c.loop-at.at c.args.to o)
+      c.in_default.is c.compare_word.ensures.above m h last has)
+      (lt_or_last (m / 64) c.loop-at.at lt);
 }
 
 pub returns-clause-above : goal.returns-clause-above
-returns-clause-above g c = λ n h has. c.loop-n.invariant.below n (omega (arith, h, c.loop-n-test.false, c.loop-n.auto.n-end)) has
+returns-clause-above g c = λ n h has. c.loop-at.invariant.below n h (omega (arith, h, c.loop-at-test.false)) has

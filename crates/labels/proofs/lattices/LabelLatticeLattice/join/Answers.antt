@@ -1,9 +1,7 @@
-use Rattle.std.proofs.Common.{◌≡◌, IfOk, subst, sym}
-use Rattle.std.specs.Prelude.{IsTrue}
+use Rattle.std.proofs.Common.{subst, sym}
 use Rattle.std.proofs.lemmas.Result.{IfOk-weaker}
 use Rattle.labels.specs.Canonical.{joined}
-use Rattle.labels.specs.Constraints.{IsJoin, Lattice, label_lattice}
-use Rattle.labels.specs.Label.{Label, flows}
+use Rattle.labels.specs.Constraints.{IsJoin, label_lattice}
 use Rattle.labels.proofs.Joined.{IsLattice-joined_test}
 use Rattle.labels.proofs.lattices.LabelLatticeLattice.join.Goals as goal
 

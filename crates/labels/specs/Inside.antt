@@ -1,0 +1,20 @@
+-- What a policy keeps inside. Our own.
+use Rattle.std.specs.Prelude.{ℕ, ◌<◌, ◌↔◌, List, Contains, IsTrue}
+use Rattle.principals.specs.Table.{has}
+use Rattle.principals.specs.declared.row.Row.{Row}
+use Rattle.labels.specs.Canonical.{IsCanonicalPolicy}
+use Rattle.labels.specs.Label.{ReaderPolicy}
+use Rattle.labels.specs.declared.policies.Policy.TheInside.{Inside}
+
+-- its owner and its readers
+abbrev pub policy_of : Inside → ReaderPolicy
+policy_of inside = record { owner = inside.owner; readers = inside.readers.items }
+
+-- a row of bits has of these numbers those below 256, and no others
+abbrev pub IsRowOf : List ℕ → Row → Type 0
+IsRowOf numbers row = (number : ℕ) → IsTrue (has row number) ↔ ((number < 256) × Contains numbers number)
+
+-- the policy is canonical, and the row is that of its readers
+pub record IsKept (inside : Inside) : Type 0 where
+  pub canonical : IsCanonicalPolicy (policy_of inside)
+  pub row : IsRowOf inside.readers.items inside.row
