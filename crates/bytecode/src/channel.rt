@@ -26,7 +26,8 @@ impl Model for Channel {
 impl Channel {
     /// The channel of the given direction and name, which carries what the label guards.
     pub fn new(direction: Direction, name: String, label: Label) -> Channel
-        ensures { result ≡ record { direction = direction; name = string_bytes name; label = label } }
+        ensures { result
+            ≡ record { direction = direction; name = string_bytes name; label = label } }
     {
         Channel {
             direction,

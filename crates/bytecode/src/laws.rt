@@ -15,7 +15,8 @@ pub fn one_spelling()
         → Spells module_file m bytes → Spells module_file n bytes → m ≡ n }
     ensures bytes { (m : ModuleContents) (a b : List ℕ)
         → Spells module_file m a → Spells module_file m b → a ≡ b }
-    ensures each { (m : ModuleContents) → Fits module_file m → Spells module_file m (spelled module_file m) }
+    ensures each { (m : ModuleContents) → Fits module_file m →
+        Spells module_file m (spelled module_file m) }
 {}
 
 /// Each instruction whose operand fits has a spelling: its opcode is a byte, which is followed by as many bytes as its operand

@@ -22,7 +22,8 @@ pub fn a_label_decides()
 pub fn lists_may_differ_in_length()
     ensures faultless { end_faults waiting ≡ [] }
     ensures labelled { Labelled waiting }
-    ensures agree { Agree two_principals (channel_label waiting) waiting bob (comes (pos 0)) (comes (pos 1)) }
+    ensures agree { Agree two_principals (channel_label waiting) waiting bob
+        (comes (pos 0)) (comes (pos 1)) }
     ensures all { (k : ℕ) → bob_sees (comes (pos 0)) k ≡ sends (pos 1) }
     ensures nothing { (k : ℕ) → bob_sees (comes (pos 1)) k ≡ [] }
 {}

@@ -25,19 +25,21 @@ pub fn labelled_programs_are_isolated()
 /// The same where readers, agreement and observers are taken under another hierarchy that keeps the acts-for of the program's own:
 /// under every renumbering of principals that does, and by name under every hierarchy that contains the program's own.
 pub fn labelled_programs_stay_isolated()
-    ensures renumbered { (program : Program) (whole : PrincipalHierarchy) (carry : ℕ → ℕ) →
-        end_faults program ≡ [] → Labelled program → KeepsActsFor program.hierarchy whole carry →
-        IsolatedCarried program whole carry }
-    ensures by_name { (program : Program) (whole : PrincipalHierarchy) →
+    ensures renumbered { (program : Program) (larger : PrincipalHierarchy) (carry : ℕ → ℕ) →
+        end_faults program ≡ [] → Labelled program → KeepsActsFor program.hierarchy larger carry →
+        IsolatedCarried program larger carry }
+    ensures by_name { (program : Program) (larger : PrincipalHierarchy) →
         end_faults program ≡ [] → Labelled program →
-        IsHierarchy program.hierarchy → IsHierarchy whole → ContainsHierarchy whole program.hierarchy →
-        IsolatedCarried program whole (number_by_name program.hierarchy whole) }
+        IsHierarchy program.hierarchy → IsHierarchy larger →
+        ContainsHierarchy larger program.hierarchy →
+        IsolatedCarried program larger (number_by_name program.hierarchy larger) }
 {}
 
 /// A flow that holds under a hierarchy holds under each one that keeps its acts-for. A hierarchy that contains another one keeps
 /// its acts-for by name, and so its flows.
 pub fn flows_are_kept()
-    ensures renumbered { (part whole : PrincipalHierarchy) (carry : ℕ → ℕ) → FlowsAreKept part whole carry }
-    ensures names { (part whole : PrincipalHierarchy) → NamesKeepActsFor part whole }
-    ensures by_name { (part whole : PrincipalHierarchy) → FlowsStayByName part whole }
+    ensures renumbered { (smaller larger : PrincipalHierarchy) (carry : ℕ → ℕ) →
+        FlowsAreKept smaller larger carry }
+    ensures names { (smaller larger : PrincipalHierarchy) → NamesKeepActsFor smaller larger }
+    ensures by_name { (smaller larger : PrincipalHierarchy) → FlowsStayByName smaller larger }
 {}

@@ -16,16 +16,22 @@ use std::alloc::Global;
 /// out before.
 pub fn lex(alloc: Global, src: &str) -> Result<Vec<Token<'_>>, LexFault>
     ensures cut { IfOk result (λ tokens. IsCut src.now (terminals_of tokens.items)) }
-    ensures only { (tokens : List Terminal) → IsCut src.now tokens → MatchResult result (λ found. terminals_of found.items ≡ tokens) (λ fault. fault ≡ LexFault.NoMemory) }
-    ensures refused { IfErr result (λ fault. (fault ≡ LexFault.NoMemory) ⊎ IsRefused src.now fault) }
-    ensures first { (fault : LexFault) → IsRefused src.now fault → MatchResult result (λ _. ⊥) (λ found. (found ≡ fault) ⊎ (found ≡ LexFault.NoMemory)) }
+    ensures only { (tokens : List Terminal) → IsCut src.now tokens → MatchResult result
+        (λ found. terminals_of found.items ≡ tokens) (λ fault. fault ≡ LexFault.NoMemory) }
+    ensures refused { IfErr result (λ fault.
+        (fault ≡ LexFault.NoMemory) ⊎ IsRefused src.now fault) }
+    ensures first { (fault : LexFault) → IsRefused src.now fault → MatchResult result
+        (λ _. ⊥) (λ found. (found ≡ fault) ⊎ (found ≡ LexFault.NoMemory)) }
     ensures terminated { IfOk result (λ tokens. IsTerminated (terminals_of tokens.items)) }
-    ensures in_order { IfOk result (λ tokens. IsInOrder 0 (terminals_of tokens.items) (length src.now)) }
+    ensures in_order { IfOk result (λ tokens.
+        IsInOrder 0 (terminals_of tokens.items) (length src.now)) }
     ensures slices { IfOk result (λ tokens. All (IsSliceOf src.now) (terminals_of tokens.items)) }
     ensures spelled { IfOk result (λ tokens. All IsSpelled (terminals_of tokens.items)) }
-    ensures at_characters { IfOk result (λ tokens. All (IsAtCharacter src.now) (terminals_of tokens.items)) }
+    ensures at_characters { IfOk result (λ tokens.
+        All (IsAtCharacter src.now) (terminals_of tokens.items)) }
     ensures fault_at_character { IfErr result (IsFaultAtCharacter src.now) }
-    ensures count { IfOk result (λ tokens. length (terminals_of tokens.items) ≤ length src.now + 1) }
+    ensures count { IfOk result (λ tokens.
+        length (terminals_of tokens.items) ≤ length src.now + 1) }
 {
     let mut tokens = Vec::new(alloc);
     let mut rest = src;

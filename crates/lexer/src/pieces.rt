@@ -12,7 +12,7 @@ use crate::names::{begins_name, continues_name, keyword};
 use crate::token::Kind;
 
 /// The greatest integer that a program may write.
-const GREATEST_LITERAL: u32 = 2_147_483_647;
+const MAX_LITERAL: u32 = 2_147_483_647;
 
 /// The lexeme at the front of a text: the kind of its token, or none if it is white space or a
 /// comment; and what follows it.
@@ -75,13 +75,13 @@ fn is_white_space(character: char) -> bool
 
 /// A run of digits.
 fn literal<'a>(text: &'a str, first: char, after: &'a str, at: usize) -> Result<Piece<'a>, LexFault>
-    requires parts { chars text.now ≡ first ∷ chars after.now }
+    requires split { chars text.now ≡ first ∷ chars after.now }
     requires digit { IsTrue (is_ascii_digit first) }
     ensures { MatchResult result (λ piece. Reads (chars text.now) piece.kind (chars piece.rest.now)) (λ fault. IsStuck at (chars text.now) fault) }
 {
     let rest = after_run(after, Class::Digit);
     match front(text, rest).parse::<u32>() {
-        Ok(value) if value <= GREATEST_LITERAL => Ok(Piece {
+        Ok(value) if value <= MAX_LITERAL => Ok(Piece {
             kind: Some(Kind::Integer(value)),
             rest,
         }),
@@ -91,7 +91,7 @@ fn literal<'a>(text: &'a str, first: char, after: &'a str, at: usize) -> Result<
 
 /// A keyword or a name.
 fn word<'a>(text: &'a str, first: char, after: &'a str) -> Piece<'a>
-    requires parts { chars text.now ≡ first ∷ chars after.now }
+    requires split { chars text.now ≡ first ∷ chars after.now }
     requires begins { IsTrue (may_begin first) }
     ensures { Reads (chars text.now) result.kind (chars result.rest.now) }
 {
@@ -127,7 +127,7 @@ fn solidus<'a>(text: &'a str, after: &'a str, at: usize) -> Result<Piece<'a>, Le
 
 /// A sign other than `/`, if one begins here.
 fn sign<'a>(text: &'a str, first: char, after: &'a str) -> Option<Piece<'a>>
-    requires parts { chars text.now ≡ first ∷ chars after.now }
+    requires split { chars text.now ≡ first ∷ chars after.now }
     requires begins { IsTrue (begins_sign first) }
     ensures { MatchOption result (HasNoLexeme (chars text.now)) (λ piece. Reads (chars text.now) piece.kind (chars piece.rest.now)) }
 {
@@ -196,7 +196,7 @@ fn single_sign(character: char) -> Option<Kind>
 
 /// The first character of `text`, and what follows it.
 pub(crate) fn first_character(text: &str) -> Option<(char, &str)>
-    ensures { MatchOption result (text.now ≡ []) (λ parts. chars text.now ≡ parts.0 ∷ chars parts.1.now) }
+    ensures { MatchOption result (text.now ≡ []) (λ split. chars text.now ≡ split.0 ∷ chars split.1.now) }
 {
     let mut characters = text.chars();
     let first = characters.next()?;

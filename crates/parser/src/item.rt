@@ -342,7 +342,8 @@ impl<'a> Parser<'a> {
 
     /// The items up to the first token that begins none.
     pub fn items(&mut self) -> Result<Vec<Item>, ParseFault>
-        ensures { IsRead (λ list. map item_tree list.items) result self.new.rest.now (read 64 (many item) (terminals_of self.old.rest.now)) }
+        ensures { IsRead (λ list. map item_tree list.items) result self.new.rest.now
+            (read 64 (many item) (terminals_of self.old.rest.now)) }
     {
         let mut items = Vec::new(self.alloc);
         while self.is_at_item() {

@@ -44,7 +44,8 @@ pub fn parse(alloc: Global, tokens: &[Token<'_>]) -> Result<Program, ParseFault>
 
     // All the tokens together spell the answer, which has at most as many nodes.
     ensures spelled { IfOk result (λ items. Spells (terminals_of tokens.now) (program_tree items)) }
-    ensures bounded { IfOk result (λ items. program_nodes (program_tree items) ≤ length tokens.now) }
+    ensures bounded { IfOk result (λ items.
+        program_nodes (program_tree items) ≤ length tokens.now) }
 
     // Where the tokens spell a tree, that tree is the answer, unless memory ran out.
     ensures only { AnswersOnly (terminals_of tokens.now) result }

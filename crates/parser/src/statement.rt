@@ -189,7 +189,8 @@ impl<'a> Parser<'a> {
     #[cycle(statement)]
     #[tactic(auto, using(crate::proofs::Blocks::block_reads))]
     pub fn block(&mut self, room: u32) -> Result<Block, ParseFault>
-        ensures { IsRead block_tree result self.new.rest.now (read room block (terminals_of self.old.rest.now)) }
+        ensures { IsRead block_tree result self.new.rest.now
+            (read room block (terminals_of self.old.rest.now)) }
     {
         let token = self.enter(Kind::OpenBrace, room)?;
         let statements = self.statements(room - 1)?;
@@ -332,7 +333,8 @@ impl<'a> Parser<'a> {
 
     #[tactic(auto, using(crate::proofs::Steps::integer_reads))]
     pub fn integer(&mut self) -> Result<(usize, u32), ParseFault>
-        ensures { (room : ℕ) → IsRead (λ found. (found.0, found.1)) result self.new.rest.now (read room integer (terminals_of self.old.rest.now)) }
+        ensures { (room : ℕ) → IsRead (λ found. (found.0, found.1)) result self.new.rest.now
+            (read room integer (terminals_of self.old.rest.now)) }
     {
         match self.kind() {
             Kind::Integer(value) => {
@@ -345,7 +347,8 @@ impl<'a> Parser<'a> {
 
     #[tactic(auto, unfolding(syntax::specs::Grammar::size, crate::specs::Reading::read))]
     pub fn size(&mut self) -> Result<Size, ParseFault>
-        ensures { (room : ℕ) → IsRead size_tree result self.new.rest.now (read room size (terminals_of self.old.rest.now)) }
+        ensures { (room : ℕ) → IsRead size_tree result self.new.rest.now
+            (read room size (terminals_of self.old.rest.now)) }
     {
         self.expect(Kind::OpenBracket)?;
         let (at, size) = self.integer()?;

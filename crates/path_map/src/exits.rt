@@ -150,7 +150,8 @@ impl Exits {
 
     /// Whether there is one possible end only, where a normal end and a return are one end, as they are for a procedure.
     pub fn is_single_of_procedure(self) -> bool
-        ensures { (ends : List Exit) → self ≡ exits_of ends → result ≡ one_end (map as_one_end ends) }
+        ensures { (ends : List Exit) → self ≡ exits_of ends →
+            result ≡ one_end (map as_one_end ends) }
     {
         let joined = Exits {
             normal: self.normal || self.returns,

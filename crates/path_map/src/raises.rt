@@ -9,12 +9,10 @@ ghost use Rattle.std.specs.Prelude.{IfOk, OnOk, map, ℕ, ◌||◌, ◌≡◌};
 
 use crate::exits::Raised;
 use crate::set::ExceptionSet;
+use resolved::exceptions::{ARITH, BOUNDS};
 use resolved::expression::{Expression, Operator, Prefix};
 use std::alloc::AllocError;
 
-const ARITH: u32 = 0;
-
-const BOUNDS: u32 = 1;
 // The greatest number; literals above it mean negative numbers.
 const MAX_NUMBER: u32 = 2_147_483_647;
 

@@ -20,12 +20,10 @@ use crate::exits::{Exits, Raised};
 use crate::fault::{EndDefect, EndRefusal, EndsFault};
 use crate::raises::{Raises, index_can_raise, raises_of, raises_of_all, raises_of_some};
 use crate::set::ExceptionSet;
+use resolved::exceptions::END;
 use resolved::expression::Expression;
 use resolved::statement::{Exit, Handler, Statement};
 use std::alloc::AllocError;
-
-// The exception that a receive may raise.
-const END: u32 = 2;
 
 // Finds the ends of a block and of what is in it. The block's own entry is the first of the new ones. Its exceptions are added to
 // the set.

@@ -4,3 +4,4 @@ pub mod Sound
 pub mod Parts
 pub mod Growing
 pub mod Flow
+mod ExceptionNames

@@ -1,6 +1,7 @@
 pub mod Tree
 pub mod Program
 pub mod Names
+pub mod Exceptions
 pub mod Value
 pub mod State
 pub mod Meaning

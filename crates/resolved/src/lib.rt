@@ -1,6 +1,7 @@
-//! The resolved tree: a program of the whole language with its names as numbers.
+//! The resolved tree: a program with its names as numbers.
 #![tactic(auto)]
 
+pub mod exceptions;
 pub mod expression;
 pub mod laws;
 pub mod lookup;

@@ -347,7 +347,8 @@ impl Statement {
         accepted: Block,
         otherwise: Option<Block>,
     ) -> Statement
-        ensures { statement_tree result ≡ if_tree at (expression_tree condition) (block_tree accepted) (optional_block_tree otherwise) }
+        ensures { statement_tree result ≡ if_tree at (expression_tree condition)
+            (block_tree accepted) (optional_block_tree otherwise) }
     {
         Statement::If {
             at,
@@ -359,7 +360,8 @@ impl Statement {
 
     /// A loop under a condition.
     pub fn make_while(at: usize, condition: Expression, body: Block) -> Statement
-        ensures { statement_tree result ≡ WhileTree at (expression_tree condition) (block_tree body) }
+        ensures { statement_tree result
+            ≡ WhileTree at (expression_tree condition) (block_tree body) }
     {
         Statement::While {
             at,
@@ -370,7 +372,8 @@ impl Statement {
 
     /// A block, and the handlers of its exceptions.
     pub fn make_try(at: usize, body: Block, catches: Vec<Catch>) -> Statement
-        ensures { statement_tree result ≡ TryTree at (block_tree body) (catches_of (map catch_tree catches.items)) }
+        ensures { statement_tree result
+            ≡ TryTree at (block_tree body) (catches_of (map catch_tree catches.items)) }
     {
         Statement::Try { at, body, catches }
     }

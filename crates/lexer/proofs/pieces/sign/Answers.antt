@@ -11,7 +11,7 @@ use Rattle.lexer.proofs.pieces.sign.Goals as goal
 pub returns-in-Some : goal.returns-in-Some
 returns-in-Some c =
     let (second, parts, found) = c.in-Some.ensures in
-    let whole = c.requires.parts ∙ ap (λ t. c.args.first ∷ t) parts in (
+    let whole = c.requires.split ∙ ap (λ t. c.args.first ∷ t) parts in (
       c.args.first ∷ second ∷ [],
       moved _ _ _ _ _ _ _ _ (sym whole) refl refl refl
           (next_double c.args.first second (chars c.in-Some.rest.now) c.in-Some.kind (class-sign c.args.first c.requires.begins) found),
@@ -21,11 +21,11 @@ pub returns-in_err-kind : goal.returns-in_err-kind
 returns-in_err-kind c =
     let none = none_next c.args.first (chars c.args.after.now) (class-sign c.args.first c.requires.begins) (sym c.single_sign.ensures ∙ c.in_err-kind.was) c.in_default.ensures in
     let P : Option Piece → Type 0 = λ o. MatchOption o (HasNoLexeme (chars c.args.text.now)) (λ piece. Reads (chars c.args.text.now) piece.kind (chars piece.rest.now)) in
-    subst P (sym c.from_residual.ensures) (subst HasNoLexeme (sym c.requires.parts) none)
+    subst P (sym c.from_residual.ensures) (subst HasNoLexeme (sym c.requires.split) none)
 
 pub returns : goal.returns
 returns c = (
   c.args.first ∷ [],
-  moved _ _ _ _ _ _ _ _ (sym c.requires.parts) refl refl refl
+  moved _ _ _ _ _ _ _ _ (sym c.requires.split) refl refl refl
       (next_single c.args.first (chars c.args.after.now) c.in_ok-kind.kind (class-sign c.args.first c.requires.begins) (sym c.single_sign.ensures ∙ c.in_ok-kind.was) c.in_default.ensures),
 )

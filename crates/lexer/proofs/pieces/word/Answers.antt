@@ -8,11 +8,11 @@ use Rattle.lexer.proofs.Reading.{moved, run_tail, word_read}
 use Rattle.lexer.proofs.pieces.word.Goals as goal
 
 pub front-requires : goal.front-requires
-front-requires c = run_tail may_continue _ c.args.first (chars c.args.after.now) _ c.requires.parts c.after_run-rest.ensures
+front-requires c = run_tail may_continue _ c.args.first (chars c.args.after.now) _ c.requires.split c.after_run-rest.ensures
 
 pub returns : goal.returns
 returns c =
     let front = c.front.result.now in
-    let read = word_read _ _ (chars c.args.after.now) _ (chars front) c.requires.parts c.after_run-rest.ensures c.requires.begins c.front.ensures in
+    let read = word_read _ _ (chars c.args.after.now) _ (chars front) c.requires.split c.after_run-rest.ensures c.requires.begins c.front.ensures in
     let found = c.keyword.ensures ∙ same_lookup keywords refl front c.front.utf8 in
     (chars front, moved _ _ _ _ _ _ _ _ refl (ap (λ o. Word (unwrap_or o Name)) (sym found) ∙ ap Word (sym c.unwrap_or-kind.ensures)) refl refl read)
