@@ -1,4 +1,4 @@
-//! What a check has to decide, and what an accepted program promises, for all texts of the whole language.
+//! What a check has to decide, and what an accepted program promises, for all texts.
 
 ghost use Rattle.acceptance.specs.Accepted.{StandFor};
 ghost use Rattle.acceptance.specs.Laws.{GivesNames, HasOneVerdict, HasVerdict, KeepsHierarchy};

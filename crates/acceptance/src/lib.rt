@@ -1,4 +1,4 @@
-//! Which two texts stand for a program of the whole language, and why others do not: what a check has to decide. It holds
+//! Which two texts stand for a program, and why others do not: what a check has to decide. It holds
 //! definitions, their laws, and the numbers and words by which causes are reported.
 #![tactic(auto)]
 

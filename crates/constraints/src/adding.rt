@@ -11,14 +11,11 @@ use crate::building::plus;
 use crate::table::Table;
 use crate::takers::{Entry, Takers};
 use path_map::Raises;
+use resolved::exceptions::{ARITH, BOUNDS};
 use resolved::statement::Exit;
 use resolved::target::Target;
 use solver::{Atom, Constraint};
 use std::alloc::{AllocError, Global};
-
-const ARITH: u32 = 0;
-
-const BOUNDS: u32 = 1;
 
 impl<'a> Table<'a> {
     /// Adds the constraint of a rule at this byte, whose right side is the label of the target.

@@ -20,15 +20,12 @@ use crate::rows::ThrownLabel;
 use crate::statements::Walk;
 use crate::takers::{Entry, Takers};
 use path_map::raises::{Raises, raises_of_all};
+use resolved::exceptions::{ARITH, BOUNDS};
 use resolved::expression::{Expression, Variable};
 use resolved::statement::Exit;
 use resolved::target::Target;
 use solver::{Atom, Constraint};
 use std::alloc::AllocError;
-
-const ARITH: u32 = 0;
-
-const BOUNDS: u32 = 1;
 
 impl<'a> Walk<'a> {
     // Whether a procedure declares exceptions.

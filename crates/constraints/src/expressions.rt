@@ -71,7 +71,7 @@ impl<'a> Table<'a> {
         }
     }
 
-    /// Adds what decides whether an expression in this procedure raises an exception, each part of it once, and tells whether it can
+    /// Adds what decides whether an expression in this procedure raises an exception, each part of it once, and answers whether it can
     /// raise one.
     pub fn add_raise(
         &self,

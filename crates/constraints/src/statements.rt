@@ -16,14 +16,12 @@ use crate::table::Table;
 use crate::takers::{Entry, Takers};
 use path_map::PathMap;
 use path_map::raises::{Raises, index_can_raise, raises_of};
+use resolved::exceptions::END;
 use resolved::expression::{Expression, Variable};
 use resolved::statement::Exit;
 use resolved::target::Target;
 use solver::{Atom, Constraint};
 use std::alloc::{AllocError, Global};
-
-// The exception that a receive may raise.
-const END: u32 = 2;
 
 /// A procedure of a program whose constraints are gathered, with the labels of the program's tables and its path map.
 #[derive(Drop)]
