@@ -1,4 +1,4 @@
-//! From resolved programs of the whole language to graphs of instructions, which do the same.
+//! From resolved programs to graphs of instructions, which do the same.
 #![tactic(auto)]
 
 mod actions;
@@ -12,6 +12,6 @@ pub mod laws;
 mod lengths;
 mod operands;
 mod procedures;
-pub mod whole;
+pub mod program;
 
-pub use whole::lower;
+pub use program::lower;

@@ -15,7 +15,7 @@ use Rattle.bytecode.specs.Targets.{target_of}
 use Rattle.verifier.specs.Flow.{Edge, next, jumps, caught, Flow, starts, nowhere, grows, misses, meets, falls, IsFlowDefect, FlowsWell, changed, between, effect, all_popped, pushed, exchanged, signature, is_own, and_then, Leaves, Misses, goes_on}
 use Rattle.verifier.specs.Operands.{list_of, IsLonger}
 use Rattle.verifier.specs.Boundaries.{IsBoundary, KeepsBoundaries}
-use Rattle.verifier.specs.Search.{row, table, IsKept, IsGoing, IsAtEdge, Flowed, Steps, IsApplied, HasEffect, HasInstruction, IsFirst, left, unset}
+use Rattle.verifier.specs.Search.{row, table, IsKept, IsSearching, IsAtEdge, Flowed, Steps, IsApplied, HasEffect, HasInstruction, IsFirst, left, unset}
 use Rattle.verifier.specs.declared.fault.Defect.TheVariants.{OperandKind, FallsOffEnd}
 use Rattle.verifier.specs.declared.search.Search.{Search}
 use Rattle.verifier.proofs.Offsets.{start_inside}
@@ -46,22 +46,22 @@ unset_set (None ∷ shapes) (suc k) list h e = let i : unset (set shapes k (Some
 unset_set (Some other ∷ shapes) (suc k) list h e = unset_set shapes k list (omega arith) e
 
 -- nothing is at the end
-pub none_at_end : (m : ModuleContents) (p : ProcedureContents) (s : Search) (busy : List ℕ) → IsGoing m p s busy → table s (code_length p.code) ≡ None
+pub none_at_end : (m : ModuleContents) (p : ProcedureContents) (s : Search) (busy : List ℕ) → IsSearching m p s busy → table s (code_length p.code) ≡ None
 none_at_end m p s busy g = ap (row s.operands) (past_end s.shapes.items (code_length p.code) None (omega (arith, g.sized)))
 
 -- an edge to the end is a fault
-pub falls_at : (m : ModuleContents) (p : ProcedureContents) (s : Search) (busy : List ℕ) (at to : ℕ) (after : List Kind) → IsGoing m p s busy → IsAtEdge m p s at to after → to ≡ code_length p.code → IsFlowDefect m p to FallsOffEnd
+pub falls_at : (m : ModuleContents) (p : ProcedureContents) (s : Search) (busy : List ℕ) (at to : ℕ) (after : List Kind) → IsSearching m p s busy → IsAtEdge m p s at to after → to ≡ code_length p.code → IsFlowDefect m p to FallsOffEnd
 falls_at m p s busy at to after g e is =
     subst (λ t. IsFlowDefect m p t FallsOffEnd) (sym is)
     (falls (changed (table s) (code_length p.code) (Some after)) after (grows (table s) at e.kinds (code_length p.code) after g.flow e.has (subst (λ t. Edge m p at e.kinds t after) is e.edge) (none_at_end m p s busy g)) (changed_at (table s) (code_length p.code) after))
 
 -- an edge that brings another list is a fault
-pub meets_at : (m : ModuleContents) (p : ProcedureContents) (s : Search) (busy : List ℕ) (at to : ℕ) (after others : List Kind) (defect : Defect) → IsGoing m p s busy → IsAtEdge m p s at to after → to ≢ code_length p.code → table s to ≡ Some others → after ≢ others → defect ≡ between after others → IsFlowDefect m p to defect
+pub meets_at : (m : ModuleContents) (p : ProcedureContents) (s : Search) (busy : List ℕ) (at to : ℕ) (after others : List Kind) (defect : Defect) → IsSearching m p s busy → IsAtEdge m p s at to after → to ≢ code_length p.code → table s to ≡ Some others → after ≢ others → defect ≡ between after others → IsFlowDefect m p to defect
 meets_at m p s busy at to after others defect g e inside there ne is =
     subst (IsFlowDefect m p to) (sym is) (meets (table s) at e.kinds to after others g.flow e.has e.edge inside there ne)
 
 -- the search with one more list
-module _ (m : ModuleContents) (p : ProcedureContents) (s new : Search) (at to list : ℕ) (g : IsGoing m p s (at ∷ [])) (e : IsAtEdge m p s at to (list_of s.operands list)) (number : list < length s.operands) (is_boundary : IsBoundary p to) (inside : to < length s.shapes.items) (unset_there : get_or s.shapes.items to None ≡ None) (lists : new.operands ≡ s.operands) (shapes : new.shapes.items ≡ set s.shapes.items to (Some list)) (work : new.work.items ≡ s.work.items ++ to ∷ []) where
+module _ (m : ModuleContents) (p : ProcedureContents) (s new : Search) (at to list : ℕ) (g : IsSearching m p s (at ∷ [])) (e : IsAtEdge m p s at to (list_of s.operands list)) (number : list < length s.operands) (is_boundary : IsBoundary p to) (inside : to < length s.shapes.items) (unset_there : get_or s.shapes.items to None ≡ None) (lists : new.operands ≡ s.operands) (shapes : new.shapes.items ≡ set s.shapes.items to (Some list)) (work : new.work.items ≡ s.work.items ++ to ∷ []) where
   at_to : get_or new.shapes.items to None ≡ Some list
   at_to = ap (λ l. get_or l to None) shapes ∙ get_or-set_same s.shapes.items to (Some list) None inside
 
@@ -114,7 +114,7 @@ module _ (m : ModuleContents) (p : ProcedureContents) (s new : Search) (at to li
 
   pub flowed : Flowed m p s new at to list
   flowed = record {
-    going = record {
+    searching = record {
       root = subst IsFirst (sym lists) g.root;
       sized = ap length shapes ∙ length-set s.shapes.items to (Some list) ∙ g.sized;
       numbers = λ offset n h. elim (number_cases offset to) [
@@ -146,10 +146,10 @@ module _ (m : ModuleContents) (p : ProcedureContents) (s new : Search) (at to li
   }
 
 -- the list was there
-pub flowed_there : (m : ModuleContents) (p : ProcedureContents) (s new : Search) (at to list other : ℕ) → IsGoing m p s (at ∷ []) → get_or s.shapes.items to None ≡ Some other → list_of s.operands list ≡ list_of s.operands other → new ≡ s → Flowed m p s new at to list
+pub flowed_there : (m : ModuleContents) (p : ProcedureContents) (s new : Search) (at to list other : ℕ) → IsSearching m p s (at ∷ []) → get_or s.shapes.items to None ≡ Some other → list_of s.operands list ≡ list_of s.operands other → new ≡ s → Flowed m p s new at to list
 flowed_there m p s new at to list other g there same is =
     subst (λ n. Flowed m p s n at to list) (sym is) (record {
-      going = g;
+      searching = g;
       keeps = λ offset kinds h. h;
       arrives = ap (row s.operands) there ∙ ap Some (sym same);
       same = refl;
@@ -157,7 +157,7 @@ flowed_there m p s new at to list other g there same is =
     })
 
 -- a offset that control may go to, and that is not the end, has an index
-pub boundary_inside : (m : ModuleContents) (p : ProcedureContents) (s : Search) (busy : List ℕ) (to : ℕ) → IsGoing m p s busy → IsBoundary p to → to ≢ length s.shapes.items → to < length s.shapes.items
+pub boundary_inside : (m : ModuleContents) (p : ProcedureContents) (s : Search) (busy : List ℕ) (to : ℕ) → IsSearching m p s busy → IsBoundary p to → to ≢ length s.shapes.items → to < length s.shapes.items
 boundary_inside m p s busy to g offset ne =
     elim offset [
       | inl e ↦ absurd (ne (e ∙ sym g.sized))
@@ -167,7 +167,7 @@ boundary_inside m p s busy to g offset ne =
 -- ---- the end of the search
 
 -- with nothing to look at, the table is done
-pub going_done : (m : ModuleContents) (p : ProcedureContents) (s : Search) → IsGoing m p s [] → s.work.items ≡ [] → IsDone m p (table s)
+pub going_done : (m : ModuleContents) (p : ProcedureContents) (s : Search) → IsSearching m p s [] → s.work.items ≡ [] → IsDone m p (table s)
 going_done m p s g empty = record {
   first = g.first;
   finds = λ at kinds i wrong h is e. let k = every at kinds h in
@@ -197,13 +197,13 @@ going_done m p s g empty = record {
         k.jumps to (ap target_of same ∙ jumps_to) ∙ ap Some after_is
     along at kinds k _ _ (caught i h is c l m) = k.caught h c l m
 
-pub search_done : (m : ModuleContents) (p : ProcedureContents) (s : Search) → IsGoing m p s [] → s.work.items ≡ [] → FlowsWell m p
+pub search_done : (m : ModuleContents) (p : ProcedureContents) (s : Search) → IsSearching m p s [] → s.work.items ≡ [] → FlowsWell m p
 search_done m p s g empty = no_fault m p (table s) (going_done m p s g empty)
 
 -- ---- a offset is looked at
 
 -- what was looked at is kept
-pub looked_at : (m : ModuleContents) (p : ProcedureContents) (s : Search) (at : ℕ) → IsGoing m p s (at ∷ []) → ((kinds : List Kind) → table s at ≡ Some kinds → IsKept m p s at kinds) → IsGoing m p s []
+pub looked_at : (m : ModuleContents) (p : ProcedureContents) (s : Search) (at : ℕ) → IsSearching m p s (at ∷ []) → ((kinds : List Kind) → table s at ≡ Some kinds → IsKept m p s at kinds) → IsSearching m p s []
 looked_at m p s at g kept = record {
   root = g.root;
   sized = g.sized;
@@ -234,11 +234,11 @@ longer_row : (lists more : List (List Kind)) (o : Option ℕ) → ((n : ℕ) →
 longer_row lists more None h l = refl
 longer_row lists more (Some n) h l = ap Some (ap (λ ls. get_or ls n []) l.1 ∙ get_or_append_left lists l.0 [] n (h n refl))
 
-module _ (m : ModuleContents) (p : ProcedureContents) (s new : Search) (busy : List ℕ) (g : IsGoing m p s busy) (longer : IsLonger s.operands new.operands) (shapes : new.shapes ≡ s.shapes) (work : new.work ≡ s.work) where
+module _ (m : ModuleContents) (p : ProcedureContents) (s new : Search) (busy : List ℕ) (g : IsSearching m p s busy) (longer : IsLonger s.operands new.operands) (shapes : new.shapes ≡ s.shapes) (work : new.work ≡ s.work) where
   pub same_table : (offset : ℕ) → table new offset ≡ table s offset
   same_table offset = ap (λ v. row new.operands (get_or v.items offset None)) shapes ∙ longer_row s.operands new.operands (get_or s.shapes.items offset None) (g.numbers offset) longer
 
-  pub going_longer : IsGoing m p new busy
+  pub going_longer : IsSearching m p new busy
   going_longer = record {
     root = (omega (arith, g.root.0, ap length longer.1, length-append s.operands longer.0), ap (λ ls. get_or ls 0 []) longer.1 ∙ get_or_append_left s.operands longer.0 [] 0 g.root.0 ∙ g.root.1);
     sized = ap (λ v. length v.items) shapes ∙ g.sized;
@@ -270,10 +270,10 @@ module _ (m : ModuleContents) (p : ProcedureContents) (s new : Search) (busy : L
 -- ---- steps from a offset
 
 pub steps_of : (m : ModuleContents) (p : ProcedureContents) (old new : Search) (at to list : ℕ) → Flowed m p old new at to list → Steps m p old new at
-steps_of m p old new at to list f = record { going = f.going; keeps = f.keeps; same = f.same; left = f.left }
+steps_of m p old new at to list f = record { searching = f.searching; keeps = f.keeps; same = f.same; left = f.left }
 
-pub steps_none : (m : ModuleContents) (p : ProcedureContents) (s : Search) (at : ℕ) → IsGoing m p s (at ∷ []) → Steps m p s s at
-steps_none m p s at g = record { going = g; keeps = λ offset kinds h. h; same = refl; left = omega arith }
+pub steps_none : (m : ModuleContents) (p : ProcedureContents) (s : Search) (at : ℕ) → IsSearching m p s (at ∷ []) → Steps m p s s at
+steps_none m p s at g = record { searching = g; keeps = λ offset kinds h. h; same = refl; left = omega arith }
 
 pub edge_next : (m : ModuleContents) (p : ProcedureContents) (s : Search) (at to : ℕ) (i : Instruction) (after : List Kind) → HasEffect m p s at i after → goes_on i ≡ true → to ≡ at + width_of i → IsAtEdge m p s at to after
 edge_next m p s at to i after h goes is = record { kinds = h.kinds; has = h.has; edge = next i to after h.there h.effect goes is }
@@ -288,18 +288,18 @@ edge_caught m p s at kinds i h has is inside low high = record { kinds = kinds; 
 effect_own : (m : ModuleContents) (p : ProcedureContents) (i : Instruction) (kinds : List Kind) → is_own p i ≡ true → effect m p i kinds ≡ exchanged (signature m p i) kinds
 effect_own m p i kinds own = ap (λ (b : Bool). if b then exchanged (signature m p i) kinds else Misses OperandKind) own
 
-pub misses_at : (m : ModuleContents) (p : ProcedureContents) (s : Search) (busy : List ℕ) (at : ℕ) (kinds : List Kind) (i : Instruction) (wrong : Defect) → IsGoing m p s busy → table s at ≡ Some kinds → instruction_at p.code at ≡ Some i → is_own p i ≡ true → all_popped (signature m p i).pops kinds ≡ Misses wrong → IsFlowDefect m p at wrong
+pub misses_at : (m : ModuleContents) (p : ProcedureContents) (s : Search) (busy : List ℕ) (at : ℕ) (kinds : List Kind) (i : Instruction) (wrong : Defect) → IsSearching m p s busy → table s at ≡ Some kinds → instruction_at p.code at ≡ Some i → is_own p i ≡ true → all_popped (signature m p i).pops kinds ≡ Misses wrong → IsFlowDefect m p at wrong
 misses_at m p s busy at kinds i wrong g has is own e =
     misses (table s) at kinds i wrong g.flow has is (effect_own m p i kinds own ∙ ap (λ o. and_then o (λ rest. Leaves (pushed (signature m p i).pushes rest))) e)
 
-pub misses_own : (m : ModuleContents) (p : ProcedureContents) (s : Search) (busy : List ℕ) (at : ℕ) (kinds : List Kind) (i : Instruction) → IsGoing m p s busy → table s at ≡ Some kinds → instruction_at p.code at ≡ Some i → is_own p i ≡ false → IsFlowDefect m p at OperandKind
+pub misses_own : (m : ModuleContents) (p : ProcedureContents) (s : Search) (busy : List ℕ) (at : ℕ) (kinds : List Kind) (i : Instruction) → IsSearching m p s busy → table s at ≡ Some kinds → instruction_at p.code at ≡ Some i → is_own p i ≡ false → IsFlowDefect m p at OperandKind
 misses_own m p s busy at kinds i g has is own =
     misses (table s) at kinds i OperandKind g.flow has is (ap (λ (b : Bool). if b then exchanged (signature m p i) kinds else Misses OperandKind) own)
 
 -- the list that an instruction leaves, where the lists grew
-pub applied : (m : ModuleContents) (p : ProcedureContents) (s new : Search) (at : ℕ) → IsGoing m p s (at ∷ []) → IsLonger s.operands new.operands → length new.operands ≤ length s.operands + 1 → new.shapes ≡ s.shapes → new.work ≡ s.work → IsApplied m p s new at
+pub applied : (m : ModuleContents) (p : ProcedureContents) (s new : Search) (at : ℕ) → IsSearching m p s (at ∷ []) → IsLonger s.operands new.operands → length new.operands ≤ length s.operands + 1 → new.shapes ≡ s.shapes → new.work ≡ s.work → IsApplied m p s new at
 applied m p s new at g longer few shapes work = record {
-  going = going_longer m p s new (at ∷ []) g longer shapes work;
+  searching = going_longer m p s new (at ∷ []) g longer shapes work;
   keeps = λ offset kinds h. same_table m p s new (at ∷ []) g longer shapes work offset ∙ h;
   few = few;
   left = omega (arith, same_left m p s new (at ∷ []) g longer shapes work);
@@ -314,9 +314,9 @@ has_effect m p s new at kinds rest after i a has is own e is_after = record {
 }
 
 -- a offset from which each edge was followed is kept
-pub all_followed : (m : ModuleContents) (p : ProcedureContents) (s one two three four : Search) (at : ℕ) (i : Instruction) (after : List Kind) → HasEffect m p one at i after → (goes_on i ≡ true → table two (at + width_of i) ≡ Some after) → ((to : ℕ) → target_of i ≡ Some to → table three to ≡ Some after) → ((h : Handler) → Contains p.handlers h → h.start ≤ at → at < h.end → table four h.target ≡ Some []) → Steps m p one two at → Steps m p two three at → Steps m p three four at → IsGoing m p four []
+pub all_followed : (m : ModuleContents) (p : ProcedureContents) (s one two three four : Search) (at : ℕ) (i : Instruction) (after : List Kind) → HasEffect m p one at i after → (goes_on i ≡ true → table two (at + width_of i) ≡ Some after) → ((to : ℕ) → target_of i ≡ Some to → table three to ≡ Some after) → ((h : Handler) → Contains p.handlers h → h.start ≤ at → at < h.end → table four h.target ≡ Some []) → Steps m p one two at → Steps m p two three at → Steps m p three four at → IsSearching m p four []
 all_followed m p s one two three four at i after e a b c f g h =
-    looked_at m p four at h.going (λ kinds has.
+    looked_at m p four at h.searching (λ kinds has.
     let here : table four at ≡ Some e.kinds = h.keeps at e.kinds (g.keeps at e.kinds (f.keeps at e.kinds e.has)) in
     let some : Some e.kinds ≡ Some kinds = sym here ∙ has in
     let same : e.kinds ≡ kinds = cc in
@@ -332,7 +332,7 @@ all_followed m p s one two three four at i after e a b c f g h =
 
 pub steps_more : (m : ModuleContents) (p : ProcedureContents) (old between new : Search) (at to list : ℕ) → Steps m p old between at → Flowed m p between new at to list → Steps m p old new at
 steps_more m p old between new at to list f h = record {
-  going = h.going;
+  searching = h.searching;
   keeps = λ offset kinds e. h.keeps offset kinds (f.keeps offset kinds e);
   same = h.same ∙ f.same;
   left = omega (arith, f.left, h.left);
@@ -356,11 +356,11 @@ no_items : {A : Type 0} (xs : List A) → length xs ≡ 0 → xs ≡ []
 no_items [] e = refl
 no_items (x ∷ xs) e = absurd (omega arith)
 
-pub run_done : (m : ModuleContents) (p : ProcedureContents) (s : Search) → IsGoing m p s [] → length s.work.items ≡ 0 → FlowsWell m p
+pub run_done : (m : ModuleContents) (p : ProcedureContents) (s : Search) → IsSearching m p s [] → length s.work.items ≡ 0 → FlowsWell m p
 run_done m p s g e = search_done m p s g (no_items s.work.items e)
 
 -- a offset is taken from those that wait
-module _ (m : ModuleContents) (p : ProcedureContents) (s new : Search) (at : ℕ) (g : IsGoing m p s []) (operands : new.operands ≡ s.operands) (shapes : new.shapes ≡ s.shapes) (work : s.work.items ≡ new.work.items ++ at ∷ []) where
+module _ (m : ModuleContents) (p : ProcedureContents) (s new : Search) (at : ℕ) (g : IsSearching m p s []) (operands : new.operands ≡ s.operands) (shapes : new.shapes ≡ s.shapes) (work : s.work.items ≡ new.work.items ++ at ∷ []) where
   taken_table : (offset : ℕ) → table new offset ≡ table s offset
   taken_table offset = ap (λ v. row new.operands (get_or v.items offset None)) shapes ∙ ap (λ ls. row ls (get_or s.shapes.items offset None)) operands
 
@@ -375,7 +375,7 @@ module _ (m : ModuleContents) (p : ProcedureContents) (s new : Search) (at : ℕ
     caught = λ h c l m. taken_table h.target ∙ k.caught h c l m;
   }
 
-  pub taken : IsGoing m p new (at ∷ [])
+  pub taken : IsSearching m p new (at ∷ [])
   taken = record {
     root = subst IsFirst (sym operands) g.root;
     sized = ap (λ v. length v.items) shapes ∙ g.sized;
@@ -434,7 +434,7 @@ module _ (m : ModuleContents) (p : ProcedureContents) (s : Search) (n : ℕ) (si
   pub start_left : left s ≡ suc n
   start_left = omega (arith, ap unset shapes, ap length work, all_unset n)
 
-  pub started : IsGoing m p s []
+  pub started : IsSearching m p s []
   started = record {
     root = (omega (arith, ap length operands), ap (λ ls. list_of ls 0) operands);
     sized = ap length shapes ∙ (ap suc (length-replicate n None)) ∙ sym size;

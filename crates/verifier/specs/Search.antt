@@ -69,7 +69,7 @@ abbrev pub IsFirst : List (List Kind) → Type 0
 IsFirst lists = (0 < length lists) × (list_of lists 0 ≡ [])
 
 -- a search at work: its table is one of the flow, and each offset that has a list waits, is being looked at, or is kept
-pub record IsGoing (m : ModuleContents) (p : ProcedureContents) (s : Search) (busy : List ℕ) : Type 0 where
+pub record IsSearching (m : ModuleContents) (p : ProcedureContents) (s : Search) (busy : List ℕ) : Type 0 where
   pub root : IsFirst s.operands
   pub sized : length s.shapes.items ≡ code_length p.code
   pub numbers : (offset list : ℕ) → slice_index_or s.shapes.items offset None ≡ Some list → list < length s.operands
@@ -89,7 +89,7 @@ pub record IsAtEdge (m : ModuleContents) (p : ProcedureContents) (s : Search) (a
 
 -- control went to a offset with a list
 pub record Flowed (m : ModuleContents) (p : ProcedureContents) (old new : Search) (at to list : ℕ) : Type 0 where
-  pub going : IsGoing m p new (at ∷ [])
+  pub searching : IsSearching m p new (at ∷ [])
   pub keeps : (offset : ℕ) (kinds : List Kind) → table old offset ≡ Some kinds → table new offset ≡ Some kinds
   pub arrives : table new to ≡ Some (list_of old.operands list)
   pub same : new.operands ≡ old.operands
@@ -97,14 +97,14 @@ pub record Flowed (m : ModuleContents) (p : ProcedureContents) (old new : Search
 
 -- control went on from a offset: lists were kept, and none was made
 pub record Steps (m : ModuleContents) (p : ProcedureContents) (old new : Search) (at : ℕ) : Type 0 where
-  pub going : IsGoing m p new (at ∷ [])
+  pub searching : IsSearching m p new (at ∷ [])
   pub keeps : (offset : ℕ) (kinds : List Kind) → table old offset ≡ Some kinds → table new offset ≡ Some kinds
   pub same : new.operands ≡ old.operands
   pub left : left new ≤ left old
 
 -- an instruction changed the list of its offset
 pub record IsApplied (m : ModuleContents) (p : ProcedureContents) (old new : Search) (at : ℕ) : Type 0 where
-  pub going : IsGoing m p new (at ∷ [])
+  pub searching : IsSearching m p new (at ∷ [])
   pub keeps : (offset : ℕ) (kinds : List Kind) → table old offset ≡ Some kinds → table new offset ≡ Some kinds
   pub few : length new.operands ≤ length old.operands + 1
   pub left : left new ≤ left old

@@ -120,8 +120,10 @@ impl Operands {
     pub fn pop(&self, list: u32, wanted: Option<Kind>) -> Result<u32, Defect>
         requires { list < length self.now }
         ensures there { IfOk result (λ r. r < length self.now) }
-        ensures ok { IfOk result (λ r. popped wanted (list_of self.now list) ≡ Leaves (list_of self.now r)) }
-        ensures err { IfErr result (λ defect. popped wanted (list_of self.now list) ≡ Misses defect) }
+        ensures ok { IfOk result (λ r.
+            popped wanted (list_of self.now list) ≡ Leaves (list_of self.now r)) }
+        ensures err { IfErr result (λ defect.
+            popped wanted (list_of self.now list) ≡ Misses defect) }
     {
         let _ = &self.links;
         if list == 0 {
@@ -144,8 +146,10 @@ impl Operands {
     pub fn pop_all(&self, list: u32, kinds: &[Option<Kind>]) -> Result<u32, Defect>
         requires { list < length self.now }
         ensures there { IfOk result (λ r. r < length self.now) }
-        ensures ok { IfOk result (λ r. all_popped kinds.now (list_of self.now list) ≡ Leaves (list_of self.now r)) }
-        ensures err { IfErr result (λ defect. all_popped kinds.now (list_of self.now list) ≡ Misses defect) }
+        ensures ok { IfOk result (λ r.
+            all_popped kinds.now (list_of self.now list) ≡ Leaves (list_of self.now r)) }
+        ensures err { IfErr result (λ defect.
+            all_popped kinds.now (list_of self.now list) ≡ Misses defect) }
     {
         let mut rest = list;
         for kind in kinds {
@@ -176,7 +180,8 @@ impl Operands {
         requires other { other < length self.now }
         ensures ok { OnOk result (list_of self.now list ≡ list_of self.now other) }
         ensures differ { IfErr result (λ defect. list_of self.now list ≢ list_of self.now other) }
-        ensures err { IfErr result (λ defect. defect ≡ between (list_of self.now list) (list_of self.now other)) }
+        ensures err { IfErr result (λ defect.
+            defect ≡ between (list_of self.now list) (list_of self.now other)) }
     {
         let _ = &self.links;
         if list == other {

@@ -10,7 +10,7 @@ ghost use Rattle.verifier.specs.Flow as flow;
 ghost use Rattle.verifier.specs.Flow.{FlowsWell};
 ghost use Rattle.verifier.specs.Operands.{list_of};
 ghost use Rattle.verifier.specs.Boundaries.{IsBoundary, KeepsBoundaries};
-ghost use Rattle.verifier.specs.Search.{Flowed, HasEffect, HasInstruction, IsApplied, IsAtEdge, IsBody, IsGoing, IsStop, Steps, left, table};
+ghost use Rattle.verifier.specs.Search.{Flowed, HasEffect, HasInstruction, IsApplied, IsAtEdge, IsBody, IsSearching, IsStop, Steps, left, table};
 
 use crate::body::Body;
 use crate::effects::{goes_on, is_own, pops, pushes, target_of};
@@ -44,7 +44,7 @@ pub(crate) struct Search {
 impl Search {
     // Control goes from an offset to another one with a list.
     fn reach(&mut self, body: &Body, at: u32, to: u32, list: u32) -> Result<(), Stop>
-        requires going { IsGoing body.now.program.now body.now.procedure.now self.old (at ∷ []) }
+        requires searching { IsSearching body.now.program.now body.now.procedure.now self.old (at ∷ []) }
         requires edge { IsAtEdge body.now.program.now body.now.procedure.now self.old at to (list_of self.old.operands list) }
         requires list { list < length self.old.operands }
         requires boundary { IsBoundary body.now.procedure.now to }
@@ -77,7 +77,7 @@ impl Search {
         instruction: Instruction,
         list: u32,
     ) -> Result<u32, Stop>
-        requires going { IsGoing body.now.program.now body.now.procedure.now self.old (at ∷ []) }
+        requires searching { IsSearching body.now.program.now body.now.procedure.now self.old (at ∷ []) }
         requires shape { table self.old at ≡ Some (list_of self.old.operands list) }
         requires list { list < length self.old.operands }
         requires instruction { instruction_at body.now.procedure.now.code at ≡ Some instruction }
@@ -111,7 +111,7 @@ impl Search {
         instruction: Instruction,
         list: u32,
     ) -> Result<(), Stop>
-        requires going { IsGoing body.now.program.now body.now.procedure.now self.old (at ∷ []) }
+        requires searching { IsSearching body.now.program.now body.now.procedure.now self.old (at ∷ []) }
         requires effect { HasEffect body.now.program.now body.now.procedure.now self.old at instruction (list_of self.old.operands list) }
         requires list { list < length self.old.operands }
         requires boundaries { KeepsBoundaries body.now.procedure.now }
@@ -135,7 +135,7 @@ impl Search {
         instruction: Instruction,
         list: u32,
     ) -> Result<(), Stop>
-        requires going { IsGoing body.now.program.now body.now.procedure.now self.old (at ∷ []) }
+        requires searching { IsSearching body.now.program.now body.now.procedure.now self.old (at ∷ []) }
         requires effect { HasEffect body.now.program.now body.now.procedure.now self.old at instruction (list_of self.old.operands list) }
         requires list { list < length self.old.operands }
         requires boundaries { KeepsBoundaries body.now.procedure.now }
@@ -151,7 +151,7 @@ impl Search {
 
     // Control goes to each handler whose range holds the offset.
     fn raise(&mut self, body: &Body, at: u32) -> Result<(), Stop>
-        requires going { IsGoing body.now.program.now body.now.procedure.now self.old (at ∷ []) }
+        requires searching { IsSearching body.now.program.now body.now.procedure.now self.old (at ∷ []) }
         requires there { HasInstruction body.now.procedure.now self.old at }
         requires boundaries { KeepsBoundaries body.now.procedure.now }
         ensures ok { OnOk result (Steps body.now.program.now body.now.procedure.now self.old self.new at) }
@@ -175,14 +175,14 @@ impl Search {
         instruction: Instruction,
         list: u32,
     ) -> Result<(), Stop>
-        requires going { IsGoing body.now.program.now body.now.procedure.now self.old (at ∷ []) }
+        requires searching { IsSearching body.now.program.now body.now.procedure.now self.old (at ∷ []) }
         requires shape { table self.old at ≡ Some (list_of self.old.operands list) }
         requires list { list < length self.old.operands }
         requires instruction { instruction_at body.now.procedure.now.code at ≡ Some instruction }
         requires boundaries { KeepsBoundaries body.now.procedure.now }
         requires room { length self.old.operands < 2 ^ 32 }
         requires short { code_length body.now.procedure.now.code < 2 ^ 32 }
-        ensures ok { OnOk result (IsGoing body.now.program.now body.now.procedure.now self.new []) }
+        ensures ok { OnOk result (IsSearching body.now.program.now body.now.procedure.now self.new []) }
         ensures left { OnOk result (left self.new ≤ left self.old) }
         ensures few { OnOk result (length self.new.operands ≤ length self.old.operands + 1) }
         ensures err { IfErr result (λ stop. IsStop body.now.program.now body.now.procedure.now stop) }
@@ -196,12 +196,12 @@ impl Search {
 
     // Looks at an offset that has a list.
     fn look(&mut self, body: &Body, at: u32) -> Result<(), Stop>
-        requires going { IsGoing body.now.program.now body.now.procedure.now self.old (at ∷ []) }
+        requires searching { IsSearching body.now.program.now body.now.procedure.now self.old (at ∷ []) }
         requires there { HasInstruction body.now.procedure.now self.old at }
         requires boundaries { KeepsBoundaries body.now.procedure.now }
         requires body { IsBody body.now }
         requires room { length self.old.operands < 2 ^ 32 }
-        ensures ok { OnOk result (IsGoing body.now.program.now body.now.procedure.now self.new []) }
+        ensures ok { OnOk result (IsSearching body.now.program.now body.now.procedure.now self.new []) }
         ensures left { OnOk result (left self.new ≤ left self.old) }
         ensures few { OnOk result (length self.new.operands ≤ length self.old.operands + 1) }
         ensures err { IfErr result (λ stop. IsStop body.now.program.now body.now.procedure.now stop) }
@@ -217,7 +217,7 @@ impl Search {
 
     // Looks at each offset that waits, until none does.
     fn run(&mut self, body: &Body) -> Result<(), Stop>
-        requires going { IsGoing body.now.program.now body.now.procedure.now self.old [] }
+        requires searching { IsSearching body.now.program.now body.now.procedure.now self.old [] }
         requires boundaries { KeepsBoundaries body.now.procedure.now }
         requires body { IsBody body.now }
         requires room { length self.old.operands + left self.old ≤ 2 ^ 32 }

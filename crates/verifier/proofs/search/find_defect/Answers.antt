@@ -10,8 +10,8 @@ use Rattle.verifier.proofs.search.find_defect.Goals as goal
 pub returns-then-size-eq0-clause-err : goal.returns-then-size-eq0-clause-err
 returns-then-size-eq0-clause-err c = empty_falls c.args.body.now.program.now c.args.body.now.procedure.now (omega (arith, c.args.body.now.indices.ok.0, ap length c.requires.body.indices, length-indices 0 c.args.body.now.procedure.now.code))
 
-pub run-requires-clause-going : goal.run-requires-clause-going
-run-requires-clause-going c =
+pub run-requires-clause-searching : goal.run-requires-clause-searching
+run-requires-clause-searching c =
     let n : c.len-size.result ≡ suc (c.len-size.result - 1) = omega arith in
     let size : code_length c.args.body.now.procedure.now.code ≡ suc (c.len-size.result - 1) = omega (arith, c.args.body.now.indices.ok.0, ap length c.requires.body.indices, length-indices 0 c.args.body.now.procedure.now.code) in
     let items : c.in-Ok-vec.shapes.items ≡ replicate c.len-size.result None = search rules in

@@ -3,13 +3,13 @@ use Rattle.std.specs.Vec.{vec_len}
 use Rattle.verifier.proofs.Reaching.{taken, taken_instruction, run_done}
 use Rattle.verifier.proofs.search.Search.run.Goals as goal
 
-pub look-requires-clause-going : goal.look-requires-clause-going
-look-requires-clause-going c = taken c.args.body.now.program.now c.args.body.now.procedure.now c.loop-at.self _ c.in-Some.at c.loop-at.invariant.going refl refl c.in-Some.ensures.items
+pub look-requires-clause-searching : goal.look-requires-clause-searching
+look-requires-clause-searching c = taken c.args.body.now.program.now c.args.body.now.procedure.now c.loop-at.self _ c.in-Some.at c.loop-at.invariant.searching refl refl c.in-Some.ensures.items
 
 pub look-requires-clause-there : goal.look-requires-clause-there
-look-requires-clause-there c = taken_instruction c.args.body.now.program.now c.args.body.now.procedure.now c.loop-at.self _ c.in-Some.at c.loop-at.invariant.going refl refl c.in-Some.ensures.items
+look-requires-clause-there c = taken_instruction c.args.body.now.program.now c.args.body.now.procedure.now c.loop-at.self _ c.in-Some.at c.loop-at.invariant.searching refl refl c.in-Some.ensures.items
 
 pub returns-clause-ok : goal.returns-clause-ok
 returns-clause-ok c =
     let none : vec_len c.loop-at.self.work ≡ 0 = search rules in
-    run_done c.args.body.now.program.now c.args.body.now.procedure.now c.loop-at.self c.loop-at.invariant.going (omega (arith, none, c.loop-at.self.work.ok.0))
+    run_done c.args.body.now.program.now c.args.body.now.procedure.now c.loop-at.self c.loop-at.invariant.searching (omega (arith, none, c.loop-at.self.work.ok.0))

@@ -1,10 +1,10 @@
 use Rattle.std.proofs.Common.{◌≤◌, ◌+◌, [], length}
-use Rattle.verifier.specs.Search.{IsGoing, left}
+use Rattle.verifier.specs.Search.{IsSearching, left}
 use Rattle.verifier.proofs.search.Search.run.Given as goal
 
 abbrev pub invariant-loop-at : goal.invariant-loop-at
 invariant-loop-at l = record {
-  going : IsGoing l.body.program.now l.body.procedure.now l.self [];
+  searching : IsSearching l.body.program.now l.body.procedure.now l.self [];
   room : length l.self.operands + left l.self ≤ 4294967296;
 }
 

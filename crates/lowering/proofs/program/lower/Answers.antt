@@ -14,7 +14,7 @@ use Rattle.lowering.proofs.FittingFile.{graphs-fit}
 use Rattle.lowering.proofs.Inside.{graphs-positioned}
 use Rattle.lowering.proofs.Keeping.{graphs-keep}
 use Rattle.lowering.proofs.Wholes.{graph-made}
-use Rattle.lowering.proofs.whole.lower.Goals as goal
+use Rattle.lowering.proofs.program.lower.Goals as goal
 
 pub new-requires : goal.new-requires
 new-requires c =

@@ -1,4 +1,4 @@
-//! Whole graphs.
+//! The graph of a program.
 ghost use Rattle.layout.specs.Runs.{graph_after_steps};
 ghost use Rattle.resolved.specs.CoreOf.{program_of};
 ghost use Rattle.resolved.specs.EndFaults.{end_faults};
@@ -23,8 +23,9 @@ use std::alloc::{AllocError, Global};
 pub fn lower(alloc: Global, core: &Core) -> Result<Graph, AllocError>
     requires ends { end_faults (program_of core.now) ≡ [] }
     requires names { HasNames (program_of core.now) }
-    ensures exact { IfOk result (λ made. made ≡ graph_of (program_of core.now)) }
-    ensures kept { IfOk result (λ made. MeaningKept (program_of core.now) (graph_after_steps made)) }
+    ensures exact { IfOk result (λ graph. graph ≡ graph_of (program_of core.now)) }
+    ensures kept { IfOk result (λ graph.
+        MeaningKept (program_of core.now) (graph_after_steps graph)) }
 {
     let hierarchy = hierarchy_of(alloc, &core.hierarchy)?;
     let exceptions = names_of(alloc, &core.exceptions)?;
