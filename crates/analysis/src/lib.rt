@@ -1,4 +1,4 @@
-//! The phases of a check that come before labels, for the whole language: from the bytes of a source to its resolved program with the
+//! The phases of a check that come before labels: from the bytes of a source to its resolved program with the
 //! possible ends of each statement, or the first fault of its text, tokens, tree, names, types, sizes and ends.
 #![tactic(auto)]
 
@@ -7,4 +7,4 @@ pub mod fault;
 pub mod phases;
 
 pub use fault::Fault;
-pub use phases::{Analysed, analyse};
+pub use phases::{Analysed, analyse, text_of};

@@ -87,8 +87,12 @@ fn read(alloc: Global, source: &str) -> Result<syntax::Program, Fault>
     }
 }
 
-// The text of some bytes.
-fn text_of(bytes: &[u8]) -> Result<&str, Cause>
+/// The text that some bytes are.
+///
+/// # Errors
+///
+/// They are too many, or no UTF-8.
+pub fn text_of(bytes: &[u8]) -> Result<&str, Cause>
     ensures same { IfOk result (λ text. text.now ≡ bytes.now) }
     ensures text { OnOk result (IsText bytes.now) }
     ensures none { IfErr result (λ cause. IsNoText bytes.now cause 0) }

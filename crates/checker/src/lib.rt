@@ -1,4 +1,4 @@
-//! Checking a source of the whole language: from its bytes under a hierarchy to an accepted program with the least labels of its
+//! Checking a source: from its bytes under a hierarchy to an accepted program with the least labels of its
 //! locals, or the first fault.
 #![tactic(auto)]
 

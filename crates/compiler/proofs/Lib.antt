@@ -1,4 +1,6 @@
-pub mod Lines
+mod Lines
+mod Walking
+mod Characters
 mod Refusals
 pub mod Readers
 mod Isolating

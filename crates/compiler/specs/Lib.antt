@@ -1,3 +1,5 @@
 pub mod Position
+pub mod NextPlace
+pub mod Characters
 pub mod Reported
 pub mod Compiled

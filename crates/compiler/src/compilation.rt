@@ -1,7 +1,6 @@
 //! The compiler: from a hierarchy text and a source to the bytes of a module.
 
-ghost use Rattle.acceptance.specs.Accepted.{HasHierarchy, IsAccepted, IsText, StandFor};
-ghost use Rattle.acceptance.specs.Refused.{IsNoText};
+ghost use Rattle.acceptance.specs.Accepted.{HasHierarchy, IsText, StandFor};
 ghost use Rattle.compiler.specs.Compiled.{IsCodeOf, IsCompiled};
 ghost use Rattle.checker.specs.Least.{least_label};
 ghost use Rattle.compiler.specs.Position.{place_at};
@@ -13,12 +12,13 @@ ghost use Rattle.resolved.specs.Flow.{AreLeast};
 ghost use Rattle.resolved.specs.Isolated.{Isolated};
 ghost use Rattle.resolved.specs.Names.{HasNames};
 ghost use Rattle.resolved.specs.Program.{Program};
-ghost use Rattle.std.specs.Prelude.{IfErr, IfOk, IfSome, IsSome, List, OnOk, [], ℕ, ◌↔◌, ◌≡◌, ◌⊎◌};
+ghost use Rattle.std.specs.Prelude.{IfErr, IfOk, IfSome, IsSome, List, [], ℕ, ◌↔◌, ◌≡◌, ◌⊎◌};
 
 use crate::fault::{Fault, NotAccepted};
 use crate::places::place_of;
 use acceptance::laws::{one_verdict, resolved_programs_have_names};
 use acceptance::{Cause, Text};
+use analysis::text_of;
 use bytecode::encode;
 use checker::{Checked, Fault as CheckFault, check};
 use layout::emit;
@@ -27,9 +27,6 @@ use lowering::lower;
 use principals::{HierFault, Hierarchy};
 use resolved::program::Core;
 use std::alloc::{AllocError, Global};
-
-/// The greatest length of a text in bytes.
-const MAX_TEXT: usize = 1_048_576;
 
 /// Compiles a source under a hierarchy text to the bytes of a module.
 ///
@@ -139,21 +136,6 @@ fn code_of(alloc: Global, core: &Core) -> Result<Vec<u8>, AllocError>
     let laid = emit(alloc, &graph)?;
     let code = encode(alloc, &laid)?;
     Ok(code)
-}
-
-// The text of some bytes.
-fn text_of(bytes: &[u8]) -> Result<&str, Cause>
-    ensures same { IfOk result (λ text. text.now ≡ bytes.now) }
-    ensures text { OnOk result (IsText bytes.now) }
-    ensures none { IfErr result (λ cause. IsNoText bytes.now cause 0) }
-{
-    if bytes.len() > MAX_TEXT {
-        return Err(Cause::TextTooLong);
-    }
-    match str::from_utf8(bytes) {
-        Ok(text) => Ok(text),
-        Err(_) => Err(Cause::NotUtf8),
-    }
 }
 
 // The fault of a text whose bytes are refused for a cause at one of them.

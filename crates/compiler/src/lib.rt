@@ -1,4 +1,4 @@
-//! From two texts to the bytes of a module, for the whole language.
+//! From two texts to the bytes of a module.
 #![tactic(auto)]
 
 mod compilation;
@@ -7,4 +7,4 @@ pub mod places;
 
 pub use compilation::{check_texts, compile};
 pub use fault::{Fault, NotAccepted};
-pub use places::place_of;
+pub use places::{place_of, places_agree};

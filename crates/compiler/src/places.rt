@@ -1,8 +1,10 @@
 //! Where the bytes of a text stand.
 
+ghost use Rattle.compiler.specs.Characters.{ColumnsAgree, LinesAgree};
+ghost use Rattle.compiler.specs.NextPlace.{next_place};
 ghost use Rattle.compiler.specs.Position as spec;
-ghost use Rattle.compiler.specs.Position.{column_of, line_of};
-ghost use Rattle.std.specs.Prelude.{◌≡◌};
+ghost use Rattle.compiler.specs.Position.{column_of, line_of, place_at};
+ghost use Rattle.std.specs.Prelude.{length, ◌+◌, ◌<◌, ◌^◌, ◌≡◌, ◌≤◌};
 
 use lexer::Place;
 
@@ -14,17 +16,43 @@ pub fn place_of(text: &[u8], at: usize) -> Place
     ensures line { result.line ≡ line_of text.now at }
     ensures column { result.column ≡ column_of text.now at }
 {
-    let mut line = 1;
-    let mut column = 1;
-    for byte in &text[..at.min(text.len())] {
-        if *byte == b'\n' {
-            line += 1;
-            column = 1;
-        } else if begins_character(*byte) {
-            column += 1;
-        }
+    let start = Place { line: 1, column: 1 };
+    place_after(text, start, 0, at.min(text.len()))
+}
+
+/// The place of the byte `to` of a text, or of its end, counted on from the place of the byte `from`.
+pub fn place_after(text: &[u8], start: Place, from: usize, to: usize) -> Place
+    requires order { from ≤ to }
+    requires within { to ≤ length text.now }
+    requires start { start ≡ place_at text.now from }
+    ensures { result ≡ place_at text.now to }
+{
+    let mut place = start;
+    for byte in &text[from..to] {
+        place = next(place, *byte);
     }
-    Place { line, column }
+    place
+}
+
+// The place behind a byte that stands at this place.
+fn next(place: Place, byte: u8) -> Place
+    requires few_lines { place.line + 1 < 2 ^ 64 }
+    requires few_columns { place.column + 1 < 2 ^ 64 }
+    ensures { result ≡ next_place place byte }
+{
+    if byte == b'\n' {
+        Place {
+            line: place.line + 1,
+            column: 1,
+        }
+    } else if begins_character(byte) {
+        Place {
+            line: place.line,
+            column: place.column + 1,
+        }
+    } else {
+        place
+    }
 }
 
 // A character begins with this byte.
@@ -33,3 +61,10 @@ fn begins_character(byte: u8) -> bool
 {
     byte < 128 || byte >= 192
 }
+
+/// The law that these places are those of [`lexer::place`]: a character of a text in UTF-8 has the same line and the same column by
+/// both. It does nothing when it is called.
+pub fn places_agree()
+    ensures line { LinesAgree }
+    ensures column { ColumnsAgree }
+{}

@@ -1,5 +1,3 @@
-mod Walking
-mod Naming
 mod Texts
 mod Counts
 mod Kept

@@ -1,13 +1,13 @@
 -- The text that says why a flow is refused: the policy that flows, and each step of its chain by its place, its rule and the name of
 -- what it flows to.
 -- Source: our own.
-use Rattle.std.specs.Prelude.{ℕ, List, [], ◌∷◌, ◌++◌, codes, flat_map, slice_get, unwrap_or}
+use Rattle.std.specs.Prelude.{ℕ, List, [], ◌∷◌, ◌++◌, codes, flat_map}
 use Rattle.std.specs.Fmt.{decimal}
 use Rattle.principals.specs.ActsFor.{PrincipalHierarchy}
 use Rattle.labels.specs.Label.{ReaderPolicy}
 use Rattle.labels.specs.Printed.{printed_label}
 use Rattle.resolved.specs.CoreOf.{program_of}
-use Rattle.resolved.specs.Names.{built_in_names}
+use Rattle.resolved.specs.Exceptions.{exception_name}
 use Rattle.resolved.specs.Program.{Program, channel_at, global_at, procedure_at, slot_at}
 use Rattle.resolved.specs.declared.expression.Variable.{Variable}
 use Rattle.resolved.specs.declared.expression.Variable.TheVariants.{Global, Local}
@@ -24,10 +24,6 @@ abbrev pub variable_name : Program → (procedure : ℕ) → Variable → List �
 variable_name program f (Global n) = (global_at program n).name
 variable_name program f (Local n) = (slot_at (procedure_at program f) n).name
 
--- an exception: one that every program has, or a declared one
-abbrev pub exception_name : Program → (exception : ℕ) → List ℕ
-exception_name program exception = unwrap_or (slice_get (built_in_names ++ program.exceptions) exception) []
-
 -- what a step flows to; the label of a loop, to which no step of a chain is reported, has no name
 abbrev pub target_name : Program → Target → List ℕ
 target_name program (ToVariable f x) = variable_name program f x
@@ -37,7 +33,7 @@ target_name program (ToParameter f i) = (slot_at (procedure_at program f) i).nam
 target_name program (ToValue f) = codes "return " ++ (procedure_at program f).name
 target_name program (ToEnd f) = codes "end " ++ (procedure_at program f).name
 target_name program (ToThrown f exception) =
-    codes "throws " ++ ((procedure_at program f).name ++ (codes " " ++ exception_name program exception))
+    codes "throws " ++ ((procedure_at program f).name ++ (codes " " ++ exception_name program.exceptions exception))
 target_name program (ToLoop f loop) = []
 
 -- ---- lines

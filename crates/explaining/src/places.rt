@@ -1,9 +1,10 @@
 //! Where the bytes of a text stand, each found in a few steps.
 
-ghost use Rattle.compiler.specs.Position.{column_of, line_of, place_at};
-ghost use Rattle.explaining.specs.Marks.{marks_of, next_place};
-ghost use Rattle.std.specs.Prelude.{IfOk, length, ◌+◌, ◌^◌, ◌<◌, ◌≡◌, ◌≤◌};
+ghost use Rattle.compiler.specs.Position.{column_of, line_of};
+ghost use Rattle.explaining.specs.Marks.{marks_of};
+ghost use Rattle.std.specs.Prelude.{IfOk, ◌≡◌};
 
+use compiler::places::place_after;
 use lexer::Place;
 use std::alloc::{AllocError, Global};
 
@@ -42,40 +43,5 @@ impl<'a> Places<'a> {
         let end = at.min(self.text.len());
         let mark = end / STRIDE;
         place_after(self.text, self.marks[mark], mark * STRIDE, end)
-    }
-}
-
-// The place of a byte of a text, counted from the place of one before it.
-fn place_after(text: &[u8], start: Place, from: usize, to: usize) -> Place
-    requires order { from ≤ to }
-    requires within { to ≤ length text.now }
-    requires start { start ≡ place_at text.now from }
-    ensures { result ≡ place_at text.now to }
-{
-    let mut place = start;
-    for byte in &text[from..to] {
-        place = next(place, *byte);
-    }
-    place
-}
-
-// The place behind a byte that stands at this place.
-fn next(place: Place, byte: u8) -> Place
-    requires few_lines { place.line + 1 < 2 ^ 64 }
-    requires few_columns { place.column + 1 < 2 ^ 64 }
-    ensures { result ≡ next_place place byte }
-{
-    if byte == b'\n' {
-        Place {
-            line: place.line + 1,
-            column: 1,
-        }
-    } else if byte < 128 || byte >= 192 {
-        Place {
-            line: place.line,
-            column: place.column + 1,
-        }
-    } else {
-        place
     }
 }

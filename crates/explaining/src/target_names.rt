@@ -3,9 +3,11 @@
 ghost use Rattle.explaining.specs.Flow.{target_name};
 ghost use Rattle.explaining.specs.Flow as names;
 ghost use Rattle.resolved.specs.CoreOf.{program_of};
+ghost use Rattle.resolved.specs.Exceptions as spec;
 ghost use Rattle.resolved.specs.Program.{channel_at, global_at, procedure_at, slot_at};
-ghost use Rattle.std.specs.Prelude.{Some, [], slice_get, unwrap_or, ◌≡◌};
+ghost use Rattle.std.specs.Prelude.{Some, ◌≡◌};
 
+use resolved::exceptions::exception_name;
 use resolved::expression::Variable;
 use resolved::program::Core;
 use resolved::target::Target;
@@ -42,7 +44,7 @@ impl fmt::Display for NamedTarget<'_> {
                 f,
                 "throws {} {}",
                 procedure_name(self.core, procedure),
-                exception_name(self.core, exception)
+                thrown_name(self.core, exception)
             ),
             Target::ToLoop(_, _) => Ok(()),
         }
@@ -99,24 +101,8 @@ fn variable_name(core: &Core, procedure: u32, variable: Variable) -> &str
     }
 }
 
-// The name of an exception: of one that every program has, or of a declared one.
-fn exception_name(core: &Core, exception: u32) -> &str
-    ensures { result.now ≡ names.exception_name (program_of core.now) exception }
+fn thrown_name(core: &Core, exception: u32) -> &str
+    ensures { result.now ≡ spec.exception_name (program_of core.now).exceptions exception }
 {
-    match exception {
-        0 => "Arith",
-        1 => "Bounds",
-        2 => "End",
-        _ => declared_name(core, (exception - 3) as usize),
-    }
-}
-
-// The name of a declared exception, by its place among these.
-fn declared_name(core: &Core, index: usize) -> &str
-    ensures { result.now ≡ unwrap_or (slice_get (program_of core.now).exceptions index) [] }
-{
-    match core.exceptions.get(index) {
-        Some(name) => name.as_str(),
-        None => "",
-    }
+    exception_name(&core.exceptions, exception)
 }

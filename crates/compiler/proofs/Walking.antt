@@ -7,7 +7,7 @@ use Rattle.std.proofs.lemmas.List.Sums.{count_by-le-length, count_by_more_yes, c
 use Rattle.lexer.specs.declared.token.Place.{Place}
 use Rattle.compiler.specs.Position.{begins_character, bytes_of_line, column_of, is_line_feed, line_of, place_at}
 use Rattle.compiler.proofs.Lines.{column_of-line_feed, column_of-begin, column_of-within}
-use Rattle.explaining.specs.Marks.{next_place}
+use Rattle.compiler.specs.NextPlace.{next_place}
 
 abbrev place : (line column : ℕ) → Place
 place line column = record { line = line; column = column }

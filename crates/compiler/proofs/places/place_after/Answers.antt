@@ -1,9 +1,9 @@
 use Rattle.std.proofs.Common.{◌≡◌, ◌∙◌, ap, ◌+◌, ◌-◌, ◌<◌, length, take, drop, get_or, arith}
 use Rattle.std.proofs.lemmas.List.{length-take, get_or-take, get_or-drop}
 use Rattle.compiler.specs.Position.{place_at}
-use Rattle.explaining.specs.Marks.{next_place}
-use Rattle.explaining.proofs.Walking.{next-place_at}
-use Rattle.explaining.proofs.places.place_after.Goals as goal
+use Rattle.compiler.specs.NextPlace.{next_place}
+use Rattle.compiler.proofs.Walking.{next-place_at}
+use Rattle.compiler.proofs.places.place_after.Goals as goal
 
 pub loop-byte-preserved : goal.loop-byte-preserved
 loop-byte-preserved c =
