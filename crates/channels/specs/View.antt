@@ -19,10 +19,10 @@ abbrev pub is_shown : ModuleContents → Option ℕ → Pair → Bool
 is_shown m None pair = true
 is_shown m (Some observer) pair = may_read m.hierarchy observer (channel_label m pair.channel)
 
--- the pairs that are shown: what the observer sees, or all where there is none
-abbrev pub shown : ModuleContents → Option ℕ → List Pair → List Pair
-shown m None sent = sent
-shown m (Some observer) sent = seen_of m observer sent
+-- the view for an observer: the pairs that it sees; or all where there is none
+abbrev pub view_for : ModuleContents → Option ℕ → List Pair → List Pair
+view_for m None sent = sent
+view_for m (Some observer) sent = seen_of m observer sent
 
 -- the line of a pair: the channel's name, a space, the number, and a line feed
 abbrev pub pair_line : ModuleContents → Pair → List ℕ
@@ -36,10 +36,10 @@ view_text m (pair ∷ pairs) = pair_line m pair ++ view_text m pairs
 
 -- what a sink holds grew by the text of what an observer is shown, or by a prefix of it
 abbrev pub ShowsAll : ModuleContents → (observer : Option ℕ) → (sent : List Pair) → (old new : Option (List ℕ)) → Type 0
-ShowsAll m observer sent old new = Appends old new (view_text m (shown m observer sent))
+ShowsAll m observer sent old new = Appends old new (view_text m (view_for m observer sent))
 
 abbrev pub ShowsPrefix : ModuleContents → (observer : Option ℕ) → (sent : List Pair) → (old new : Option (List ℕ)) → Type 0
-ShowsPrefix m observer sent old new = AppendsPrefix old new (view_text m (shown m observer sent))
+ShowsPrefix m observer sent old new = AppendsPrefix old new (view_text m (view_for m observer sent))
 
 -- for each channel of a module, by its number, whether an observer may read it
 abbrev pub readable : ModuleContents → (observer : ℕ) → List Bool

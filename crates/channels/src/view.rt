@@ -3,7 +3,7 @@
 ghost use Rattle.bytecode.specs.Isolated.{seen_of};
 ghost use Rattle.channels.specs.Sink.{AppendsPrefix};
 ghost use Rattle.channels.specs.View as view;
-ghost use Rattle.channels.specs.View.{ShowsAll, ShowsPrefix, answers_for, is_shown, name_in, pair_line, readable, shown, view_text};
+ghost use Rattle.channels.specs.View.{ShowsAll, ShowsPrefix, answers_for, is_shown, name_in, pair_line, readable, view_for, view_text};
 ghost use Rattle.std.specs.Io.KnownBytes.{Appends};
 ghost use Rattle.std.specs.Prelude.{◌≡◌, Err, IfOk, IsTrue, OnErr, OnOk, filter, slice_get};
 ghost use Rattle.std.specs.String.{string_bytes};
@@ -150,10 +150,10 @@ fn write_lines<S: Sink>(
 ) -> Result<(), ViewFault>
     ensures sink { result ≡ Err ViewFault.Sink → IsTrue (S.has_failed out.new) }
     ensures prefix { OnErr result (AppendsPrefix (S.taken out.old) (S.taken out.new)
-        (view_text observer.now.program.now (shown observer.now.program.now observer.now.principal
+        (view_text observer.now.program.now (view_for observer.now.program.now observer.now.principal
         pairs.now))) }
     ensures accepted { OnOk result (Appends (S.taken out.old) (S.taken out.new)
-        (view_text observer.now.program.now (shown observer.now.program.now observer.now.principal
+        (view_text observer.now.program.now (view_for observer.now.program.now observer.now.principal
         pairs.now))) }
 {
     for pair in pairs {

@@ -4,5 +4,5 @@
 mod request;
 mod words;
 
-pub use request::{MOST_STEPS, Task, TaskFault, USUAL_STEPS};
+pub use request::{MAX_STEPS, Task, TaskFault, USUAL_STEPS};
 pub use words::task;

@@ -5,7 +5,7 @@ use std::alloc::{AllocError, AllocFailed};
 use thiserror::Error;
 
 /// The most steps that `--steps` takes.
-pub const MOST_STEPS: u64 = 1_000_000_000_000;
+pub const MAX_STEPS: u64 = 1_000_000_000_000;
 
 /// The steps that a run takes at most where `--steps` is not given.
 pub const USUAL_STEPS: u64 = 1_000_000;

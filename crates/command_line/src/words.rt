@@ -9,7 +9,7 @@ ghost use Rattle.command_line.specs.declared.request.TaskFault.TheVariants.{OutO
 ghost use Rattle.std.specs.String.{string_bytes};
 ghost use Rattle.std.specs.Prelude.{◌≡◌, ◌≤◌, ◌∷◌, ℕ, IfErr, IfOk, List, MatchResult, [], codes, false, option_map};
 
-use crate::request::{MOST_STEPS, Task, TaskFault, USUAL_STEPS};
+use crate::request::{MAX_STEPS, Task, TaskFault, USUAL_STEPS};
 use clap::error::ErrorKind;
 use clap::{Arg, ArgAction, ArgMatches, Command, value_parser};
 use std::alloc::{AllocError, Global};
@@ -22,9 +22,10 @@ use std::alloc::{AllocError, Global};
 /// memory.
 pub fn task<'a>(alloc: Global, words: &'a [&'a str]) -> Result<Task, TaskFault>
     ensures matched { IfOk result (IsTaskOf (subcommand_of flowc_command (texts words.now))) }
-    ensures steps { IfOk result (λ task. steps_of task ≤ MOST_STEPS) }
+    ensures steps { IfOk result (λ task. steps_of task ≤ MAX_STEPS) }
     ensures refused { IfOk result (λ _. fault_of flowc_command (texts words.now) ≡ []) }
-    ensures taken { IfErr result (λ fault. fault_of flowc_command (texts words.now) ≡ [] → fault ≡ OutOfMemory) }
+    ensures taken { IfErr result (λ fault.
+        fault_of flowc_command (texts words.now) ≡ [] → fault ≡ OutOfMemory) }
     ensures plain { GrantsPlainRequests (texts words.now) result }
     ensures only { HasNoOption (texts words.now) → IfOk result (IsSpelling (texts words.now)) }
 {
@@ -39,7 +40,7 @@ pub fn task<'a>(alloc: Global, words: &'a [&'a str]) -> Result<Task, TaskFault>
 fn asked(alloc: Global, matches: &ArgMatches<'_>) -> Result<Task, TaskFault>
     requires met { Enters (subcommand_rows_of matches.now) }
     ensures matched { IfOk result (IsTaskOf (subcommand_rows_of matches.now)) }
-    ensures steps { IfOk result (λ task. steps_of task ≤ MOST_STEPS) }
+    ensures steps { IfOk result (λ task. steps_of task ≤ MAX_STEPS) }
     ensures taken { IfErr result (λ fault. fault ≡ OutOfMemory) }
 {
     match matches.subcommand() {
@@ -216,7 +217,7 @@ fn words_fault(alloc: Global, error: &clap::Error) -> TaskFault
 fn check_task(alloc: Global, matches: &ArgMatches<'_>) -> Result<Task, TaskFault>
     requires given { HasCheckWords (rows_in matches.now) }
     ensures matched { IfOk result (AsksFor (codes "check") (rows_in matches.now)) }
-    ensures steps { IfOk result (λ task. steps_of task ≤ MOST_STEPS) }
+    ensures steps { IfOk result (λ task. steps_of task ≤ MAX_STEPS) }
     ensures taken { IfErr result (λ fault. fault ≡ OutOfMemory) }
 {
     Ok(Task::Check {
@@ -228,7 +229,7 @@ fn check_task(alloc: Global, matches: &ArgMatches<'_>) -> Result<Task, TaskFault
 fn build_task(alloc: Global, matches: &ArgMatches<'_>) -> Result<Task, TaskFault>
     requires given { HasBuildWords (rows_in matches.now) }
     ensures matched { IfOk result (AsksFor (codes "build") (rows_in matches.now)) }
-    ensures steps { IfOk result (λ task. steps_of task ≤ MOST_STEPS) }
+    ensures steps { IfOk result (λ task. steps_of task ≤ MAX_STEPS) }
     ensures taken { IfErr result (λ fault. fault ≡ OutOfMemory) }
 {
     Ok(Task::Build {
@@ -241,7 +242,7 @@ fn build_task(alloc: Global, matches: &ArgMatches<'_>) -> Result<Task, TaskFault
 fn run_task(alloc: Global, matches: &ArgMatches<'_>) -> Result<Task, TaskFault>
     requires given { HasRunWords (rows_in matches.now) }
     ensures matched { IfOk result (AsksFor (codes "run") (rows_in matches.now)) }
-    ensures steps { IfOk result (λ task. steps_of task ≤ MOST_STEPS) }
+    ensures steps { IfOk result (λ task. steps_of task ≤ MAX_STEPS) }
     ensures taken { IfErr result (λ fault. fault ≡ OutOfMemory) }
 {
     Ok(Task::Run {
@@ -255,7 +256,7 @@ fn run_task(alloc: Global, matches: &ArgMatches<'_>) -> Result<Task, TaskFault>
 fn list_task(alloc: Global, matches: &ArgMatches<'_>) -> Result<Task, TaskFault>
     requires given { HasListWords (rows_in matches.now) }
     ensures matched { IfOk result (AsksFor (codes "list") (rows_in matches.now)) }
-    ensures steps { IfOk result (λ task. steps_of task ≤ MOST_STEPS) }
+    ensures steps { IfOk result (λ task. steps_of task ≤ MAX_STEPS) }
     ensures taken { IfErr result (λ fault. fault ≡ OutOfMemory) }
 {
     Ok(Task::List {
@@ -266,7 +267,7 @@ fn list_task(alloc: Global, matches: &ArgMatches<'_>) -> Result<Task, TaskFault>
 fn explain_task(alloc: Global, matches: &ArgMatches<'_>) -> Result<Task, TaskFault>
     requires given { HasExplainWords (rows_in matches.now) }
     ensures matched { IfOk result (AsksFor (codes "explain") (rows_in matches.now)) }
-    ensures steps { IfOk result (λ task. steps_of task ≤ MOST_STEPS) }
+    ensures steps { IfOk result (λ task. steps_of task ≤ MAX_STEPS) }
     ensures taken { IfErr result (λ fault. fault ≡ OutOfMemory) }
 {
     Ok(Task::Explain {
@@ -297,7 +298,7 @@ fn observer_word(alloc: Global, matches: &ArgMatches<'_>) -> Result<Option<Strin
 fn steps_number(matches: &ArgMatches<'_>) -> u64
     requires in_range { HasStepsInRange (rows_in matches.now) }
     ensures number { result ≡ steps_in (rows_in matches.now) }
-    ensures most { result ≤ MOST_STEPS }
+    ensures most { result ≤ MAX_STEPS }
 {
     matches.get_one::<u64>("steps").unwrap_or(USUAL_STEPS)
 }

@@ -1,6 +1,6 @@
 -- The lines in which the program reports faults and the ends of runs. Numbers are in decimal.
 -- Source: our own.
-use Rattle.std.specs.Prelude.{ℕ, ◌-◌, ◌==◌, if◌then◌else◌, List, [], ◌++◌, slice_get, unwrap_or, codes, Bool, IsTrue}
+use Rattle.std.specs.Prelude.{ℕ, List, ◌++◌, codes, Bool, IsTrue}
 use Rattle.std.specs.Fmt.{decimal}
 use Rattle.std.specs.String.{string_bytes}
 use Rattle.bytecode.specs.Faults.{refusal_number, refusal_words}
@@ -10,6 +10,7 @@ use Rattle.channels.specs.Words.{world_number, world_words}
 use Rattle.acceptance.specs.declared.cause.Cause.{Cause}
 use Rattle.acceptance.specs.Causes.{cause_number, cause_words}
 use Rattle.lexer.specs.declared.token.Place.{Place}
+use Rattle.resolved.specs.Exceptions.{exception_name}
 use Rattle.machine.specs.declared.status.Status.{Status}
 use Rattle.machine.specs.declared.status.Status.TheVariants as status
 use Rattle.verifier.specs.Words.{defect_number, defect_words}
@@ -77,14 +78,6 @@ IsPerformFault IsRefusal out_failed CannotWrite = IsTrue out_failed
 IsPerformFault IsRefusal out_failed NoMemory = Unit {0}
 
 -- ---- ends of runs
-
--- the name of an exception: of one of the three that every program has, or of a declared one, which are numbered from 3
-abbrev pub exception_name : (declared : List (List ℕ)) → ℕ → List ℕ
-exception_name declared exception =
-    if exception == 0 then codes "Arith"
-    else (if exception == 1 then codes "Bounds"
-    else (if exception == 2 then codes "End"
-    else unwrap_or (slice_get declared (exception - 3)) []))
 
 -- how a run ended or stands
 abbrev pub end_line : (declared : List (List ℕ)) → Status → List ℕ

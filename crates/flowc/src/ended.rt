@@ -1,11 +1,11 @@
-//! How tasks end that are done.
+//! How tasks end that do not fail.
 
 ghost use Rattle.std.specs.Prelude.{[], ◌≡◌};
 ghost use Rattle.std.specs.String.{string_bytes};
 
 use std::alloc::Global;
 
-/// How a task ended that was done, as the program reports it: its exit status, and the line for standard error.
+/// How a task ended that did not fail, as the program reports it: its exit status, and the line for standard error.
 #[derive(Drop)]
 pub struct Ended {
     pub status: u8,

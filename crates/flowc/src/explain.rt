@@ -29,7 +29,7 @@ pub fn explain<O: Sink>(
     ensures accepted { OnOk result (AreAccepted hierarchy.entry.bytes.now source.entry.bytes.now) }
     ensures refused { IfErr result (λ fault. status_of_fault fault ≡ 1 →
         ¬ AreAccepted hierarchy.entry.bytes.now source.entry.bytes.now) }
-    ensures shown { OnOk result (Explains
+    ensures stdout { OnOk result (Explains
         hierarchy.entry.bytes.now source.entry.bytes.now (O.taken out.old) (O.taken out.new)) }
     ensures chain { IfErr result (λ fault. status_of_fault fault ≡ 1 → ExplainsRefusal
         hierarchy.entry.bytes.now source.entry.bytes.now (O.taken out.old) (O.taken out.new)) }
@@ -38,8 +38,8 @@ pub fn explain<O: Sink>(
     ensures status { IfOk result (λ ended. ended.status ≡ 0) }
     ensures silent { IfOk result (λ ended. string_bytes ended.line ≡ []) }
     ensures message { IfErr result (IsPerformFault (IsTextsLine
-        hierarchy.entry.path.now source.entry.path.now hierarchy.entry.bytes.now source.entry.bytes.now)
-        (O.has_failed out.new)) }
+        hierarchy.entry.path.now source.entry.path.now
+        hierarchy.entry.bytes.now source.entry.bytes.now) (O.has_failed out.new)) }
 {
     match check_texts(alloc, hierarchy.bytes, source.bytes) {
         Ok(checked) => match write_labels(alloc, &checked, source.bytes, out) {

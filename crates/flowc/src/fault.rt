@@ -6,7 +6,7 @@ ghost use Rattle.std.specs.Prelude.{◌≡◌};
 use channels::SinkFault;
 use std::alloc::{AllocError, AllocFailed};
 
-/// Why a task was not done.
+/// Why a task failed.
 #[derive(Drop)]
 pub enum PerformFault {
     /// A fault of what was read, by the line that reports it.

@@ -35,7 +35,7 @@ pub fn sessions_are_isolated()
 ///
 /// Whether such a run ends with status 0 or 3 is not said: that depends on memory and on the streams.
 pub fn runs_are_isolated()
-    ensures shown { RunsShowThemselves }
+    ensures stdout { RunsShowThemselves }
     ensures isolated { RunsAreIsolated }
     ensures fixed { StandardErrorIsFixed }
 {

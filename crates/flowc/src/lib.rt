@@ -16,7 +16,7 @@ mod view;
 pub use acceptance::{Cause, Text};
 pub use bytecode::{FormatFault, Module, Refusal, decode};
 pub use channels::{Device, Pair, Sink, SinkFault, World, WorldDefect, WorldFault};
-pub use command_line::{MOST_STEPS, Task, TaskFault, USUAL_STEPS, task};
+pub use command_line::{MAX_STEPS, Task, TaskFault, USUAL_STEPS, task};
 pub use compiler::{Fault, NotAccepted, check_texts, compile};
 pub use host::{Answer, Event, Host, HostFault, Id, MAX_SESSIONS};
 pub use machine::Status;

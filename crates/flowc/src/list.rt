@@ -21,7 +21,8 @@ pub fn list_module<O: Sink>(
     out: &mut O,
 ) -> Result<Ended, PerformFault>
     ensures listed { OnOk result (Lists code.entry.bytes.now (O.taken out.old) (O.taken out.new)) }
-    ensures some { OnErr result (ListsSome code.entry.bytes.now (O.taken out.old) (O.taken out.new)) }
+    ensures some { OnErr result (ListsSome
+        code.entry.bytes.now (O.taken out.old) (O.taken out.new)) }
     ensures refused { IfErr result (λ fault. status_of_fault fault ≡ 1 →
         CannotList code.entry.bytes.now) }
     ensures quiet { IfErr result (λ fault. status_of_fault fault ≡ 1 →

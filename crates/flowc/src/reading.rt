@@ -28,10 +28,14 @@ pub struct File<'a> {
 /// The verified module that the bytes of a file spell.
 pub fn read_module(alloc: Global, file: File<'_>) -> Result<Verified, PerformFault>
     ensures spelled { IfOk result (λ verified. Spells module_file verified file.entry.bytes.now) }
-    ensures only { IfOk result (λ verified. (program : ModuleContents) → Spells module_file program file.entry.bytes.now → verified ≡ program) }
+    ensures only { IfOk result (λ verified. (program : ModuleContents) →
+        Spells module_file program file.entry.bytes.now → verified ≡ program) }
     ensures faultless { IfOk result (λ verified. HasNoFault verified) }
-    ensures refused { IfErr result (λ fault. status_of_fault fault ≡ 1 → (program : ModuleContents) → Spells module_file program file.entry.bytes.now → ¬ HasNoFault program) }
-    ensures message { IfErr result (IsPerformFault (IsModuleLine file.entry.path.now file.entry.bytes.now) false) }
+    ensures refused { IfErr result (λ fault. status_of_fault fault ≡ 1 →
+        (program : ModuleContents) →
+        Spells module_file program file.entry.bytes.now → ¬ HasNoFault program) }
+    ensures message { IfErr result (IsPerformFault
+        (IsModuleLine file.entry.path.now file.entry.bytes.now) false) }
 {
     let program = match decode(alloc, file.bytes) {
         Ok(program) => program,
@@ -53,10 +57,15 @@ pub fn read_module(alloc: Global, file: File<'_>) -> Result<Verified, PerformFau
 /// The world that the bytes of a file write for a module.
 pub fn read_world(alloc: Global, program: &Module, file: File<'_>) -> Result<World, PerformFault>
     ensures encoded { OnOk result (IsUtf8 file.entry.bytes.now) }
-    ensures right { OnOk result (IsWorldText (input_names program.now) (lines_of file.entry.bytes.now)) }
-    ensures world { IfOk result (λ world. world ≡ world_of (input_names program.now) (lines_of file.entry.bytes.now)) }
-    ensures refused { IfErr result (λ fault. status_of_fault fault ≡ 1 → IsUtf8 file.entry.bytes.now → ¬ IsWorldText (input_names program.now) (lines_of file.entry.bytes.now)) }
-    ensures message { IfErr result (IsPerformFault (IsWorldLine program.now file.entry.path.now file.entry.bytes.now) false) }
+    ensures right { OnOk result
+        (IsWorldText (input_names program.now) (lines_of file.entry.bytes.now)) }
+    ensures world { IfOk result (λ world.
+        world ≡ world_of (input_names program.now) (lines_of file.entry.bytes.now)) }
+    ensures refused { IfErr result (λ fault. status_of_fault fault ≡ 1 →
+        IsUtf8 file.entry.bytes.now →
+        ¬ IsWorldText (input_names program.now) (lines_of file.entry.bytes.now)) }
+    ensures message { IfErr result (IsPerformFault
+        (IsWorldLine program.now file.entry.path.now file.entry.bytes.now) false) }
 {
     let path = file.path;
     let Ok(text) = std::str::from_utf8(file.bytes) else {

@@ -6,7 +6,6 @@ ghost use Rattle.bytecode.specs.Format.{module_file};
 ghost use Rattle.bytecode.specs.Machine.{Running, first_state};
 ghost use Rattle.channels.specs.World.{input_names};
 ghost use Rattle.channels.specs.WorldText.{IsWorldText, lines_of};
-ghost use Rattle.flowc.specs.Lines as lines;
 ghost use Rattle.flowc.specs.Lines.{IsPerformFault};
 ghost use Rattle.flowc.specs.Stdout.{CannotRun, ShowsRun, ShowsSome, numbers_in};
 ghost use Rattle.flowc.specs.Task.{status_of_fault, reported_status};
@@ -27,6 +26,7 @@ use bytecode::Module;
 use channels::{Sink, WorldDefect};
 use machine::{Machine, NewFault, Status};
 use principals::Hierarchy;
+use resolved::exceptions::exception_name;
 use std::alloc::Global;
 
 /// Runs a module on a world for at most so many steps, and writes what it sent: all of it, or what the observer may read.
@@ -38,12 +38,23 @@ pub fn run<O: Sink>(
     steps: u64,
     out: &mut O,
 ) -> Result<Ended, PerformFault>
-    ensures shown { IfOk result (λ ended. ShowsRun code.entry.bytes.now world.entry.bytes.now (option_map (λ name. name.now) observer.entry) steps ended.status (O.taken out.old) (O.taken out.new)) }
-    ensures some { OnErr result (ShowsSome code.entry.bytes.now world.entry.bytes.now (option_map (λ name. name.now) observer.entry) steps (O.taken out.old) (O.taken out.new)) }
-    ensures refused { IfErr result (λ fault. status_of_fault fault ≡ 1 → CannotRun code.entry.bytes.now world.entry.bytes.now (option_map (λ name. name.now) observer.entry)) }
-    ensures quiet { IfErr result (λ fault. status_of_fault fault ≡ 1 → O.taken out.old ≡ O.taken out.new) }
-    ensures end { IfOk result (λ ended. IsEndLine code.entry.bytes.now world.entry.bytes.now (option_map (λ name. name.now) observer.entry) steps ended.status (string_bytes ended.line)) }
-    ensures message { IfErr result (IsPerformFault (IsRefusedLine code.entry.path.now world.entry.path.now code.entry.bytes.now world.entry.bytes.now (option_map (λ name. name.now) observer.entry)) (O.has_failed out.new)) }
+    ensures stdout { IfOk result (λ ended. ShowsRun
+        code.entry.bytes.now world.entry.bytes.now (option_map (λ name. name.now) observer.entry)
+        steps ended.status (O.taken out.old) (O.taken out.new)) }
+    ensures some { OnErr result (ShowsSome
+        code.entry.bytes.now world.entry.bytes.now (option_map (λ name. name.now) observer.entry)
+        steps (O.taken out.old) (O.taken out.new)) }
+    ensures refused { IfErr result (λ fault. status_of_fault fault ≡ 1 → CannotRun
+        code.entry.bytes.now world.entry.bytes.now
+        (option_map (λ name. name.now) observer.entry)) }
+    ensures quiet { IfErr result (λ fault. status_of_fault fault ≡ 1 →
+        O.taken out.old ≡ O.taken out.new) }
+    ensures end { IfOk result (λ ended. IsEndLine
+        code.entry.bytes.now world.entry.bytes.now (option_map (λ name. name.now) observer.entry)
+        steps ended.status (string_bytes ended.line)) }
+    ensures message { IfErr result (IsPerformFault (IsRefusedLine
+        code.entry.path.now world.entry.path.now code.entry.bytes.now world.entry.bytes.now
+        (option_map (λ name. name.now) observer.entry)) (O.has_failed out.new)) }
 {
     let mut machine = start(alloc, code, world)?;
     let principal = principal_of(alloc, machine.module().hierarchy(), observer)?;
@@ -112,7 +123,7 @@ fn report_end(
     let (status, line) = match status {
         Status::Finished => (0, String::from_str(alloc, "finished\n")?),
         Status::Threw(exception) => {
-            let name = exception_name(program, exception);
+            let name = exception_name(program.exceptions(), exception);
             (4, format!(in alloc; "threw {name}\n")?)
         }
         Status::Deep => (5, String::from_str(alloc, "deep\n")?),
@@ -120,19 +131,4 @@ fn report_end(
         Status::NoMemory => (3, String::from_str(alloc, "no memory\n")?),
     };
     Ok(Ended { status, line })
-}
-
-// The name of an exception: of one that every program has, or of a declared one.
-fn exception_name(program: &Module, exception: u32) -> &str
-    ensures { result.now ≡ lines.exception_name program.now.exceptions exception }
-{
-    match exception {
-        0 => "Arith",
-        1 => "Bounds",
-        2 => "End",
-        _ => program
-            .exceptions()
-            .get((exception - 3) as usize)
-            .map_or("", |name| name.as_str()),
-    }
 }

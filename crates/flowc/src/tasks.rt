@@ -1,12 +1,9 @@
-ghost use Rattle.channels.specs.Sink.{AppendsPrefix};
-ghost use Rattle.compiler.specs.Compiled.{IsCompiled};
-ghost use Rattle.flowc.specs.Compiled.{AreAccepted, HoldsProgram, IsBuilt, bytes_at};
-ghost use Rattle.flowc.specs.Lines.{IsPerformFault, line_of_fault};
+ghost use Rattle.flowc.specs.Compiled.{HoldsProgram, IsBuilt, bytes_at};
+ghost use Rattle.flowc.specs.Lines.{line_of_fault};
 ghost use Rattle.flowc.specs.Stdout.{Shows};
 ghost use Rattle.flowc.specs.Task.{files_of, makes_file, may_end, reads_source, status_of_fault};
-ghost use Rattle.flowc.specs.Messages.{IsTextsLine, WritesMessage, WroteLine};
-ghost use Rattle.std.specs.Io.KnownBytes.{Appends};
-ghost use Rattle.std.specs.Prelude.{[], ◌≡◌, ◌≤◌, ◌<◌, ◌↔◌, IfErr, IfOk, IfSome, IsSome, IsTrue, MatchResult, None, OnOk, codes, false, length, option_map};
+ghost use Rattle.flowc.specs.Messages.{WritesMessage, WroteLine};
+ghost use Rattle.std.specs.Prelude.{[], ◌≡◌, ◌≤◌, ◌<◌, ◌↔◌, IfSome, IsSome, IsTrue, MatchResult, None, length, option_map};
 ghost use Rattle.std.specs.String.{string_bytes};
 
 use crate::ended::Ended;
@@ -44,11 +41,13 @@ pub fn perform<O: Sink, E: Sink>(
     ensures small { result.status ≤ 6 }
     ensures status { IsTrue (may_end task.now result.status) }
     ensures code { IsSome result.code ↔ (IsTrue (makes_file task.now) × (result.status ≡ 0)) }
-    ensures built { IfSome result.code (λ code. IsBuilt files.now code.items) }
+    ensures compiled { IfSome result.code (λ code. IsBuilt files.now code.items) }
     ensures accepted { IsTrue (reads_source task.now) → result.status ≡ 0 → HoldsProgram files.now }
-    ensures refused { IsTrue (reads_source task.now) → result.status ≡ 1 → ¬ HoldsProgram files.now }
-    ensures shown { Shows task.now files.now result.status (O.taken out.old) (O.taken out.new) }
-    ensures message { WritesMessage task.now files.now result.status (O.has_failed out.new) (E.taken err.old) (E.taken err.new) (E.has_failed err.new) }
+    ensures refused { IsTrue (reads_source task.now) → result.status ≡ 1 →
+        ¬ HoldsProgram files.now }
+    ensures stdout { Shows task.now files.now result.status (O.taken out.old) (O.taken out.new) }
+    ensures message { WritesMessage task.now files.now result.status (O.has_failed out.new)
+        (E.taken err.old) (E.taken err.new) (E.has_failed err.new) }
 {
     match task {
         Task::Check { hier, src } => {
@@ -101,8 +100,13 @@ fn file_at<'a>(path: &'a String, files: &'a [Vec<u8>], index: usize) -> File<'a>
 // The end of a task that leaves nothing for a file. Where standard error fails too, there is nowhere left to report it.
 fn finish<E: Sink>(outcome: Result<Ended, PerformFault>, err: &mut E) -> Outcome
     ensures code { result.code ≡ None }
-    ensures status { MatchResult outcome (λ ended. result.status ≡ ended.status) (λ fault. result.status ≡ status_of_fault fault) }
-    ensures message { MatchResult outcome (λ ended. WroteLine (string_bytes ended.line) (E.taken err.old) (E.taken err.new) (E.has_failed err.new)) (λ fault. WroteLine (line_of_fault fault) (E.taken err.old) (E.taken err.new) (E.has_failed err.new)) }
+    ensures status { MatchResult outcome
+        (λ ended. result.status ≡ ended.status) (λ fault. result.status ≡ status_of_fault fault) }
+    ensures message { MatchResult outcome
+        (λ ended. WroteLine (string_bytes ended.line)
+        (E.taken err.old) (E.taken err.new) (E.has_failed err.new))
+        (λ fault. WroteLine (line_of_fault fault)
+        (E.taken err.old) (E.taken err.new) (E.has_failed err.new)) }
 {
     let (status, line) = match &outcome {
         Ok(ended) => (ended.status, ended.line.as_str()),
@@ -113,12 +117,17 @@ fn finish<E: Sink>(outcome: Result<Ended, PerformFault>, err: &mut E) -> Outcome
 }
 
 // The end of a task that leaves bytes for a file.
-fn finish_build<E: Sink>(built: Result<Vec<u8>, PerformFault>, err: &mut E) -> Outcome
-    ensures code { MatchResult built (λ code. result.code ≡ Some code) (λ _. result.code ≡ None) }
-    ensures status { MatchResult built (λ _. result.status ≡ 0) (λ fault. result.status ≡ status_of_fault fault) }
-    ensures message { MatchResult built (λ _. WroteLine [] (E.taken err.old) (E.taken err.new) (E.has_failed err.new)) (λ fault. WroteLine (line_of_fault fault) (E.taken err.old) (E.taken err.new) (E.has_failed err.new)) }
+fn finish_build<E: Sink>(outcome: Result<Vec<u8>, PerformFault>, err: &mut E) -> Outcome
+    ensures code { MatchResult outcome
+        (λ code. result.code ≡ Some code) (λ _. result.code ≡ None) }
+    ensures status { MatchResult outcome
+        (λ _. result.status ≡ 0) (λ fault. result.status ≡ status_of_fault fault) }
+    ensures message { MatchResult outcome
+        (λ _. WroteLine [] (E.taken err.old) (E.taken err.new) (E.has_failed err.new))
+        (λ fault. WroteLine (line_of_fault fault)
+        (E.taken err.old) (E.taken err.new) (E.has_failed err.new)) }
 {
-    match built {
+    match outcome {
         Ok(code) => Outcome {
             status: 0,
             code: Some(code),

@@ -28,13 +28,18 @@ pub fn check<O: Sink>(
     out: &mut O,
 ) -> Result<Ended, PerformFault>
     ensures accepted { OnOk result (AreAccepted hierarchy.entry.bytes.now source.entry.bytes.now) }
-    ensures refused { IfErr result (λ fault. status_of_fault fault ≡ 1 → ¬ AreAccepted hierarchy.entry.bytes.now source.entry.bytes.now) }
+    ensures refused { IfErr result (λ fault. status_of_fault fault ≡ 1 →
+        ¬ AreAccepted hierarchy.entry.bytes.now source.entry.bytes.now) }
     ensures status { IfOk result (λ ended. ended.status ≡ 0) }
-    ensures shown { OnOk result (Appends (O.taken out.old) (O.taken out.new) (codes "ok\n")) }
-    ensures quiet { IfErr result (λ fault. status_of_fault fault ≡ 1 → O.taken out.old ≡ O.taken out.new) }
-    ensures some { IfErr result (λ fault. status_of_fault fault ≡ 3 → AppendsPrefix (O.taken out.old) (O.taken out.new) (codes "ok\n")) }
+    ensures stdout { OnOk result (Appends (O.taken out.old) (O.taken out.new) (codes "ok\n")) }
+    ensures quiet { IfErr result (λ fault. status_of_fault fault ≡ 1 →
+        O.taken out.old ≡ O.taken out.new) }
+    ensures some { IfErr result (λ fault. status_of_fault fault ≡ 3 →
+        AppendsPrefix (O.taken out.old) (O.taken out.new) (codes "ok\n")) }
     ensures silent { IfOk result (λ ended. string_bytes ended.line ≡ []) }
-    ensures message { IfErr result (IsPerformFault (IsTextsLine hierarchy.entry.path.now source.entry.path.now hierarchy.entry.bytes.now source.entry.bytes.now) (O.has_failed out.new)) }
+    ensures message { IfErr result (IsPerformFault (IsTextsLine
+        hierarchy.entry.path.now source.entry.path.now
+        hierarchy.entry.bytes.now source.entry.bytes.now) (O.has_failed out.new)) }
 {
     match check_texts(alloc, hierarchy.bytes, source.bytes) {
         Ok(_checked) => {
@@ -48,9 +53,13 @@ pub fn check<O: Sink>(
 /// The bytes of the module that a source under a hierarchy is compiled to.
 pub fn build(alloc: Global, hierarchy: File<'_>, source: File<'_>) -> Result<Vec<u8>, PerformFault>
     ensures accepted { OnOk result (AreAccepted hierarchy.entry.bytes.now source.entry.bytes.now) }
-    ensures compiled { IfOk result (λ code. IsCompiled hierarchy.entry.bytes.now source.entry.bytes.now code.items) }
-    ensures refused { IfErr result (λ fault. status_of_fault fault ≡ 1 → ¬ AreAccepted hierarchy.entry.bytes.now source.entry.bytes.now) }
-    ensures message { IfErr result (IsPerformFault (IsTextsLine hierarchy.entry.path.now source.entry.path.now hierarchy.entry.bytes.now source.entry.bytes.now) false) }
+    ensures compiled { IfOk result (λ code.
+        IsCompiled hierarchy.entry.bytes.now source.entry.bytes.now code.items) }
+    ensures refused { IfErr result (λ fault. status_of_fault fault ≡ 1 →
+        ¬ AreAccepted hierarchy.entry.bytes.now source.entry.bytes.now) }
+    ensures message { IfErr result (IsPerformFault (IsTextsLine
+        hierarchy.entry.path.now source.entry.path.now
+        hierarchy.entry.bytes.now source.entry.bytes.now) false) }
 {
     match compile(alloc, hierarchy.bytes, source.bytes) {
         Ok(code) => Ok(code),
@@ -68,7 +77,8 @@ pub fn texts_fault(
     requires { ReportsFault hierarchy.bytes.now source.bytes.now fault }
     ensures refusal { status_of_fault result ≡ 1 → IsRefusal fault }
     ensures message { (out_failed : Bool) → IsPerformFault (IsTextsLine
-        hierarchy.entry.path.now source.entry.path.now hierarchy.entry.bytes.now source.entry.bytes.now) out_failed result }
+        hierarchy.entry.path.now source.entry.path.now
+        hierarchy.entry.bytes.now source.entry.bytes.now) out_failed result }
 {
     let Fault::Refused { text, cause, at } = fault else {
         return PerformFault::NoMemory;

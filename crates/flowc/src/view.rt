@@ -1,10 +1,8 @@
 //! What of the pairs that were sent is shown, as the program reports what went wrong.
 
-ghost use Rattle.channels.specs.Sink.{AppendsPrefix};
 ghost use Rattle.flowc.specs.Lines.{IsPerformFault};
 ghost use Rattle.flowc.specs.Task.{status_of_fault};
-ghost use Rattle.flowc.specs.View.{shown, view_text};
-ghost use Rattle.std.specs.Io.KnownBytes.{Appends};
+ghost use Rattle.channels.specs.View.{ShowsAll, ShowsPrefix};
 ghost use Rattle.std.specs.Prelude.{◌≡◌, IfErr, OnErr, OnOk};
 
 use crate::fault::PerformFault;
@@ -22,8 +20,10 @@ pub fn show<O: Sink>(
 ) -> Result<(), PerformFault>
     ensures failed { IfErr result (λ fault. status_of_fault fault ≡ 3) }
     ensures message { IfErr result (IsPerformFault (λ _. ⊥) (O.has_failed out.new)) }
-    ensures prefix { OnErr result (AppendsPrefix (O.taken out.old) (O.taken out.new) (view_text program.now (shown program.now observer sent.now))) }
-    ensures view { OnOk result (Appends (O.taken out.old) (O.taken out.new) (view_text program.now (shown program.now observer sent.now))) }
+    ensures prefix { OnErr result (ShowsPrefix
+        program.now observer sent.now (O.taken out.old) (O.taken out.new)) }
+    ensures view { OnOk result (ShowsAll
+        program.now observer sent.now (O.taken out.old) (O.taken out.new)) }
 {
     match write_view(alloc, sent, program, observer, out) {
         Ok(()) => Ok(()),

@@ -15,14 +15,14 @@ use Rattle.host.specs.Meaning.{SessionContents, HostContents, IsOpen, IsNotOpen,
 use Rattle.host.specs.Next.{next_of}
 use Rattle.host.specs.declared.fault.HostFault.{HostFault}
 use Rattle.host.specs.declared.fault.HostFault.TheVariants.{NoMemory, Full, UnknownId, UnknownPrincipal, UnknownChannel, Bytes, Code}
-use Rattle.host.specs.Values.{KeptSession, KeptHost, contents_of, host_of}
+use Rattle.host.specs.Values.{SessionRun, HostRuns, contents_of, host_of}
 
-abbrev has_id : ℕ → KeptSession → Bool
+abbrev has_id : ℕ → SessionRun → Bool
 has_id id session = session.id == id
 
 -- ---- looking up
 
-found : (id : ℕ) (xs : List KeptSession) → session_of id (map contents_of xs) ≡ option_map contents_of (find (has_id id) xs)
+found : (id : ℕ) (xs : List SessionRun) → session_of id (map contents_of xs) ≡ option_map contents_of (find (has_id id) xs)
 found id [] = refl
 found id (x ∷ xs) = by (x.id == id) (found id xs)
   where
@@ -30,16 +30,16 @@ found id (x ∷ xs) = by (x.id == id) (found id xs)
     by true rest = refl
     by false rest = rest
 
-missing_place : (p : KeptSession → Bool) (xs : List KeptSession) → position p xs ≡ None → length xs ≤ position_or_len p xs
+missing_place : (p : SessionRun → Bool) (xs : List SessionRun) → position p xs ≡ None → length xs ≤ position_or_len p xs
 missing_place p xs e = grind (arith, common_steps)
 
-pub not_there : (id : ℕ) (xs : List KeptSession) → position (has_id id) xs ≡ None → session_of id (map contents_of xs) ≡ None
+pub not_there : (id : ℕ) (xs : List SessionRun) → position (has_id id) xs ≡ None → session_of id (map contents_of xs) ≡ None
 not_there id xs e =
     found id xs
     ∙ ap (option_map contents_of) (find_at (has_id id) xs ∙ slice_get_past xs (position_or_len (has_id id) xs) (missing_place (has_id id) xs e))
 
 -- at the first place with an id stands its session
-at_first : (id : ℕ) (xs : List KeptSession) (place : ℕ) (d : KeptSession) → place < length xs → has_id id (get_or xs place d) ≡ true
+at_first : (id : ℕ) (xs : List SessionRun) (place : ℕ) (d : SessionRun) → place < length xs → has_id id (get_or xs place d) ≡ true
     → ((k : ℕ) → k < place → has_id id (get_or xs k d) ≡ false)
     → session_of id (map contents_of xs) ≡ Some (contents_of (get_or xs place d))
 at_first id [] place d inside here before = absurd (omega arith)
@@ -50,20 +50,20 @@ at_first id (x ∷ xs) (suc place) d inside here before =
     ap (λ b. cond b (Some (contents_of x)) (session_of id (map contents_of xs))) head
     ∙ at_first id xs place d (omega arith) here (λ k below. before (suc k) (omega arith))
 
-pub there : (id : ℕ) (xs : List KeptSession) (place : ℕ) (d : KeptSession) → position (has_id id) xs ≡ Some place
+pub there : (id : ℕ) (xs : List SessionRun) (place : ℕ) (d : SessionRun) → position (has_id id) xs ≡ Some place
     → session_of id (map contents_of xs) ≡ Some (contents_of (get_or xs place d))
 there id xs place d e =
     let at = position-Some (has_id id) xs place d e in
     at_first id xs place d at.0 at.1 at.2
 
-pub somewhere : (id : ℕ) (xs : List KeptSession) (place : ℕ) → position (has_id id) xs ≡ Some place
+pub somewhere : (id : ℕ) (xs : List SessionRun) (place : ℕ) → position (has_id id) xs ≡ Some place
     → (session : SessionContents) × (session_of id (map contents_of xs) ≡ Some session)
 somewhere id [] place e = absurd (none-some place e)
 somewhere id (x ∷ xs) place e = (contents_of (get_or (x ∷ xs) place x), there id (x ∷ xs) place x e)
 
 -- ---- changing
 
-changed_first : (id : ℕ) (xs : List KeptSession) (place : ℕ) (d new : KeptSession) → place < length xs → has_id id (get_or xs place d) ≡ true
+changed_first : (id : ℕ) (xs : List SessionRun) (place : ℕ) (d new : SessionRun) → place < length xs → has_id id (get_or xs place d) ≡ true
     → ((k : ℕ) → k < place → has_id id (get_or xs k d) ≡ false)
     → (machine : Machine) → contents_of new ≡ record (contents_of (get_or xs place d)) { machine = machine }
     → map contents_of (set xs place new) ≡ with_machine id machine (map contents_of xs)
@@ -78,7 +78,7 @@ changed_first id (x ∷ xs) (suc place) d new inside here before machine e =
     ap (λ s. contents_of x ∷ s) (changed_first id xs place d new (omega arith) here (λ k below. before (suc k) (omega arith)) machine e)
     ∙ sym (ap (λ b. cond b (y ∷ map contents_of xs) (contents_of x ∷ with_machine id machine (map contents_of xs))) head)
 
-pub changed : (id : ℕ) (xs : List KeptSession) (place : ℕ) (d new : KeptSession) → position (has_id id) xs ≡ Some place
+pub changed : (id : ℕ) (xs : List SessionRun) (place : ℕ) (d new : SessionRun) → position (has_id id) xs ≡ Some place
     → (machine : Machine) → contents_of new ≡ record (contents_of (get_or xs place d)) { machine = machine }
     → map contents_of (set xs place new) ≡ with_machine id machine (map contents_of xs)
 changed id xs place d new e machine same =
@@ -86,14 +86,14 @@ changed id xs place d new e machine same =
     changed_first id xs place d new at.0 at.1 at.2 machine same
 
 -- the session of an id is another one with the same id and module
-pub turned : (id : ℕ) (xs : List KeptSession) (place : ℕ) (old new : KeptSession) → position (has_id id) xs ≡ Some place
+pub turned : (id : ℕ) (xs : List SessionRun) (place : ℕ) (old new : SessionRun) → position (has_id id) xs ≡ Some place
     → old ≡ get_or xs place old → new.id ≡ old.id → new.run.program ≡ old.run.program
     → map contents_of (set xs place new) ≡ with_machine id (machine_of new.run) (map contents_of xs)
 turned id xs place old new e at same_id same_program =
     changed id xs place old new e (machine_of new.run)
-    (λ i. record { id = (same_id ∙ ap (λ (s : KeptSession). s.id) at) i; program = (same_program ∙ ap (λ (s : KeptSession). s.run.program) at) i; machine = machine_of new.run })
+    (λ i. record { id = (same_id ∙ ap (λ (s : SessionRun). s.id) at) i; program = (same_program ∙ ap (λ (s : SessionRun). s.run.program) at) i; machine = machine_of new.run })
 
-pub filtered : (id : ℕ) (xs : List KeptSession) → map contents_of (filter (λ session. not (session.id == id)) xs) ≡ without id (map contents_of xs)
+pub filtered : (id : ℕ) (xs : List SessionRun) → map contents_of (filter (λ session. not (session.id == id)) xs) ≡ without id (map contents_of xs)
 filtered id [] = refl
 filtered id (x ∷ xs) = by (x.id == id) (filtered id xs)
   where
@@ -106,11 +106,11 @@ filtered id (x ∷ xs) = by (x.id == id) (filtered id xs)
 -- ---- in a host
 
 -- sessions that are those of a host
-module _ (host : KeptHost) (xs : List KeptSession) (are : xs ≡ host.sessions) (id : ℕ) where
+module _ (host : HostRuns) (xs : List SessionRun) (are : xs ≡ host.sessions) (id : ℕ) where
   pub is_not_open : (r : Option ℕ) → r ≡ position (has_id id) xs → r ≡ None → IsNotOpen (host_of host) id
   is_not_open r found none = ap (λ l. session_of id (map contents_of l)) (sym are) ∙ not_there id xs (sym found ∙ none)
 
-  pub is_open : (r : Option ℕ) (place : ℕ) (session : KeptSession) → r ≡ position (has_id id) xs → r ≡ Some place
+  pub is_open : (r : Option ℕ) (place : ℕ) (session : SessionRun) → r ≡ position (has_id id) xs → r ≡ Some place
       → session ≡ get_or xs place session → IsOpen (host_of host) id (contents_of session)
   is_open r place session found some at =
       ap (λ l. session_of id (map contents_of l)) (sym are)
@@ -130,8 +130,8 @@ of_parts next next' sessions sessions' e f = λ i. record { next = e i; sessions
 
 -- ---- opening
 
-pub has_room : (limit : ℕ) (host : KeptHost) (next : Option ℕ) (xs : List KeptSession)
-    → ◌≡◌ {A = KeptHost} (record { next = next_of next; sessions = xs }) host
+pub has_room : (limit : ℕ) (host : HostRuns) (next : Option ℕ) (xs : List SessionRun)
+    → ◌≡◌ {A = HostRuns} (record { next = next_of next; sessions = xs }) host
     → (id : ℕ) → next ≡ Some id → id < 2 ^ 64 → length xs < limit → HasRoom limit (host_of host)
 has_room limit host next xs is id e below inside =
     let first : next_of next ≡ id = ap next_of e in
@@ -153,14 +153,14 @@ pub next_after : (id : ℕ) → id < 2 ^ 64 → (after : Option ℕ) → SomeIff
 next_after id below None none = omega (arith, none)
 next_after id below (Some next) some = some.1
 
-pub opened_as : (host : KeptHost) (next after : Option ℕ) (xs ys : List KeptSession)
-    → ◌≡◌ {A = KeptHost} (record { next = next_of next; sessions = xs }) host
+pub opened_as : (host : HostRuns) (next after : Option ℕ) (xs ys : List SessionRun)
+    → ◌≡◌ {A = HostRuns} (record { next = next_of next; sessions = xs }) host
     → (id : ℕ) → next ≡ Some id → next_of after ≡ id + 1
-    → (new : KeptSession) → ys ≡ insert xs 0 new → (world : List InputNumbers) → new.id ≡ id
+    → (new : SessionRun) → ys ≡ insert xs 0 new → (world : List InputNumbers) → new.id ≡ id
     → machine_of new.run ≡ first_machine new.run.program world
     → host_of (record { next = next_of after; sessions = ys }) ≡ with_opened (host_of host) new.run.program world
 opened_as host next after xs ys is id e sum new inserted world same first =
-    let number : id ≡ host.next = sym (ap next_of e) ∙ ap (λ (h : KeptHost). h.next) is in
+    let number : id ≡ host.next = sym (ap next_of e) ∙ ap (λ (h : HostRuns). h.next) is in
     of_parts (next_of after) (host.next + 1) (map contents_of ys) (record { id = host.next; program = new.run.program; machine = first_machine new.run.program world } ∷ map contents_of host.sessions)
     (sum ∙ ap (λ n. n + 1) number)
     (ap (map contents_of) (inserted)

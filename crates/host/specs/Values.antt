@@ -13,21 +13,21 @@ use Rattle.host.specs.declared.event.Event.TheVariants.{Open, Turn, View, Close}
 use Rattle.host.specs.declared.event.Answer.{Answer}
 use Rattle.host.specs.declared.event.Answer.TheVariants.{Opened, Turned, Viewed, Closed, Refused}
 
--- what a host keeps of an open session: its id, and its run
-pub record KeptSession : Type 0 where
+-- an open session: its id, and the run of its machine
+pub record SessionRun : Type 0 where
   pub id : ℕ
   pub run : RunContents
 
--- what a host keeps
-pub record KeptHost : Type 0 where
+-- a host by the runs of its sessions
+pub record HostRuns : Type 0 where
   pub next : ℕ
-  pub sessions : List KeptSession
+  pub sessions : List SessionRun
 
-abbrev pub contents_of : KeptSession → SessionContents
+abbrev pub contents_of : SessionRun → SessionContents
 contents_of session = record { id = session.id; program = session.run.program; machine = machine_of session.run }
 
--- a kept host as one of the meaning
-abbrev pub host_of : KeptHost → HostContents
+-- such a host as one of the meaning
+abbrev pub host_of : HostRuns → HostContents
 host_of host = record { next = host.next; sessions = map contents_of host.sessions }
 
 -- an event and an answer as those of the meaning
@@ -58,5 +58,5 @@ viewed_or (Ok pairs) = meaning.Viewed pairs.items
 viewed_or (Err fault) = meaning.Refused fault
 
 abbrev pub closed_or : {U : Type 0} → Result U HostFault → HostAnswer
-closed_or (Ok done) = meaning.Closed
+closed_or (Ok unit) = meaning.Closed
 closed_or (Err fault) = meaning.Refused fault

@@ -29,9 +29,9 @@ pub struct Host {
 
 impl Model for Host {
     ghost use Rattle.host.specs.Next.{next_of};
-    ghost use Rattle.host.specs.Values.{KeptHost};
+    ghost use Rattle.host.specs.Values.{HostRuns};
 
-    ghost Value = { KeptHost };
+    ghost Value = { HostRuns };
 
     ghost view = { λ host. record { next = next_of host.next; sessions = host.sessions.items } };
 }
@@ -105,11 +105,11 @@ impl Host {
             return Err(HostFault::UnknownId);
         };
         let session = &self.sessions[place];
-        let whole = session.module();
-        if principal >= whole.hierarchy().count() {
+        let program = session.module();
+        if principal >= program.hierarchy().count() {
             return Err(HostFault::UnknownPrincipal);
         }
-        let Ok(pairs) = seen(self.alloc, session.sent(), whole, principal) else {
+        let Ok(pairs) = seen(self.alloc, session.sent(), program, principal) else {
             return Err(HostFault::NoMemory);
         };
         Ok(pairs)

@@ -6,7 +6,7 @@ ghost use Rattle.host.specs.Laws.{IdsGoUp, SessionsAreFreshRuns, SessionsAreIsol
 /// session's own turns reported, it has ended where one of them reported an end, and after all events it stands where that run
 /// stands, whatever events of other sessions come between.
 pub fn sessions_are_fresh_runs()
-    ensures shown { SessionsAreFreshRuns }
+    ensures views { SessionsAreFreshRuns }
     ensures ended { SessionsEndAsReported }
     ensures stands { SessionsStandAsReported }
 {
@@ -25,7 +25,7 @@ pub fn sessions_are_isolated()
 /// between, and so it is shown.
 pub fn sessions_go_on()
     ensures stands { SessionsGoOn }
-    ensures shown { SessionsShowOn }
+    ensures views { SessionsShowOn }
 {}
 
 /// What a host answers in several calls is one transcript: events and answers in a row, with the steps of each session added up.

@@ -21,9 +21,9 @@ pub struct Session {
 }
 
 impl Model for Session {
-    ghost use Rattle.host.specs.Values.{KeptSession};
+    ghost use Rattle.host.specs.Values.{SessionRun};
 
-    ghost Value = { KeptSession };
+    ghost Value = { SessionRun };
 
     ghost view = { λ session. record { id = session.id; run = session.machine } };
 }
@@ -71,14 +71,14 @@ pub fn first_run(alloc: Global, bytes: &[u8], world: World) -> Result<Machine, H
     ensures first { IfOk result (λ run. machine_of run ≡ first_machine run.program world) }
     ensures cannot { IfErr result (λ fault. CannotOpen bytes.now world fault) }
 {
-    let whole = match decode(alloc, bytes) {
-        Ok(whole) => whole,
+    let module = match decode(alloc, bytes) {
+        Ok(module) => module,
         Err(FormatFault::NoMemory) => return Err(HostFault::NoMemory),
         Err(FormatFault::Refused(refusal, offset)) => {
             return Err(HostFault::Bytes(refusal, offset));
         }
     };
-    let verified = match verify(alloc, whole) {
+    let verified = match verify(alloc, module) {
         Ok(verified) => verified,
         Err(VerifyFault::NoMemory) => return Err(HostFault::NoMemory),
         Err(VerifyFault::Wrong(fault)) => return Err(HostFault::Code(fault)),

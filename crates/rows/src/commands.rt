@@ -35,8 +35,8 @@ fn task_of(alloc: Global, line: &str) -> Result<Result<Task, TaskFault>, LineFau
 
 fn answer_task(texts: &mut Texts, asked: &Task, answer: &mut Vec<u8>) -> Result<(), LineFault> {
     let files = copy_texts(texts, asked)?;
-    let done = answer_files(texts.alloc(), asked, &files, answer)?;
-    keep(texts, asked, done)
+    let outcome = answer_files(texts.alloc(), asked, &files, answer)?;
+    keep(texts, asked, outcome)
 }
 
 // The texts that stand in for the files that the task reads, one or two, in the order in which it names them.
@@ -64,19 +64,19 @@ fn answer_files(
 {
     let mut out = Device::new(Vec::new(alloc));
     let mut err = Device::new(Vec::new(alloc));
-    let done = perform(alloc, asked, files, &mut out, &mut err);
-    write_status(alloc, answer, done.status)?;
+    let outcome = perform(alloc, asked, files, &mut out, &mut err);
+    write_status(alloc, answer, outcome.status)?;
     write_lines(answer, b'>', &out.into_inner())?;
     write_lines(answer, b'!', &err.into_inner())?;
-    Ok(done)
+    Ok(outcome)
 }
 
 // A module becomes a text. Where a build makes none, no text has the name.
-fn keep(texts: &mut Texts, asked: &Task, done: Outcome) -> Result<(), LineFault> {
+fn keep(texts: &mut Texts, asked: &Task, outcome: Outcome) -> Result<(), LineFault> {
     let Task::Build { out, .. } = asked else {
         return Ok(());
     };
-    match done.code {
+    match outcome.code {
         Some(code) => texts.put(out, code),
         None => {
             texts.forget(out);

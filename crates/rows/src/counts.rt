@@ -1,6 +1,6 @@
 //! How many rows there were, how many of them differ, and how many lines are wrong.
 
-ghost use Rattle.std.specs.Prelude.{◌≡◌, ◌<◌, ◌↔◌};
+ghost use Rattle.std.specs.Prelude.{min, if◌then◌else◌, ◌+◌, ◌-◌, ◌^◌, ◌≡◌, ◌<◌, ◌↔◌};
 
 /// The counts of a data file, or of all.
 #[derive(Clone, Copy, Debug, PartialEq, Eq)]
@@ -21,8 +21,11 @@ impl Counts {
         }
     }
 
-    /// The counts with another row, which differs or not.
+    /// The counts with another row, which differs or not. No count goes above 4294967295.
     pub fn and_row(self, differs: bool) -> Counts
+        ensures rows { result.rows ≡ min (self.rows + 1) (2 ^ 32 - 1) }
+        ensures differ { result.differ
+            ≡ min (self.differ + (if differs then 1 else 0)) (2 ^ 32 - 1) }
         ensures faults { result.faults ≡ self.faults }
     {
         Counts {
@@ -34,7 +37,7 @@ impl Counts {
 
     /// The counts with another line that is wrong.
     pub fn and_fault(self) -> Counts
-        ensures some { 0 < result.faults }
+        ensures faults { result.faults ≡ min (self.faults + 1) (2 ^ 32 - 1) }
         ensures rows { result.rows ≡ self.rows }
         ensures differ { result.differ ≡ self.differ }
     {
@@ -45,7 +48,11 @@ impl Counts {
     }
 
     /// The sum of two counts.
-    pub fn and(self, other: Counts) -> Counts {
+    pub fn and(self, other: Counts) -> Counts
+        ensures rows { result.rows ≡ min (self.rows + other.rows) (2 ^ 32 - 1) }
+        ensures differ { result.differ ≡ min (self.differ + other.differ) (2 ^ 32 - 1) }
+        ensures faults { result.faults ≡ min (self.faults + other.faults) (2 ^ 32 - 1) }
+    {
         Counts {
             rows: self.rows.saturating_add(other.rows),
             differ: self.differ.saturating_add(other.differ),

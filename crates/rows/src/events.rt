@@ -42,12 +42,12 @@ fn world_of(alloc: Global, module: &[u8], text: &[u8]) -> Result<World, LineFaul
     let Ok(text) = str::from_utf8(text) else {
         return Err(LineFault::NoWorld);
     };
-    let whole = match decode(alloc, module) {
-        Ok(whole) => whole,
+    let program = match decode(alloc, module) {
+        Ok(program) => program,
         Err(FormatFault::NoMemory) => return Err(LineFault::NoMemory),
         Err(FormatFault::Refused(..)) => return Err(LineFault::NoModule),
     };
-    match World::read(alloc, &whole, text) {
+    match World::read(alloc, &program, text) {
         Ok(world) => Ok(world),
         Err(WorldFault::NoMemory) => Err(LineFault::NoMemory),
         Err(WorldFault::Line { .. }) => Err(LineFault::NoWorld),

@@ -7,7 +7,7 @@ use std::alloc::Global;
 /// The first word of a line, and what stands behind the space that follows it.
 pub fn cut_word(line: &str) -> (&str, &str) {
     match line.split_once(' ') {
-        Some(parts) => parts,
+        Some(split) => split,
         None => (line, ""),
     }
 }

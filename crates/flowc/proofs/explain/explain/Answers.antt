@@ -1,8 +1,8 @@
 use Rattle.flowc.specs.Explained.ExplainsSome.{labels}
 use Rattle.flowc.proofs.explain.explain.Goals as goal
 
-pub returns-in-Ok-write_labels-clause-shown : goal.returns-in-Ok-write_labels-clause-shown
-returns-in-Ok-write_labels-clause-shown g c =
+pub returns-in-Ok-write_labels-clause-stdout : goal.returns-in-Ok-write_labels-clause-stdout
+returns-in-Ok-write_labels-clause-stdout g c =
     (c.in-Ok.checked, record { stands = c.in-Ok.ensures.accepted; least = c.in-Ok.ensures.least }, c.in-Ok-write_labels.ensures.listed)
 
 pub returns-in-Err-Sink-clause-some : goal.returns-in-Err-Sink-clause-some

@@ -1,8 +1,8 @@
 use Rattle.flowc.proofs.Promises.{error_is_fixed, runs_isolated, shows_itself}
 use Rattle.flowc.proofs.laws.runs_are_isolated.Goals as goal
 
-pub returns-clause-shown : goal.returns-clause-shown
-returns-clause-shown c = shows_itself
+pub returns-clause-stdout : goal.returns-clause-stdout
+returns-clause-stdout c = shows_itself
 
 pub returns-clause-isolated : goal.returns-clause-isolated
 returns-clause-isolated c = runs_isolated c.one_spelling.ensures.contents

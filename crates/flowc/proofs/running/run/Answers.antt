@@ -31,8 +31,8 @@ returns-in_err-principal-clause-message g c =
     (c.hierarchy.ensures.hierarchy ∙ ap (λ (w : ModuleContents). w.hierarchy) c.module.ensures)
     c.from_residual-in_err-principal.ensures.1 c.in_err-principal.ensures.message
 
-pub returns-clause-shown : goal.returns-clause-shown
-returns-clause-shown g c =
+pub returns-clause-stdout : goal.returns-clause-stdout
+returns-clause-stdout g c =
     let m = c.in_ok-machine.machine.program in
     let can = can_run _ _ _ m c.in_ok-principal.principal c.hierarchy.result.now c.in_ok-machine.ensures.spelled c.in_ok-machine.ensures.faultless c.in_ok-machine.ensures.encoded c.in_ok-machine.ensures.right c.in_ok-principal.ensures.found
     (c.hierarchy.ensures.hierarchy ∙ ap (λ (w : ModuleContents). w.hierarchy) c.module.ensures) in

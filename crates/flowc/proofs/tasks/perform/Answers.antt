@@ -7,9 +7,9 @@ use Rattle.flowc.proofs.Settled.{accepted_along, held_at_zero, ok_is_zero, refus
 use Rattle.flowc.proofs.Telling.{fault_message, module_line, ok_is_silent, run_message, texts_line}
 use Rattle.flowc.proofs.tasks.perform.Goals as goal
 
-pub returns-in-Run-clause-shown : goal.returns-in-Run-clause-shown
-returns-in-Run-clause-shown g c = rw c.in-Run.is
-    (run_shows _ _ _ _ _ _ _ _ _ _ c.run.result c.run.ensures.shown c.run.ensures.refused c.run.ensures.quiet c.run.ensures.some
+pub returns-in-Run-clause-stdout : goal.returns-in-Run-clause-stdout
+returns-in-Run-clause-stdout g c = rw c.in-Run.is
+    (run_shows _ _ _ _ _ _ _ _ _ _ c.run.result c.run.ensures.stdout c.run.ensures.refused c.run.ensures.quiet c.run.ensures.some
     c.finish-in-Run.ensures.status c.file_at-code.ensures.bytes c.file_at-world.ensures.bytes c.name_of.ensures)
 
 pub returns-in-Check-clause-accepted : goal.returns-in-Check-clause-accepted
@@ -63,9 +63,9 @@ returns-in-List-clause-message g c = rw c.in-List.is
     (module_line _ _ _ _ c.file_at.ensures.path c.file_at.ensures.bytes)
     c.finish-in-List.ensures.status c.finish-in-List.ensures.message)
 
-pub returns-in-Explain-clause-shown : goal.returns-in-Explain-clause-shown
-returns-in-Explain-clause-shown g c = rw c.in-Explain.is
-    (explain_shows _ _ _ _ _ _ _ c.explain.result c.explain.ensures.shown c.explain.ensures.chain c.explain.ensures.some c.explain.ensures.status
+pub returns-in-Explain-clause-stdout : goal.returns-in-Explain-clause-stdout
+returns-in-Explain-clause-stdout g c = rw c.in-Explain.is
+    (explain_shows _ _ _ _ _ _ _ c.explain.result c.explain.ensures.stdout c.explain.ensures.chain c.explain.ensures.some c.explain.ensures.status
     c.finish-in-Explain.ensures.status c.file_at-hierarchy-in-Explain.ensures.bytes c.file_at-source-in-Explain.ensures.bytes)
 
 pub returns-in-Explain-clause-accepted : goal.returns-in-Explain-clause-accepted

@@ -1,8 +1,8 @@
 use Rattle.host.proofs.Isolation.{end_as_reported, fresh_runs, stand_as_reported}
 use Rattle.host.proofs.laws.sessions_are_fresh_runs.Goals as goal
 
-pub returns-clause-shown : goal.returns-clause-shown
-returns-clause-shown c = fresh_runs c.one_spelling.ensures.contents
+pub returns-clause-views : goal.returns-clause-views
+returns-clause-views c = fresh_runs c.one_spelling.ensures.contents
 
 pub returns-clause-stands : goal.returns-clause-stands
 returns-clause-stands c = stand_as_reported c.one_spelling.ensures.contents

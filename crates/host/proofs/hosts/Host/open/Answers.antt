@@ -3,7 +3,7 @@ use Rattle.std.proofs.lemmas.Result.{err_from_is_err_and}
 use Rattle.machine.specs.Run.{machine_of}
 use Rattle.host.specs.Meaning.{CanOpen, HasRoom, first_machine}
 use Rattle.host.specs.Next.{next_of}
-use Rattle.host.specs.Values.{KeptHost, KeptSession, host_of}
+use Rattle.host.specs.Values.{HostRuns, SessionRun, host_of}
 use Rattle.host.specs.declared.hosts.TheConstants.{MAX_SESSIONS}
 use Rattle.host.proofs.Sessions.{has_room, refused_with_room, opened_as}
 use Rattle.host.proofs.hosts.Host.open.Goals as goal
@@ -24,12 +24,12 @@ pub returns : goal.returns
 returns c =
     let new = c.new.result in
     let first : machine_of new.run ≡ first_machine new.run.program c.args.world =
-    ap (λ (s : KeptSession). machine_of s.run) c.new.ensures ∙ c.in_ok-run.ensures.first ∙ sym (ap (λ (s : KeptSession). first_machine s.run.program c.args.world) c.new.ensures) in (
+    ap (λ (s : SessionRun). machine_of s.run) c.new.ensures ∙ c.in_ok-run.ensures.first ∙ sym (ap (λ (s : SessionRun). first_machine s.run.program c.args.world) c.new.ensures) in (
       room (goal.at.returns c).After-first_run,
-      sym (ap next_of c.in-Some.is) ∙ ap (λ (h : KeptHost). h.next) c.self.view_is,
+      sym (ap next_of c.in-Some.is) ∙ ap (λ (h : HostRuns). h.next) c.self.view_is,
       (
         new.run.program,
-        subst (λ (s : KeptSession). CanOpen c.args.bytes.now c.args.world s.run.program) (sym c.new.ensures) c.in_ok-run.ensures.can,
-        opened_as c.args.self.now c.self.inside.next c.following-after.result c.self.inside.sessions.items c.insert.new.self.items c.self.view_is c.in-Some.id c.in-Some.is c.following-after.ensures.next new c.in-Ok.ensures.items c.args.world (ap (λ (s : KeptSession). s.id) c.new.ensures) first,
+        subst (λ (s : SessionRun). CanOpen c.args.bytes.now c.args.world s.run.program) (sym c.new.ensures) c.in_ok-run.ensures.can,
+        opened_as c.args.self.now c.self.inside.next c.following-after.result c.self.inside.sessions.items c.insert.new.self.items c.self.view_is c.in-Some.id c.in-Some.is c.following-after.ensures.next new c.in-Ok.ensures.items c.args.world (ap (λ (s : SessionRun). s.id) c.new.ensures) first,
       ),
     )

@@ -4,7 +4,7 @@ use Rattle.principals.specs.ActsFor.{PrincipalHierarchy}
 use Rattle.bytecode.specs.Contents.{ModuleContents}
 use Rattle.bytecode.specs.Isolated.{seen_of}
 use Rattle.host.specs.Meaning.{IsOpen}
-use Rattle.host.specs.Values.{KeptHost, KeptSession, contents_of, host_of}
+use Rattle.host.specs.Values.{HostRuns, SessionRun, contents_of, host_of}
 use Rattle.host.proofs.Sessions.{is_not_open, is_open}
 use Rattle.host.proofs.hosts.Host.view.Goals as goal
 use Rattle.host.proofs.hosts.Host.view.Goals.{After-count}
@@ -12,17 +12,17 @@ use Rattle.host.proofs.hosts.Host.view.Goals.{After-count}
 -- the session that was found, and how many principals its module has
 found : (c : After-count) → IsOpen (host_of c.args.self.now) c.args.id (contents_of c.index-session.result.now)
 found c =
-    let place = c.find.ensures ∙ ap (λ (l : List KeptSession). position (λ session. session.id == c.args.id) l) c.deref.ensures.value in
-    is_open c.args.self.now c.self.inside.sessions.items (ap (λ (h : KeptHost). h.sessions) c.self.view_is) c.args.id c.find.result c.in-Some.place c.index-session.result.now place c.in-Some.is c.index-session.ensures
+    let place = c.find.ensures ∙ ap (λ (l : List SessionRun). position (λ session. session.id == c.args.id) l) c.deref.ensures.value in
+    is_open c.args.self.now c.self.inside.sessions.items (ap (λ (h : HostRuns). h.sessions) c.self.view_is) c.args.id c.find.result c.in-Some.place c.index-session.result.now place c.in-Some.is c.index-session.ensures
 
 counted : (c : After-count) → c.count.result ≡ length c.index-session.result.now.run.program.hierarchy.names
 counted c =
     c.count.ensures.count
-    ∙ ap (λ (h : PrincipalHierarchy). length h.names) (c.hierarchy.ensures.hierarchy ∙ ap (λ (m : ModuleContents). m.hierarchy) c.module-whole.ensures)
+    ∙ ap (λ (h : PrincipalHierarchy). length h.names) (c.hierarchy.ensures.hierarchy ∙ ap (λ (m : ModuleContents). m.hierarchy) c.module-program.ensures)
 
 pub returns-in_default : goal.returns-in_default
 returns-in_default c =
-    let are = c.deref.ensures.value ∙ ap (λ (h : KeptHost). h.sessions) c.self.view_is in
+    let are = c.deref.ensures.value ∙ ap (λ (h : HostRuns). h.sessions) c.self.view_is in
     (is_not_open c.args.self.now c.deref.result.now are c.args.id c.find.result c.find.ensures c.in_default.is, refl)
 
 pub returns-then-principal-count : goal.returns-then-principal-count
@@ -44,6 +44,6 @@ returns c =
       contents_of c.index-session.result.now,
       found after,
       subst (λ n. c.args.principal < n) count c.if-principal-count.false,
-      c.in-Ok.ensures ∙ (λ i. seen_of (c.module-whole.ensures i) c.args.principal (c.sent.ensures i)),
+      c.in-Ok.ensures ∙ (λ i. seen_of (c.module-program.ensures i) c.args.principal (c.sent.ensures i)),
       refl,
     )
