@@ -18,12 +18,9 @@ use lexer::lex;
 use names::resolve;
 use parser::parse;
 use path_map::{PathMap, ends};
-use principals::Hierarchy;
+use principals::{Hierarchy, MAX_TEXT};
 use resolved::program::Core;
 use std::alloc::Global;
-
-/// The greatest length of a text in bytes.
-pub const MAX_TEXT: usize = 1_048_576;
 
 /// A source without a fault before its labels: its resolved program, and the possible ends of each statement and block of it.
 #[derive(Drop)]

@@ -11,7 +11,7 @@ use Rattle.command_line.specs.Request.{Grants, build, check, explain, list, run,
 use Rattle.command_line.specs.declared.request.Task.{Task}
 use Rattle.command_line.specs.declared.request.Task.TheVariants.{Check, Build, Run, Explain, List as ListModule}
 use Rattle.command_line.specs.declared.request.TaskFault.{TaskFault}
-use Rattle.command_line.specs.declared.request.TaskFault.TheVariants.{OutOfMemory}
+use Rattle.command_line.specs.declared.request.TaskFault.TheVariants.{NoMemory}
 use Rattle.command_line.proofs.Only.{spelled_so}
 use Rattle.command_line.proofs.Plain.{decimal_read, met_by, observer_rows, row, steps_rows, request_taken}
 
@@ -71,8 +71,8 @@ grants (to_explain hierarchy source) (Explain h s) plain asks = explain h s (ap�
 
 -- what is answered to the words of a plain request
 pub request_granted : (r : Result Task TaskFault) (words : List Text) → IfOk r (IsTaskOf (subcommand_of flowc_command words))
-    → IfErr r (λ fault. fault_of flowc_command words ≡ [] → fault ≡ OutOfMemory)
-    → (program : Text) (request : Request) → IsPlainRequest request → words ≡ program ∷ spelled request → MatchResult r (Grants request) (λ fault. fault ≡ OutOfMemory)
+    → IfErr r (λ fault. fault_of flowc_command words ≡ [] → fault ≡ NoMemory)
+    → (program : Text) (request : Request) → IsPlainRequest request → words ≡ program ∷ spelled request → MatchResult r (Grants request) (λ fault. fault ≡ NoMemory)
 request_granted (Ok task) words matched taken program request plain is =
     let meets = ap (subcommand_of flowc_command) is ∙ (request_taken program request plain).meets in
     grants request task plain (subst (λ met. IsTaskOf met task) meets matched)

@@ -9,7 +9,7 @@ use Rattle.std.specs.Str.Parse.{starts_with_minus}
 use Rattle.clap.specs.Words.{Text}
 use Rattle.command_line.specs.declared.request.Task.{Task}
 use Rattle.command_line.specs.declared.request.TaskFault.{TaskFault}
-use Rattle.command_line.specs.declared.request.TaskFault.TheVariants.{OutOfMemory}
+use Rattle.command_line.specs.declared.request.TaskFault.TheVariants.{NoMemory}
 use Rattle.command_line.specs.declared.request.Task.TheVariants.{Check, Build, Run, Explain, List as ListModule}
 
 -- a task in plain values; an observer and a number of steps may be left out
@@ -78,7 +78,7 @@ abbrev pub GrantsPlainRequests : List Text → Result Task TaskFault → Type 0
 GrantsPlainRequests words answer =
     (program : Text) (request : Request) → IsPlainRequest request
     → words ≡ program ∷ spelled request
-    → MatchResult answer (Grants request) (λ fault. fault ≡ OutOfMemory)
+    → MatchResult answer (Grants request) (λ fault. fault ≡ NoMemory)
 
 -- no word after the program's name looks like an option
 abbrev pub HasNoOption : List Text → Type 0

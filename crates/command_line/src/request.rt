@@ -1,5 +1,5 @@
 ghost use Rattle.std.specs.Prelude.{◌≡◌};
-ghost use Rattle.command_line.specs.declared.request.TaskFault.TheVariants.{OutOfMemory};
+ghost use Rattle.command_line.specs.declared.request.TaskFault.TheVariants.{NoMemory};
 
 use std::alloc::{AllocError, AllocFailed};
 use thiserror::Error;
@@ -73,21 +73,21 @@ pub enum TaskFault {
     #[error("{0}")]
     Words(String),
     #[error("no memory")]
-    OutOfMemory,
+    NoMemory,
 }
 
 impl From<AllocError> for TaskFault {
-    ghost from_gives = { λ _ fault. fault ≡ OutOfMemory };
+    ghost from_gives = { λ _ fault. fault ≡ NoMemory };
 
     fn from(_error: AllocError) -> TaskFault {
-        TaskFault::OutOfMemory
+        TaskFault::NoMemory
     }
 }
 
 impl<T: Drop> From<AllocFailed<T>> for TaskFault {
-    ghost from_gives = { λ _ fault. fault ≡ OutOfMemory };
+    ghost from_gives = { λ _ fault. fault ≡ NoMemory };
 
     fn from(_error: AllocFailed<T>) -> TaskFault {
-        TaskFault::OutOfMemory
+        TaskFault::NoMemory
     }
 }

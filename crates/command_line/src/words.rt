@@ -5,7 +5,7 @@ ghost use Rattle.command_line.specs.Command.{build_command, check_command, expla
 ghost use Rattle.command_line.specs.Matched.{Enters, HasBuildWords, HasCheckWords, HasExplainWords, HasListWords, HasRunWords, HasStepsInRange, IsGiven, rows_in};
 ghost use Rattle.command_line.specs.Task.{AsksFor, IsTaskOf, IsWordOf, steps_in, steps_of};
 ghost use Rattle.command_line.specs.Request.{GrantsPlainRequests, HasNoOption, IsSpelling};
-ghost use Rattle.command_line.specs.declared.request.TaskFault.TheVariants.{OutOfMemory};
+ghost use Rattle.command_line.specs.declared.request.TaskFault.TheVariants.{NoMemory};
 ghost use Rattle.std.specs.String.{string_bytes};
 ghost use Rattle.std.specs.Prelude.{◌≡◌, ◌≤◌, ◌∷◌, ℕ, IfErr, IfOk, List, MatchResult, [], codes, false, option_map};
 
@@ -25,7 +25,7 @@ pub fn task<'a>(alloc: Global, words: &'a [&'a str]) -> Result<Task, TaskFault>
     ensures steps { IfOk result (λ task. steps_of task ≤ MAX_STEPS) }
     ensures refused { IfOk result (λ _. fault_of flowc_command (texts words.now) ≡ []) }
     ensures taken { IfErr result (λ fault.
-        fault_of flowc_command (texts words.now) ≡ [] → fault ≡ OutOfMemory) }
+        fault_of flowc_command (texts words.now) ≡ [] → fault ≡ NoMemory) }
     ensures plain { GrantsPlainRequests (texts words.now) result }
     ensures only { HasNoOption (texts words.now) → IfOk result (IsSpelling (texts words.now)) }
 {
@@ -41,7 +41,7 @@ fn asked(alloc: Global, matches: &ArgMatches<'_>) -> Result<Task, TaskFault>
     requires met { Enters (subcommand_rows_of matches.now) }
     ensures matched { IfOk result (IsTaskOf (subcommand_rows_of matches.now)) }
     ensures steps { IfOk result (λ task. steps_of task ≤ MAX_STEPS) }
-    ensures taken { IfErr result (λ fault. fault ≡ OutOfMemory) }
+    ensures taken { IfErr result (λ fault. fault ≡ NoMemory) }
 {
     match matches.subcommand() {
         Some(("check", inner)) => check_task(alloc, inner),
@@ -203,14 +203,14 @@ fn steps<'a>(alloc: Global) -> Arg<'a>
 
 // The text of an error of the parser, which is that memory ran out where the parser had none.
 fn words_fault(alloc: Global, error: &clap::Error) -> TaskFault
-    ensures memory { kind_of error.now ≡ ErrorKind.OutOfMemory → result ≡ OutOfMemory }
+    ensures memory { kind_of error.now ≡ ErrorKind.OutOfMemory → result ≡ NoMemory }
 {
     if error.kind() == ErrorKind::OutOfMemory {
-        return TaskFault::OutOfMemory;
+        return TaskFault::NoMemory;
     }
     match format!(in alloc; "{error}") {
         Ok(text) => TaskFault::Words(text),
-        Err(_) => TaskFault::OutOfMemory,
+        Err(_) => TaskFault::NoMemory,
     }
 }
 
@@ -218,7 +218,7 @@ fn check_task(alloc: Global, matches: &ArgMatches<'_>) -> Result<Task, TaskFault
     requires given { HasCheckWords (rows_in matches.now) }
     ensures matched { IfOk result (AsksFor (codes "check") (rows_in matches.now)) }
     ensures steps { IfOk result (λ task. steps_of task ≤ MAX_STEPS) }
-    ensures taken { IfErr result (λ fault. fault ≡ OutOfMemory) }
+    ensures taken { IfErr result (λ fault. fault ≡ NoMemory) }
 {
     Ok(Task::Check {
         hier: word(alloc, matches, "HIER")?,
@@ -230,7 +230,7 @@ fn build_task(alloc: Global, matches: &ArgMatches<'_>) -> Result<Task, TaskFault
     requires given { HasBuildWords (rows_in matches.now) }
     ensures matched { IfOk result (AsksFor (codes "build") (rows_in matches.now)) }
     ensures steps { IfOk result (λ task. steps_of task ≤ MAX_STEPS) }
-    ensures taken { IfErr result (λ fault. fault ≡ OutOfMemory) }
+    ensures taken { IfErr result (λ fault. fault ≡ NoMemory) }
 {
     Ok(Task::Build {
         hier: word(alloc, matches, "HIER")?,
@@ -243,7 +243,7 @@ fn run_task(alloc: Global, matches: &ArgMatches<'_>) -> Result<Task, TaskFault>
     requires given { HasRunWords (rows_in matches.now) }
     ensures matched { IfOk result (AsksFor (codes "run") (rows_in matches.now)) }
     ensures steps { IfOk result (λ task. steps_of task ≤ MAX_STEPS) }
-    ensures taken { IfErr result (λ fault. fault ≡ OutOfMemory) }
+    ensures taken { IfErr result (λ fault. fault ≡ NoMemory) }
 {
     Ok(Task::Run {
         file: word(alloc, matches, "MODULE")?,
@@ -257,7 +257,7 @@ fn list_task(alloc: Global, matches: &ArgMatches<'_>) -> Result<Task, TaskFault>
     requires given { HasListWords (rows_in matches.now) }
     ensures matched { IfOk result (AsksFor (codes "list") (rows_in matches.now)) }
     ensures steps { IfOk result (λ task. steps_of task ≤ MAX_STEPS) }
-    ensures taken { IfErr result (λ fault. fault ≡ OutOfMemory) }
+    ensures taken { IfErr result (λ fault. fault ≡ NoMemory) }
 {
     Ok(Task::List {
         file: word(alloc, matches, "MODULE")?,
@@ -268,7 +268,7 @@ fn explain_task(alloc: Global, matches: &ArgMatches<'_>) -> Result<Task, TaskFau
     requires given { HasExplainWords (rows_in matches.now) }
     ensures matched { IfOk result (AsksFor (codes "explain") (rows_in matches.now)) }
     ensures steps { IfOk result (λ task. steps_of task ≤ MAX_STEPS) }
-    ensures taken { IfErr result (λ fault. fault ≡ OutOfMemory) }
+    ensures taken { IfErr result (λ fault. fault ≡ NoMemory) }
 {
     Ok(Task::Explain {
         hier: word(alloc, matches, "HIER")?,

@@ -21,18 +21,18 @@ enum Failure {
     File(String),
     // A word of the command line is no text.
     NoText,
-    OutOfMemory,
+    NoMemory,
 }
 
 impl From<AllocError> for Failure {
     fn from(_error: AllocError) -> Failure {
-        Failure::OutOfMemory
+        Failure::NoMemory
     }
 }
 
 impl<T: Drop> From<AllocFailed<T>> for Failure {
     fn from(_error: AllocFailed<T>) -> Failure {
-        Failure::OutOfMemory
+        Failure::NoMemory
     }
 }
 
@@ -40,7 +40,7 @@ impl From<TaskFault> for Failure {
     fn from(fault: TaskFault) -> Failure {
         match fault {
             TaskFault::Words(text) => Failure::Words(text),
-            TaskFault::OutOfMemory => Failure::OutOfMemory,
+            TaskFault::NoMemory => Failure::NoMemory,
         }
     }
 }
@@ -57,7 +57,7 @@ fn perform_words(rt: &HostRuntime) -> Result<u8, Failure> {
     let words = match env::args(rt) {
         Ok(words) => words,
         // The words are there unless memory ran out or one of them is not UTF-8.
-        Err(error) if error.kind() == ErrorKind::OutOfMemory => return Err(Failure::OutOfMemory),
+        Err(error) if error.kind() == ErrorKind::OutOfMemory => return Err(Failure::NoMemory),
         Err(_) => return Err(Failure::NoText),
     };
     let mut owned = Vec::new(rt.alloc());
@@ -100,7 +100,7 @@ fn read_files(rt: &HostRuntime, asked: &Task) -> Result<Vec<Vec<u8>>, Failure>
 fn read(rt: &HostRuntime, path: &str) -> Result<Vec<u8>, Failure> {
     match fs::read(rt, path) {
         Ok(bytes) => Ok(bytes),
-        Err(error) if error.kind() == ErrorKind::OutOfMemory => Err(Failure::OutOfMemory),
+        Err(error) if error.kind() == ErrorKind::OutOfMemory => Err(Failure::NoMemory),
         Err(_) => {
             let line = format!(in rt.alloc(); "flowc: {path}: cannot read\n")?;
             Err(Failure::File(line))
@@ -125,7 +125,7 @@ fn report(rt: &HostRuntime, failure: &Failure) -> u8 {
         Failure::Words(text) => (text.as_str(), 2),
         Failure::File(line) => (line.as_str(), 3),
         Failure::NoText => ("error: a word of the command line is not UTF-8\n", 2),
-        Failure::OutOfMemory => ("flowc: no memory\n", 3),
+        Failure::NoMemory => ("flowc: no memory\n", 3),
     };
     // Where standard error fails too, nothing is left to report it on.
     let _ = write_all(&mut Device::new(rt.stderr()), line.as_bytes());

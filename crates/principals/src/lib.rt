@@ -16,7 +16,7 @@ mod table;
 
 pub use fault::HierFault;
 use indexmap::IndexSet;
-pub use read::GREATEST_TEXT;
+pub use read::MAX_TEXT;
 pub use row::Row;
 use std::alloc::{AllocError, Global};
 use std::marker::Model;

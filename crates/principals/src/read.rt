@@ -14,7 +14,7 @@ use lexer::lex;
 use std::alloc::Global;
 
 /// The greatest length of a text in bytes.
-pub const GREATEST_TEXT: usize = 1_048_576;
+pub const MAX_TEXT: usize = 1_048_576;
 
 impl Hierarchy {
     /// The hierarchy of a text, or the first refusal in it.
@@ -46,7 +46,7 @@ fn read_text(alloc: Global, text: &str) -> Result<Hierarchy, HierFault>
     ensures kept { IfOk result IsHierarchy }
     ensures refused { IfErr result (IsReadFault text.now) }
 {
-    if text.len() > GREATEST_TEXT {
+    if text.len() > MAX_TEXT {
         return Err(HierFault::TooLong);
     }
     let tokens = lex(alloc, text)?;

@@ -18,7 +18,8 @@ impl Row {
 
     /// The set of those of these numbers that are below [`Row::LIMIT`].
     pub fn of(numbers: &[u32]) -> Row
-        ensures { (member : ℕ) → IsTrue (has result member) ↔ ((member < 256) × Contains numbers.now member) }
+        ensures { (member : ℕ) → IsTrue (has result member)
+            ↔ ((member < 256) × Contains numbers.now member) }
     {
         let mut row = Row::EMPTY;
         for number in numbers {

@@ -24,7 +24,7 @@ pub fn answer_command(
             write_status(alloc, answer, 2)?;
             write_lines(answer, b'!', text.as_bytes())
         }
-        Err(TaskFault::OutOfMemory) => Err(LineFault::NoMemory),
+        Err(TaskFault::NoMemory) => Err(LineFault::NoMemory),
     }
 }
 

@@ -1,7 +1,7 @@
 //! Lookups by number and by name in a hierarchy, and the laws of acts-for.
 
 use principals::laws::Relation;
-use principals::{GREATEST_TEXT, HierFault, Hierarchy, laws};
+use principals::{HierFault, Hierarchy, MAX_TEXT, laws};
 use std::alloc::Global;
 use std::test::Fail;
 
@@ -104,5 +104,5 @@ fn takes_names_and_pairs(rt: HostRuntime) -> Result<(), Fail> {
 
 #[test]
 fn knows_the_longest_text(rt: HostRuntime) {
-    assert_eq!(rt; GREATEST_TEXT, 1_048_576);
+    assert_eq!(rt; MAX_TEXT, 1_048_576);
 }
