@@ -9,11 +9,13 @@ can be compared: "bytes in the time of the reference" is the number of bytes of 
 and verifies while the reference runs once, and "steps" likewise the number of steps of the machine. Each command is
 timed several times, and the least time counts.
 
-`check` and `build` are timed on generated straight-line sources of 128 KiB, 256 KiB, 512 KiB and 1 MiB. Beside each time
+`check` and `build` are timed on generated sources of 128 KiB, 256 KiB, 512 KiB and 1 MiB: on straight lines, and on
+procedures that use every construct of the language. Beside each time
 stands how many times that of half the source it is: 2 where the time grows in step with the source. The time of an
 empty program is taken off all of them. A program that has not these commands is measured without them.
 """
 
+import itertools
 import struct
 import subprocess
 import sys
@@ -56,6 +58,59 @@ def source(size):
     return "".join(parts)
 
 
+UNIT = """int{} f@{}(int{} n, boolean{} up) throws (Low{}) {
+    int i = 0;
+    int part = -n;
+    int cells[8];
+    try {
+        while (i < 8 && !up || n == 3) {
+            cells[i] = part / (i + 1) - n * 2;
+            if (cells[i] > 100) { break; } else { i = i + 1; continue; }
+        }
+        receive q;
+        part = receive q;
+    } catch (Bounds) {
+        part = cells[0] % 7;
+    } catch (Arith) {
+        { int rest = 1; part = rest; }
+    } catch (End) {
+        throw Low;
+    }
+    if (part <= 0) { return n + total; }
+    total = part;
+    int{Alice:} mine = 0;
+    try { mine = receive s; } catch (End) { }
+    flag = mine != 0;
+    send own, mine + 1;
+    send pub, part;
+    return part;
+}
+"""
+
+
+def every_construct(size):
+    """A program of so many bytes, of procedures that each use every construct of the language, and of a call of each."""
+    head = """exception Low;
+input{} q;
+input{Alice:} s;
+output{} pub;
+output{Alice:} own;
+global int{} total = 0;
+global boolean{Alice:} flag = true;
+"""
+    begin, end = "void main() throws (Low{}) {\n    int x = 0;\n", "}\n"
+    procedures, calls = [], []
+    left = size - len(head) - len(begin) - len(end)
+    while True:
+        number = str(len(calls))
+        procedure, call = UNIT.replace("@", number), f"    x = f{number}(x, true);\n"
+        if len(procedure) + len(call) > left:
+            return head + "".join(procedures) + begin + "".join(calls) + " " * left + end
+        procedures.append(procedure)
+        calls.append(call)
+        left -= len(procedure) + len(call)
+
+
 def seconds(command, statuses):
     """The least time of several runs of a command, which has to end with one of these statuses."""
     least = None
@@ -72,26 +127,32 @@ def seconds(command, statuses):
 def measure_texts(program, folder, unit):
     """Tells how fast the program checks and compiles sources, if it does."""
     hierarchy, module = folder / "hierarchy.txt", folder / "module.flob"
-    hierarchy.write_text("")
+    hierarchy.write_text("principal Alice, Bob;")
     empty = folder / "empty.flow"
     empty.write_text("void main() { }")
     command = [program, "check", str(hierarchy), str(empty)]
     if subprocess.run(command, capture_output=True).returncode != 0:
         print("check and build: not in this program")
         return
-    for verb, last in (("check", []), ("build", [str(module)])):
+    shapes = (("straight lines", source), ("every construct", every_construct))
+    verbs = (("check", []), ("build", [str(module)]))
+    for (shape, make), (verb, last) in itertools.product(shapes, verbs):
         command = [program, verb, str(hierarchy)]
         start = seconds(command + [str(empty)] + last, {0})
         before = None
         for size in SIZES:
             text = folder / "long.flow"
-            text.write_text(source(size))
+            text.write_text(make(size))
             took = max(seconds(command + [str(text)] + last, {0}) - start, 1e-6)
             ratio = "" if before is None else f", {took / before:.2f} times that of half"
-            print(f"{verb} of {size >> 10} KiB: {took * 1000:.1f} ms{ratio}")
+            print(f"{verb} of {size >> 10} KiB of {shape}: {took * 1000:.1f} ms{ratio}")
             before = took
         rate = SIZES[-1] / before
-        print(f"{verb}: {rate:,.0f} bytes per second, {rate * unit:,.0f} in the time of the reference")
+        print(f"{verb} of {shape}: {rate:,.0f} bytes per second, {rate * unit:,.0f} in the time of the reference")
+    file, world = folder / "module.flob", folder / "empty.txt"
+    world.write_text("")
+    rate = file.stat().st_size / seconds([program, "run", str(file), str(world), "--steps", "0"], {6})
+    print(f"decode and verify of the last of them: {rate:,.0f} bytes per second")
 
 
 def measure_modules(program, folder, unit):
