@@ -11,12 +11,14 @@ ghost use Rattle.std.specs.Prelude.{All, Contains, IsTrue, List, [], ℕ, ◌&&�
 pub fn tests_decide()
     ensures allows { (h : PrincipalHierarchy) (p : ℕ) (policy : ReaderPolicy) →
         IsTrue (policy_allows h p policy) ↔ PolicyAllows h p policy }
-    ensures reads { (h : PrincipalHierarchy) (p : ℕ) (label : Label) → IsTrue (may_read h p label) ↔ MayRead h p label }
+    ensures reads { (h : PrincipalHierarchy) (p : ℕ) (label : Label) →
+        IsTrue (may_read h p label) ↔ MayRead h p label }
     ensures policy { (h : PrincipalHierarchy) (from to : ReaderPolicy) →
         IsTrue (policy_flows h from to) ↔ PolicyFlowsTo h from to }
     ensures covers { (h : PrincipalHierarchy) (to : Label) (policy : ReaderPolicy) →
         IsTrue (covers h to policy) ↔ Covers h to policy }
-    ensures flow { (h : PrincipalHierarchy) (from to : Label) → IsTrue (flows h from to) ↔ FlowsTo h from to }
+    ensures flow { (h : PrincipalHierarchy) (from to : Label) →
+        IsTrue (flows h from to) ↔ FlowsTo h from to }
 {}
 
 /// Under each hierarchy flow is reflexive and transitive, the union is a least upper bound of two labels, and the empty label
@@ -25,7 +27,8 @@ pub fn labels_form_a_lattice()
     ensures relation { (h : PrincipalHierarchy) → IsLattice (FlowsTo h) ◌++◌ [] }
     ensures test { (h : PrincipalHierarchy) → IsLattice (λ a b. IsTrue (flows h a b)) ◌++◌ [] }
     ensures canonical_relation { (h : PrincipalHierarchy) → IsLattice (FlowsTo h) joined [] }
-    ensures canonical_test { (h : PrincipalHierarchy) → IsLattice (λ a b. IsTrue (flows h a b)) joined [] }
+    ensures canonical_test { (h : PrincipalHierarchy) →
+        IsLattice (λ a b. IsTrue (flows h a b)) joined [] }
 {}
 
 /// The soundness of the whole model: where a label flows to another one, every reader of the other one reads it.
@@ -63,13 +66,17 @@ pub fn only_the_set_of_policies_counts()
 /// written allows, and each of the two flows to the other.
 pub fn written_policy_keeps_its_meaning()
     ensures readers { (owner : ℕ) (readers : List ℕ) (reader : ℕ) →
-        Contains (written_policy owner readers).readers reader ↔ (Contains readers reader × (reader ≢ owner)) }
-    ensures canonical { (owner : ℕ) (readers : List ℕ) → IsCanonicalPolicy (written_policy owner readers) }
+        Contains (written_policy owner readers).readers reader
+        ↔ (Contains readers reader × (reader ≢ owner)) }
+    ensures canonical { (owner : ℕ) (readers : List ℕ) →
+        IsCanonicalPolicy (written_policy owner readers) }
     ensures allows { (h : PrincipalHierarchy) (owner : ℕ) (readers : List ℕ) (p : ℕ) →
-        PolicyAllows h p (written_policy owner readers) ↔ PolicyAllows h p (record { owner = owner; readers = readers }) }
+        PolicyAllows h p (written_policy owner readers)
+        ↔ PolicyAllows h p (record { owner = owner; readers = readers }) }
     ensures flow { (h : PrincipalHierarchy) (owner : ℕ) (readers : List ℕ) →
         PolicyFlowsTo h (written_policy owner readers) (record { owner = owner; readers = readers })
-        × PolicyFlowsTo h (record { owner = owner; readers = readers }) (written_policy owner readers) }
+        × PolicyFlowsTo h (record { owner = owner; readers = readers })
+        (written_policy owner readers) }
 {}
 
 /// A written label is kept without a loss, and so is a join: each is the set of the policies that it is made of. Two canonical

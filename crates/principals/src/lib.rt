@@ -82,7 +82,8 @@ impl Hierarchy {
         requires few { vec_len names ≤ 256 }
         requires different { AllDifferent (map (λ name. string_bytes name) names.items) }
         requires there { AllBelow (vec_len names) pairs.items }
-        ensures names { IfOk result (λ hierarchy. hierarchy.names ≡ map (λ name. string_bytes name) names.items) }
+        ensures names { IfOk result (λ hierarchy.
+            hierarchy.names ≡ map (λ name. string_bytes name) names.items) }
         ensures pairs { IfOk result (λ hierarchy. hierarchy.pairs ≡ pairs.items) }
     {
         let names = numbered(alloc, names)?;
@@ -165,7 +166,8 @@ impl Hierarchy {
 
     /// Whether `a` acts for some number of a set, for all of them in a few steps.
     pub fn acts_for_some(&self, a: u32, numbers: &Row) -> bool
-        ensures { IsTrue result ↔ ((b : ℕ) × IsTrue (has numbers.now b) × ActsFor self.now.pairs a b) }
+        ensures { IsTrue result ↔
+            ((b : ℕ) × IsTrue (has numbers.now b) × ActsFor self.now.pairs a b) }
     {
         match self.table.get(a as usize) {
             Some(row) => row.meets(numbers),

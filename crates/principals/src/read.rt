@@ -29,7 +29,8 @@ impl Hierarchy {
             MatchResult result (λ found. found ≡ hierarchy) (λ fault. fault ≡ HierFault.NoMemory) }
 
         // At a fault it is the first of the text, and no text with a fault is read.
-        ensures refused { IfErr result (λ fault. (fault ≡ HierFault.NoMemory) ⊎ IsRefusedText text.now fault) }
+        ensures refused { IfErr result (λ fault.
+            (fault ≡ HierFault.NoMemory) ⊎ IsRefusedText text.now fault) }
         ensures first { (fault : HierFault) → IsRefusedText text.now fault →
             MatchResult result (λ _. ⊥) (λ found. (found ≡ fault) ⊎ (found ≡ HierFault.NoMemory)) }
 

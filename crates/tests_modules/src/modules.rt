@@ -47,6 +47,8 @@ fn the_laws_are_called(_rt: HostRuntime) {
     laws::spellings_are_not_refused();
     laws::refusals_stand_inside();
     laws::instructions_are_spelled();
+    verifier::safety::faultless_modules_are_never_stuck();
+    verifier::safety::reported_faults_are_there();
 }
 
 #[test]

@@ -36,13 +36,17 @@ fn laws_of_isolation(_rt: HostRuntime) {
 fn laws_of_compiling(_rt: HostRuntime) {
     names::laws::found_programs_are_well_formed();
     names::laws::item_names_are_proper_and_different();
+    names::laws::item_names_are_utf8();
+    names::laws::hierarchies_and_channel_labels_are_kept();
     names::laws::numbers_read_as_names();
+    layout::laws::layout_keeps_runs();
     lowering::laws::graphs_keep_meaning();
     lowering::laws::modules_keep_meaning();
     lowering::laws::graphs_have_positions();
     lowering::laws::graphs_fit_the_file();
     lowering::laws::modules_have_no_fault();
     lowering::laws::modules_are_never_stuck();
+    compiler::places_agree();
     parser::spelling_laws();
     parser::one_reading();
 }
