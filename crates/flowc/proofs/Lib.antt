@@ -3,6 +3,6 @@ mod Explaining
 pub mod Listed
 pub mod Promises
 pub mod Refusals
+pub mod Reporting
 pub mod Sessions
 pub mod Settled
-pub mod Telling

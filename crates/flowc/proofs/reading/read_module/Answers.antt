@@ -2,7 +2,7 @@ use Rattle.std.proofs.Common.{subst, sym}
 use Rattle.bytecode.specs.Contents.{ModuleContents}
 use Rattle.verifier.specs.Faults.{HasNoFault}
 use Rattle.flowc.proofs.Refusals.{reported_of_is_fault}
-use Rattle.flowc.proofs.Telling.{faulty_code, first_refused}
+use Rattle.flowc.proofs.Reporting.{faulty_code, first_refused}
 use Rattle.flowc.proofs.reading.read_module.Goals as goal
 
 pub returns-in_ok-fault_line-in-Err-Wrong-clause-refused :

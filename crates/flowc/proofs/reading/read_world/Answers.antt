@@ -1,5 +1,5 @@
 use Rattle.std.proofs.Common.{◌≡◌, rules}
-use Rattle.flowc.proofs.Telling.{wrong_line}
+use Rattle.flowc.proofs.Reporting.{wrong_line}
 use Rattle.flowc.proofs.reading.read_world.Goals as goal
 
 pub returns-in_ok-world_line-in-Err-Line-clause-message :

@@ -1,7 +1,7 @@
 use Rattle.std.proofs.Common.{◌∙◌, ap}
 use Rattle.bytecode.specs.Contents.{ModuleContents}
 use Rattle.flowc.proofs.Cut.{appended_all, can_run, cut_off, ends_so, on_err, shows_run}
-use Rattle.flowc.proofs.Telling.{observer_message, start_message}
+use Rattle.flowc.proofs.Reporting.{observer_message, start_message}
 use Rattle.flowc.proofs.running.run.Goals as goal
 
 pub returns-in_err-show-clause-some : goal.returns-in_err-show-clause-some

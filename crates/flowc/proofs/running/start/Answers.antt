@@ -1,7 +1,7 @@
 use Rattle.std.proofs.Common.{Err, ap}
 use Rattle.channels.specs.WorldText.{lines_of}
 use Rattle.flowc.proofs.Refusals.{named_world}
-use Rattle.flowc.proofs.Telling.{module_message, world_message}
+use Rattle.flowc.proofs.Reporting.{module_message, world_message}
 use Rattle.flowc.proofs.running.start.Goals as goal
 
 pub returns-in_ok-line-in-Err-UnknownChannel-clause-refused :

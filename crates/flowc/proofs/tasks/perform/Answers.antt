@@ -4,7 +4,7 @@ use Rattle.flowc.proofs.Explaining.{explain_shows}
 use Rattle.flowc.proofs.Refusals.{run_shows}
 use Rattle.std.specs.String.{string_bytes}
 use Rattle.flowc.proofs.Settled.{accepted_along, held_at_zero, ok_is_zero, refused_at_one}
-use Rattle.flowc.proofs.Telling.{fault_message, module_line, ok_is_silent, run_message, texts_line}
+use Rattle.flowc.proofs.Reporting.{fault_message, module_line, ok_is_silent, run_message, texts_line}
 use Rattle.flowc.proofs.tasks.perform.Goals as goal
 
 pub returns-in-Run-clause-stdout : goal.returns-in-Run-clause-stdout

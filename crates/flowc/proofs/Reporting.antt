@@ -80,7 +80,7 @@ observer_message outcome m h code_path text_path code text observer failed fault
 -- the first refusal of bytes
 pub first_refused : (path code line : List ℕ) (fault : FormatFault) (refusal : Refusal) (offset : ℕ) → fault ≡ format.Refused refusal offset
     → Reports fault (first_refusal code) → line ≡ refusal_line path refusal offset → IsModuleLine path code line
-first_refused path code line fault refusal offset is tells says =
+first_refused path code line fault refusal offset is message says =
     refused refusal offset (subst (λ (f : FormatFault). Reports f (first_refusal code)) is tells) says
 
 -- a fault of the code of the module that bytes spell
