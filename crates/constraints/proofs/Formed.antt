@@ -172,18 +172,17 @@ module _ (core : Core) (table : List Label) (entries : List Exits) (procedure : 
       (passed-then core table entries pc trying (λ named. handling) (count + made_by_block block) (made_by_handlers handlers) rest left old after new one two)
 
   -- a statement without inner unknowns, which takes no entry of the path map but its own
-  pub simple-at : (s : S.Statement) (tree : Statement) (pc : Atom) (takers : Takers) (thrown : List Entry) (old new : Progress)
-      → statement_of s ≡ tree → inner_paths (program_of core) tree ≡ [] → made_by_statement tree ≡ 0 → thrown ≡ old.thrown.items
+  pub simple-walked : (tree : Statement) (pc : Atom) (takers : Takers) (thrown : List Entry) (old new : Progress)
+      → inner_paths (program_of core) tree ≡ [] → made_by_statement tree ≡ 0 → thrown ≡ old.thrown.items
       → new.index ≡ old.index → new.number ≡ old.number → new.thrown.items ≡ old.thrown.items
       → IsSimple core table procedure pc (takers_of takers thrown) tree old.constraints.items new.constraints.items
-      → IsFormWalked core table entries procedure pc takers (statement_of s) old new
-  simple-at s tree pc takers thrown old new is none made_none same index number thrown_is simple =
-      subst (λ tree'. IsFormWalked core table entries procedure pc takers tree' old new) (sym is) (λ left before levelled.
+      → IsFormWalked core table entries procedure pc takers tree old new
+  simple-walked tree pc takers thrown old new none made_none same index number thrown_is simple = λ left before levelled.
       passed-same core table entries pc (λ named. statement_constraints (scope_of core procedure) named (takers_of takers old.thrown.items) old.number tree)
       (λ named. statement_constraints (scope_of core procedure) named (takers_of takers thrown) old.number tree) (made_by_statement tree) 0 left old new
       (λ named. ap (λ t. statement_constraints (scope_of core procedure) named (takers_of takers t) old.number tree) (sym same)) made_none
       (alone-passed core table entries pc (λ named. statement_constraints (scope_of core procedure) named (takers_of takers thrown) old.number tree) 0 left old new
-      (before ∙ ap (λ (paths : List (List Exit)). map exits_of paths ++ left) none) index (omega (arith, number)) thrown_is (simple old.number)))
+      (before ∙ ap (λ (paths : List (List Exit)). map exits_of paths ++ left) none) index (omega (arith, number)) thrown_is (simple old.number))
 
   pub form-at : (s : S.Statement) (tree : Statement) (pc : Atom) (takers : Takers) (old new : Progress) → statement_of s ≡ tree
       → IsFormWalked core table entries procedure pc takers tree old new → IsFormWalked core table entries procedure pc takers (statement_of s) old new

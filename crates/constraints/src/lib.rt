@@ -8,6 +8,7 @@ pub mod calls;
 pub mod expressions;
 pub mod lefts;
 mod pieces;
+mod plain;
 mod procedures;
 mod program;
 pub mod progress;

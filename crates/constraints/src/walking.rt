@@ -101,58 +101,17 @@ fn walk_form(
 {
     match statement {
         Statement::Assign(at, variable, value) => {
-            walk.add_assign(
-                *at,
-                *variable,
-                value,
-                pc,
-                takers,
-                &progress.thrown,
-                &mut progress.constraints,
-            )
+            walk.walk_assign(*at, *variable, value, pc, takers, progress)
         }
-        Statement::Clear(at, slot) => {
-            walk.add_clear(
-                *at,
-                *slot,
-                pc,
-                takers,
-                &progress.thrown,
-                &mut progress.constraints,
-            )
+        Statement::Clear(at, slot) => walk.walk_clear(*at, *slot, pc, takers, progress),
+        Statement::Store(at, array, length, index, value) => {
+            walk.walk_store(*at, *array, *length, index, value, pc, takers, progress)
         }
-        Statement::Store(at, array, length, index, value) => walk.add_store(
-            *at,
-            *array,
-            *length,
-            index,
-            value,
-            pc,
-            takers,
-            &progress.thrown,
-            &mut progress.constraints,
-        ),
         Statement::Receive(at, channel, target) => {
-            walk.add_receive(
-                *at,
-                *channel,
-                *target,
-                pc,
-                takers,
-                &progress.thrown,
-                &mut progress.constraints,
-            )
+            walk.walk_receive(*at, *channel, *target, pc, takers, progress)
         }
         Statement::Send(at, channel, value) => {
-            walk.add_send(
-                *at,
-                *channel,
-                value,
-                pc,
-                takers,
-                &progress.thrown,
-                &mut progress.constraints,
-            )
+            walk.walk_send(*at, *channel, value, pc, takers, progress)
         }
         Statement::Call(at, callee, arguments, target) => {
             walk.walk_call(*at, *callee, arguments, *target, pc, takers, progress)
@@ -163,26 +122,8 @@ fn walk_form(
         Statement::While(at, number, condition, body) => {
             walk_while(walk, *at, *number, condition, body, pc, takers, progress)
         }
-        Statement::Leave(at, exit) => {
-            walk.add_leave(
-                *at,
-                *exit,
-                pc,
-                takers,
-                &progress.thrown,
-                &mut progress.constraints,
-            )
-        }
-        Statement::Return(at, value) => {
-            walk.add_return(
-                *at,
-                value,
-                pc,
-                takers,
-                &progress.thrown,
-                &mut progress.constraints,
-            )
-        }
+        Statement::Leave(at, exit) => walk.walk_leave(*at, *exit, pc, takers, progress),
+        Statement::Return(at, value) => walk.walk_return(*at, value, pc, takers, progress),
         Statement::Try(_, block, handlers) => {
             walk_try(walk, block, handlers, pc, takers, progress)
         }

@@ -6,7 +6,7 @@ use Rattle.resolved.specs.WellFormed.{statement_nodes}
 use Rattle.resolved.specs.TreeOf.{expression_of, some_expression_of, statement_of, block_of, handlers_of}
 use Rattle.path_map.proofs.Forms.{tree-if, tree-while, tree-try, tree-nested, next-statement, next-handler}
 use Rattle.constraints.proofs.Along.{Along, Handling, along-start, along-step, along-end, handling-start, handling-step, handling-end}
-use Rattle.constraints.proofs.Formed.{simple-at, form-at, block-walked, statement-walked, if-walked, while-walked, try-walked}
+use Rattle.constraints.proofs.Formed.{form-at, block-walked, statement-walked, if-walked, while-walked, try-walked}
 use Rattle.constraints.proofs.Measured.{statement-within, handler-within}
 use Rattle.constraints.proofs.Taken.{number-at}
 use Rattle.constraints.proofs.walking.+walk.Goals as goal
@@ -31,59 +31,59 @@ walk_statement-returns-clause-added t c =
 -- statements without blocks
 pub walk_form-returns-in-Assign : goal.walk_form-returns-in-Assign
 walk_form-returns-in-Assign t c =
-    on_ok_weaker c.add_assign.result
-    (λ simple. simple-at c.args.walk.now.table.now.core.now c.args.walk.now.table.now.written.items c.args.walk.now.map.now.entries.items c.args.walk.now.procedure
-    c.args.statement.now (T.Assign c.in-Assign.at c.in-Assign.variable (expression_of c.in-Assign.value)) c.args.pc c.args.takers c.deref.result.now c.args.progress.now _
-    (ap statement_of c.in-Assign.is) refl refl c.deref.ensures.value refl refl refl simple)
-    c.add_assign.ensures
+    on_ok_weaker c.walk_assign.result
+    (λ walked. form-at c.args.walk.now.table.now.core.now c.args.walk.now.table.now.written.items c.args.walk.now.map.now.entries.items c.args.walk.now.procedure
+    c.args.statement.now (T.Assign c.in-Assign.at c.in-Assign.variable (expression_of c.in-Assign.value)) c.args.pc c.args.takers c.args.progress.now _
+    (ap statement_of c.in-Assign.is) walked)
+    c.walk_assign.ensures
 
 pub walk_form-returns-in-Clear : goal.walk_form-returns-in-Clear
 walk_form-returns-in-Clear t c =
-    on_ok_weaker c.add_clear.result
-    (λ simple. simple-at c.args.walk.now.table.now.core.now c.args.walk.now.table.now.written.items c.args.walk.now.map.now.entries.items c.args.walk.now.procedure
-    c.args.statement.now (T.Clear c.in-Clear.at c.in-Clear.slot) c.args.pc c.args.takers c.deref-in-Clear.result.now c.args.progress.now _
-    (ap statement_of c.in-Clear.is) refl refl c.deref-in-Clear.ensures.value refl refl refl simple)
-    c.add_clear.ensures
+    on_ok_weaker c.walk_clear.result
+    (λ walked. form-at c.args.walk.now.table.now.core.now c.args.walk.now.table.now.written.items c.args.walk.now.map.now.entries.items c.args.walk.now.procedure
+    c.args.statement.now (T.Clear c.in-Clear.at c.in-Clear.slot) c.args.pc c.args.takers c.args.progress.now _
+    (ap statement_of c.in-Clear.is) walked)
+    c.walk_clear.ensures
 
 pub walk_form-returns-in-Store : goal.walk_form-returns-in-Store
 walk_form-returns-in-Store t c =
-    on_ok_weaker c.add_store.result
-    (λ simple. simple-at c.args.walk.now.table.now.core.now c.args.walk.now.table.now.written.items c.args.walk.now.map.now.entries.items c.args.walk.now.procedure
-    c.args.statement.now (T.Store c.in-Store.at c.in-Store.array c.in-Store.length (expression_of c.in-Store.index) (expression_of c.in-Store.value)) c.args.pc c.args.takers c.deref-in-Store.result.now c.args.progress.now _
-    (ap statement_of c.in-Store.is) refl refl c.deref-in-Store.ensures.value refl refl refl simple)
-    c.add_store.ensures
+    on_ok_weaker c.walk_store.result
+    (λ walked. form-at c.args.walk.now.table.now.core.now c.args.walk.now.table.now.written.items c.args.walk.now.map.now.entries.items c.args.walk.now.procedure
+    c.args.statement.now (T.Store c.in-Store.at c.in-Store.array c.in-Store.length (expression_of c.in-Store.index) (expression_of c.in-Store.value)) c.args.pc c.args.takers c.args.progress.now _
+    (ap statement_of c.in-Store.is) walked)
+    c.walk_store.ensures
 
 pub walk_form-returns-in-Receive : goal.walk_form-returns-in-Receive
 walk_form-returns-in-Receive t c =
-    on_ok_weaker c.add_receive.result
-    (λ simple. simple-at c.args.walk.now.table.now.core.now c.args.walk.now.table.now.written.items c.args.walk.now.map.now.entries.items c.args.walk.now.procedure
-    c.args.statement.now (T.Receive c.in-Receive.at c.in-Receive.channel c.in-Receive.target) c.args.pc c.args.takers c.deref-in-Receive.result.now c.args.progress.now _
-    (ap statement_of c.in-Receive.is) refl refl c.deref-in-Receive.ensures.value refl refl refl simple)
-    c.add_receive.ensures
+    on_ok_weaker c.walk_receive.result
+    (λ walked. form-at c.args.walk.now.table.now.core.now c.args.walk.now.table.now.written.items c.args.walk.now.map.now.entries.items c.args.walk.now.procedure
+    c.args.statement.now (T.Receive c.in-Receive.at c.in-Receive.channel c.in-Receive.target) c.args.pc c.args.takers c.args.progress.now _
+    (ap statement_of c.in-Receive.is) walked)
+    c.walk_receive.ensures
 
 pub walk_form-returns-in-Send : goal.walk_form-returns-in-Send
 walk_form-returns-in-Send t c =
-    on_ok_weaker c.add_send.result
-    (λ simple. simple-at c.args.walk.now.table.now.core.now c.args.walk.now.table.now.written.items c.args.walk.now.map.now.entries.items c.args.walk.now.procedure
-    c.args.statement.now (T.Send c.in-Send.at c.in-Send.channel (expression_of c.in-Send.value)) c.args.pc c.args.takers c.deref-in-Send.result.now c.args.progress.now _
-    (ap statement_of c.in-Send.is) refl refl c.deref-in-Send.ensures.value refl refl refl simple)
-    c.add_send.ensures
+    on_ok_weaker c.walk_send.result
+    (λ walked. form-at c.args.walk.now.table.now.core.now c.args.walk.now.table.now.written.items c.args.walk.now.map.now.entries.items c.args.walk.now.procedure
+    c.args.statement.now (T.Send c.in-Send.at c.in-Send.channel (expression_of c.in-Send.value)) c.args.pc c.args.takers c.args.progress.now _
+    (ap statement_of c.in-Send.is) walked)
+    c.walk_send.ensures
 
 pub walk_form-returns-in-Leave : goal.walk_form-returns-in-Leave
 walk_form-returns-in-Leave t c =
-    on_ok_weaker c.add_leave.result
-    (λ simple. simple-at c.args.walk.now.table.now.core.now c.args.walk.now.table.now.written.items c.args.walk.now.map.now.entries.items c.args.walk.now.procedure
-    c.args.statement.now (T.Leave c.in-Leave.at c.in-Leave.exit) c.args.pc c.args.takers c.deref-in-Leave.result.now c.args.progress.now _
-    (ap statement_of c.in-Leave.is) refl refl c.deref-in-Leave.ensures.value refl refl refl simple)
-    c.add_leave.ensures
+    on_ok_weaker c.walk_leave.result
+    (λ walked. form-at c.args.walk.now.table.now.core.now c.args.walk.now.table.now.written.items c.args.walk.now.map.now.entries.items c.args.walk.now.procedure
+    c.args.statement.now (T.Leave c.in-Leave.at c.in-Leave.exit) c.args.pc c.args.takers c.args.progress.now _
+    (ap statement_of c.in-Leave.is) walked)
+    c.walk_leave.ensures
 
 pub walk_form-returns-in-Return : goal.walk_form-returns-in-Return
 walk_form-returns-in-Return t c =
-    on_ok_weaker c.add_return.result
-    (λ simple. simple-at c.args.walk.now.table.now.core.now c.args.walk.now.table.now.written.items c.args.walk.now.map.now.entries.items c.args.walk.now.procedure
-    c.args.statement.now (T.ReturnWith c.in-Return.at (some_expression_of c.in-Return.value)) c.args.pc c.args.takers c.deref-in-Return.result.now c.args.progress.now _
-    (ap statement_of c.in-Return.is) refl refl c.deref-in-Return.ensures.value refl refl refl simple)
-    c.add_return.ensures
+    on_ok_weaker c.walk_return.result
+    (λ walked. form-at c.args.walk.now.table.now.core.now c.args.walk.now.table.now.written.items c.args.walk.now.map.now.entries.items c.args.walk.now.procedure
+    c.args.statement.now (T.ReturnWith c.in-Return.at (some_expression_of c.in-Return.value)) c.args.pc c.args.takers c.args.progress.now _
+    (ap statement_of c.in-Return.is) walked)
+    c.walk_return.ensures
 
 -- a call
 pub walk_form-returns-in-Call : goal.walk_form-returns-in-Call
