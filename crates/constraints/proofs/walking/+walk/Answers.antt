@@ -90,8 +90,8 @@ pub walk_form-returns-in-Call : goal.walk_form-returns-in-Call
 walk_form-returns-in-Call t c =
     on_ok_weaker c.walk_call.result
     (λ walked. form-at c.args.walk.now.table.now.core.now c.args.walk.now.table.now.written.items c.args.walk.now.map.now.entries.items c.args.walk.now.procedure
-    c.args.statement.now (T.Call c.in-Call.at c.in-Call.callee (map expression_of c.deref-in-Call.result.now) c.in-Call.target) c.args.pc c.args.takers c.args.progress.now _
-    (ap statement_of c.in-Call.is ∙ ap (λ xs. T.Call c.in-Call.at c.in-Call.callee (map expression_of xs) c.in-Call.target) (sym c.deref-in-Call.ensures.value)) walked)
+    c.args.statement.now (T.Call c.in-Call.at c.in-Call.callee (map expression_of c.deref.result.now) c.in-Call.target) c.args.pc c.args.takers c.args.progress.now _
+    (ap statement_of c.in-Call.is ∙ ap (λ xs. T.Call c.in-Call.at c.in-Call.callee (map expression_of xs) c.in-Call.target) (sym c.deref.ensures.value)) walked)
     c.walk_call.ensures
 
 -- forms with blocks
