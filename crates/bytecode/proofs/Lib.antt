@@ -1,13 +1,2 @@
-pub mod Steps
-pub mod Coherent
-pub mod Taken
-pub mod Again
-pub mod Lawful
-pub mod Loop
 pub mod Spelling
-pub mod Widths
-pub mod NewNames
-pub mod Facts
-pub mod Both
-pub mod Written
-pub mod Inside
+mod Operands

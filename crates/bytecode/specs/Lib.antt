@@ -9,9 +9,6 @@ pub mod Values
 pub mod Opcodes
 pub mod Code
 pub mod Format
-pub mod Reading
 pub mod Machine
-pub mod Decoded
-pub mod Writing
 pub mod Isolated
 pub mod Targets

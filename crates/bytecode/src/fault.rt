@@ -1,8 +1,7 @@
-ghost use Rattle.bytecode.specs.Faults.{refusal_number, refusal_words};
-ghost use Rattle.bytecode.specs.declared.fault.FormatFault.TheVariants.{NoMemory};
-ghost use Rattle.std.specs.Prelude.{◌≡◌};
+//! Why bytes spell no module.
 
-use std::alloc::{AllocError, AllocFailed};
+ghost use Rattle.bytecode.specs.Faults.{refusal_number, refusal_words};
+ghost use Rattle.std.specs.Prelude.{◌≡◌};
 
 /// Why bytes spell no module.
 #[derive(Clone, Copy, Debug, PartialEq, Eq)]
@@ -56,29 +55,4 @@ impl Refusal {
 pub struct Stop {
     pub refusal: Refusal,
     pub left: usize,
-}
-
-/// Why a module was not read.
-#[derive(Clone, Copy, Debug, PartialEq, Eq)]
-pub enum FormatFault {
-    /// Out of memory.
-    NoMemory,
-    /// The bytes spell no module: the first refusal in reading order, and the byte offset where it stands.
-    Refused(Refusal, usize),
-}
-
-impl From<AllocError> for FormatFault {
-    ghost from_gives = { λ _ e. e ≡ NoMemory };
-
-    fn from(_e: AllocError) -> FormatFault {
-        FormatFault::NoMemory
-    }
-}
-
-impl<T: Drop> From<AllocFailed<T>> for FormatFault {
-    ghost from_gives = { λ _ e. e ≡ NoMemory };
-
-    fn from(_e: AllocFailed<T>) -> FormatFault {
-        FormatFault::NoMemory
-    }
 }

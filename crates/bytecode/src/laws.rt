@@ -1,46 +1,12 @@
-//! Laws of the spelling of modules.
+//! Laws of the spelling of instructions.
 
-ghost use Rattle.bytecode.specs.Contents.{ModuleContents};
-ghost use Rattle.bytecode.specs.Decoded.{first_refusal};
-ghost use Rattle.bytecode.specs.Form.{Fits, IsCoded, read_all, spelled, Spells};
-ghost use Rattle.bytecode.specs.Format.{module_file};
+ghost use Rattle.bytecode.specs.Form.{IsCoded};
 ghost use Rattle.bytecode.specs.Opcodes.{instructions, OperandFits, row_of};
-ghost use Rattle.bytecode.specs.declared.fault.Stop.{Stop};
 ghost use Rattle.bytecode.specs.declared.instruction.Instruction.{Instruction};
-ghost use Rattle.std.specs.Prelude.{length, List, None, ℕ, ◌++◌, ◌≡◌, ◌≤◌};
-
-/// Each module has one spelling, and each spelling is that of one module.
-pub fn one_spelling()
-    ensures contents { (m n : ModuleContents) (bytes : List ℕ)
-        → Spells module_file m bytes → Spells module_file n bytes → m ≡ n }
-    ensures bytes { (m : ModuleContents) (a b : List ℕ)
-        → Spells module_file m a → Spells module_file m b → a ≡ b }
-    ensures each { (m : ModuleContents) → Fits module_file m →
-        Spells module_file m (spelled module_file m) }
-{}
 
 /// Each instruction whose operand fits has a spelling: its opcode is a byte, which is followed by as many bytes as its operand
 /// has, and the two spell that instruction again.
 pub fn instructions_are_spelled()
     ensures { (instruction : Instruction) → OperandFits (row_of instruction).operand
         → IsCoded instructions instruction }
-{}
-
-/// No spelling begins another one: where bytes that follow make them equal, they are equal already.
-pub fn no_spelling_begins_another()
-    ensures { (m n : ModuleContents) (a b more others : List ℕ)
-        → Spells module_file m a → Spells module_file n b → a ++ more ≡ b ++ others
-        → (m ≡ n) × (a ≡ b) }
-{}
-
-/// The spelling of a module is not refused.
-pub fn spellings_are_not_refused()
-    ensures { (m : ModuleContents) (bytes : List ℕ)
-        → Spells module_file m bytes → first_refusal bytes ≡ None }
-{}
-
-/// A refusal stands inside the bytes or at their end.
-pub fn refusals_stand_inside()
-    ensures { (bytes : List ℕ) (stop : Stop)
-        → read_all module_file bytes ≡ Err stop → stop.left ≤ length bytes }
 {}

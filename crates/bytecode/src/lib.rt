@@ -1,32 +1,20 @@
-//! The modules of the virtual machine, and their one spelling as bytes.
+//! The modules of the virtual machine: what a module is, the table of instructions, and the form
+//! of the file that spells it.
 #![tactic(auto)]
 
 pub mod channel;
-mod channels;
-mod code;
 pub mod declaration;
-mod decoding;
-mod encoding;
 pub mod fault;
-mod globals;
-mod hierarchy;
 pub mod instruction;
 pub mod laws;
-mod limit;
 pub mod module;
-mod names;
 pub mod opcode;
 pub mod procedure;
-mod procedures;
-mod reading;
 pub mod value;
-mod writing;
 
 pub use channel::Channel;
 pub use declaration::{Direction, Global, Handler, Slot};
-pub use decoding::decode;
-pub use encoding::encode;
-pub use fault::{FormatFault, Refusal};
+pub use fault::Refusal;
 pub use instruction::{Arithmetic, Comparison, Instruction};
 pub use module::Module;
 pub use procedure::Procedure;

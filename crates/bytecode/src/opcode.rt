@@ -15,7 +15,7 @@ pub enum Operand {
 
 impl Operand {
     /// How many bytes the operand takes.
-    pub(crate) fn width(self) -> usize
+    pub fn width(self) -> usize
         ensures { result ≡ operand_width self }
     {
         match self {
@@ -28,10 +28,10 @@ impl Operand {
 
 /// A row of the table of opcodes: the byte that spells an instruction, the name that it is listed by, and its operand.
 #[derive(Clone, Copy, Debug)]
-pub(crate) struct Row {
-    pub(crate) byte: u8,
-    pub(crate) name: &'static str,
-    pub(crate) operand: Operand,
+pub struct Row {
+    pub byte: u8,
+    pub name: &'static str,
+    pub operand: Operand,
 }
 
 fn plain_row(byte: u8, name: &'static str) -> Row
@@ -59,7 +59,7 @@ fn numbered_row(byte: u8, name: &'static str, number: u32) -> Row
 }
 
 /// The row of an instruction.
-pub(crate) fn row_of(instruction: Instruction) -> Row
+pub fn row_of(instruction: Instruction) -> Row
     ensures byte { result.byte ≡ (row_of instruction).byte }
     ensures name { result.name.now ≡ (row_of instruction).name }
     ensures operand { result.operand ≡ (row_of instruction).operand }
@@ -195,7 +195,7 @@ fn flagged(opcode: u8, flag: u8) -> Option<Instruction>
 }
 
 /// The instruction that an opcode and its operand spell, if any.
-pub(crate) fn spelled(opcode: u8, operand: &[u8]) -> Option<Instruction>
+pub fn spelled(opcode: u8, operand: &[u8]) -> Option<Instruction>
     requires { 1 < length operand.now → 4 ≤ length operand.now }
     ensures { result ≡ instruction_of opcode operand.now }
 {
@@ -207,7 +207,7 @@ pub(crate) fn spelled(opcode: u8, operand: &[u8]) -> Option<Instruction>
 }
 
 /// How many bytes of operand follow an opcode, or none where there is no such opcode.
-pub(crate) fn width_after(opcode: u8) -> Option<usize>
+pub fn width_after(opcode: u8) -> Option<usize>
     ensures width { result ≡ width_after opcode }
     ensures wide { IfSome result (λ width. 1 < width → 4 ≤ width) }
 {

@@ -6,11 +6,11 @@ use Rattle.labels.proofs.Ascending.{ascending_set-SameSet}
 use Rattle.resolved.specs.Isolated.{Isolated}
 use Rattle.resolved.specs.Program.{Program}
 use Rattle.bytecode.specs.Contents.{ModuleContents}
-use Rattle.bytecode.specs.Decoded.{refusal_of}
+use Rattle.module_file.specs.Decoded.{refusal_of}
 use Rattle.bytecode.specs.Form.{Spells}
 use Rattle.bytecode.specs.Format.{module_file, pair_cmp}
 use Rattle.bytecode.specs.Machine.{after_steps}
-use Rattle.bytecode.proofs.Both.{module_again}
+use Rattle.module_file.proofs.Both.{module_again}
 use Rattle.layout.specs.Offsets.{laid_out}
 use Rattle.verifier.specs.Faults.{HasNoFault}
 use Rattle.verifier.specs.Safety.{IsNeverStuck}

@@ -5,7 +5,7 @@ use Rattle.std.specs.Prelude.{◌≡◌, ◌↔◌, ℕ, List, map, None}
 use Rattle.principals.specs.ActsFor.{ActsFor}
 use Rattle.resolved.specs.Program.{Program}
 use Rattle.bytecode.specs.Contents.{ModuleContents}
-use Rattle.bytecode.specs.Decoded.{first_refusal}
+use Rattle.module_file.specs.Decoded.{first_refusal}
 use Rattle.bytecode.specs.Form.{Spells}
 use Rattle.bytecode.specs.Format.{module_file}
 use Rattle.bytecode.specs.Isolated.{IsIsolated}

@@ -12,11 +12,11 @@ use Rattle.resolved.specs.Labelled as labels
 use Rattle.resolved.specs.Meaning.{sent_by}
 use Rattle.resolved.specs.State.{World}
 use Rattle.bytecode.specs.Contents.{ModuleContents}
-use Rattle.bytecode.specs.Decoded.{first_refusal}
+use Rattle.module_file.specs.Decoded.{first_refusal}
 use Rattle.bytecode.specs.Form.{Fits, Spells}
 use Rattle.bytecode.specs.Format.{contents, hierarchy, module_file}
 use Rattle.bytecode.specs.Isolated.{Agree, IsIsolated, OneBegins, channel_label, seen_of}
-use Rattle.bytecode.proofs.Facts.{principals-different}
+use Rattle.module_file.proofs.Facts.{principals-different}
 use Rattle.bytecode.specs.Machine.{Machine, Ending, after_steps, program_of, sent_after, sent_of}
 use Rattle.channels.specs.World.{InputNumbers, input_names, numbers_of_channel}
 use Rattle.compiler.specs.Compiled.{IsCompiled}

@@ -6,11 +6,11 @@ use Rattle.std.proofs.lemmas.Result.{err_from_is_err_and}
 use Rattle.principals.specs.ActsFor.{PrincipalHierarchy}
 use Rattle.std.specs.Result.{IsErrAnd}
 use Rattle.bytecode.specs.Contents.{ModuleContents}
-use Rattle.bytecode.specs.Decoded.{Reports, first_refusal}
+use Rattle.module_file.specs.Decoded.{Reports, first_refusal}
 use Rattle.bytecode.specs.Form.{Spells}
 use Rattle.bytecode.specs.Format.{module_file}
-use Rattle.bytecode.specs.declared.fault.FormatFault.{FormatFault}
-use Rattle.bytecode.specs.declared.fault.FormatFault.TheVariants as format
+use Rattle.module_file.specs.declared.fault.FormatFault.{FormatFault}
+use Rattle.module_file.specs.declared.fault.FormatFault.TheVariants as format
 use Rattle.bytecode.specs.declared.fault.Refusal.{Refusal}
 use Rattle.channels.specs.World.{input_names}
 use Rattle.channels.specs.WorldText.{IsFirstDefect, IsTextFault, IsWorldText, lines_of}

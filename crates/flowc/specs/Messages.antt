@@ -8,7 +8,7 @@ use Rattle.std.specs.declared.vec.Vec.{Vec}
 use Rattle.principals.specs.ActsFor.{PrincipalHierarchy, HasName}
 use Rattle.lexer.specs.declared.token.Place.{Place}
 use Rattle.bytecode.specs.Contents.{ModuleContents}
-use Rattle.bytecode.specs.Decoded.{first_refusal}
+use Rattle.module_file.specs.Decoded.{first_refusal}
 use Rattle.bytecode.specs.Form.{Spells}
 use Rattle.bytecode.specs.Format.{module_file}
 use Rattle.bytecode.specs.Machine.{after_steps, program_of}

@@ -39,8 +39,8 @@ pub fn runs_are_isolated()
     ensures isolated { RunsAreIsolated }
     ensures fixed { StandardErrorIsFixed }
 {
-    bytecode::laws::one_spelling();
-    bytecode::laws::spellings_are_not_refused();
+    module_file::laws::one_spelling();
+    module_file::laws::spellings_are_not_refused();
 }
 
 /// What the program says of the end of a run of compiled bytes, without an observer, is true of the source: the line has the
@@ -48,5 +48,5 @@ pub fn runs_are_isolated()
 pub fn runs_end_as_the_source()
     ensures { RunsEndAsTheSource }
 {
-    bytecode::laws::one_spelling();
+    module_file::laws::one_spelling();
 }

@@ -13,8 +13,9 @@ ghost use Rattle.verifier.specs.Faults.{HasNoFault};
 
 use crate::fault::PerformFault;
 use crate::messages::{encoding_line, fault_line, refusal_line, world_line};
-use bytecode::{FormatFault, Module, decode};
+use bytecode::Module;
 use channels::{World, WorldFault};
+use module_file::{FormatFault, decode};
 use std::alloc::Global;
 use verifier::{Verified, VerifyFault, verify};
 

@@ -4,7 +4,7 @@
 use Rattle.std.specs.Prelude.{◌≡◌, ◌≢◌, ℕ, ◌+◌, ◌<◌, ◌≤◌, ◌^◌, ◌==◌, not, if◌then◌else◌, List, [], ◌∷◌, length, filter, Option, Some, None}
 use Rattle.labels.specs.declared.sent.Pair.{Pair}
 use Rattle.bytecode.specs.Contents.{ModuleContents}
-use Rattle.bytecode.specs.Decoded.{first_refusal}
+use Rattle.module_file.specs.Decoded.{first_refusal}
 use Rattle.bytecode.specs.Form.{Spells}
 use Rattle.bytecode.specs.Format.{module_file}
 use Rattle.bytecode.specs.Machine.{Machine, after_steps, exec, program_of, sent_of}

@@ -6,9 +6,10 @@ ghost use Rattle.std.specs.Prelude.{◌≡◌, ◌==◌, IfErr, IfOk, filter, no
 
 use crate::event::Id;
 use crate::fault::HostFault;
-use bytecode::{FormatFault, Module, decode};
+use bytecode::Module;
 use channels::{Sent, World};
 use machine::{Machine, NewFault, Status};
+use module_file::{FormatFault, decode};
 use std::alloc::Global;
 use std::marker::Model;
 use verifier::{VerifyFault, verify};

@@ -4,10 +4,10 @@ use crate::answer::{write, write_lines};
 use crate::fault::LineFault;
 use crate::line::{number_of, words_of};
 use crate::texts::Texts;
-use bytecode::{FormatFault, decode};
 use channels::{Pair, World, WorldFault};
 use flowc::{Answer, Event, HostFault};
 use machine::Status;
+use module_file::{FormatFault, decode};
 use std::alloc::Global;
 
 /// The event that words ask for: `open MODULE WORLD`, `open MODULE WORLD OTHER` with a world of the inputs of another module,

@@ -2,10 +2,10 @@
 //!
 //! Undisturbed these tests show that the calls answer; `tools/refused-memory` runs them with each allocation refused in turn.
 
-use bytecode::decode;
 use channels::World;
 use host::{Event, Host, HostFault, Id, laws};
 use machine::Status;
+use module_file::decode;
 use std::alloc::Global;
 use std::test::Fail;
 

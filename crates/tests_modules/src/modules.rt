@@ -2,10 +2,11 @@
 
 use bytecode::{
     Arithmetic, Cell, Comparison, Direction, Global, Handler, Instruction, Kind, Module, Procedure,
-    Slot, decode, encode, laws,
+    Slot,
 };
 use channels::{Device, ViewFault};
 use listing::write_listing;
+use module_file::{decode, encode, laws};
 use std::alloc::Global as Heap;
 use std::io::Cursor;
 use std::test::Fail;
@@ -46,7 +47,7 @@ fn the_laws_are_called(_rt: HostRuntime) {
     laws::no_spelling_begins_another();
     laws::spellings_are_not_refused();
     laws::refusals_stand_inside();
-    laws::instructions_are_spelled();
+    bytecode::laws::instructions_are_spelled();
     verifier::safety::faultless_modules_are_never_stuck();
     verifier::safety::reported_faults_are_there();
 }

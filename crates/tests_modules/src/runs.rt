@@ -1,8 +1,9 @@
 //! Runs of a machine, counted step by step.
 
-use bytecode::{Cell, Instruction, Module, decode};
+use bytecode::{Cell, Instruction, Module};
 use channels::{Pair, World};
 use machine::{Machine, NewFault, Status};
+use module_file::decode;
 use std::alloc::Global;
 use std::test::Fail;
 use verifier::verify;

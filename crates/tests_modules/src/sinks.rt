@@ -1,7 +1,7 @@
 //! Worlds, lists of what was sent, and sinks that fail.
 
-use bytecode::decode;
 use channels::{Device, InputList, Pair, Sent, Sink, SinkFault, World, write_all};
+use module_file::decode;
 use std::io::Cursor;
 use std::test::Fail;
 

@@ -1,4 +1,4 @@
-use Rattle.bytecode.proofs.Widths.{numbered_operand, big_number-four}
+use Rattle.bytecode.proofs.Operands.{numbered_operand, big_number-four}
 use Rattle.bytecode.proofs.opcode.spelled.Goals as goal
 
 pub returns-in_default : goal.returns-in_default

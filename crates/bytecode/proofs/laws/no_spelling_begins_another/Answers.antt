@@ -1,7 +1,0 @@
-use Rattle.bytecode.specs.Format.{module_file}
-use Rattle.bytecode.proofs.Both.{one_spelling}
-use Rattle.bytecode.proofs.Lawful.{module_file-coherent}
-use Rattle.bytecode.proofs.laws.no_spelling_begins_another.Goals as goal
-
-pub returns : goal.returns
-returns c = one_spelling module_file module_file-coherent

@@ -1,0 +1,30 @@
+use Rattle.std.proofs.Common.{Err, arith, sym, ◌∙◌, ◌≡◌}
+use Rattle.bytecode.specs.Form.{read_all}
+use Rattle.bytecode.specs.Format.{module_file}
+use Rattle.module_file.specs.Reading.{contents_of}
+use Rattle.module_file.proofs.Both.{module_again, module_taken}
+use Rattle.module_file.proofs.Inside.{stop_inside}
+use Rattle.module_file.proofs.Steps.{same_value}
+use Rattle.module_file.proofs.decoding.decode.Goals as goal
+
+pub module_of-requires : goal.module_of-requires
+module_of-requires c =
+    (module_taken c.args.bytes.now (contents_of c.in-Ok.fields) (record { below = λ i. omega (arith, c.type_inv.bytes i) }) c.in-Ok.ensures).0
+
+pub returns-in-Ok-clause-accepted : goal.returns-in-Ok-clause-accepted
+returns-in-Ok-clause-accepted c =
+    rw c.module_of.ensures (module_taken c.args.bytes.now (contents_of c.in-Ok.fields) (record { below = λ i. omega (arith, c.type_inv.bytes i) }) c.in-Ok.ensures)
+
+pub returns-in-Ok-clause-exact : goal.returns-in-Ok-clause-exact
+returns-in-Ok-clause-exact c = λ m spells.
+    c.module_of.ensures ∙ same_value (contents_of c.in-Ok.fields) m (sym c.in-Ok.ensures ∙ module_again c.args.bytes.now m spells)
+
+pub returns-in-Err-Stop-clause-exact : goal.returns-in-Err-Stop-clause-exact
+returns-in-Err-Stop-clause-exact c = λ m spells.
+    let stopped : read_all module_file c.args.bytes.now ≡ Err c.in-Err-Stop.stop = rw c.in-Err-Stop.field-0-is at c.in-Err-Stop.ensures in
+    absurd (cc (stopped, module_again c.args.bytes.now m spells))
+
+pub overflow_sub-offset : goal.overflow_sub-offset
+overflow_sub-offset c =
+    let stopped : read_all module_file c.args.bytes.now ≡ Err c.in-Err-Stop.stop = rw c.in-Err-Stop.field-0-is at c.in-Err-Stop.ensures in
+    omega (arith, stop_inside module_file c.args.bytes.now c.in-Err-Stop.stop stopped)

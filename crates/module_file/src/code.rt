@@ -1,0 +1,61 @@
+//! Reading of code.
+
+ghost use Rattle.bytecode.specs.Code.{width_of};
+ghost use Rattle.bytecode.specs.Form.{Code, code_at, instruction_in, read};
+ghost use Rattle.bytecode.specs.Opcodes.{instructions};
+ghost use Rattle.module_file.specs.Reading.{Gives};
+ghost use Rattle.std.specs.Prelude.{[], IfOk, ◌≤◌};
+
+use crate::reading::{ReadError, byte, number, refused, text};
+use bytecode::Refusal;
+use bytecode::instruction::Instruction;
+use bytecode::opcode::{spelled, width_after};
+use std::alloc::Global;
+
+/// The instruction at the front, which ends within the room that is left in its code.
+#[tactic(auto, unfolding(bytecode::specs::Opcodes::instructions))]
+fn instruction(room: u32, bytes: &[u8]) -> Result<(Instruction, &[u8]), ReadError>
+    ensures gives { Gives (λ x. (x.0, x.1.now)) result (instruction_in instructions room bytes.now) }
+    ensures inside { IfOk result (λ x. width_of x.0 ≤ room) }
+{
+    let (opcode, rest) = byte(bytes)?;
+    let Some(width) = width_after(opcode) else {
+        return Err(refused(Refusal::BadValue, bytes));
+    };
+    if room as usize <= width {
+        return Err(refused(Refusal::BadValue, bytes));
+    }
+    let (operand, after) = text(width, rest)?;
+    let Some(instruction) = spelled(opcode, operand) else {
+        return Err(refused(Refusal::BadValue, rest));
+    };
+    Ok((instruction, after))
+}
+
+/// The instructions that the next `size` bytes are.
+fn instructions(
+    alloc: Global,
+    size: u32,
+    bytes: &[u8],
+) -> Result<(Vec<Instruction>, &[u8]), ReadError>
+    ensures { Gives (λ x. (x.0.items, x.1.now)) result (code_at instructions size size [] bytes.now) }
+{
+    let mut code = Vec::new(alloc);
+    let mut rest = bytes;
+    let mut room = size;
+    while room > 0 {
+        let (next, after) = instruction(room, rest)?;
+        code.push(next)?;
+        room -= next.width() as u32;
+        rest = after;
+    }
+    Ok((code, rest))
+}
+
+/// The code behind its length.
+pub(crate) fn code(alloc: Global, bytes: &[u8]) -> Result<(Vec<Instruction>, &[u8]), ReadError>
+    ensures { Gives (λ x. (x.0.items, x.1.now)) result (read (Code instructions) bytes.now) }
+{
+    let (size, rest) = number(bytes)?;
+    instructions(alloc, size, rest)
+}

@@ -1,0 +1,203 @@
+//! Reading of hierarchies and labels.
+
+ghost use Rattle.bytecode.specs.Form.{Counted, read};
+ghost use Rattle.bytecode.specs.Format.{any, hierarchy, label, number_below, pair_after, policy_after, principals, reader_after};
+ghost use Rattle.module_file.specs.Reading.{Gives, texts};
+
+use crate::names::first_names;
+use crate::reading::{Element, ReadError, each, number, refused};
+use bytecode::Refusal;
+use labels::{Label, Policy};
+use principals::Hierarchy;
+use std::alloc::Global;
+
+/// The most principals of a hierarchy.
+const MAX_PRINCIPALS: u32 = 256;
+
+/// The number of one of so many things.
+#[tactic(auto, unfolding(bytecode::specs::Format::number_below))]
+fn number_below(count: u32, bytes: &[u8]) -> Result<(u32, &[u8]), ReadError>
+    ensures { Gives (λ x. (x.0, x.1.now)) result (read (number_below count) bytes.now) }
+{
+    let (number, rest) = number(bytes)?;
+    if number >= count {
+        return Err(refused(Refusal::BadValue, bytes));
+    }
+    Ok((number, rest))
+}
+
+/// The names of the principals behind their count.
+#[tactic(auto, unfolding(bytecode::specs::Format::principals))]
+fn principals(alloc: Global, bytes: &[u8]) -> Result<(Vec<String>, &[u8]), ReadError>
+    ensures { Gives (λ x. (texts x.0.items, x.1.now)) result (read principals bytes.now) }
+{
+    let (count, rest) = number(bytes)?;
+    if count > MAX_PRINCIPALS {
+        return Err(refused(Refusal::BadValue, bytes));
+    }
+    first_names(alloc, count, rest)
+}
+
+/// A pair's field among so many principals.
+#[derive(Drop)]
+struct PairField {
+    principals: u32,
+}
+
+impl Element for PairField {
+    type Item = (u32, u32);
+
+    type State = ();
+
+    ghost reads = { λ self before bytes. read (pair_after self.principals before) bytes };
+
+    ghost holds = { λ self state before. Unit {0} };
+
+    #[tactic(auto, unfolding(bytecode::specs::Format::pair_after))]
+    fn read<'a>(
+        &self,
+        _alloc: Global,
+        _state: &mut (),
+        before: &[(u32, u32)],
+        bytes: &'a [u8],
+    ) -> Result<((u32, u32), &'a [u8]), ReadError> {
+        let (first, rest) = number_below(self.principals, bytes)?;
+        let (second, rest) = number_below(self.principals, rest)?;
+        let pair = (first, second);
+        if let Some(last) = before.last()
+            && *last >= pair
+        {
+            return Err(refused(Refusal::NotCanonical, bytes));
+        }
+        Ok((pair, rest))
+    }
+}
+
+/// A reader's field among so many principals, in a policy of the owner.
+#[derive(Drop)]
+struct ReaderField {
+    principals: u32,
+    owner: u32,
+}
+
+impl Element for ReaderField {
+    type Item = u32;
+
+    type State = ();
+
+    ghost reads = { λ self before bytes. read (reader_after self.principals self.owner before) bytes };
+
+    ghost holds = { λ self state before. Unit {0} };
+
+    #[tactic(auto, unfolding(bytecode::specs::Format::reader_after))]
+    fn read<'a>(
+        &self,
+        _alloc: Global,
+        _state: &mut (),
+        before: &[u32],
+        bytes: &'a [u8],
+    ) -> Result<(u32, &'a [u8]), ReadError> {
+        let (reader, rest) = number_below(self.principals, bytes)?;
+        if reader == self.owner {
+            return Err(refused(Refusal::NotCanonical, bytes));
+        }
+        if let Some(last) = before.last()
+            && *last >= reader
+        {
+            return Err(refused(Refusal::NotCanonical, bytes));
+        }
+        Ok((reader, rest))
+    }
+}
+
+/// A policy's field among so many principals.
+#[derive(Drop)]
+struct PolicyField {
+    principals: u32,
+}
+
+impl Element for PolicyField {
+    type Item = Policy;
+
+    type State = ();
+
+    ghost reads = { λ self before bytes. read (policy_after self.principals before) bytes };
+
+    ghost holds = { λ self state before. Unit {0} };
+
+    #[tactic(auto, unfolding(bytecode::specs::Format::policy_after))]
+    fn read<'a>(
+        &self,
+        alloc: Global,
+        _state: &mut (),
+        before: &[Policy],
+        bytes: &'a [u8],
+    ) -> Result<(Policy, &'a [u8]), ReadError> {
+        let principals = self.principals;
+        let (owner, rest) = number_below(principals, bytes)?;
+        let (readers, rest) = readers(alloc, principals, owner, rest)?;
+        let policy = Policy::of(owner, readers);
+        if let Some(last) = before.last()
+            && *last >= policy
+        {
+            return Err(refused(Refusal::NotCanonical, bytes));
+        }
+        Ok((policy, rest))
+    }
+}
+
+/// The readers of a policy behind their count.
+fn readers(
+    alloc: Global,
+    principals: u32,
+    owner: u32,
+    bytes: &[u8],
+) -> Result<(Vec<u32>, &[u8]), ReadError>
+    ensures { Gives (λ x. (x.0.items, x.1.now)) result (read (Counted any (reader_after principals owner)) bytes.now) }
+{
+    let (count, rest) = number(bytes)?;
+    each(alloc, &ReaderField { principals, owner }, (), count, rest)
+}
+
+/// The policies of a label behind their count.
+#[tactic(auto, unfolding(bytecode::specs::Format::label))]
+fn policies(alloc: Global, principals: u32, bytes: &[u8]) -> Result<(Vec<Policy>, &[u8]), ReadError>
+    ensures { Gives (λ x. (x.0.items, x.1.now)) result (read (label principals) bytes.now) }
+{
+    let (count, rest) = number(bytes)?;
+    each(alloc, &PolicyField { principals }, (), count, rest)
+}
+
+/// A label among so many principals.
+pub(crate) fn label(
+    alloc: Global,
+    principals: u32,
+    bytes: &[u8],
+) -> Result<(Label, &[u8]), ReadError>
+    ensures { Gives (λ x. (x.0, x.1.now)) result (read (label principals) bytes.now) }
+{
+    let (policies, rest) = policies(alloc, principals, bytes)?;
+    Ok((Label::of(policies), rest))
+}
+
+/// The written pairs among so many principals, behind their count.
+fn pairs(
+    alloc: Global,
+    principals: u32,
+    bytes: &[u8],
+) -> Result<(Vec<(u32, u32)>, &[u8]), ReadError>
+    ensures { Gives (λ x. (x.0.items, x.1.now)) result (read (Counted any (pair_after principals)) bytes.now) }
+{
+    let (count, rest) = number(bytes)?;
+    each(alloc, &PairField { principals }, (), count, rest)
+}
+
+/// The hierarchy.
+#[tactic(auto, unfolding(bytecode::specs::Format::hierarchy))]
+pub(crate) fn hierarchy(alloc: Global, bytes: &[u8]) -> Result<(Hierarchy, &[u8]), ReadError>
+    ensures { Gives (λ x. (x.0, x.1.now)) result (read hierarchy bytes.now) }
+{
+    let (names, rest) = principals(alloc, bytes)?;
+    let (pairs, rest) = pairs(alloc, names.len() as u32, rest)?;
+    Ok((Hierarchy::of(alloc, names, pairs)?, rest))
+}

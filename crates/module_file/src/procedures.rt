@@ -1,0 +1,168 @@
+//! Reading of procedures.
+
+ghost use Rattle.bytecode.specs.Form.{read};
+ghost use Rattle.bytecode.specs.Format.{handler, handlers, max_cells, procedure, procedures, returned, slot_after, slot_cells, slot_of, slots};
+ghost use Rattle.module_file.specs.Reading.{Gives};
+ghost use Rattle.std.specs.Prelude.{◌≡◌, ◌≤◌};
+
+use crate::code::code;
+use crate::globals::kind;
+use crate::limit::{cells_of_size, is_size};
+use crate::reading::{Element, ReadError, byte, each, number, refused};
+use bytecode::Refusal;
+use bytecode::declaration::{Handler, Slot};
+use bytecode::procedure::Procedure;
+use bytecode::value::Kind;
+use std::alloc::Global;
+
+/// A handler's field, whatever handlers stand before it.
+struct HandlerField;
+
+impl Element for HandlerField {
+    type Item = Handler;
+
+    type State = ();
+
+    ghost reads = { λ self before bytes. read handler bytes };
+
+    ghost holds = { λ self state before. Unit {0} };
+
+    #[tactic(auto, unfolding(bytecode::specs::Format::handler))]
+    fn read<'a>(
+        &self,
+        _alloc: Global,
+        _state: &mut (),
+        _before: &[Handler],
+        bytes: &'a [u8],
+    ) -> Result<(Handler, &'a [u8]), ReadError> {
+        let (start, rest) = number(bytes)?;
+        let (end, rest) = number(rest)?;
+        let (exception, rest) = number(rest)?;
+        let (target, rest) = number(rest)?;
+        let handler = Handler {
+            start,
+            end,
+            exception,
+            target,
+        };
+        Ok((handler, rest))
+    }
+}
+
+/// The handlers behind their count.
+#[tactic(auto, unfolding(bytecode::specs::Format::handlers))]
+fn handlers(alloc: Global, bytes: &[u8]) -> Result<(Vec<Handler>, &[u8]), ReadError>
+    ensures { Gives (λ x. (x.0.items, x.1.now)) result (read handlers bytes.now) }
+{
+    let (count, rest) = number(bytes)?;
+    each(alloc, &HandlerField, (), count, rest)
+}
+
+fn slot_of(kind: Kind, size: u32) -> Slot
+    ensures { result ≡ slot_of (kind, size) }
+{
+    if size == 0 {
+        Slot::Scalar(kind)
+    } else {
+        Slot::Array(kind, size)
+    }
+}
+
+/// A slot's field, after slots of so many cells. The first slots are parameters, so many of them.
+#[derive(Drop)]
+struct SlotField {
+    parameters: u32,
+}
+
+impl Element for SlotField {
+    type Item = Slot;
+
+    type State = u32;
+
+    ghost reads = { λ self before bytes. read (slot_after self.parameters before) bytes };
+
+    ghost holds = { λ self cells before. (cells ≡ slot_cells before) × (cells ≤ max_cells) };
+
+    #[tactic(auto, unfolding(bytecode::specs::Format::slot_after))]
+    fn read<'a>(
+        &self,
+        _alloc: Global,
+        cells: &mut u32,
+        before: &[Slot],
+        bytes: &'a [u8],
+    ) -> Result<(Slot, &'a [u8]), ReadError> {
+        let (kind, rest) = kind(bytes)?;
+        let (size, after) = number(rest)?;
+        let may_be_array = self.parameters as usize <= before.len();
+        if !(is_size(*cells, size) && (may_be_array || size == 0)) {
+            return Err(refused(Refusal::BadValue, rest));
+        }
+        *cells += cells_of_size(size);
+        Ok((slot_of(kind, size), after))
+    }
+}
+
+/// The slots behind their count, the first of which are parameters.
+#[tactic(auto, unfolding(bytecode::specs::Format::slots))]
+fn slots(alloc: Global, parameters: u32, bytes: &[u8]) -> Result<(Vec<Slot>, &[u8]), ReadError>
+    ensures { Gives (λ x. (x.0.items, x.1.now)) result (read (slots parameters) bytes.now) }
+{
+    let (count, rest) = number(bytes)?;
+    if count < parameters {
+        return Err(refused(Refusal::BadValue, bytes));
+    }
+    each(alloc, &SlotField { parameters }, 0, count, rest)
+}
+
+/// The kind of value that a procedure returns, if any.
+#[tactic(auto, unfolding(bytecode::specs::Format::returned))]
+fn returned(bytes: &[u8]) -> Result<(Option<Kind>, &[u8]), ReadError>
+    ensures { Gives (λ x. (x.0, x.1.now)) result (read returned bytes.now) }
+{
+    let (kind, rest) = byte(bytes)?;
+    match kind {
+        0 => Ok((None, rest)),
+        1 => Ok((Some(Kind::Int), rest)),
+        2 => Ok((Some(Kind::Boolean), rest)),
+        _ => Err(refused(Refusal::BadValue, bytes)),
+    }
+}
+
+/// A procedure's field, whatever procedures stand before it.
+struct ProcedureField;
+
+impl Element for ProcedureField {
+    type Item = Procedure;
+
+    type State = ();
+
+    ghost reads = { λ self before bytes. read procedure bytes };
+
+    ghost holds = { λ self state before. Unit {0} };
+
+    #[tactic(auto, unfolding(bytecode::specs::Format::procedure))]
+    fn read<'a>(
+        &self,
+        alloc: Global,
+        _state: &mut (),
+        _before: &[Procedure],
+        bytes: &'a [u8],
+    ) -> Result<(Procedure, &'a [u8]), ReadError> {
+        let (returned, rest) = returned(bytes)?;
+        let (parameters, rest) = number(rest)?;
+        let (slots, rest) = slots(alloc, parameters, rest)?;
+        let (code, rest) = code(alloc, rest)?;
+        let (handlers, rest) = handlers(alloc, rest)?;
+        let procedure = Procedure::new(returned, parameters, slots, code, handlers);
+        Ok((procedure, rest))
+    }
+}
+
+/// The procedures behind their count.
+#[tactic(auto, unfolding(bytecode::specs::Format::procedures))]
+pub(crate) fn procedures(alloc: Global, bytes: &[u8]) -> Result<(Vec<Procedure>, &[u8]), ReadError>
+    ensures { Gives (λ x. (x.0.items, x.1.now)) result (read procedures bytes.now) }
+{
+    let (count, rest) = number(bytes)?;
+    each(alloc, &ProcedureField, (), count, rest)
+}

@@ -1,0 +1,126 @@
+//! Reading of fields, each at the front of the bytes that are left.
+
+ghost use Rattle.bytecode.specs.Form.{byte_at, bytes_at, each_at, number_at, Read, stop_at};
+ghost use Rattle.module_file.specs.Reading.{Gives};
+ghost use Rattle.module_file.specs.declared.reading.ReadError.TheVariants.{NoMemory};
+ghost use Rattle.std.specs.Prelude.{[], IfOk, List, ℕ, ◌++◌, ◌∷◌, ◌≡◌};
+
+use bytecode::fault::{Refusal, Stop};
+use byteorder::{BigEndian, ByteOrder};
+use std::alloc::{AllocError, AllocFailed, Global};
+
+/// Why a field was not read.
+#[derive(Debug, Drop)]
+pub(crate) enum ReadError {
+    NoMemory,
+    Stop(Stop),
+}
+
+impl From<AllocError> for ReadError {
+    ghost from_gives = { λ _ e. e ≡ NoMemory };
+
+    fn from(_e: AllocError) -> ReadError {
+        ReadError::NoMemory
+    }
+}
+
+impl<T: Drop> From<AllocFailed<T>> for ReadError {
+    ghost from_gives = { λ _ e. e ≡ NoMemory };
+
+    fn from(_e: AllocFailed<T>) -> ReadError {
+        ReadError::NoMemory
+    }
+}
+
+/// The refusal of the field that `bytes` begin with.
+pub(crate) fn refused(refusal: Refusal, bytes: &[u8]) -> ReadError
+    ensures { result ≡ ReadError.Stop (stop_at refusal bytes.now) }
+{
+    ReadError::Stop(Stop {
+        refusal,
+        left: bytes.len(),
+    })
+}
+
+/// The end of the bytes inside a field or before it.
+pub(crate) const SHORT: Stop = Stop {
+    refusal: Refusal::Short,
+    left: 0,
+};
+
+/// One byte.
+pub(crate) fn byte(bytes: &[u8]) -> Result<(u8, &[u8]), ReadError>
+    ensures { Gives (λ x. (x.0, x.1.now)) result (byte_at bytes.now) }
+{
+    match bytes {
+        [] => Err(ReadError::Stop(SHORT)),
+        [first, rest @ ..] => Ok((*first, rest)),
+    }
+}
+
+/// A number in four bytes.
+pub(crate) fn number(bytes: &[u8]) -> Result<(u32, &[u8]), ReadError>
+    ensures { Gives (λ x. (x.0, x.1.now)) result (number_at bytes.now) }
+{
+    if bytes.len() < 4 {
+        return Err(ReadError::Stop(SHORT));
+    }
+    let (front, rest) = bytes.split_at(4);
+    Ok((BigEndian::read_u32(front), rest))
+}
+
+/// So many bytes.
+pub(crate) fn text(count: usize, bytes: &[u8]) -> Result<(&[u8], &[u8]), ReadError>
+    ensures { Gives (λ x. (x.0.now, x.1.now)) result (bytes_at count bytes.now) }
+{
+    if bytes.len() < count {
+        return Err(ReadError::Stop(SHORT));
+    }
+    Ok(bytes.split_at(count))
+}
+
+/// A field of a list, which is read after those before it. The state is what the list up to there comes to.
+pub(crate) trait Element {
+    type Item;
+
+    type State;
+
+    ghost reads: { Self → List Self.Item → List ℕ → Read Self.Item };
+
+    ghost holds: { Self → Self.State → List Self.Item → Type 0 };
+
+    fn read<'a>(
+        &self,
+        alloc: Global,
+        state: &mut Self::State,
+        before: &[Self::Item],
+        bytes: &'a [u8],
+    ) -> Result<(Self::Item, &'a [u8]), ReadError>
+        requires { holds self.now state.old before.now }
+        ensures gives { Gives (λ x. (x.0, x.1.now)) result (reads self.now before.now bytes.now) }
+        ensures holds { IfOk result (λ x. holds self.now state.new (before.now ++ x.0 ∷ [])) };
+}
+
+/// So many fields, one after the other. Nothing is reserved by the count.
+pub(crate) fn each<'a, E: Element>(
+    alloc: Global,
+    element: &E,
+    mut state: E::State,
+    count: u32,
+    bytes: &'a [u8],
+) -> Result<(Vec<E::Item>, &'a [u8]), ReadError>
+where
+    E::Item: Drop,
+    E::State: Drop,
+    requires { E.holds element.now state [] }
+    ensures { Gives (λ x. (x.0.items, x.1.now)) result (each_at (E.reads element.now) count [] bytes.now) }
+{
+    let mut items = Vec::new(alloc);
+    let mut rest = bytes;
+    for _ in 0..count {
+        let (item, after) = element.read(alloc, &mut state, &items, rest)?;
+        items.push(item)?;
+        rest = after;
+    }
+    Ok((items, rest))
+}
