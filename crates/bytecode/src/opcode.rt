@@ -1,4 +1,4 @@
-ghost use Rattle.bytecode.specs.Opcodes.{arithmetic_opcode, comparison_opcode, flagged, instruction_of, numbered, operand_width, plain, row_of, width_after, with_opcode};
+ghost use Rattle.bytecode.specs.Opcodes.{arithmetic_opcode, comparison_opcode, flagged, instruction_of, numbered, plain, row_of, width_after, with_opcode};
 ghost use Rattle.std.specs.Prelude.{IfSome, length, ◌<◌, ◌≡◌, ◌≤◌};
 
 use crate::instruction::{Arithmetic, Comparison, Instruction};
@@ -11,19 +11,6 @@ pub enum Operand {
     Int(i32),
     Boolean(bool),
     Number(u32),
-}
-
-impl Operand {
-    /// How many bytes the operand takes.
-    pub fn width(self) -> usize
-        ensures { result ≡ operand_width self }
-    {
-        match self {
-            Operand::Absent => 0,
-            Operand::Boolean(_) => 1,
-            Operand::Int(_) | Operand::Number(_) => 4,
-        }
-    }
 }
 
 /// A row of the table of opcodes: the byte that spells an instruction, the name that it is listed by, and its operand.
