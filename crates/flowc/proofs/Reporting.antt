@@ -81,7 +81,7 @@ observer_message outcome m h code_path text_path code text observer failed fault
 pub first_refused : (path code line : List ℕ) (fault : FormatFault) (refusal : Refusal) (offset : ℕ) → fault ≡ format.Refused refusal offset
     → Reports fault (first_refusal code) → line ≡ refusal_line path refusal offset → IsModuleLine path code line
 first_refused path code line fault refusal offset is message says =
-    refused refusal offset (subst (λ (f : FormatFault). Reports f (first_refusal code)) is tells) says
+    refused refusal offset (subst (λ (f : FormatFault). Reports f (first_refusal code)) is message) says
 
 -- a fault of the code of the module that bytes spell
 pub faulty_code : (path code line : List ℕ) (m : ModuleContents) (answer : VerifyFault) (fault : Fault) → answer ≡ Wrong fault
