@@ -12,6 +12,12 @@ use Rattle.names.proofs.Loops.{fails_later, fails_second, then_ok}
 
 -- ---- conditions
 
+pub condition_wrong : (setting : Setting) (point : Point) (at : ℕ) (condition : ExpressionTree) (body : BlockTree) (otherwise : Option BlockTree) (fault : TypeFault)
+    → Fails fault (typed_outcome point.names Boolean condition) → Fails fault (statement_outcome setting point (if_tree at condition body otherwise))
+unfolding statement_outcome
+condition_wrong setting point at condition body None fault wrong = fails_later _ _ fault wrong
+condition_wrong setting point at condition body (Some otherwise) fault wrong = fails_later _ _ fault wrong
+
 module _ (setting : Setting) (point : Point) (at : ℕ) (condition : ExpressionTree) (e : Expression) (typed : typed_outcome point.names Boolean condition ≡ Ok e) where
   -- with one block
   pub if_done : (body : BlockTree) (inside : Point) (block : Block) → block_outcome setting point body ≡ Ok (inside, block)

@@ -6,7 +6,7 @@ ghost use Rattle.resolved.specs.TreeOf.{statement_of};
 ghost use Rattle.std.specs.Prelude.{OnOk, map, ◌+◌, ◌<◌, ◌≡◌, ◌≤◌};
 ghost use Rattle.syntax.specs.Limits.{most_nodes};
 ghost use Rattle.syntax.specs.Nodes.{block_nodes, catches_nodes, statement_nodes, statements_nodes};
-ghost use Rattle.syntax.specs.Tree.{block_tree, catch_tree, catches_of, statement_tree, statements_of};
+ghost use Rattle.syntax.specs.Tree.{NestedTree, TryTree, WhileTree, block_tree, catch_tree, catches_of, expression_tree, if_tree, optional_block_tree, statement_tree, statements_of};
 
 use crate::body::Body;
 use crate::fault::TypeFault;
@@ -120,41 +120,115 @@ impl<'a> Body<'a> {
                 condition,
                 accepted,
                 otherwise,
-            } => {
-                let condition = self.typed(Base::Boolean, condition)?;
-                let accepted = self.block(accepted)?;
-                match otherwise {
-                    None => Ok(Statement::If(*at, condition, accepted, Vec::new(self.alloc))),
-                    Some(otherwise) => {
-                        let otherwise = self.block(otherwise)?;
-                        Ok(Statement::If(*at, condition, accepted, otherwise))
-                    }
-                }
-            }
+            } => self.choose(*at, condition, accepted, otherwise),
             syntax::Statement::While {
                 at,
                 condition,
                 body,
-            } => {
-                let condition = self.typed(Base::Boolean, condition)?;
-                let number = self.loops;
-                self.loops += 1;
-                let body = self.block(body)?;
-                Ok(Statement::While(*at, number, condition, body))
-            }
+            } => self.repeat(*at, condition, body),
             syntax::Statement::Break { at } => Ok(Statement::Leave(*at, Exit::Break)),
             syntax::Statement::Continue { at } => Ok(Statement::Leave(*at, Exit::Continue)),
             syntax::Statement::Throw { at, exception } => self.throw(*at, exception),
             syntax::Statement::Return { at, value } => self.return_value(*at, value),
-            syntax::Statement::Try { at, body, catches } => {
-                let body = self.block(body)?;
-                let handlers = self.catches(catches)?;
-                Ok(Statement::Try(*at, body, handlers))
-            }
-            syntax::Statement::Nested(block) => {
-                let body = self.block(block)?;
-                Ok(Statement::Nested(block.at, body))
+            syntax::Statement::Try { at, body, catches } => self.attempt(*at, body, catches),
+            syntax::Statement::Nested(block) => self.nest(block),
+        }
+    }
+
+    /// A condition with a block or two.
+    #[cycle(block)]
+    fn choose(
+        &mut self,
+        at: usize,
+        condition: &syntax::Expression,
+        accepted: &Block,
+        otherwise: &Option<Block>,
+    ) -> Result<Statement, TypeFault>
+        requires room { taken self.old + statement_nodes (if_tree at
+            (expression_tree condition.now) (block_tree accepted.now)
+            (optional_block_tree otherwise.now)) < most_nodes }
+        ensures made { Gives (at_point self.new statement_of) result
+            (statement_outcome (setting_of self.old) (point_of self.old)
+            (if_tree at (expression_tree condition.now) (block_tree accepted.now)
+            (optional_block_tree otherwise.now))) }
+        ensures later { OnOk result (IsLater self.old self.new) }
+        ensures grows { OnOk result (taken self.new ≤
+            taken self.old + statement_nodes (if_tree at (expression_tree condition.now)
+            (block_tree accepted.now) (optional_block_tree otherwise.now))) }
+    {
+        let condition = self.typed(Base::Boolean, condition)?;
+        let accepted = self.block(accepted)?;
+        match otherwise {
+            None => Ok(Statement::If(at, condition, accepted, Vec::new(self.alloc))),
+            Some(otherwise) => {
+                let otherwise = self.block(otherwise)?;
+                Ok(Statement::If(at, condition, accepted, otherwise))
             }
         }
+    }
+
+    /// A loop.
+    #[cycle(block)]
+    #[tactic(auto, unfolding(crate::specs::Statements::statement_outcome))]
+    fn repeat(
+        &mut self,
+        at: usize,
+        condition: &syntax::Expression,
+        body: &Block,
+    ) -> Result<Statement, TypeFault>
+        requires room { taken self.old + statement_nodes (WhileTree at
+            (expression_tree condition.now) (block_tree body.now)) < most_nodes }
+        ensures made { Gives (at_point self.new statement_of) result
+            (statement_outcome (setting_of self.old) (point_of self.old)
+            (WhileTree at (expression_tree condition.now) (block_tree body.now))) }
+        ensures later { OnOk result (IsLater self.old self.new) }
+        ensures grows { OnOk result (taken self.new ≤
+            taken self.old + statement_nodes (WhileTree at (expression_tree condition.now)
+            (block_tree body.now))) }
+    {
+        let condition = self.typed(Base::Boolean, condition)?;
+        let number = self.loops;
+        self.loops += 1;
+        let body = self.block(body)?;
+        Ok(Statement::While(at, number, condition, body))
+    }
+
+    /// A block with handlers.
+    #[cycle(block)]
+    fn attempt(
+        &mut self,
+        at: usize,
+        body: &Block,
+        catches: &[Catch],
+    ) -> Result<Statement, TypeFault>
+        requires room { taken self.old + statement_nodes (TryTree at (block_tree body.now)
+            (catches_of (map catch_tree catches.now))) < most_nodes }
+        ensures made { Gives (at_point self.new statement_of) result
+            (statement_outcome (setting_of self.old) (point_of self.old)
+            (TryTree at (block_tree body.now) (catches_of (map catch_tree catches.now)))) }
+        ensures later { OnOk result (IsLater self.old self.new) }
+        ensures grows { OnOk result (taken self.new ≤
+            taken self.old + statement_nodes (TryTree at (block_tree body.now)
+            (catches_of (map catch_tree catches.now)))) }
+    {
+        let body = self.block(body)?;
+        let handlers = self.catches(catches)?;
+        Ok(Statement::Try(at, body, handlers))
+    }
+
+    /// A block among statements.
+    #[cycle(block)]
+    fn nest(&mut self, block: &Block) -> Result<Statement, TypeFault>
+        requires room { taken self.old + statement_nodes (NestedTree (block_tree block.now)) <
+            most_nodes }
+        ensures made { Gives (at_point self.new statement_of) result
+            (statement_outcome (setting_of self.old) (point_of self.old)
+            (NestedTree (block_tree block.now))) }
+        ensures later { OnOk result (IsLater self.old self.new) }
+        ensures grows { OnOk result (taken self.new ≤
+            taken self.old + statement_nodes (NestedTree (block_tree block.now))) }
+    {
+        let body = self.block(block)?;
+        Ok(Statement::Nested(block.at, body))
     }
 }

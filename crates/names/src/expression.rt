@@ -3,8 +3,8 @@
 ghost use Rattle.names.specs.Expressions.{expression_outcome, of_base, typed_outcome};
 ghost use Rattle.names.specs.Views.{Gives, names_of, typed_view};
 ghost use Rattle.resolved.specs.TreeOf.{expression_of};
-ghost use Rattle.std.specs.Prelude.{◌≡◌};
-ghost use Rattle.syntax.specs.Tree.{expression_tree};
+ghost use Rattle.std.specs.Prelude.{ℕ, ◌≡◌};
+ghost use Rattle.syntax.specs.Tree.{BinaryTree, ElementTree, UnaryTree, expression_tree, name_tree};
 
 use crate::body::Body;
 use crate::fault::{Refusal, TypeFault};
@@ -13,6 +13,7 @@ use crate::operator::{
 };
 use crate::scope::{array, scalar};
 use resolved::expression::{Base, Expression};
+use syntax::{BinaryOperator, Name, UnaryOperator};
 
 /// An expression with the type of its values.
 #[derive(Drop)]
@@ -44,6 +45,7 @@ impl TypedExpression {
 
 impl<'a> Body<'a> {
     /// An expression, and the type of its values.
+    #[cycle(expression)]
     #[tactic(auto, unfolding(crate::specs::Expressions::expression_outcome))]
     pub fn expression(&self, written: &syntax::Expression) -> Result<TypedExpression, TypeFault>
         ensures { Gives typed_view result
@@ -60,40 +62,73 @@ impl<'a> Body<'a> {
                 let found = scalar(self.meaning(name), name.at)?;
                 Ok(TypedExpression::new(Expression::Read(found.variable), found.base))
             }
-            syntax::Expression::Element { array: name, index } => {
-                let found = array(self.meaning(name), name.at)?;
-                let index = self.expression(index)?.of_base(Base::Int, index.place())?;
-                let index = Box::new(self.alloc, index)?;
-                let element = Expression::Element(found.variable, found.size, index);
-                Ok(TypedExpression::new(element, found.base))
-            }
+            syntax::Expression::Element { array, index } => self.element(array, index),
             syntax::Expression::Unary {
                 operator,
                 operand,
                 ..
-            } => {
-                let prefix = prefix_of(*operator);
-                let base = base_of_prefix(prefix);
-                let operand = self.expression(operand)?.of_base(base, operand.place())?;
-                let operand = Box::new(self.alloc, operand)?;
-                Ok(TypedExpression::new(Expression::Unary(prefix, operand), base))
-            }
+            } => self.unary(*operator, operand),
             syntax::Expression::Binary {
                 operator,
                 left,
                 right,
                 ..
-            } => {
-                let used = use_of(*operator);
-                let found = self.expression(left)?;
-                let base = operands_base(used, found.base);
-                let given = found.base;
-                let left = found.of_base(base, left.place())?;
-                let right = self.expression(right)?.of_base(base, right.place())?;
-                let made = combine(self.alloc, used, given, left, right)?;
-                Ok(TypedExpression::new(made, value_base(used)))
-            }
+            } => self.binary(*operator, left, right),
         }
+    }
+
+    /// An element of an array.
+    #[cycle(expression)]
+    #[tactic(auto, unfolding(crate::specs::Expressions::expression_outcome))]
+    fn element(&self, name: &Name, index: &syntax::Expression) -> Result<TypedExpression, TypeFault>
+        ensures { Gives typed_view result (expression_outcome (names_of self.now)
+            (ElementTree (name_tree name.now) (expression_tree index.now))) }
+    {
+        let found = array(self.meaning(name), name.at)?;
+        let index = self.expression(index)?.of_base(Base::Int, index.place())?;
+        let index = Box::new(self.alloc, index)?;
+        let element = Expression::Element(found.variable, found.size, index);
+        Ok(TypedExpression::new(element, found.base))
+    }
+
+    /// An operator before its operand.
+    #[cycle(expression)]
+    #[tactic(auto, unfolding(crate::specs::Expressions::expression_outcome))]
+    fn unary(
+        &self,
+        operator: UnaryOperator,
+        operand: &syntax::Expression,
+    ) -> Result<TypedExpression, TypeFault>
+        ensures { (at : ℕ) → Gives typed_view result (expression_outcome (names_of self.now)
+            (UnaryTree at operator (expression_tree operand.now))) }
+    {
+        let prefix = prefix_of(operator);
+        let base = base_of_prefix(prefix);
+        let operand = self.expression(operand)?.of_base(base, operand.place())?;
+        let operand = Box::new(self.alloc, operand)?;
+        Ok(TypedExpression::new(Expression::Unary(prefix, operand), base))
+    }
+
+    /// An operator between its operands.
+    #[cycle(expression)]
+    #[tactic(auto, unfolding(crate::specs::Expressions::expression_outcome))]
+    fn binary(
+        &self,
+        operator: BinaryOperator,
+        left: &syntax::Expression,
+        right: &syntax::Expression,
+    ) -> Result<TypedExpression, TypeFault>
+        ensures { (at : ℕ) → Gives typed_view result (expression_outcome (names_of self.now)
+            (BinaryTree at operator (expression_tree left.now) (expression_tree right.now))) }
+    {
+        let used = use_of(operator);
+        let found = self.expression(left)?;
+        let base = operands_base(used, found.base);
+        let given = found.base;
+        let left = found.of_base(base, left.place())?;
+        let right = self.expression(right)?.of_base(base, right.place())?;
+        let made = combine(self.alloc, used, given, left, right)?;
+        Ok(TypedExpression::new(made, value_base(used)))
     }
 
     /// An expression at a place that wants a type.

@@ -1,211 +1,224 @@
-use Rattle.std.proofs.Common.{◌≡◌, ◌∙◌, ap, sym, subst, map, arith, Ok, refl}
+use Rattle.std.proofs.Common.{◌≡◌, ◌+◌, ◌≤◌, ◌∙◌, ap, sym, subst, map, arith, refl, Ok, OnOk}
 use Rattle.std.proofs.lemmas.Result.{err_from_is_err_and}
 use Rattle.syntax.proofs.Rows.{if_is, while_is, try_is, nested_is}
-use Rattle.syntax.specs.Nodes.{catches_nodes, statement_nodes}
-use Rattle.syntax.specs.Tree.{TryTree, if_tree, expression_tree, statement_tree, block_tree, optional_block_tree, catch_tree, catches_of, statements_of}
+use Rattle.syntax.specs.Nodes.{statement_nodes}
+use Rattle.syntax.specs.Tree.{TryTree, block_tree, catch_tree, catches_of, expression_tree, if_tree, optional_block_tree, statement_tree, statements_of}
 use Rattle.resolved.proofs.Views.{statement_of_if, statement_of_while, statement_of_try, statement_of_nested}
 use Rattle.resolved.specs.Tree.{If}
-use Rattle.resolved.specs.TreeOf.{expression_of, block_of, handlers_of}
+use Rattle.resolved.specs.TreeOf.{expression_of, block_of, handlers_of, statement_of}
 use Rattle.names.specs.Environment.{exception_outcome}
 use Rattle.names.specs.Statements.{statement_outcome, block_outcome, catches_outcome}
-use Rattle.names.specs.Views.{Fails, point_of, setting_of}
+use Rattle.names.specs.Views.{Fails, Gives, at_point, point_of, setting_of, taken}
 use Rattle.names.proofs.Along.{statement_fits, statement_part, statement_wrong, statement_right, statements_done, exception_wrong, body_wrong, catch_fits, catch_part, catch_right, catches_done}
-use Rattle.names.proofs.Holding.{if_done, if_else_done, if_wrong, else_wrong, while_done, while_wrong, try_done, try_wrong, handlers_wrong, nested_done, nested_wrong, if_nodes}
+use Rattle.names.proofs.Holding.{condition_wrong, if_done, if_else_done, if_wrong, else_wrong, while_done, while_wrong, try_done, try_wrong, handlers_wrong, nested_done, nested_wrong, if_nodes}
 use Rattle.names.proofs.Later.{setting_same}
 use Rattle.names.proofs.body.Body.+block.Goals as goal
 
+-- ---- a statement that holds others, by the function of its form
+
+pub statement-choose-requires : goal.statement-choose-requires
+statement-choose-requires t c =
+    let nodes = ap statement_nodes (ap statement_tree c.in-If.is ∙ if_is c.in-If.at c.in-If.condition c.in-If.accepted c.in-If.otherwise) in
+    (omega (arith, nodes), omega (arith, nodes))
+
+pub statement-returns-in-If-clause-made : goal.statement-returns-in-If-clause-made
+statement-returns-in-If-clause-made t c =
+    let before = c.args.self.now in
+    subst (λ one. Gives (at_point c.choose.new.self statement_of) c.choose.result (statement_outcome (setting_of before) (point_of before) one))
+    (sym (ap statement_tree c.in-If.is ∙ if_is c.in-If.at c.in-If.condition c.in-If.accepted c.in-If.otherwise)) c.choose.ensures.made
+
+pub statement-returns-in-If-clause-grows : goal.statement-returns-in-If-clause-grows
+statement-returns-in-If-clause-grows t c =
+    subst (λ one. OnOk c.choose.result (taken c.choose.new.self ≤ taken c.args.self.now + statement_nodes one))
+    (sym (ap statement_tree c.in-If.is ∙ if_is c.in-If.at c.in-If.condition c.in-If.accepted c.in-If.otherwise)) c.choose.ensures.grows
+
+pub statement-repeat-requires : goal.statement-repeat-requires
+statement-repeat-requires t c =
+    let nodes = ap statement_nodes (ap statement_tree c.in-While.is ∙ while_is c.in-While.at c.in-While.condition c.in-While.body) in
+    (omega (arith, nodes), omega (arith, nodes))
+
+pub statement-returns-in-While-clause-made : goal.statement-returns-in-While-clause-made
+statement-returns-in-While-clause-made t c =
+    let before = c.args.self.now in
+    subst (λ one. Gives (at_point c.repeat.new.self statement_of) c.repeat.result (statement_outcome (setting_of before) (point_of before) one))
+    (sym (ap statement_tree c.in-While.is ∙ while_is c.in-While.at c.in-While.condition c.in-While.body)) c.repeat.ensures.made
+
+pub statement-returns-in-While-clause-grows : goal.statement-returns-in-While-clause-grows
+statement-returns-in-While-clause-grows t c =
+    subst (λ one. OnOk c.repeat.result (taken c.repeat.new.self ≤ taken c.args.self.now + statement_nodes one))
+    (sym (ap statement_tree c.in-While.is ∙ while_is c.in-While.at c.in-While.condition c.in-While.body)) c.repeat.ensures.grows
+
+pub statement-attempt-requires : goal.statement-attempt-requires
+statement-attempt-requires t c =
+    let nodes = ap statement_nodes (ap statement_tree c.in-Try.is ∙ try_is c.in-Try.at c.in-Try.body c.in-Try.catches
+    ∙ ap (λ list. TryTree c.in-Try.at (block_tree c.in-Try.body) (catches_of (map catch_tree list))) (sym c.deref.ensures.value)) in
+    (omega (arith, nodes), omega (arith, nodes))
+
+pub statement-returns-in-Try-clause-made : goal.statement-returns-in-Try-clause-made
+statement-returns-in-Try-clause-made t c =
+    let before = c.args.self.now in
+    subst (λ one. Gives (at_point c.attempt.new.self statement_of) c.attempt.result (statement_outcome (setting_of before) (point_of before) one))
+    (sym (ap statement_tree c.in-Try.is ∙ try_is c.in-Try.at c.in-Try.body c.in-Try.catches
+    ∙ ap (λ list. TryTree c.in-Try.at (block_tree c.in-Try.body) (catches_of (map catch_tree list))) (sym c.deref.ensures.value))) c.attempt.ensures.made
+
+pub statement-returns-in-Try-clause-grows : goal.statement-returns-in-Try-clause-grows
+statement-returns-in-Try-clause-grows t c =
+    subst (λ one. OnOk c.attempt.result (taken c.attempt.new.self ≤ taken c.args.self.now + statement_nodes one))
+    (sym (ap statement_tree c.in-Try.is ∙ try_is c.in-Try.at c.in-Try.body c.in-Try.catches
+    ∙ ap (λ list. TryTree c.in-Try.at (block_tree c.in-Try.body) (catches_of (map catch_tree list))) (sym c.deref.ensures.value))) c.attempt.ensures.grows
+
+pub statement-nest-requires : goal.statement-nest-requires
+statement-nest-requires t c =
+    let nodes = ap statement_nodes (ap statement_tree c.in-Nested.is ∙ nested_is c.in-Nested.block) in
+    (omega (arith, nodes), omega (arith, nodes))
+
+pub statement-returns-in-Nested-clause-made : goal.statement-returns-in-Nested-clause-made
+statement-returns-in-Nested-clause-made t c =
+    let before = c.args.self.now in
+    subst (λ one. Gives (at_point c.nest.new.self statement_of) c.nest.result (statement_outcome (setting_of before) (point_of before) one))
+    (sym (ap statement_tree c.in-Nested.is ∙ nested_is c.in-Nested.block)) c.nest.ensures.made
+
+pub statement-returns-in-Nested-clause-grows : goal.statement-returns-in-Nested-clause-grows
+statement-returns-in-Nested-clause-grows t c =
+    subst (λ one. OnOk c.nest.result (taken c.nest.new.self ≤ taken c.args.self.now + statement_nodes one))
+    (sym (ap statement_tree c.in-Nested.is ∙ nested_is c.in-Nested.block)) c.nest.ensures.grows
+
 -- ---- conditions
 
-pub statement-block-requires : goal.statement-block-requires
-statement-block-requires t c =
-    let tree = ap statement_tree c.in-If.is ∙ if_is c.in-If.at c.in-If.condition c.in-If.accepted c.in-If.otherwise in
-    let nodes = ap statement_nodes tree in
-    let within = if_nodes c.in-If.at (expression_tree c.in-If.condition) (block_tree c.in-If.accepted) (optional_block_tree c.in-If.otherwise) in
-    (omega (arith, nodes, within), omega (arith, nodes, within))
-
-pub statement-returns-in_err-accepted-in-If-clause-made : goal.statement-returns-in_err-accepted-in-If-clause-made
-statement-returns-in_err-accepted-in-If-clause-made t c =
+pub choose-returns-in_err-condition-clause-made : goal.choose-returns-in_err-condition-clause-made
+choose-returns-in_err-condition-clause-made t c =
     let before = c.args.self.now in
-    let p = err_from_is_err_and c.from_residual-in_err-accepted-in-If.result c.from_residual-in_err-accepted-in-If.ensures.1 in
-    let tree = ap statement_tree c.in-If.is ∙ if_is c.in-If.at c.in-If.condition c.in-If.accepted c.in-If.otherwise in
-    let wrong = if_wrong (setting_of before) (point_of before) c.in-If.at (expression_tree c.in-If.condition) (expression_of c.in_ok-condition-in-If.condition) c.in_ok-condition-in-If.ensures
-    (block_tree c.in-If.accepted) (optional_block_tree c.in-If.otherwise) c.in_err-accepted-in-If.field-0.0 c.in_err-accepted-in-If.ensures.made in
-    rw (p.1, p.2) (subst (λ one. Fails c.in_err-accepted-in-If.field-0.0 (statement_outcome (setting_of before) (point_of before) one)) (sym tree) wrong)
+    let p = err_from_is_err_and c.from_residual.result c.from_residual.ensures.1 in
+    rw (p.1, p.2) (condition_wrong (setting_of before) (point_of before) c.args.at (expression_tree c.args.condition.now)
+    (block_tree c.args.accepted.now) (optional_block_tree c.args.otherwise.now) c.in_err-condition.field-0.0 c.in_err-condition.ensures)
 
-pub statement-block-requires-in-Some : goal.statement-block-requires-in-Some
-statement-block-requires-in-Some t c =
-    let tree = ap statement_tree c.in-If.is ∙ if_is c.in-If.at c.in-If.condition c.in-If.accepted c.in-If.otherwise
-    ∙ ap (λ otherwise. if_tree c.in-If.at (expression_tree c.in-If.condition) (block_tree c.in-If.accepted) (optional_block_tree otherwise)) c.in-Some.is in
-    let nodes = ap statement_nodes tree in
-    (omega (arith, nodes, c.in_ok-accepted-in-If.ensures.grows), omega (arith, nodes, c.in_ok-accepted-in-If.ensures.grows))
+pub choose-block-requires : goal.choose-block-requires
+choose-block-requires t c =
+    let within = if_nodes c.args.at (expression_tree c.args.condition.now) (block_tree c.args.accepted.now) (optional_block_tree c.args.otherwise.now) in
+    (omega (arith, within), omega (arith, within))
 
-pub statement-returns-in_err-otherwise-in-Some-clause-made : goal.statement-returns-in_err-otherwise-in-Some-clause-made
-statement-returns-in_err-otherwise-in-Some-clause-made t c =
+pub choose-returns-in_err-accepted-clause-made : goal.choose-returns-in_err-accepted-clause-made
+choose-returns-in_err-accepted-clause-made t c =
+    let before = c.args.self.now in
+    let p = err_from_is_err_and c.from_residual-in_err-accepted.result c.from_residual-in_err-accepted.ensures.1 in
+    rw (p.1, p.2) (if_wrong (setting_of before) (point_of before) c.args.at (expression_tree c.args.condition.now) (expression_of c.in_ok-condition.condition) c.in_ok-condition.ensures
+    (block_tree c.args.accepted.now) (optional_block_tree c.args.otherwise.now) c.in_err-accepted.field-0.0 c.in_err-accepted.ensures.made)
+
+pub choose-block-requires-in-Some : goal.choose-block-requires-in-Some
+choose-block-requires-in-Some t c =
+    let nodes = ap (λ otherwise. statement_nodes (if_tree c.args.at (expression_tree c.args.condition.now) (block_tree c.args.accepted.now) (optional_block_tree otherwise))) c.in-Some.is in
+    (omega (arith, nodes, c.in_ok-accepted.ensures.grows), omega (arith, nodes, c.in_ok-accepted.ensures.grows))
+
+pub choose-returns-in_err-otherwise-in-Some-clause-made : goal.choose-returns-in_err-otherwise-in-Some-clause-made
+choose-returns-in_err-otherwise-in-Some-clause-made t c =
     let before = c.args.self.now in
     let p = err_from_is_err_and c.from_residual-in_err-otherwise-in-Some.result c.from_residual-in_err-otherwise-in-Some.ensures.1 in
-    let tree = ap statement_tree c.in-If.is ∙ if_is c.in-If.at c.in-If.condition c.in-If.accepted c.in-If.otherwise
-    ∙ ap (λ otherwise. if_tree c.in-If.at (expression_tree c.in-If.condition) (block_tree c.in-If.accepted) (optional_block_tree otherwise)) c.in-Some.is in
+    let tree = ap (λ otherwise. if_tree c.args.at (expression_tree c.args.condition.now) (block_tree c.args.accepted.now) (optional_block_tree otherwise)) c.in-Some.is in
     let second = subst (λ setting. Fails c.in_err-otherwise-in-Some.field-0.0 (block_outcome setting (point_of c.block.new.self) (block_tree c.in-Some.otherwise)))
-    (setting_same before c.block.new.self c.in_ok-accepted-in-If.ensures.later) c.in_err-otherwise-in-Some.ensures.made in
-    let wrong = else_wrong (setting_of before) (point_of before) c.in-If.at (expression_tree c.in-If.condition) (expression_of c.in_ok-condition-in-If.condition) c.in_ok-condition-in-If.ensures
-    (block_tree c.in-If.accepted) (block_tree c.in-Some.otherwise) (point_of c.block.new.self) (block_of c.in_ok-accepted-in-If.accepted.items) c.in_err-otherwise-in-Some.field-0.0 c.in_ok-accepted-in-If.ensures.made second in
+    (setting_same before c.block.new.self c.in_ok-accepted.ensures.later) c.in_err-otherwise-in-Some.ensures.made in
+    let wrong = else_wrong (setting_of before) (point_of before) c.args.at (expression_tree c.args.condition.now) (expression_of c.in_ok-condition.condition) c.in_ok-condition.ensures
+    (block_tree c.args.accepted.now) (block_tree c.in-Some.otherwise) (point_of c.block.new.self) (block_of c.in_ok-accepted.accepted.items) c.in_err-otherwise-in-Some.field-0.0 c.in_ok-accepted.ensures.made second in
     rw (p.1, p.2) (subst (λ one. Fails c.in_err-otherwise-in-Some.field-0.0 (statement_outcome (setting_of before) (point_of before) one)) (sym tree) wrong)
 
-pub statement-returns-in_ok-otherwise-in-Some-clause-made : goal.statement-returns-in_ok-otherwise-in-Some-clause-made
-statement-returns-in_ok-otherwise-in-Some-clause-made t c =
+pub choose-returns-in_ok-otherwise-in-Some-clause-made : goal.choose-returns-in_ok-otherwise-in-Some-clause-made
+choose-returns-in_ok-otherwise-in-Some-clause-made t c =
     let before = c.args.self.now in
     let after = c.block-in-Some.new.self in
-    let tree = ap statement_tree c.in-If.is ∙ if_is c.in-If.at c.in-If.condition c.in-If.accepted c.in-If.otherwise
-    ∙ ap (λ otherwise. if_tree c.in-If.at (expression_tree c.in-If.condition) (block_tree c.in-If.accepted) (optional_block_tree otherwise)) c.in-Some.is in
+    let tree = ap (λ otherwise. if_tree c.args.at (expression_tree c.args.condition.now) (block_tree c.args.accepted.now) (optional_block_tree otherwise)) c.in-Some.is in
     let second = subst (λ setting. block_outcome setting (point_of c.block.new.self) (block_tree c.in-Some.otherwise) ≡ Ok (point_of after, block_of c.in_ok-otherwise-in-Some.otherwise.items))
-    (setting_same before c.block.new.self c.in_ok-accepted-in-If.ensures.later) c.in_ok-otherwise-in-Some.ensures.made in
+    (setting_same before c.block.new.self c.in_ok-accepted.ensures.later) c.in_ok-otherwise-in-Some.ensures.made in
     ap (statement_outcome (setting_of before) (point_of before)) tree
-    ∙ if_else_done (setting_of before) (point_of before) c.in-If.at (expression_tree c.in-If.condition) (expression_of c.in_ok-condition-in-If.condition) c.in_ok-condition-in-If.ensures
-    (block_tree c.in-If.accepted) (block_tree c.in-Some.otherwise) (point_of c.block.new.self) (point_of after) (block_of c.in_ok-accepted-in-If.accepted.items) (block_of c.in_ok-otherwise-in-Some.otherwise.items)
-    c.in_ok-accepted-in-If.ensures.made second
-    ∙ ap (λ one. Ok (point_of after, one)) (sym (statement_of_if c.in-If.at c.in_ok-condition-in-If.condition c.in_ok-accepted-in-If.accepted c.in_ok-otherwise-in-Some.otherwise))
+    ∙ if_else_done (setting_of before) (point_of before) c.args.at (expression_tree c.args.condition.now) (expression_of c.in_ok-condition.condition) c.in_ok-condition.ensures
+    (block_tree c.args.accepted.now) (block_tree c.in-Some.otherwise) (point_of c.block.new.self) (point_of after) (block_of c.in_ok-accepted.accepted.items) (block_of c.in_ok-otherwise-in-Some.otherwise.items)
+    c.in_ok-accepted.ensures.made second
+    ∙ ap (λ one. Ok (point_of after, one)) (sym (statement_of_if c.args.at c.in_ok-condition.condition c.in_ok-accepted.accepted c.in_ok-otherwise-in-Some.otherwise))
 
-pub statement-returns-in_ok-otherwise-in-Some-clause-grows : goal.statement-returns-in_ok-otherwise-in-Some-clause-grows
-statement-returns-in_ok-otherwise-in-Some-clause-grows t c =
-    let tree = ap statement_tree c.in-If.is ∙ if_is c.in-If.at c.in-If.condition c.in-If.accepted c.in-If.otherwise
-    ∙ ap (λ otherwise. if_tree c.in-If.at (expression_tree c.in-If.condition) (block_tree c.in-If.accepted) (optional_block_tree otherwise)) c.in-Some.is in
-    let nodes = ap statement_nodes tree in
-    omega (arith, nodes, c.in_ok-accepted-in-If.ensures.grows, c.in_ok-otherwise-in-Some.ensures.grows)
+pub choose-returns-in_ok-otherwise-in-Some-clause-grows : goal.choose-returns-in_ok-otherwise-in-Some-clause-grows
+choose-returns-in_ok-otherwise-in-Some-clause-grows t c =
+    let nodes = ap (λ otherwise. statement_nodes (if_tree c.args.at (expression_tree c.args.condition.now) (block_tree c.args.accepted.now) (optional_block_tree otherwise))) c.in-Some.is in
+    omega (arith, nodes, c.in_ok-accepted.ensures.grows, c.in_ok-otherwise-in-Some.ensures.grows)
 
-pub statement-returns-in-None-clause-made : goal.statement-returns-in-None-clause-made
-statement-returns-in-None-clause-made t c =
+pub choose-returns-in-None-clause-made : goal.choose-returns-in-None-clause-made
+choose-returns-in-None-clause-made t c =
     let before = c.args.self.now in
     let after = c.block.new.self in
-    let tree = ap statement_tree c.in-If.is ∙ if_is c.in-If.at c.in-If.condition c.in-If.accepted c.in-If.otherwise
-    ∙ ap (λ otherwise. if_tree c.in-If.at (expression_tree c.in-If.condition) (block_tree c.in-If.accepted) (optional_block_tree otherwise)) c.in-None.is in
+    let tree = ap (λ otherwise. if_tree c.args.at (expression_tree c.args.condition.now) (block_tree c.args.accepted.now) (optional_block_tree otherwise)) c.in-None.is in
     ap (statement_outcome (setting_of before) (point_of before)) tree
-    ∙ if_done (setting_of before) (point_of before) c.in-If.at (expression_tree c.in-If.condition) (expression_of c.in_ok-condition-in-If.condition) c.in_ok-condition-in-If.ensures
-    (block_tree c.in-If.accepted) (point_of after) (block_of c.in_ok-accepted-in-If.accepted.items) c.in_ok-accepted-in-If.ensures.made
-    ∙ ap (λ one. Ok (point_of after, one)) (ap (λ list. If c.in-If.at (expression_of c.in_ok-condition-in-If.condition) (block_of c.in_ok-accepted-in-If.accepted.items) (block_of list)) (sym c.new.ensures.items)
-    ∙ sym (statement_of_if c.in-If.at c.in_ok-condition-in-If.condition c.in_ok-accepted-in-If.accepted c.new.result))
+    ∙ if_done (setting_of before) (point_of before) c.args.at (expression_tree c.args.condition.now) (expression_of c.in_ok-condition.condition) c.in_ok-condition.ensures
+    (block_tree c.args.accepted.now) (point_of after) (block_of c.in_ok-accepted.accepted.items) c.in_ok-accepted.ensures.made
+    ∙ ap (λ one. Ok (point_of after, one)) (ap (λ list. If c.args.at (expression_of c.in_ok-condition.condition) (block_of c.in_ok-accepted.accepted.items) (block_of list)) (sym c.new.ensures.items)
+    ∙ sym (statement_of_if c.args.at c.in_ok-condition.condition c.in_ok-accepted.accepted c.new.result))
 
-pub statement-returns-in-None-clause-grows : goal.statement-returns-in-None-clause-grows
-statement-returns-in-None-clause-grows t c =
-    let tree = ap statement_tree c.in-If.is ∙ if_is c.in-If.at c.in-If.condition c.in-If.accepted c.in-If.otherwise
-    ∙ ap (λ otherwise. if_tree c.in-If.at (expression_tree c.in-If.condition) (block_tree c.in-If.accepted) (optional_block_tree otherwise)) c.in-None.is in
-    let nodes = ap statement_nodes tree in
-    omega (arith, nodes, c.in_ok-accepted-in-If.ensures.grows)
+pub choose-returns-in-None-clause-grows : goal.choose-returns-in-None-clause-grows
+choose-returns-in-None-clause-grows t c =
+    let nodes = ap (λ otherwise. statement_nodes (if_tree c.args.at (expression_tree c.args.condition.now) (block_tree c.args.accepted.now) (optional_block_tree otherwise))) c.in-None.is in
+    omega (arith, nodes, c.in_ok-accepted.ensures.grows)
 
 -- ---- loops
 
-pub statement-block-requires-in-While : goal.statement-block-requires-in-While
-statement-block-requires-in-While t c =
-    let nodes = ap statement_nodes (ap statement_tree c.in-While.is ∙ while_is c.in-While.at c.in-While.condition c.in-While.body) in
-    (omega (arith, nodes), omega (arith, nodes))
-
-pub statement-returns-in_err-body-in-While-clause-made : goal.statement-returns-in_err-body-in-While-clause-made
-statement-returns-in_err-body-in-While-clause-made t c =
+pub repeat-returns-in_err-body-clause-made : goal.repeat-returns-in_err-body-clause-made
+repeat-returns-in_err-body-clause-made t c =
     let before = c.args.self.now in
-    let p = err_from_is_err_and c.from_residual-in_err-body-in-While.result c.from_residual-in_err-body-in-While.ensures.1 in
-    let tree = ap statement_tree c.in-While.is ∙ while_is c.in-While.at c.in-While.condition c.in-While.body in
-    let wrong = while_wrong (setting_of before) (point_of before) c.in-While.at (expression_tree c.in-While.condition) (expression_of c.in_ok-condition-in-While.condition) c.in_ok-condition-in-While.ensures
-    (block_tree c.in-While.body) c.in_err-body-in-While.field-0.0 c.in_err-body-in-While.ensures.made in
-    rw (p.1, p.2) (subst (λ one. Fails c.in_err-body-in-While.field-0.0 (statement_outcome (setting_of before) (point_of before) one)) (sym tree) wrong)
+    let p = err_from_is_err_and c.from_residual-in_err-body.result c.from_residual-in_err-body.ensures.1 in
+    rw (p.1, p.2) (while_wrong (setting_of before) (point_of before) c.args.at (expression_tree c.args.condition.now) (expression_of c.in_ok-condition.condition) c.in_ok-condition.ensures
+    (block_tree c.args.body.now) c.in_err-body.field-0.0 c.in_err-body.ensures.made)
 
-pub statement-returns-in_ok-body-in-While-clause-made : goal.statement-returns-in_ok-body-in-While-clause-made
-statement-returns-in_ok-body-in-While-clause-made t c =
+pub repeat-returns-clause-made : goal.repeat-returns-clause-made
+repeat-returns-clause-made t c =
     let before = c.args.self.now in
-    let after = c.block-in-While.new.self in
-    let tree = ap statement_tree c.in-While.is ∙ while_is c.in-While.at c.in-While.condition c.in-While.body in
-    ap (statement_outcome (setting_of before) (point_of before)) tree
-    ∙ while_done (setting_of before) (point_of before) c.in-While.at (expression_tree c.in-While.condition) (expression_of c.in_ok-condition-in-While.condition) c.in_ok-condition-in-While.ensures
-    (block_tree c.in-While.body) (point_of after) (block_of c.in_ok-body-in-While.body.items) c.in_ok-body-in-While.ensures.made
-    ∙ ap (λ one. Ok (point_of after, one)) (sym (statement_of_while c.in-While.at before.loops c.in_ok-condition-in-While.condition c.in_ok-body-in-While.body))
-
-pub statement-returns-in_ok-body-in-While-clause-grows : goal.statement-returns-in_ok-body-in-While-clause-grows
-statement-returns-in_ok-body-in-While-clause-grows t c =
-    let nodes = ap statement_nodes (ap statement_tree c.in-While.is ∙ while_is c.in-While.at c.in-While.condition c.in-While.body) in
-    omega (arith, nodes, c.in_ok-body-in-While.ensures.grows)
+    let after = c.block.new.self in
+    while_done (setting_of before) (point_of before) c.args.at (expression_tree c.args.condition.now) (expression_of c.in_ok-condition.condition) c.in_ok-condition.ensures
+    (block_tree c.args.body.now) (point_of after) (block_of c.in_ok-body.body.items) c.in_ok-body.ensures.made
+    ∙ ap (λ one. Ok (point_of after, one)) (sym (statement_of_while c.args.at before.loops c.in_ok-condition.condition c.in_ok-body.body))
 
 -- ---- handlers
 
-pub statement-block-requires-in-Try : goal.statement-block-requires-in-Try
-statement-block-requires-in-Try t c =
-    let nodes = ap statement_nodes (ap statement_tree c.in-Try.is ∙ try_is c.in-Try.at c.in-Try.body c.in-Try.catches) in
-    (omega (arith, nodes), omega (arith, nodes))
-
-pub statement-returns-in_err-body-in-Try-clause-made : goal.statement-returns-in_err-body-in-Try-clause-made
-statement-returns-in_err-body-in-Try-clause-made t c =
+pub attempt-returns-in_err-body-clause-made : goal.attempt-returns-in_err-body-clause-made
+attempt-returns-in_err-body-clause-made t c =
     let before = c.args.self.now in
-    let p = err_from_is_err_and c.from_residual-in_err-body-in-Try.result c.from_residual-in_err-body-in-Try.ensures.1 in
-    let tree = ap statement_tree c.in-Try.is ∙ try_is c.in-Try.at c.in-Try.body c.in-Try.catches in
-    let wrong = try_wrong (setting_of before) (point_of before) c.in-Try.at (block_tree c.in-Try.body) (catches_of (map catch_tree c.in-Try.catches.items))
-    c.in_err-body-in-Try.field-0.0 c.in_err-body-in-Try.ensures.made in
-    rw (p.1, p.2) (subst (λ one. Fails c.in_err-body-in-Try.field-0.0 (statement_outcome (setting_of before) (point_of before) one)) (sym tree) wrong)
+    let p = err_from_is_err_and c.from_residual.result c.from_residual.ensures.1 in
+    rw (p.1, p.2) (try_wrong (setting_of before) (point_of before) c.args.at (block_tree c.args.body.now) (catches_of (map catch_tree c.args.catches.now))
+    c.in_err-body.field-0.0 c.in_err-body.ensures.made)
 
-pub statement-catches-requires : goal.statement-catches-requires
-statement-catches-requires t c =
-    let nodes = ap statement_nodes (ap statement_tree c.in-Try.is ∙ try_is c.in-Try.at c.in-Try.body c.in-Try.catches) in
-    let lent = ap (λ list. catches_nodes (catches_of (map catch_tree list))) c.deref.ensures.value in
-    (omega (arith, nodes, lent, c.in_ok-body-in-Try.ensures.grows), omega (arith, nodes, lent, c.in_ok-body-in-Try.ensures.grows))
-
-pub statement-returns-in_err-handlers-in-Try-clause-made : goal.statement-returns-in_err-handlers-in-Try-clause-made
-statement-returns-in_err-handlers-in-Try-clause-made t c =
+pub attempt-returns-in_err-handlers-clause-made : goal.attempt-returns-in_err-handlers-clause-made
+attempt-returns-in_err-handlers-clause-made t c =
     let before = c.args.self.now in
-    let list = c.deref.result.now in
-    let p = err_from_is_err_and c.from_residual-in_err-handlers-in-Try.result c.from_residual-in_err-handlers-in-Try.ensures.1 in
-    let tree = ap statement_tree c.in-Try.is ∙ try_is c.in-Try.at c.in-Try.body c.in-Try.catches
-    ∙ ap (λ list. TryTree c.in-Try.at (block_tree c.in-Try.body) (catches_of (map catch_tree list))) (sym c.deref.ensures.value) in
-    let second = subst (λ setting. Fails c.in_err-handlers-in-Try.field-0.0 (catches_outcome setting (point_of c.block-in-Try.new.self) (catches_of (map catch_tree list))))
-    (setting_same before c.block-in-Try.new.self c.in_ok-body-in-Try.ensures.later) c.in_err-handlers-in-Try.ensures.made in
-    let wrong = handlers_wrong (setting_of before) (point_of before) c.in-Try.at (block_tree c.in-Try.body) (catches_of (map catch_tree list)) (point_of c.block-in-Try.new.self) (block_of c.in_ok-body-in-Try.body.items)
-    c.in_err-handlers-in-Try.field-0.0 c.in_ok-body-in-Try.ensures.made second in
-    rw (p.1, p.2) (subst (λ one. Fails c.in_err-handlers-in-Try.field-0.0 (statement_outcome (setting_of before) (point_of before) one)) (sym tree) wrong)
+    let inside = c.block.new.self in
+    let catches = catches_of (map catch_tree c.args.catches.now) in
+    let p = err_from_is_err_and c.from_residual-in_err-handlers.result c.from_residual-in_err-handlers.ensures.1 in
+    let second = subst (λ setting. Fails c.in_err-handlers.field-0.0 (catches_outcome setting (point_of inside) catches))
+    (setting_same before inside c.in_ok-body.ensures.later) c.in_err-handlers.ensures.made in
+    rw (p.1, p.2) (handlers_wrong (setting_of before) (point_of before) c.args.at (block_tree c.args.body.now) catches (point_of inside) (block_of c.in_ok-body.body.items)
+    c.in_err-handlers.field-0.0 c.in_ok-body.ensures.made second)
 
-pub statement-returns-in_ok-handlers-in-Try-clause-made : goal.statement-returns-in_ok-handlers-in-Try-clause-made
-statement-returns-in_ok-handlers-in-Try-clause-made t c =
+pub attempt-returns-clause-made : goal.attempt-returns-clause-made
+attempt-returns-clause-made t c =
     let before = c.args.self.now in
-    let inside = c.block-in-Try.new.self in
+    let inside = c.block.new.self in
     let after = c.catches.new.self in
-    let list = c.deref.result.now in
-    let tree = ap statement_tree c.in-Try.is ∙ try_is c.in-Try.at c.in-Try.body c.in-Try.catches
-    ∙ ap (λ list. TryTree c.in-Try.at (block_tree c.in-Try.body) (catches_of (map catch_tree list))) (sym c.deref.ensures.value) in
-    let second = subst (λ setting. catches_outcome setting (point_of inside) (catches_of (map catch_tree list)) ≡ Ok (point_of after, handlers_of c.in_ok-handlers-in-Try.handlers.items))
-    (setting_same before inside c.in_ok-body-in-Try.ensures.later) c.in_ok-handlers-in-Try.ensures.made in
-    ap (statement_outcome (setting_of before) (point_of before)) tree
-    ∙ try_done (setting_of before) (point_of before) c.in-Try.at (block_tree c.in-Try.body) (catches_of (map catch_tree list)) (point_of inside) (point_of after)
-    (block_of c.in_ok-body-in-Try.body.items) (handlers_of c.in_ok-handlers-in-Try.handlers.items) c.in_ok-body-in-Try.ensures.made second
-    ∙ ap (λ one. Ok (point_of after, one)) (sym (statement_of_try c.in-Try.at c.in_ok-body-in-Try.body c.in_ok-handlers-in-Try.handlers))
-
-pub statement-returns-in_ok-handlers-in-Try-clause-grows : goal.statement-returns-in_ok-handlers-in-Try-clause-grows
-statement-returns-in_ok-handlers-in-Try-clause-grows t c =
-    let nodes = ap statement_nodes (ap statement_tree c.in-Try.is ∙ try_is c.in-Try.at c.in-Try.body c.in-Try.catches) in
-    let lent = ap (λ list. catches_nodes (catches_of (map catch_tree list))) c.deref.ensures.value in
-    omega (arith, nodes, lent, c.in_ok-body-in-Try.ensures.grows, c.in_ok-handlers-in-Try.ensures.grows)
+    let catches = catches_of (map catch_tree c.args.catches.now) in
+    let second = subst (λ setting. catches_outcome setting (point_of inside) catches ≡ Ok (point_of after, handlers_of c.in_ok-handlers.handlers.items))
+    (setting_same before inside c.in_ok-body.ensures.later) c.in_ok-handlers.ensures.made in
+    try_done (setting_of before) (point_of before) c.args.at (block_tree c.args.body.now) catches (point_of inside) (point_of after)
+    (block_of c.in_ok-body.body.items) (handlers_of c.in_ok-handlers.handlers.items) c.in_ok-body.ensures.made second
+    ∙ ap (λ one. Ok (point_of after, one)) (sym (statement_of_try c.args.at c.in_ok-body.body c.in_ok-handlers.handlers))
 
 -- ---- blocks among statements
 
-pub statement-block-requires-in-Nested : goal.statement-block-requires-in-Nested
-statement-block-requires-in-Nested t c =
-    let nodes = ap statement_nodes (ap statement_tree c.in-Nested.is ∙ nested_is c.in-Nested.block) in
-    (omega (arith, nodes), omega (arith, nodes))
-
-pub statement-returns-in_err-body-in-Nested-clause-made : goal.statement-returns-in_err-body-in-Nested-clause-made
-statement-returns-in_err-body-in-Nested-clause-made t c =
+pub nest-returns-in_err-body-clause-made : goal.nest-returns-in_err-body-clause-made
+nest-returns-in_err-body-clause-made t c =
     let before = c.args.self.now in
-    let block = c.in-Nested.block in
-    let p = err_from_is_err_and c.from_residual-in_err-body-in-Nested.result c.from_residual-in_err-body-in-Nested.ensures.1 in
-    let wrong = nested_wrong (setting_of before) (point_of before) block.at (statements_of (map statement_tree block.statements.items)) c.in_err-body-in-Nested.field-0.0 c.in_err-body-in-Nested.ensures.made in
-    rw (p.1, p.2) (subst (λ one. Fails c.in_err-body-in-Nested.field-0.0 (statement_outcome (setting_of before) (point_of before) one)) (sym (ap statement_tree c.in-Nested.is ∙ nested_is block)) wrong)
+    let block = c.args.block.now in
+    let p = err_from_is_err_and c.from_residual.result c.from_residual.ensures.1 in
+    rw (p.1, p.2) (nested_wrong (setting_of before) (point_of before) block.at (statements_of (map statement_tree block.statements.items)) c.in_err-body.field-0.0 c.in_err-body.ensures.made)
 
-pub statement-returns-in_ok-body-in-Nested-clause-made : goal.statement-returns-in_ok-body-in-Nested-clause-made
-statement-returns-in_ok-body-in-Nested-clause-made t c =
+pub nest-returns-clause-made : goal.nest-returns-clause-made
+nest-returns-clause-made t c =
     let before = c.args.self.now in
-    let after = c.block-in-Nested.new.self in
-    let block = c.in-Nested.block in
-    ap (statement_outcome (setting_of before) (point_of before)) (ap statement_tree c.in-Nested.is ∙ nested_is block)
-    ∙ nested_done (setting_of before) (point_of before) block.at (statements_of (map statement_tree block.statements.items)) (point_of after) (block_of c.in_ok-body-in-Nested.body.items) c.in_ok-body-in-Nested.ensures.made
-    ∙ ap (λ one. Ok (point_of after, one)) (sym (statement_of_nested block.at c.in_ok-body-in-Nested.body))
-
-pub statement-returns-in_ok-body-in-Nested-clause-grows : goal.statement-returns-in_ok-body-in-Nested-clause-grows
-statement-returns-in_ok-body-in-Nested-clause-grows t c =
-    let nodes = ap statement_nodes (ap statement_tree c.in-Nested.is ∙ nested_is c.in-Nested.block) in
-    omega (arith, nodes, c.in_ok-body-in-Nested.ensures.grows)
+    let after = c.block.new.self in
+    let block = c.args.block.now in
+    nested_done (setting_of before) (point_of before) block.at (statements_of (map statement_tree block.statements.items)) (point_of after) (block_of c.in_ok-body.body.items) c.in_ok-body.ensures.made
+    ∙ ap (λ one. Ok (point_of after, one)) (sym (statement_of_nested block.at c.in_ok-body.body))
 
 -- ---- along the statements of a block
 
