@@ -3,26 +3,31 @@ use Rattle.std.proofs.Common.{◌≡◌, ℕ, zero, suc, ◌<◌, ◌^◌, true,
 use Rattle.bytecode.specs.Code.{code_length}
 use Rattle.bytecode.specs.Contents.{ProcedureContents, ModuleContents}
 use Rattle.bytecode.specs.Form.{Fits, FitEach}
-use Rattle.bytecode.specs.Format.{may_start, main, procedure, procedures, program, contents, module_file}
+use Rattle.bytecode.specs.Format.{may_start, main, handlers, procedure, procedures, program, contents, module_file}
 use Rattle.bytecode.proofs.Spelling.{spelled-length}
 
 pub record IsBounded (m : ModuleContents) : Type 0 where
   pub few : length m.procedures < 2 ^ 32
   pub short : (k : ℕ) (p : ProcedureContents) → slice_get m.procedures k ≡ Some p → code_length p.code < 2 ^ 32
+  pub handled : (k : ℕ) (p : ProcedureContents) → slice_get m.procedures k ≡ Some p → length p.handlers < 2 ^ 32
   pub starts : may_start (slice_get m.procedures m.main) ≡ true
 
 code_short : (p : ProcedureContents) → Fits procedure p → code_length p.code < 2 ^ 32
 unfolding procedure
 code_short p h = omega (arith, h.0.1.1.1.0.0, spelled-length p.code)
 
-each_short : (before all : List ProcedureContents) → FitEach (λ seen p. Fits procedure p) before all → (k : ℕ) (p : ProcedureContents) → slice_get all k ≡ Some p → code_length p.code < 2 ^ 32
-each_short before [] h k p is = absurd (let no : None ≡ Some p = is in cc)
-each_short before (x ∷ all) h zero p is = let same : x ≡ p = cc in subst (λ (q : ProcedureContents). code_length q.code < 2 ^ 32) same (code_short x h.0)
-each_short before (x ∷ all) h (suc k) p is = each_short (before ++ x ∷ []) all h.1 k p is
+handlers_few : (p : ProcedureContents) → Fits procedure p → length p.handlers < 2 ^ 32
+unfolding procedure handlers
+handlers_few p h = h.0.1.1.1.1.0
 
-procedures_bounded : (all : List ProcedureContents) → Fits procedures all → (length all < 2 ^ 32) × ((k : ℕ) (p : ProcedureContents) → slice_get all k ≡ Some p → code_length p.code < 2 ^ 32)
+each_fits : (before all : List ProcedureContents) → FitEach (λ seen p. Fits procedure p) before all → (k : ℕ) (p : ProcedureContents) → slice_get all k ≡ Some p → Fits procedure p
+each_fits before [] h k p is = absurd (let no : None ≡ Some p = is in cc)
+each_fits before (x ∷ all) h zero p is = let same : x ≡ p = cc in subst (Fits procedure) same h.0
+each_fits before (x ∷ all) h (suc k) p is = each_fits (before ++ x ∷ []) all h.1 k p is
+
+procedures_fit : (all : List ProcedureContents) → Fits procedures all → (length all < 2 ^ 32) × ((k : ℕ) (p : ProcedureContents) → slice_get all k ≡ Some p → Fits procedure p)
 unfolding procedures
-procedures_bounded all h = (h.0, each_short [] all h.2)
+procedures_fit all h = (h.0, each_fits [] all h.2)
 
 main_starts : (all : List ProcedureContents) (number : ℕ) → Fits (main all) number → may_start (slice_get all number) ≡ true
 unfolding main
@@ -32,5 +37,5 @@ pub bounded : (m : ModuleContents) → Fits module_file m → IsBounded m
 unfolding module_file contents program
 bounded m h =
     let all = h.0.1.1.1 in
-    let b = procedures_bounded m.procedures all.0 in
-    record { few = b.0; short = b.1; starts = main_starts m.procedures m.main all.1 }
+    let b = procedures_fit m.procedures all.0 in
+    record { few = b.0; short = λ k p there. code_short p (b.1 k p there); handled = λ k p there. handlers_few p (b.1 k p there); starts = main_starts m.procedures m.main all.1 }

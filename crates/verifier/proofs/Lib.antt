@@ -13,3 +13,5 @@ pub mod Rows
 pub mod Runs
 pub mod Shared
 pub mod Positioned
+pub mod Trees
+pub mod Covering

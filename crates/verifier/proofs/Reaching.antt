@@ -2,7 +2,7 @@
 use Rattle.std.proofs.Common.{replicate, ◌≡◌, ◌≢◌, ◌⊎◌, inl, inr, ℕ, suc, zero, ◌+◌, ◌<◌, ◌≤◌, ◌==◌, Bool, true, false, if◌then◌else◌, List, [], ◌∷◌, ◌++◌, length, get_or, set, take, Option, Some, None, refl, sym, ap, ◌∙◌, subst, arith, length-append}
 use Rattle.std.specs.List.{Contains}
 use Rattle.std.proofs.lemmas.Bool.Decides.{nat_tests}
-use Rattle.std.proofs.lemmas.List.{length-replicate, take_more, get_or-set_same, get_or-set_other, get_or_append_left}
+use Rattle.std.proofs.lemmas.List.{length-replicate, get_or-set_same, get_or-set_other, get_or_append_left}
 use Rattle.std.proofs.lemmas.List.Elements.{Contains-append_left, Contains-push, Contains-push_cases}
 use Rattle.std.proofs.Math.ListN.{length-set}
 use Rattle.bytecode.specs.Contents.{ProcedureContents, ModuleContents}
@@ -15,8 +15,10 @@ use Rattle.bytecode.specs.Targets.{target_of}
 use Rattle.verifier.specs.Flow.{Edge, next, jumps, caught, Flow, starts, nowhere, grows, misses, meets, falls, IsFlowDefect, FlowsWell, changed, between, effect, all_popped, pushed, exchanged, signature, is_own, and_then, Leaves, Misses, goes_on}
 use Rattle.verifier.specs.Operands.{list_of, IsLonger}
 use Rattle.verifier.specs.Boundaries.{IsBoundary, KeepsBoundaries}
-use Rattle.verifier.specs.Search.{row, table, IsKept, IsSearching, IsAtEdge, Flowed, Steps, IsApplied, HasEffect, HasInstruction, IsFirst, left, unset}
+use Rattle.verifier.specs.Coverage.{IsCoverage, Waits}
+use Rattle.verifier.specs.Search.{row, table, IsWaiting, IsKept, IsSearching, IsAtEdge, Flowed, Steps, IsApplied, HasEffect, HasInstruction, IsFirst, left, unset}
 use Rattle.verifier.specs.declared.fault.Defect.TheVariants.{OperandKind, FallsOffEnd}
+use Rattle.verifier.specs.declared.coverage.Coverage.{Coverage}
 use Rattle.verifier.specs.declared.search.Search.{Search}
 use Rattle.verifier.proofs.Offsets.{start_inside}
 use Rattle.verifier.proofs.Laws.{IsDone, no_fault, changed_at}
@@ -27,7 +29,7 @@ fun_ext h = λ i x. h x i
 eq_of : (a b : ℕ) → a == b ≡ true → a ≡ b
 eq_of a b e = grind (arith, nat_tests)
 
-number_cases : (a b : ℕ) → (a ≡ b) ⊎ (a ≢ b)
+pub number_cases : (a b : ℕ) → (a ≡ b) ⊎ (a ≢ b)
 number_cases zero zero = inl refl
 number_cases zero (suc b) = inr (λ e. omega arith)
 number_cases (suc a) zero = inr (λ e. omega arith)
@@ -338,13 +340,42 @@ steps_more m p old between new at to list f h = record {
   left = omega (arith, f.left, h.left);
 }
 
--- the handlers up to the next one
-pub caught_more : (s new : Search) (at : ℕ) (handlers : List Handler) (k : ℕ) (d : Handler) → k < length handlers → ((offset : ℕ) (kinds : List Kind) → table s offset ≡ Some kinds → table new offset ≡ Some kinds) → ((h : Handler) → Contains (take k handlers) h → h.start ≤ at → at < h.end → table s h.target ≡ Some []) → ((get_or handlers k d).start ≤ at → at < (get_or handlers k d).end → table new (get_or handlers k d).target ≡ Some []) → (h : Handler) → Contains (take (k + 1) handlers) h → h.start ≤ at → at < h.end → table new h.target ≡ Some []
-caught_more s new at handlers k d l keeps before here h c a b =
-    elim (Contains-push_cases (take k handlers) (get_or handlers k d) h (subst (λ hs. Contains hs h) (take_more handlers k d l) c)) [
-      | inl old ↦ keeps h.target [] (before h old a b)
-      | inr same ↦ subst (λ (x : Handler). table new x.target ≡ Some []) same (here (subst (λ (x : Handler). x.start ≤ at) (sym same) a) (subst (λ (x : Handler). at < x.end) (sym same) b))
+-- handlers that wait still do where lists were kept
+pub waiting_kept : (p : ProcedureContents) (c : Coverage) (s new : Search) → ((offset : ℕ) (kinds : List Kind) → table s offset ≡ Some kinds → table new offset ≡ Some kinds) → IsWaiting p c s → IsWaiting p c new
+waiting_kept p c s new keeps w = record {
+  coverage = w.coverage;
+  real = w.real;
+  gone = λ h at there low high. elim (w.gone h at there low high) [ inl waits ↦ inl waits | inr has ↦ inr (keeps h.target [] has) ];
+}
+
+-- control went to one that waited, and that waits no more
+pub waiting_less : (p : ProcedureContents) (c rest : Coverage) (s new : Search) (h : Handler) → IsWaiting p c s → IsCoverage rest → ((x : Handler) → Waits rest x → Waits c x) → ((x : Handler) → Waits c x → (x ≡ h) ⊎ Waits rest x) → ((offset : ℕ) (kinds : List Kind) → table s offset ≡ Some kinds → table new offset ≡ Some kinds) → table new h.target ≡ Some [] → IsWaiting p rest new
+waiting_less p c rest s new h w good within others keeps arrives = record {
+  coverage = good;
+  real = λ x waits. w.real x (within x waits);
+  gone = λ x at there low high. elim (w.gone x at there low high) [
+    | inl waits ↦ elim (others x waits) [
+      | inl same ↦ inr (ap (λ (y : Handler). table new y.target) same ∙ arrives)
+      | inr still ↦ inl still
     ]
+    | inr has ↦ inr (keeps x.target [] has)
+  ];
+}
+
+-- none that covers an offset waits any more
+pub all_gone : (p : ProcedureContents) (c : Coverage) (s : Search) (at : ℕ) → IsWaiting p c s → ((x : Handler) → Waits c x → x.start ≤ at → at < x.end → ⊥) → (h : Handler) → Contains p.handlers h → h.start ≤ at → at < h.end → table s h.target ≡ Some []
+all_gone p c s at w none h there low high = elim (w.gone h at there low high) [
+  | inl waits ↦ absurd (none h waits low high)
+  | inr has ↦ has
+]
+
+-- at the start all wait
+pub waiting_start : (p : ProcedureContents) (c : Coverage) (s : Search) (handlers : List Handler) → handlers ≡ p.handlers → IsCoverage c → ((h : Handler) → Waits c h → Contains handlers h) → ((h : Handler) (at : ℕ) → Contains handlers h → at < h.end → Waits c h) → IsWaiting p c s
+waiting_start p c s handlers same good real all = record {
+  coverage = good;
+  real = λ h waits. subst (λ hs. Contains hs h) same (real h waits);
+  gone = λ h at there low high. inl (all h at (subst (λ hs. Contains hs h) (sym same) there) high);
+}
 
 pub take_all : {A : Type 0} (xs : List A) (n : ℕ) → length xs ≤ n → take n xs ≡ xs
 take_all [] zero h = refl

@@ -1,4 +1,5 @@
 pub mod Boundaries
+pub mod Coverage
 pub mod Faults
 pub mod Fixed
 pub mod Flow

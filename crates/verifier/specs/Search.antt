@@ -9,6 +9,7 @@ use Rattle.bytecode.specs.declared.value.Kind.{Kind}
 use Rattle.bytecode.specs.declared.declaration.Handler.{Handler}
 use Rattle.bytecode.specs.Targets.{target_of}
 use Rattle.verifier.specs.Flow.{Edge, Flow, Leaves, effect, goes_on, IsFlowDefect}
+use Rattle.verifier.specs.Coverage.{IsCoverage, Waits}
 use Rattle.verifier.specs.Operands.{list_of}
 use Rattle.verifier.specs.declared.fault.VerifyFault.{VerifyFault}
 use Rattle.verifier.specs.declared.fault.VerifyFault.TheVariants as verify
@@ -16,6 +17,7 @@ use Rattle.verifier.specs.declared.search.Search.{Search}
 use Rattle.verifier.specs.declared.search.Stop.{Stop}
 use Rattle.verifier.specs.declared.search.Stop.TheVariants.{NoMemory, Wrong}
 use Rattle.verifier.specs.declared.body.Body.{Body}
+use Rattle.verifier.specs.declared.coverage.Coverage.{Coverage}
 
 -- ---- where instructions stand
 
@@ -122,6 +124,12 @@ pub record HasInstruction (p : ProcedureContents) (s : Search) (at : ℕ) : Type
   pub there : instruction_at p.code at ≡ Some instruction
   pub kinds : List Kind
   pub has : table s at ≡ Some kinds
+
+-- the handlers that wait are the procedure's, and control went to each other one that covers an offset
+pub record IsWaiting (p : ProcedureContents) (c : Coverage) (s : Search) : Type 0 where
+  pub coverage : IsCoverage c
+  pub real : (h : Handler) → Waits c h → Contains p.handlers h
+  pub gone : (h : Handler) (at : ℕ) → Contains p.handlers h → h.start ≤ at → at < h.end → Waits c h ⊎ (table s h.target ≡ Some [])
 
 -- why a search stopped
 abbrev pub IsStop : ModuleContents → ProcedureContents → Stop → Type 0

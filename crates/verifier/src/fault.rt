@@ -1,6 +1,8 @@
 ghost use Rattle.std.specs.Prelude.{◌≡◌};
+ghost use Rattle.verifier.specs.declared.fault.VerifyFault.TheVariants.{NoMemory};
 ghost use Rattle.verifier.specs.Words.{defect_number, defect_words};
 
+use std::alloc::{AllocError, AllocFailed};
 use thiserror::Error;
 
 /// What is wrong in a module's code.
@@ -63,4 +65,20 @@ pub enum VerifyFault {
     /// The module has this fault.
     #[error("a fault in the code")]
     Wrong(Fault),
+}
+
+impl From<AllocError> for VerifyFault {
+    ghost from_gives = { λ _ fault. fault ≡ NoMemory };
+
+    fn from(_error: AllocError) -> VerifyFault {
+        VerifyFault::NoMemory
+    }
+}
+
+impl<T: Drop> From<AllocFailed<T>> for VerifyFault {
+    ghost from_gives = { λ _ fault. fault ≡ NoMemory };
+
+    fn from(_error: AllocFailed<T>) -> VerifyFault {
+        VerifyFault::NoMemory
+    }
 }

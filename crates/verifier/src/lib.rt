@@ -2,7 +2,9 @@
 #![tactic(auto)]
 
 mod body;
+mod coverage;
 mod effects;
+mod ends;
 pub mod fault;
 mod fixed;
 mod operands;

@@ -10,14 +10,16 @@ ghost use Rattle.verifier.specs.Flow as flow;
 ghost use Rattle.verifier.specs.Flow.{FlowsWell};
 ghost use Rattle.verifier.specs.Operands.{list_of};
 ghost use Rattle.verifier.specs.Boundaries.{IsBoundary, KeepsBoundaries};
-ghost use Rattle.verifier.specs.Search.{Flowed, HasEffect, HasInstruction, IsApplied, IsAtEdge, IsBody, IsSearching, IsStop, Steps, left, table};
+ghost use Rattle.verifier.specs.declared.search.Stop.TheVariants.{NoMemory};
+ghost use Rattle.verifier.specs.Search.{Flowed, HasEffect, HasInstruction, IsApplied, IsAtEdge, IsBody, IsSearching, IsStop, IsWaiting, Steps, left, table};
 
 use crate::body::Body;
+use crate::coverage::Coverage;
 use crate::effects::{goes_on, is_own, pops, pushes, target_of};
 use crate::fault::Defect;
 use crate::operands::Operands;
 use bytecode::Instruction;
-use std::alloc::{AllocError, Global};
+use std::alloc::{AllocError, AllocFailed, Global};
 
 /// Why a search stopped: memory ran out, or there is a defect at an offset.
 #[derive(Clone, Copy, Debug, PartialEq, Eq)]
@@ -27,7 +29,17 @@ pub(crate) enum Stop {
 }
 
 impl From<AllocError> for Stop {
+    ghost from_gives = { λ _ stop. stop ≡ NoMemory };
+
     fn from(_error: AllocError) -> Stop {
+        Stop::NoMemory
+    }
+}
+
+impl<T: Drop> From<AllocFailed<T>> for Stop {
+    ghost from_gives = { λ _ stop. stop ≡ NoMemory };
+
+    fn from(_error: AllocFailed<T>) -> Stop {
         Stop::NoMemory
     }
 }
@@ -56,9 +68,7 @@ impl Search {
         }
         match self.shapes[to as usize] {
             None => {
-                if self.work.push(to).is_err() {
-                    return Err(Stop::NoMemory);
-                }
+                self.work.push(to)?;
                 self.shapes[to as usize] = Some(list);
                 Ok(())
             }
@@ -92,10 +102,7 @@ impl Search {
                 Err(defect) => Err(Stop::Wrong(at, defect)),
                 Ok(rest) => match pushes(body, instruction) {
                     None => Ok(rest),
-                    Some(kind) => match self.operands.push(rest, kind) {
-                        Ok(above) => Ok(above),
-                        Err(_) => Err(Stop::NoMemory),
-                    },
+                    Some(kind) => Ok(self.operands.push(rest, kind)?),
                 },
             }
         } else {
@@ -149,20 +156,19 @@ impl Search {
         }
     }
 
-    // Control goes to each handler whose range holds the offset.
-    fn raise(&mut self, body: &Body, at: u32) -> Result<(), Stop>
+    // Control goes to each handler whose range holds the offset. Where it went before, it need not go again.
+    fn raise(&mut self, body: &Body, coverage: &mut Coverage, at: u32) -> Result<(), Stop>
         requires searching { IsSearching body.now.program.now body.now.procedure.now self.old (at ∷ []) }
         requires there { HasInstruction body.now.procedure.now self.old at }
         requires boundaries { KeepsBoundaries body.now.procedure.now }
+        requires waiting { IsWaiting body.now.procedure.now coverage.old self.old }
         ensures ok { OnOk result (Steps body.now.program.now body.now.procedure.now self.old self.new at) }
+        ensures waiting { OnOk result (IsWaiting body.now.procedure.now coverage.new self.new) }
         ensures there { OnOk result ((h : Handler) → Contains body.now.procedure.now.handlers h → h.start ≤ at → at < h.end → table self.new h.target ≡ Some []) }
         ensures err { IfErr result (λ stop. IsStop body.now.program.now body.now.procedure.now stop) }
     {
-        let handlers = body.procedure.handlers();
-        for handler in handlers {
-            if handler.start <= at && at < handler.end {
-                self.reach(body, at, handler.target, 0)?;
-            }
+        while let Some(handler) = coverage.take(at) {
+            self.reach(body, at, handler.target, 0)?;
         }
         Ok(())
     }
@@ -171,6 +177,7 @@ impl Search {
     fn visit(
         &mut self,
         body: &Body,
+        coverage: &mut Coverage,
         at: u32,
         instruction: Instruction,
         list: u32,
@@ -180,9 +187,11 @@ impl Search {
         requires list { list < length self.old.operands }
         requires instruction { instruction_at body.now.procedure.now.code at ≡ Some instruction }
         requires boundaries { KeepsBoundaries body.now.procedure.now }
+        requires waiting { IsWaiting body.now.procedure.now coverage.old self.old }
         requires room { length self.old.operands < 2 ^ 32 }
         requires short { code_length body.now.procedure.now.code < 2 ^ 32 }
         ensures ok { OnOk result (IsSearching body.now.program.now body.now.procedure.now self.new []) }
+        ensures waiting { OnOk result (IsWaiting body.now.procedure.now coverage.new self.new) }
         ensures left { OnOk result (left self.new ≤ left self.old) }
         ensures few { OnOk result (length self.new.operands ≤ length self.old.operands + 1) }
         ensures err { IfErr result (λ stop. IsStop body.now.program.now body.now.procedure.now stop) }
@@ -190,18 +199,20 @@ impl Search {
         let after = self.apply(body, at, instruction, list)?;
         self.go_on(body, at, instruction, after)?;
         self.jump(body, at, instruction, after)?;
-        self.raise(body, at)?;
+        self.raise(body, coverage, at)?;
         Ok(())
     }
 
     // Looks at an offset that has a list.
-    fn look(&mut self, body: &Body, at: u32) -> Result<(), Stop>
+    fn look(&mut self, body: &Body, coverage: &mut Coverage, at: u32) -> Result<(), Stop>
         requires searching { IsSearching body.now.program.now body.now.procedure.now self.old (at ∷ []) }
         requires there { HasInstruction body.now.procedure.now self.old at }
         requires boundaries { KeepsBoundaries body.now.procedure.now }
+        requires waiting { IsWaiting body.now.procedure.now coverage.old self.old }
         requires body { IsBody body.now }
         requires room { length self.old.operands < 2 ^ 32 }
         ensures ok { OnOk result (IsSearching body.now.program.now body.now.procedure.now self.new []) }
+        ensures waiting { OnOk result (IsWaiting body.now.procedure.now coverage.new self.new) }
         ensures left { OnOk result (left self.new ≤ left self.old) }
         ensures few { OnOk result (length self.new.operands ≤ length self.old.operands + 1) }
         ensures err { IfErr result (λ stop. IsStop body.now.program.now body.now.procedure.now stop) }
@@ -212,20 +223,21 @@ impl Search {
         let Some(instruction) = body.at(at) else {
             unreachable!()
         };
-        self.visit(body, at, instruction, list)
+        self.visit(body, coverage, at, instruction, list)
     }
 
     // Looks at each offset that waits, until none does.
-    fn run(&mut self, body: &Body) -> Result<(), Stop>
+    fn run(&mut self, body: &Body, coverage: &mut Coverage) -> Result<(), Stop>
         requires searching { IsSearching body.now.program.now body.now.procedure.now self.old [] }
         requires boundaries { KeepsBoundaries body.now.procedure.now }
+        requires waiting { IsWaiting body.now.procedure.now coverage.old self.old }
         requires body { IsBody body.now }
         requires room { length self.old.operands + left self.old ≤ 2 ^ 32 }
         ensures ok { OnOk result (FlowsWell body.now.program.now body.now.procedure.now) }
         ensures err { IfErr result (λ stop. IsStop body.now.program.now body.now.procedure.now stop) }
     {
         while let Some(at) = self.work.pop() {
-            self.look(body, at)?;
+            self.look(body, coverage, at)?;
         }
         Ok(())
     }
@@ -235,6 +247,7 @@ impl Search {
 pub(crate) fn find_defect(alloc: Global, body: &Body) -> Result<(), Stop>
     requires boundaries { KeepsBoundaries body.now.procedure.now }
     requires body { IsBody body.now }
+    requires few { length body.now.procedure.now.handlers < 2 ^ 32 }
     ensures ok { OnOk result (FlowsWell body.now.program.now body.now.procedure.now) }
     ensures err { IfErr result (λ stop. IsStop body.now.program.now body.now.procedure.now stop) }
 {
@@ -242,21 +255,15 @@ pub(crate) fn find_defect(alloc: Global, body: &Body) -> Result<(), Stop>
     if size == 0 {
         return Err(Stop::Wrong(0, Defect::FallsOffEnd));
     }
-    let Ok(operands) = Operands::new(alloc) else {
-        return Err(Stop::NoMemory);
-    };
-    let Ok(mut shapes) = vec![in alloc; None; size] else {
-        return Err(Stop::NoMemory);
-    };
+    let mut coverage = Coverage::new(alloc, body.procedure.handlers())?;
+    let operands = Operands::new(alloc)?;
+    let mut shapes = vec![in alloc; None; size]?;
     shapes[0] = Some(0);
-    let mut work = Vec::new(alloc);
-    let Ok(()) = work.push(0) else {
-        return Err(Stop::NoMemory);
-    };
+    let work = vec![in alloc; 0]?;
     let mut search = Search {
         operands,
         shapes,
         work,
     };
-    search.run(body)
+    search.run(body, &mut coverage)
 }

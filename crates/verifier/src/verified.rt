@@ -80,10 +80,9 @@ fn look_for_faults(alloc: Global, program: &Module) -> Result<Vec<Code>, VerifyF
     ensures ok { IfOk result (λ codes. HasCodes program.now codes.items) }
     ensures err { IfErr result (λ fault. IsRefusal program.now fault) }
 {
-    match fixed_fault(alloc, program) {
-        Ok(None) => look_for_flow_faults(alloc, program),
-        Ok(Some(fault)) => Err(VerifyFault::Wrong(fault)),
-        Err(_) => Err(VerifyFault::NoMemory),
+    match fixed_fault(alloc, program)? {
+        None => look_for_flow_faults(alloc, program),
+        Some(fault) => Err(VerifyFault::Wrong(fault)),
     }
 }
 
@@ -97,9 +96,7 @@ fn look_for_flow_faults(alloc: Global, program: &Module) -> Result<Vec<Code>, Ve
     let mut codes = Vec::new(alloc);
     let mut number = 0;
     for procedure in procedures {
-        let Ok(body) = Body::new(alloc, program, procedure) else {
-            return Err(VerifyFault::NoMemory);
-        };
+        let body = Body::new(alloc, program, procedure)?;
         if let Err(stop) = find_defect(alloc, &body) {
             return Err(fault_at(number, stop));
         }
@@ -116,12 +113,7 @@ fn add_code(alloc: Global, codes: &mut Vec<Code>, body: &Body) -> Result<(), Ver
         ≡ codes.old.items ++ positioned body.now.procedure.now.code ∷ []) }
     ensures no_memory { IfErr result (λ fault. fault ≡ VerifyFault.NoMemory) }
 {
-    let Ok(code) = Code::of(alloc, body) else {
-        return Err(VerifyFault::NoMemory);
-    };
-    if codes.push(code).is_err() {
-        return Err(VerifyFault::NoMemory);
-    }
+    codes.push(Code::of(alloc, body)?)?;
     Ok(())
 }
 

@@ -12,13 +12,13 @@ pub returns-else-is_own-clause-err : goal.returns-else-is_own-clause-err
 returns-else-is_own-clause-err c =
     misses_own c.args.body.now.program.now c.args.body.now.procedure.now c.args.self.now (c.args.at ∷ []) c.args.at (list_of c.args.self.now.operands c.args.list) c.args.instruction c.requires.searching c.requires.shape c.requires.instruction (sym c.is_own.ensures ∙ c.if-is_own.false)
 
-pub returns-in-Ok-push-clause-ok : goal.returns-in-Ok-push-clause-ok
-returns-in-Ok-push-clause-ok c =
-    applied c.args.body.now.program.now c.args.body.now.procedure.now c.args.self.now _ c.args.at c.requires.searching c.in-Ok-push.ensures.longer c.in-Ok-push.ensures.few refl refl
+pub returns-in_ok-push-in-Some-clause-ok : goal.returns-in_ok-push-in-Some-clause-ok
+returns-in_ok-push-in-Some-clause-ok c =
+    applied c.args.body.now.program.now c.args.body.now.procedure.now c.args.self.now _ c.args.at c.requires.searching c.in_ok-push-in-Some.ensures.longer c.in_ok-push-in-Some.ensures.few refl refl
 
-pub returns-in-Ok-push-clause-effect : goal.returns-in-Ok-push-clause-effect
-returns-in-Ok-push-clause-effect c =
+pub returns-in_ok-push-in-Some-clause-effect : goal.returns-in_ok-push-in-Some-clause-effect
+returns-in_ok-push-in-Some-clause-effect c =
     has_effect c.args.body.now.program.now c.args.body.now.procedure.now c.args.self.now _ c.args.at (list_of c.args.self.now.operands c.args.list) (list_of c.args.self.now.operands c.in-Ok.rest) _ c.args.instruction
-    (applied c.args.body.now.program.now c.args.body.now.procedure.now c.args.self.now _ c.args.at c.requires.searching c.in-Ok-push.ensures.longer c.in-Ok-push.ensures.few refl refl)
+    (applied c.args.body.now.program.now c.args.body.now.procedure.now c.args.self.now _ c.args.at c.requires.searching c.in_ok-push-in-Some.ensures.longer c.in_ok-push-in-Some.ensures.few refl refl)
     c.requires.shape c.requires.instruction (sym c.is_own.ensures ∙ c.if-is_own.true) c.in-Ok.ensures.ok
-    (ap (λ o. pushed o (list_of c.args.self.now.operands c.in-Ok.rest)) (sym c.pushes.ensures ∙ c.in-Some.is) ∙ sym c.in-Ok-push.ensures.made)
+    (ap (λ o. pushed o (list_of c.args.self.now.operands c.in-Ok.rest)) (sym c.pushes.ensures ∙ c.in-Some.is) ∙ sym c.in_ok-push-in-Some.ensures.made)

@@ -22,8 +22,8 @@ meet-requires-clause-other c =
     let l = boundary_inside c.args.body.now.program.now c.args.body.now.procedure.now c.args.self.now (c.args.at ∷ []) c.args.to c.requires.searching c.requires.boundary (λ e. c.if-to-len.false (omega (arith, e, c.len.ensures, c.args.self.now.shapes.ok.0))) in
     c.requires.searching.numbers c.args.to c.in-Some.other (any_default c.args.self.now.shapes.items c.args.to None c.index.result.now l ∙ sym c.index.ensures ∙ c.in-Some.is)
 
-pub returns-else-is_err-clause-ok : goal.returns-else-is_err-clause-ok
-returns-else-is_err-clause-ok c =
+pub returns-in_ok-push-in-None-clause-ok : goal.returns-in_ok-push-in-None-clause-ok
+returns-in_ok-push-in-None-clause-ok c =
     let l = boundary_inside c.args.body.now.program.now c.args.body.now.procedure.now c.args.self.now (c.args.at ∷ []) c.args.to c.requires.searching c.requires.boundary (λ e. c.if-to-len.false (omega (arith, e, c.len.ensures, c.args.self.now.shapes.ok.0))) in
     let none : get_or c.args.self.now.shapes.items c.args.to None ≡ None = any_default c.args.self.now.shapes.items c.args.to None c.index.result.now l ∙ sym c.index.ensures ∙ c.in-None.is in
     flowed c.args.body.now.program.now c.args.body.now.procedure.now c.args.self.now _ c.args.at c.args.to c.args.list c.requires.searching c.requires.edge c.requires.list c.requires.boundary l none refl refl (search rules)

@@ -1,6 +1,6 @@
 use Rattle.std.proofs.Common.{rules, ◌≡◌, arith, refl}
 use Rattle.std.specs.Vec.{vec_len}
-use Rattle.verifier.proofs.Reaching.{taken, taken_instruction, run_done}
+use Rattle.verifier.proofs.Reaching.{taken, taken_instruction, run_done, waiting_kept}
 use Rattle.verifier.proofs.search.Search.run.Goals as goal
 
 pub look-requires-clause-searching : goal.look-requires-clause-searching
@@ -13,3 +13,6 @@ pub returns-clause-ok : goal.returns-clause-ok
 returns-clause-ok c =
     let none : vec_len c.loop-at.self.work ≡ 0 = search rules in
     run_done c.args.body.now.program.now c.args.body.now.procedure.now c.loop-at.self c.loop-at.invariant.searching (omega (arith, none, c.loop-at.self.work.ok.0))
+
+pub look-requires-clause-waiting : goal.look-requires-clause-waiting
+look-requires-clause-waiting c = waiting_kept c.args.body.now.procedure.now c.loop-at.coverage c.loop-at.self _ (λ offset kinds has. has) c.loop-at.invariant.waiting

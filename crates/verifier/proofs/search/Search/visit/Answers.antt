@@ -1,7 +1,7 @@
 use Rattle.std.proofs.Common.{Some, sym, ap, ◌∙◌}
 use Rattle.verifier.specs.Flow.{Leaves}
 use Rattle.verifier.specs.Operands.{list_of}
-use Rattle.verifier.proofs.Reaching.{all_followed}
+use Rattle.verifier.proofs.Reaching.{all_followed, waiting_kept}
 use Rattle.verifier.proofs.search.Search.visit.Goals as goal
 
 pub jump-requires-clause-effect : goal.jump-requires-clause-effect
@@ -30,3 +30,9 @@ returns-clause-ok c =
     c.in_ok-after.ensures.effect c.in_ok-go_on.ensures.there
     (λ to e. c.in_ok-jump.ensures.there to e ∙ ap Some (ap (λ ls. list_of ls c.in_ok-after.after) c.in_ok-go_on.ensures.ok.same))
     c.in_ok-raise.ensures.there c.in_ok-go_on.ensures.ok c.in_ok-jump.ensures.ok c.in_ok-raise.ensures.ok
+
+pub raise-requires-clause-waiting : goal.raise-requires-clause-waiting
+raise-requires-clause-waiting c =
+    waiting_kept c.args.body.now.procedure.now c.args.coverage.now c.args.self.now c.jump.new.self
+    (λ offset kinds has. c.in_ok-jump.ensures.ok.keeps offset kinds (c.in_ok-go_on.ensures.ok.keeps offset kinds (c.in_ok-after.ensures.ok.keeps offset kinds has)))
+    c.requires.waiting

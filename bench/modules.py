@@ -1,0 +1,123 @@
+#!/usr/bin/env python3
+"""How long a module takes to be read and verified, and how that grows with its size.
+
+    bench/modules.py PROGRAM
+
+PROGRAM is the built program (crates/flowc_main/out/flowc_main). Each module is built at 256 KiB, 512 KiB and 1 MiB and run for no
+step, so that its bytes are decoded and its code is verified. The least time of ROUNDS counts, and that of a module of one
+instruction is taken off. Growth is the time at 1 MiB by that at 512 KiB: 2 where the work is in proportion to the size.
+"""
+
+import struct
+import subprocess
+import sys
+import tempfile
+import time
+from pathlib import Path
+
+ROUNDS = 3
+SIZES = [256 << 10, 512 << 10, 1 << 20]
+PUSH_TRUE, POP, NOT, RETURN = b"\x02\x01", b"\x03", b"\x16", b"\x23"
+
+
+def jump_if_false(target):
+    return b"\x21" + struct.pack(">I", target)
+
+
+def call(procedure):
+    return b"\x22" + struct.pack(">I", procedure)
+
+
+def procedure(code, parameters=0, slots=0, handlers=()):
+    """A procedure that gives no value, whose slots are ints."""
+    out = struct.pack(">BII", 0, parameters, slots) + struct.pack(">BI", 0, 0) * slots
+    out += struct.pack(">I", len(code)) + code + struct.pack(">I", len(handlers))
+    return out + b"".join(struct.pack(">IIII", *handler) for handler in handlers)
+
+
+def module(*procedures):
+    """A module without channels that starts at its first procedure."""
+    return b"FLOB" + struct.pack(">IIIIII", 1, 0, 0, 0, 0, 0) + struct.pack(">I", len(procedures)) + b"".join(procedures) + bytes(4)
+
+
+def handler_for_each_instruction(size):
+    count = size // 17
+    code = PUSH_TRUE + NOT * count + POP + RETURN
+    return module(procedure(code, handlers=[(2 + i, 3 + i, 0, len(code) - 1) for i in range(count)]))
+
+
+def handlers_over_all_code(size):
+    count = size // 32
+    code = PUSH_TRUE + NOT * (size // 2) + POP + RETURN
+    return module(procedure(code, handlers=[(0, len(code) - 1, 0, len(code) - 1)] * count))
+
+
+def pushes_then_branches(size):
+    count = size // 7
+    pushes = PUSH_TRUE * count
+    return module(procedure(pushes + b"".join(jump_if_false(len(pushes) + 5 * (i + 1)) for i in range(count)) + RETURN))
+
+
+def jumps_to_one_place(size):
+    count = size // 7
+    return module(procedure((PUSH_TRUE + jump_if_false(7 * count)) * count + RETURN))
+
+
+def forks_to_calls(size):
+    """Forks that each go to a call of a procedure with very many parameters."""
+    parameters, forks = size * 50 // 1049, size * 40 // 1049
+    first = 5 * parameters
+    calls = first + 7 * forks
+    code = b"\x01\x00\x00\x00\x00" * parameters
+    code += b"".join(PUSH_TRUE + jump_if_false(calls + 6 * (i + 1)) for i in range(forks))
+    code += (call(1) + RETURN) * (forks + 1)
+    return module(procedure(code), procedure(RETURN, parameters=parameters, slots=parameters))
+
+
+def many_procedures(size):
+    """What a compiler writes: many short procedures."""
+    code = PUSH_TRUE + jump_if_false(10) + PUSH_TRUE + POP + RETURN
+    each = procedure(code)
+    return module(*[each] * (size // len(each)))
+
+
+MODULES = {
+    "a handler for each instruction": handler_for_each_instruction,
+    "handlers over all code": handlers_over_all_code,
+    "pushes, then branches": pushes_then_branches,
+    "jumps to one place": jumps_to_one_place,
+    "forks to calls with many parameters": forks_to_calls,
+    "many short procedures": many_procedures,
+}
+
+
+def seconds(program, path, world):
+    best = float("inf")
+    for _ in range(ROUNDS):
+        begun = time.perf_counter()
+        ended = subprocess.run([program, "run", path, world, "--steps", "0"], capture_output=True)
+        best = min(best, time.perf_counter() - begun)
+        if ended.returncode not in (0, 6):
+            sys.exit(f"{path}: status {ended.returncode}: {ended.stderr.decode()[:200]}")
+    return best
+
+
+def main():
+    program = sys.argv[1]
+    folder = Path(tempfile.mkdtemp())
+    world, path = folder / "world", folder / "module"
+    world.write_text("")
+    path.write_bytes(module(procedure(RETURN)))
+    nothing = seconds(program, path, world)
+    print("| Module | 256 KiB | 512 KiB | 1 MiB | growth |")
+    print("|---|---|---|---|---|")
+    for name, build in MODULES.items():
+        took = []
+        for size in SIZES:
+            path.write_bytes(build(size))
+            took.append(max(seconds(program, path, world) - nothing, 1e-6))
+        print(f"| {name} | " + " | ".join(f"{t:.3f} s" for t in took) + f" | {took[2] / took[1]:.2f} |", flush=True)
+
+
+if __name__ == "__main__":
+    main()
