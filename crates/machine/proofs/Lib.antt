@@ -19,5 +19,6 @@ pub mod Places
 pub mod Fusing
 pub mod Each
 pub mod OnOperations
+pub mod Turning
 pub mod OnWindow
 pub mod OpenCells
