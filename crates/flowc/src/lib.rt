@@ -22,4 +22,4 @@ pub use host::{Answer, Event, Host, HostFault, Id, MAX_SESSIONS};
 pub use machine::Status;
 pub use module_file::{FormatFault, decode};
 pub use tasks::{Outcome, perform};
-pub use verifier::{Defect, Fault as CodeFault, Verified, VerifyFault, verify};
+pub use verifier::{Defect, Fault as CodeFault, LoadFault, Verified, VerifyFault, load, verify};

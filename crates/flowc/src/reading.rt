@@ -15,9 +15,8 @@ use crate::fault::PerformFault;
 use crate::messages::{encoding_line, fault_line, refusal_line, world_line};
 use bytecode::Module;
 use channels::{World, WorldFault};
-use module_file::{FormatFault, decode};
 use std::alloc::Global;
-use verifier::{Verified, VerifyFault, verify};
+use verifier::{LoadFault, Verified, load};
 
 /// A file that was read: its path and its bytes.
 #[derive(Clone, Copy)]
@@ -38,18 +37,14 @@ pub fn read_module(alloc: Global, file: File<'_>) -> Result<Verified, PerformFau
     ensures message { IfErr result (IsPerformFault
         (IsModuleLine file.entry.path.now file.entry.bytes.now) false) }
 {
-    let program = match decode(alloc, file.bytes) {
-        Ok(program) => program,
-        Err(FormatFault::NoMemory) => return Err(PerformFault::NoMemory),
-        Err(FormatFault::Refused(refusal, offset)) => {
-            let line = refusal_line(alloc, file.path, refusal, offset)?;
-            return Err(PerformFault::Refused(line));
-        }
-    };
-    match verify(alloc, program) {
+    match load(alloc, file.bytes) {
         Ok(verified) => Ok(verified),
-        Err(VerifyFault::NoMemory) => Err(PerformFault::NoMemory),
-        Err(VerifyFault::Wrong(fault)) => {
+        Err(LoadFault::NoMemory) => Err(PerformFault::NoMemory),
+        Err(LoadFault::Bytes(refusal, offset)) => {
+            let line = refusal_line(alloc, file.path, refusal, offset)?;
+            Err(PerformFault::Refused(line))
+        }
+        Err(LoadFault::Code(fault)) => {
             Err(PerformFault::Refused(fault_line(alloc, file.path, fault)?))
         }
     }

@@ -11,8 +11,12 @@ use Rattle.bytecode.specs.Machine.{Machine, after_steps, exec, program_of, sent_
 use Rattle.channels.specs.World.{InputNumbers, input_names, numbers_of_channel}
 use Rattle.machine.specs.Run.{ReportsStatus, WasRunning, names_of}
 use Rattle.machine.specs.declared.status.Status.{Status}
+use Rattle.machine.specs.declared.fault.NewFault.{NewFault}
+use Rattle.machine.specs.declared.fault.NewFault.TheVariants as new
 use Rattle.verifier.specs.Faults as faults
 use Rattle.verifier.specs.Faults.{HasNoFault}
+use Rattle.verifier.specs.declared.loading.LoadFault.{LoadFault}
+use Rattle.verifier.specs.declared.loading.LoadFault.TheVariants as load
 use Rattle.bytecode.specs.Isolated.{seen_of}
 use Rattle.host.specs.declared.fault.HostFault.{HostFault}
 use Rattle.host.specs.declared.fault.HostFault.TheVariants.{NoMemory, Full, UnknownId, UnknownPrincipal, UnknownChannel, Bytes, Code}
@@ -105,6 +109,16 @@ CannotOpen bytes world NoMemory = Unit {0}
 CannotOpen bytes world Full = ⊥
 CannotOpen bytes world UnknownId = ⊥
 CannotOpen bytes world UnknownPrincipal = ⊥
+
+-- what loading bytes reports, and what a machine reports that is not made, as faults of a host
+abbrev pub fault_of_load : LoadFault → HostFault
+fault_of_load load.NoMemory = NoMemory
+fault_of_load (load.Bytes refusal offset) = Bytes refusal offset
+fault_of_load (load.Code fault) = Code fault
+
+abbrev pub fault_of_new : NewFault → HostFault
+fault_of_new new.NoMemory = NoMemory
+fault_of_new new.UnknownChannel = UnknownChannel
 
 -- a full host is reported before all else
 abbrev pub OpenRefused : ℕ → HostContents → List ℕ → List InputNumbers → HostFault → Type 0

@@ -1,10 +1,12 @@
+ghost use Rattle.host.specs.Meaning.{fault_of_load, fault_of_new};
 ghost use Rattle.host.specs.Words.{fault_number, fault_words};
 ghost use Rattle.std.specs.Prelude.{◌≡◌, Some};
 
 use bytecode::Refusal;
+use machine::NewFault;
 use std::error::Error;
 use std::fmt;
-use verifier::Fault;
+use verifier::{Fault, LoadFault};
 
 /// An event was refused, and no session has changed.
 #[derive(Clone, Copy, Debug, PartialEq, Eq)]
@@ -23,6 +25,29 @@ pub enum HostFault {
     Bytes(Refusal, usize),
     /// 811 to 815: the module has this fault in its code.
     Code(Fault),
+}
+
+impl From<LoadFault> for HostFault {
+    ghost from_gives = { λ fault given. given ≡ fault_of_load fault };
+
+    fn from(fault: LoadFault) -> HostFault {
+        match fault {
+            LoadFault::NoMemory => HostFault::NoMemory,
+            LoadFault::Bytes(refusal, offset) => HostFault::Bytes(refusal, offset),
+            LoadFault::Code(fault) => HostFault::Code(fault),
+        }
+    }
+}
+
+impl From<NewFault> for HostFault {
+    ghost from_gives = { λ fault given. given ≡ fault_of_new fault };
+
+    fn from(fault: NewFault) -> HostFault {
+        match fault {
+            NewFault::NoMemory => HostFault::NoMemory,
+            NewFault::UnknownChannel => HostFault::UnknownChannel,
+        }
+    }
 }
 
 impl HostFault {

@@ -8,11 +8,10 @@ use crate::event::Id;
 use crate::fault::HostFault;
 use bytecode::Module;
 use channels::{Sent, World};
-use machine::{Machine, NewFault, Status};
-use module_file::{FormatFault, decode};
+use machine::{Machine, Status};
 use std::alloc::Global;
 use std::marker::Model;
-use verifier::{VerifyFault, verify};
+use verifier::load;
 
 /// An open session.
 #[derive(Debug, Drop)]
@@ -72,23 +71,8 @@ pub fn first_run(alloc: Global, bytes: &[u8], world: World) -> Result<Machine, H
     ensures first { IfOk result (λ run. machine_of run ≡ first_machine run.program world) }
     ensures cannot { IfErr result (λ fault. CannotOpen bytes.now world fault) }
 {
-    let module = match decode(alloc, bytes) {
-        Ok(module) => module,
-        Err(FormatFault::NoMemory) => return Err(HostFault::NoMemory),
-        Err(FormatFault::Refused(refusal, offset)) => {
-            return Err(HostFault::Bytes(refusal, offset));
-        }
-    };
-    let verified = match verify(alloc, module) {
-        Ok(verified) => verified,
-        Err(VerifyFault::NoMemory) => return Err(HostFault::NoMemory),
-        Err(VerifyFault::Wrong(fault)) => return Err(HostFault::Code(fault)),
-    };
-    match Machine::new(alloc, verified, world) {
-        Ok(run) => Ok(run),
-        Err(NewFault::NoMemory) => Err(HostFault::NoMemory),
-        Err(NewFault::UnknownChannel) => Err(HostFault::UnknownChannel),
-    }
+    let verified = load(alloc, bytes)?;
+    Ok(Machine::new(alloc, verified, world)?)
 }
 
 /// The place of the first session with an id.

@@ -3,6 +3,7 @@ pub mod Coverage
 pub mod Faults
 pub mod Fixed
 pub mod Flow
+pub mod Loaded
 pub mod Operands
 pub mod Safety
 pub mod Search

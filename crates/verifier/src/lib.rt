@@ -7,6 +7,7 @@ mod effects;
 mod ends;
 pub mod fault;
 mod fixed;
+pub mod loading;
 mod operands;
 mod positions;
 pub mod safety;
@@ -14,4 +15,5 @@ mod search;
 pub mod verified;
 
 pub use fault::{Defect, Fault, VerifyFault};
+pub use loading::{LoadFault, load};
 pub use verified::{Verified, verify};
