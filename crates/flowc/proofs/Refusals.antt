@@ -1,16 +1,14 @@
 -- What is refused is wrong.
-use Rattle.std.proofs.Common.{◌≡◌, ap, subst, sym, ◌∙◌, ℕ, List, [], ◌∷◌, refl, inl, inr, ◌⊎◌, Option, Result, Ok, Err, IfOk, IfErr, OnErr, MatchResult}
+use Rattle.std.proofs.Common.{◌≡◌, ap, sym, ◌∙◌, ℕ, List, [], ◌∷◌, refl, inl, inr, ◌⊎◌, Option, Result, Ok, Err, IfOk, IfErr, OnErr, MatchResult}
 use Rattle.bytecode.specs.Contents.{ModuleContents}
 use Rattle.channels.specs.World.{InputNumbers, input_names}
 use Rattle.channels.specs.WorldText.{IsTextFault, IsWorldText, world_of}
 use Rattle.channels.specs.declared.defect.WorldDefect.{WorldDefect}
 use Rattle.channels.specs.declared.defect.WorldFault.TheVariants.{Line}
 use Rattle.machine.specs.Run.{names_of}
-use Rattle.verifier.specs.Faults.{HasNoFault, IsReported, IsReportedAfter, IsRefusal}
+use Rattle.verifier.specs.Faults.{HasNoFault, IsReported, IsReportedAfter}
 use Rattle.verifier.specs.Fixed.{fixed_faults}
 use Rattle.verifier.specs.declared.fault.Fault.{Fault}
-use Rattle.verifier.specs.declared.fault.VerifyFault.{VerifyFault}
-use Rattle.verifier.specs.declared.fault.VerifyFault.TheVariants.{Wrong}
 use Rattle.flowc.specs.Stdout.{CannotRun, ShowsRun, ShowsSome}
 use Rattle.flowc.specs.Task.{status_of_fault}
 use Rattle.flowc.specs.declared.ended.Ended.{Ended}
@@ -24,10 +22,6 @@ reported_after m (first ∷ more) fault reported fixed flow = cc
 -- a module with a fault that may be reported is not without one
 pub reported_is_fault : (m : ModuleContents) (fault : Fault) → IsReported m fault → HasNoFault m → ⊥
 reported_is_fault m fault reported none = reported_after m (fixed_faults m) fault reported none.fixed none.flow
-
-pub reported_of_is_fault : (m : ModuleContents) (answer : VerifyFault) (fault : Fault) → answer ≡ Wrong fault → IsRefusal m answer → HasNoFault m → ⊥
-reported_of_is_fault m answer fault is reported none =
-    reported_is_fault m fault (subst (λ (v : VerifyFault). IsRefusal m v) is reported) none
 
 -- a text with a wrong line is no world
 pub wrong_is_no_world : (inputs : List (List ℕ)) (lines : List (List (List ℕ))) (line : ℕ) (defect : WorldDefect)

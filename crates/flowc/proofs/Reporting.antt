@@ -6,21 +6,19 @@ use Rattle.std.proofs.lemmas.Result.{err_from_is_err_and}
 use Rattle.principals.specs.ActsFor.{PrincipalHierarchy}
 use Rattle.std.specs.Result.{IsErrAnd}
 use Rattle.bytecode.specs.Contents.{ModuleContents}
-use Rattle.module_file.specs.Decoded.{Reports, first_refusal}
 use Rattle.bytecode.specs.Form.{Spells}
 use Rattle.bytecode.specs.Format.{module_file}
-use Rattle.module_file.specs.declared.fault.FormatFault.{FormatFault}
-use Rattle.module_file.specs.declared.fault.FormatFault.TheVariants as format
 use Rattle.bytecode.specs.declared.fault.Refusal.{Refusal}
 use Rattle.channels.specs.World.{input_names}
 use Rattle.channels.specs.WorldText.{IsFirstDefect, IsTextFault, IsWorldText, lines_of}
 use Rattle.channels.specs.declared.defect.WorldDefect.{WorldDefect}
 use Rattle.channels.specs.declared.defect.WorldFault.{WorldFault}
 use Rattle.channels.specs.declared.defect.WorldFault.TheVariants.{Line}
-use Rattle.verifier.specs.Faults.{HasNoFault, IsRefusal}
+use Rattle.verifier.specs.Faults.{HasNoFault}
+use Rattle.verifier.specs.Loaded.{CannotLoad}
+use Rattle.verifier.specs.declared.loading.LoadFault.{LoadFault}
+use Rattle.verifier.specs.declared.loading.LoadFault.TheVariants as load
 use Rattle.verifier.specs.declared.fault.Fault.{Fault}
-use Rattle.verifier.specs.declared.fault.VerifyFault.{VerifyFault}
-use Rattle.verifier.specs.declared.fault.VerifyFault.TheVariants.{Wrong}
 use Rattle.flowc.specs.Lines.{IsPerformFault, cannot_write, fault_line, line_of_fault, no_memory, refusal_line, world_line}
 use Rattle.flowc.specs.Task.{status_of_fault}
 use Rattle.flowc.specs.Messages.{IsEndLine, IsFaultLine, IsModuleLine, IsObserverLine, IsRefusedLine, IsRunLine, IsTextsLine, IsWorldLine, WroteLine}
@@ -78,16 +76,17 @@ observer_message outcome m h code_path text_path code text observer failed fault
 -- ---- refusals
 
 -- the first refusal of bytes
-pub first_refused : (path code line : List ℕ) (fault : FormatFault) (refusal : Refusal) (offset : ℕ) → fault ≡ format.Refused refusal offset
-    → Reports fault (first_refusal code) → line ≡ refusal_line path refusal offset → IsModuleLine path code line
+pub first_refused : (path code line : List ℕ) (fault : LoadFault) (refusal : Refusal) (offset : ℕ) → fault ≡ load.Bytes refusal offset
+    → CannotLoad code fault → line ≡ refusal_line path refusal offset → IsModuleLine path code line
 first_refused path code line fault refusal offset is message says =
-    refused refusal offset (subst (λ (f : FormatFault). Reports f (first_refusal code)) is message) says
+    refused refusal offset (subst (λ (f : LoadFault). CannotLoad code f) is message) says
 
 -- a fault of the code of the module that bytes spell
-pub faulty_code : (path code line : List ℕ) (m : ModuleContents) (answer : VerifyFault) (fault : Fault) → answer ≡ Wrong fault
-    → Spells module_file m code → IsRefusal m answer → line ≡ fault_line path fault → IsModuleLine path code line
-faulty_code path code line m answer fault is spelled message says =
-    faulty m fault spelled (subst (λ (v : VerifyFault). IsRefusal m v) is message) says
+pub faulty_code : (path code line : List ℕ) (answer : LoadFault) (fault : Fault) → answer ≡ load.Code fault
+    → CannotLoad code answer → line ≡ fault_line path fault → IsModuleLine path code line
+faulty_code path code line answer fault is message says =
+    let of_code = subst (λ (f : LoadFault). CannotLoad code f) is message in
+    faulty of_code.0 fault of_code.1 of_code.2 says
 
 -- the first wrong line of a text, which is those bytes
 pub wrong_line : (m : ModuleContents) (path text bytes line : List ℕ) (fault : WorldFault) (number : ℕ) (defect : WorldDefect) → fault ≡ Line number defect
