@@ -5,6 +5,7 @@ use crate::line::{bytes_of, cut_word, place_of};
 use crate::texts::Texts;
 use std::alloc::Global;
 use std::fs;
+use std::io::ErrorKind;
 
 /// Makes a text, or changes the newest one, as a line asks.
 pub fn change(
@@ -52,6 +53,7 @@ fn put_file(rt: &HostRuntime, texts: &mut Texts, rest: &str) -> Result<(), LineF
     let (name, path) = cut_word(rest);
     match fs::read(rt, path) {
         Ok(bytes) => texts.put(name, bytes),
+        Err(error) if error.kind() == ErrorKind::OutOfMemory => Err(LineFault::NoMemory),
         Err(_) => Err(LineFault::NoFile),
     }
 }
