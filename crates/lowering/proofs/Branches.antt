@@ -107,9 +107,9 @@ module _ (g : Setting) (h : ℕ → Option ℕ) (s : source.State) (fit : StateF
   after-test : (target mid : ℕ) (from : Machine) (more : List Instruction) (o : Evaluated Value) → GivesBase base.Boolean o
       → ValueRuns g h [] from mid s o → Stands g.code (JumpIfFalse target ∷ more) mid → BranchRuns g h false target from (mid + 1) s o
   after-test target mid from more (Gives (Truth true)) typed run stands =
-      strides-through g.p from _ _ run (does_stride g more (JumpIfFalse target) mid (cell.Bool true ∷ []) s _ stands (onward g mid (cell.Bool true ∷ []) [] s))
+      strides-through g.p from _ _ run (does_stride g more (JumpIfFalse target) mid (cell.Bool true ∷ []) s _ stands refl (onward g mid (cell.Bool true ∷ []) [] s))
   after-test target mid from more (Gives (Truth false)) typed run stands =
-      strides-through g.p from _ _ run (does_stride g more (JumpIfFalse target) mid (cell.Bool false ∷ []) s _ stands refl)
+      strides-through g.p from _ _ run (does_stride g more (JumpIfFalse target) mid (cell.Bool false ∷ []) s _ stands refl refl)
   after-test target mid from more (Gives (Number z)) typed run stands = absurd (let no : base.Int ≡ base.Boolean = typed in cc)
   after-test target mid from more (Raises exception) typed run stands = run
 

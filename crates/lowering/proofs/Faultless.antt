@@ -28,8 +28,11 @@ use Rattle.lowering.specs.Code.{block_falls, block_size, block_code, block_table
 use Rattle.lowering.specs.Graphs.{end_code, no_loop, body_code, procedure_contents, graph_of}
 use Rattle.lowering.specs.Verified.{ModulesHaveNoFault, ModulesAreNeverStuck}
 use Rattle.lowering.proofs.Ending.{Stops, stops-one, stops-behind, stops-alone, block-stops, block-normal}
+use Rattle.lowering.proofs.Unthreaded.{unthreaded_procedure}
+use Rattle.lowering.proofs.Finals.{all-at}
+use Rattle.lowering.proofs.Threads.{threaded-sound}
 use Rattle.lowering.proofs.Flowing.{Flows, Here, flows-none, flows-one}
-use Rattle.lowering.proofs.Frames.{slot_same, global_there, direction_same, option_twice, procedure_there}
+use Rattle.lowering.proofs.Frames.{slot_same, global_there, direction_same, option_twice}
 use Rattle.lowering.proofs.Inside.{graphs-positioned}
 use Rattle.lowering.proofs.Kinded.{slot_in, Stated, return-does}
 use Rattle.lowering.proofs.Settled.{Settles, LoopFlows, settles-front, block-settles}
@@ -38,14 +41,6 @@ use Rattle.lowering.proofs.States.{slot_of_type}
 use Rattle.lowering.proofs.Standing.{Sound, sound-flows, sound-instructions, sound-handlers}
 
 -- ---- lists
-all-at : {A : Type 0} (P : A → Type 0) (xs : List A) (k : ℕ) (x : A) → All P xs → slice_get xs k ≡ Some x → P x
-all-at P xs k x h e = subst P (get_or_from_slice_get xs k x x e) (h k x (below xs k e))
-  where
-    below : (ys : List _) (n : ℕ) → slice_get ys n ≡ Some x → n < length ys
-    below [] n e = absurd (let no : None ≡ Some x = e in cc)
-    below (y ∷ ys) zero e = omega arith
-    below (y ∷ ys) (suc n) e = omega (arith, below ys n e)
-
 -- an element of a list that a function made
 mapped-from : {A B : Type 0} (f : A → B) (xs : List A) (k : ℕ) (y : B) → slice_get (map f xs) k ≡ Some y → (x : A) × (slice_get xs k ≡ Some x) × (f x ≡ y)
 mapped-from f xs k y e = by (slice_get xs k) refl (sym (slice_get-map f xs k) ∙ e)
@@ -76,7 +71,8 @@ stated program formed entry = record {
   returned_is = refl;
   called_there = λ f callee e. (
     laid_out_procedure (procedure_contents program callee),
-    slice_get-map laid_out_procedure (graph_of program).procedures f ∙ ap (option_map laid_out_procedure) (procedure_there program f callee e),
+    slice_get-map laid_out_procedure (graph_of program).procedures f
+        ∙ ap (option_map laid_out_procedure) (slice_get-map (procedure_contents program) program.procedures f ∙ ap (option_map (procedure_contents program)) e),
     refl,
   );
 }
@@ -152,13 +148,7 @@ module _ (program : Program) (formed : well_formed program ≡ true) (entry : Pr
   pub body-sound : HasPositions (procedure_contents program entry) → Sound module_is (procedure_contents program entry)
   body-sound positions =
       let stops = body-stops (block_falls entry.body) refl in
-      record {
-        fine = body-settles.flows.each here no-loops;
-        catches = body-settles.caught here;
-        positions = positions;
-        starts = stops.filled;
-        stays = stops.stays;
-      }
+      threaded-sound module_is (unthreaded_procedure program entry) (body-settles.flows.each here no-loops) (body-settles.caught here) positions stops.filled stops.stays
 
 -- ---- modules
 procedures-right : (m : ModuleContents) (number : ℕ) (graphs : List ProcedureContents) → ((k : ℕ) (g : ProcedureContents) → slice_get graphs k ≡ Some g → Sound m g)

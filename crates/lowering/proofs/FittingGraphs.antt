@@ -20,6 +20,7 @@ use Rattle.bytecode.specs.declared.value.Kind.TheVariants as kind
 use Rattle.bytecode.specs.Code.{width_of, code_length}
 use Rattle.bytecode.specs.Form.{Fits, FitEach, IsCoded, Code}
 use Rattle.bytecode.specs.Format.{returned, handler, handlers, procedure, procedures, may_start, main, program as program_field, contents, module_file}
+use Rattle.bytecode.specs.Targets.{renamed_instruction}
 use Rattle.bytecode.specs.Opcodes.{row_of, operand_width, instructions}
 use Rattle.bytecode.specs.declared.opcode.Operand.{Operand}
 use Rattle.bytecode.specs.declared.opcode.Operand.TheVariants.{Absent, Int, Boolean, Number}
@@ -29,6 +30,8 @@ use Rattle.lowering.specs.Interface.{returned_kind}
 use Rattle.lowering.specs.Code.{block_falls, block_size, block_code, block_table}
 use Rattle.lowering.specs.Fitting.{HasShortValues}
 use Rattle.lowering.specs.Graphs.{end_code, no_loop, body_code, procedure_contents, graph_of}
+use Rattle.lowering.specs.Threaded.{final_place, threaded}
+use Rattle.lowering.proofs.Finals.{length-threaded}
 use Rattle.lowering.proofs.FittingChannels.{declared-fits}
 use Rattle.lowering.proofs.FittingCode.{IsNumbered, numbered-both, end-numbered, IsOfException, HasShortTables, block-numbered, block-catches}
 use Rattle.lowering.proofs.FittingHierarchy.{hierarchy-fits}
@@ -113,6 +116,16 @@ handlers-fits n table room few there small = (few, refl, each-handler n [] table
 
 -- ---- procedures
 
+-- other targets change no number
+renamed-numbered : (f : ℕ → ℕ) (x : Instruction) → IsNumbered x → IsNumbered (renamed_instruction f x)
+renamed-numbered f (instruction.Jump target) h = tt
+renamed-numbered f (instruction.JumpIfFalse target) h = tt
+renamed-numbered f x h = h
+
+renamed-each : (f : ℕ → ℕ) (code : List Instruction) → AllByRecursion IsNumbered code → AllByRecursion IsNumbered (map (renamed_instruction f) code)
+renamed-each f [] h = tt
+renamed-each f (x ∷ code) h = (renamed-numbered f x h.0, renamed-each f code h.1)
+
 returned-fits : (result : Option Kind) → Fits returned result
 unfolding returned
 returned-fits None = ((omega arith, refl), refl)
@@ -129,9 +142,10 @@ procedure-fits : (program : Program) (entry : ProcedureEntry) → HasShortTables
 unfolding procedure
 procedure-fits program entry short few parts placed =
     let body = entry.body in
-    let code = body_code program body in
+    let code = threaded (body_code program body) in
     let size : length code ≡ block_size program body + length (end_code (block_falls body)) =
-    both_sized (block_code program no_loop 0 body) (end_code (block_falls body)) (block_size program body) (length (end_code (block_falls body))) (block-sized program no_loop 0 body) refl in
+    length-threaded (body_code program body)
+    ∙ both_sized (block_code program no_loop 0 body) (end_code (block_falls body)) (block_size program body) (length (end_code (block_falls body))) (block-sized program no_loop 0 body) refl in
     let long : length code ≤ 4194305 = omega (arith, few, size, block-room program body, end-sized (block_falls body)) in
     let numbers = numbered-both (block_code program no_loop 0 body) (end_code (block_falls body)) (block-numbered program entry short no_loop 0 body parts.body_fits) (end-numbered (block_falls body)) in
     let catches = block-catches program entry short 0 body parts.body_fits in
@@ -144,7 +158,7 @@ procedure-fits program entry short few parts placed =
             slots-fit program.hierarchy entry.parameters entry.slots (omega (arith, few)) parameters parts.parameters_written parts.slots_fit
                 (leb-true (sum_by (λ (slot : SlotEntry). cell_count slot.size) entry.slots) cell_limit parts.frame_cells),
             (
-              code-fits code long numbers.each placed.targets,
+              code-fits code long (renamed-each (final_place (body_code program body)) (body_code program body) numbers.each) placed.targets,
               handlers-fits (length code) (block_table program 0 body) (omega (arith, long)) (omega (arith, few, catches.few)) placed.handlers catches.each,
             ),
           ),

@@ -28,7 +28,8 @@ use Rattle.bytecode.specs.Machine.{Caller, Header, header_of, code_of, handlers_
 use Rattle.layout.specs.Runs.{graph_program}
 use Rattle.lowering.specs.Interface.{kind_of_base, declared_slot, slot_contents, global_contents, scalar_global, channel_contents}
 use Rattle.lowering.specs.Code.{block_table}
-use Rattle.lowering.specs.Graphs.{body_code, procedure_contents, graph_of}
+use Rattle.lowering.specs.Graphs.{body_code}
+use Rattle.lowering.proofs.Unthreaded.{unthreaded_procedure, unthreaded_graph}
 use Rattle.lowering.proofs.States.{Setting, cell_of, cells_of, slot_of_type, direction_in, kind-same}
 use Rattle.lowering.proofs.Statements.{pushed}
 
@@ -68,16 +69,16 @@ option_twice f h None = refl
 option_twice f h (Some x) = refl
 
 pub procedure_there : (program : Program) (f : ℕ) (entry : ProcedureEntry) → slice_get program.procedures f ≡ Some entry
-    → slice_get (graph_of program).procedures f ≡ Some (procedure_contents program entry)
-procedure_there program f entry there = slice_get-map (procedure_contents program) program.procedures f ∙ ap (option_map (procedure_contents program)) there
+    → slice_get (unthreaded_graph program).procedures f ≡ Some (unthreaded_procedure program entry)
+procedure_there program f entry there = slice_get-map (unthreaded_procedure program) program.procedures f ∙ ap (option_map (unthreaded_procedure program)) there
 
 -- a procedure of the program in its graph, under callers
 abbrev pub setting_of : (program : Program) → well_formed program ≡ true → source.World → (f : ℕ) (entry : ProcedureEntry)
     → slice_get program.procedures f ≡ Some entry → List Caller → Setting
 setting_of program formed world f entry there callers =
-    let graph = graph_of program in
-    let is : slice_get graph.procedures f ≡ Some (procedure_contents program entry) = procedure_there program f entry there in
-    let heads : slice_get (map header_of graph.procedures) f ≡ Some (header_of (procedure_contents program entry)) =
+    let graph = unthreaded_graph program in
+    let is : slice_get graph.procedures f ≡ Some (unthreaded_procedure program entry) = procedure_there program f entry there in
+    let heads : slice_get (map header_of graph.procedures) f ≡ Some (header_of (unthreaded_procedure program entry)) =
     slice_get-map header_of graph.procedures f ∙ ap (option_map header_of) is in
     record {
       program = program;
@@ -89,7 +90,7 @@ setting_of program formed world f entry there callers =
       code = body_code program entry.body;
       fetched = λ i. ap (λ (o : Option ProcedureContents). slice_get (code_of o) i) is;
       goes_next = λ i. refl;
-      header = header_of (procedure_contents program entry);
+      header = header_of (unthreaded_procedure program entry);
       header_is = heads;
       returned_is = refl;
       locals_there = λ k. ap (λ (o : Option Header). slice_get (slots_of o) k) heads ∙ slice_get-map slot_contents entry.slots k ∙ slot_same (slice_get entry.slots k);
@@ -102,7 +103,7 @@ setting_of program formed world f entry there callers =
     }
 
 pub found-there : (program : Program) (f : ℕ) (entry : ProcedureEntry) → slice_get program.procedures f ≡ Some entry → (i e : ℕ)
-    → (graph_program (graph_of program)).find f i e ≡ handler_for (block_table program 0 entry.body) i e
+    → (graph_program (unthreaded_graph program)).find f i e ≡ handler_for (block_table program 0 entry.body) i e
 found-there program f entry there i e = ap (λ (o : Option ProcedureContents). handler_for (handlers_of o) i e) (procedure_there program f entry there)
 
 -- ---- arguments

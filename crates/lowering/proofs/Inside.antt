@@ -11,7 +11,7 @@ use Rattle.resolved.specs.declared.statement.Exit.TheVariants.{Normal, Return, B
 use Rattle.resolved.specs.Tree.{Expression, Statement, Assign, Clear, Store, Receive, Send, Call, If, While, Leave, ReturnWith, Try, Nested, Block, Empty, Then, Handlers, NoMore, Catch, place_of}
 use Rattle.resolved.specs.Program.{Program, ProcedureEntry, ResultEntry, procedure_at}
 use Rattle.resolved.specs.Ends.{same_exit, has_end, statement_ends, block_ends}
-use Rattle.resolved.specs.EndFaults.{OutsideLoop, Unreachable, NeverRaised, NoValueReturned, Undeclared, fault_unless, may_leave, may_stand, inner_faults, block_faults, handlers_faults, may_end, procedure_faults}
+use Rattle.resolved.specs.EndFaults.{OutsideLoop, Unreachable, NeverRaised, NoValueReturned, Undeclared, fault_unless, may_leave, may_stand, inner_faults, block_faults, handlers_faults, may_end, procedure_faults, end_faults}
 use Rattle.resolved.specs.WellFormed.{has_base, is_exception, statement_fits, block_fits, handlers_fit, procedure_fits}
 use Rattle.resolved.proofs.Sound.Values.{both}
 use Rattle.resolved.proofs.Parts.{program_parts, procedure_parts}
@@ -25,6 +25,8 @@ use Rattle.lowering.specs.Code.{Loop, statement_falls, block_falls, handlers_fal
 use Rattle.lowering.specs.Graphs.{end_code, no_loop, body_code, procedure_contents}
 use Rattle.lowering.specs.Positions.{GraphsHavePositions}
 use Rattle.lowering.proofs.Sizes.{both_sized, block-sized}
+use Rattle.lowering.proofs.Unthreaded.{unthreaded_procedure}
+use Rattle.lowering.proofs.Finals.{threaded-positioned}
 use Rattle.lowering.proofs.Targets.{Below, Stays, none-below, more-below, one-below, both-below, store-below, store_element-below, kept-below, value-below, arguments-below, branch-filled, branch-below}
 use Rattle.lowering.proofs.Unreached.{neither, statement-none}
 
@@ -260,7 +262,7 @@ module _ (program : Program) (procedure : ProcedureEntry) (n : ℕ) where
 
 -- ---- procedures and programs
 procedure-placed : (program : Program) (procedure : ProcedureEntry) → block_fits program procedure procedure.body ≡ true → block_faults program false true procedure.body ≡ []
-    → HasPositions (procedure_contents program procedure)
+    → HasPositions (unthreaded_procedure program procedure)
 procedure-placed program procedure fits faults =
     let body = procedure.body in
     let n = length (body_code program body) in
@@ -289,15 +291,22 @@ faultless-at program (procedure ∷ rest) zero d h below = (append-empty (proced
 faultless-at program (procedure ∷ rest) (suc k) d h below =
     faultless-at program rest k d (append-empty (procedure_faults program procedure) (flat_map (procedure_faults program) rest) h).1 (omega (arith, below))
 
-pub graphs-positioned : GraphsHavePositions
-graphs-positioned program formed none =
-    All-map HasPositions (procedure_contents program) program.procedures
-    (λ k d below.
+pub body-faultless : (program : Program) (k : ℕ) (d : ProcedureEntry) → end_faults program ≡ [] → k < length program.procedures
+    → block_faults program false true (get_or program.procedures k d).body ≡ []
+body-faultless program k d none below =
     let procedure = get_or program.procedures k d in
     let ends = block_ends program procedure.body in
     let value = fault_unless (not (is_some procedure.result && has_end ends Normal)) NoValueReturned procedure.at in
     let declared = fault_unless (list_all (may_end procedure) ends) Undeclared procedure.at in
     let faults = append-empty (block_faults program false true procedure.body ++ value) declared (faultless-at program program.procedures k d none below) in
-    procedure-placed program procedure
+    (append-empty (block_faults program false true procedure.body) value faults.0).0
+
+pub graphs-positioned : GraphsHavePositions
+graphs-positioned program formed none =
+    All-map HasPositions (procedure_contents program) program.procedures
+    (λ k d below.
+    let procedure = get_or program.procedures k d in
+    threaded-positioned (unthreaded_procedure program procedure)
+    (procedure-placed program procedure
     (procedure_parts program procedure (fits-at program program.procedures k d (program_parts program formed).procedures_fit below)).body_fits
-    (append-empty (block_faults program false true procedure.body) value faults.0).0)
+    (body-faultless program k d none below)))

@@ -1,6 +1,10 @@
 pub mod Cases
 pub mod Sent
 pub mod Steps
+pub mod Acting
+pub mod Unthreaded
+pub mod Following
+pub mod Finals
 pub mod Places
 pub mod Sizes
 pub mod States
@@ -33,6 +37,8 @@ pub mod Wholes
 pub mod Targets
 pub mod Unreached
 pub mod Inside
+pub mod Forward
+pub mod Directs
 pub mod Fronts
 pub mod FittingNames
 pub mod FittingHierarchy
@@ -48,5 +54,6 @@ pub mod Kinded
 pub mod Pushing
 pub mod Settled
 pub mod Standing
+pub mod Threads
 pub mod Ending
 pub mod Faultless

@@ -13,7 +13,7 @@ use Rattle.bytecode.specs.Machine as machine
 use Rattle.bytecode.specs.Machine.{Machine}
 use Rattle.lowering.specs.Code.{Loop, jump_code}
 use Rattle.lowering.proofs.Places.{Stands}
-use Rattle.lowering.proofs.Steps.{Leads, Strides, Waits, leads-through, strides-leads, waits-through, waits-stride, waits-less}
+use Rattle.lowering.proofs.Steps.{Leads, Strides, Waits, leads-through, strides-leads, strides-on, waits-through, waits-stride, waits-less}
 use Rattle.lowering.proofs.States.{Setting, place, cell_of, thrown_to, returned_to}
 use Rattle.lowering.proofs.Tables.{first_found}
 use Rattle.lowering.proofs.Values.{ValueRuns}
@@ -128,11 +128,11 @@ pub looped-runs : (g : Setting) (loop inner : Loop) (h : ℕ → Option ℕ) (j 
     → ((t : source.State) → StateFits g.program g.procedure t → Runs g loop h j (place g inner.test [] t) inner.behind (again t))
     → Runs g loop h (suc j) from inner.behind (looped o again)
 looped-runs g loop inner h j k from start (Ended Normal returned t) again less first run fit each =
-    runs-stride g loop h j from (place g inner.test [] t) inner.behind (again t) (leads-through g.p _ _ _ first run) (each t fit)
+    runs-stride g loop h j from (place g inner.test [] t) inner.behind (again t) (strides-on g.p _ _ _ first run) (each t fit)
 looped-runs g loop inner h j k from start (Ended Return returned t) again less first run fit each = leads-through g.p _ _ _ (strides-leads g.p _ _ first) run
 looped-runs g loop inner h j k from start (Ended Break returned t) again less first run fit each = leads-through g.p _ _ _ (strides-leads g.p _ _ first) run
 looped-runs g loop inner h j k from start (Ended Continue returned t) again less first run fit each =
-    runs-stride g loop h j from (place g inner.test [] t) inner.behind (again t) (leads-through g.p _ _ _ first run) (each t fit)
+    runs-stride g loop h j from (place g inner.test [] t) inner.behind (again t) (strides-on g.p _ _ _ first run) (each t fit)
 looped-runs g loop inner h j k from start (Ended (Throw exception) returned t) again less first run fit each = leads-through g.p _ _ _ (strides-leads g.p _ _ first) run
 looped-runs g loop inner h j k from start (Stopped Deep t) again less first run fit each = leads-through g.p _ _ _ (strides-leads g.p _ _ first) run
 looped-runs g loop inner h j k from start (Stopped OutOfTurns t) again less first run fit each =

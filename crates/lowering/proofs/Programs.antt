@@ -37,7 +37,8 @@ use Rattle.bytecode.specs.Machine.{Machine, Running}
 use Rattle.layout.specs.Runs.{graph_program}
 use Rattle.lowering.specs.Interface.{global_contents, scalar_global, kind_of_base}
 use Rattle.lowering.specs.Code.{block_size}
-use Rattle.lowering.specs.Graphs.{no_loop, graph_of}
+use Rattle.lowering.specs.Graphs.{no_loop}
+use Rattle.lowering.proofs.Unthreaded.{unthreaded_graph}
 use Rattle.lowering.specs.Kept.{ending_of}
 use Rattle.lowering.proofs.Steps.{Leads, Waits, leads-through}
 use Rattle.lowering.proofs.States.{place, cell_of, cells_of, left_of, left_by}
@@ -87,10 +88,10 @@ rest_begins (Some entry) numbers = by entry.direction
 
 begins-so : (program : Program) (formed : well_formed program ≡ true) (world : source.World) (main : ProcedureEntry) (there : slice_get program.procedures program.main ≡ Some main)
     → ArgumentsFit (parameters_of main) []
-    → ◌≡◌ {A = Machine} (Running (machine.first_state (graph_of program) world))
+    → ◌≡◌ {A = Machine} (Running (machine.first_state (unthreaded_graph program) world))
     (place (setting_of program formed world program.main main there []) 0 [] (entering main [] (meaning.first_state program world)))
 begins-so program formed world main there none =
-    let graph = graph_of program in
+    let graph = unthreaded_graph program in
     let globals : (λ k. machine.cells_of_global (slice_get graph.globals k)) ≡ (λ n. cells_of (global_cells (slice_get program.globals n))) =
     fun_ext (λ n. ap machine.cells_of_global (slice_get-map global_contents program.globals n) ∙ global_begins program formed n (slice_get program.globals n) refl) in
     let slots : machine.first_slots (machine.slots_in (slice_get graph.procedures program.main)) [] ≡ (λ n. cells_of (meaning.frame_of main.slots [] n)) =
@@ -140,8 +141,8 @@ module _ (program : Program) (formed : well_formed program ≡ true) (none : end
     ends-by s back (Stopped OutOfTurns t) is same fit among run = inr (record { no_end = refl; waits = rw (same t) run })
 
   abbrev Done : Outcome → Type 0
-  Done o = Comes (graph_program (graph_of program)) (Running (machine.first_state (graph_of program) world)) o
-      ⊎ GoesOn (graph_program (graph_of program)) k (Running (machine.first_state (graph_of program) world)) o
+  Done o = Comes (graph_program (unthreaded_graph program)) (Running (machine.first_state (unthreaded_graph program) world)) o
+      ⊎ GoesOn (graph_program (unthreaded_graph program)) k (Running (machine.first_state (unthreaded_graph program) world)) o
 
   main-run : (main : ProcedureEntry) → slice_get program.procedures program.main ≡ Some main → main_fits (Some main) ≡ true → Done (calls_with program k 512 program.main [] (meaning.first_state program world))
   main-run main there fits =
@@ -164,7 +165,7 @@ module _ (program : Program) (formed : well_formed program ≡ true) (none : end
       let done = ends-by main there (nothing main.result two.1) s back o refl (λ t. refl) (meaning_keeps_types program formed main main.body body.body_fits 511 k s fit) among
       (body-run program formed none world k 511 program.main main there [] s (calls-run program formed none world k 511 program.main main there [] refl) fit) in
       subst (λ (x : Outcome). Done x) (sym whole)
-      (subst (λ (m : Machine). Comes (graph_program (graph_of program)) m (leaving back o) ⊎ GoesOn (graph_program (graph_of program)) k m (leaving back o)) (sym (begins-so program formed world main there no_arguments)) done)
+      (subst (λ (m : Machine). Comes (graph_program (unthreaded_graph program)) m (leaving back o) ⊎ GoesOn (graph_program (unthreaded_graph program)) k m (leaving back o)) (sym (begins-so program formed world main there no_arguments)) done)
     where
       nothing : (o : Option ResultEntry) → is_none o ≡ true → o ≡ None
       nothing None e = refl

@@ -1,5 +1,5 @@
 -- The code of a program that is within the limits is within those of the machine: it is not longer than four times the program's nodes.
-use Rattle.std.proofs.Common.{◌≡◌, ◌+◌, ◌*◌, ◌^◌, ◌<◌, ◌≤◌, List, [], ◌∷◌, All, Bool, true, false, get_or, arith}
+use Rattle.std.proofs.Common.{◌≡◌, ◌+◌, ◌*◌, ◌^◌, ◌<◌, ◌≤◌, ◌∙◌, ap, List, [], ◌∷◌, ◌++◌, All, Bool, true, false, get_or, length, length-append, arith}
 use Rattle.std.specs.Prelude.{IsTrue, Option, Some, None, not, sum_by}
 use Rattle.std.proofs.lemmas.Bool.{leb-true}
 use Rattle.std.proofs.lemmas.List.Sums.{get_or-le-sum_by, sum_by-cons}
@@ -9,7 +9,10 @@ use Rattle.resolved.specs.Tree.{Expression, Integer, Logical, Read, Element, Una
 use Rattle.resolved.specs.Program.{Program, ProcedureEntry, ResultEntry, procedure_at}
 use Rattle.resolved.specs.WellFormed.{expression_nodes, some_nodes, statement_nodes, block_nodes, handlers_nodes, procedure_nodes, program_nodes, node_limit, well_formed}
 use Rattle.lowering.specs.Expressions.{value_size, arguments_size, branch_size, deciding}
-use Rattle.lowering.specs.Code.{jump_size, jumps_over, jumps_behind, result_size, return_size, statement_size, block_size, handlers_size}
+use Rattle.bytecode.specs.declared.instruction.Instruction.{Instruction}
+use Rattle.lowering.specs.Code.{Loop, block_code, jump_size, jumps_over, jumps_behind, result_size, return_size, statement_size, block_size, handlers_size}
+use Rattle.lowering.specs.Graphs.{end_code}
+use Rattle.lowering.proofs.Sizes.{block-sized}
 
 value-room : (e : Expression) → value_size e ≤ 4 * expression_nodes e
 value-room (Integer n) = omega arith
@@ -81,7 +84,7 @@ mutual
       omega (arith, block-room program body, jump-room (jumps_behind body rest), handlers-room program rest)
 
 -- the code of each procedure of a well-formed program
-pub bodies-short : (program : Program) → IsTrue (well_formed program) → All (λ (p : ProcedureEntry). block_size program p.body < 2 ^ 32) program.procedures
+pub bodies-short : (program : Program) → IsTrue (well_formed program) → All (λ (p : ProcedureEntry). block_size program p.body + 1 < 2 ^ 32) program.procedures
 bodies-short program formed k d inside =
     let procedure = get_or program.procedures k d in
     let few : program_nodes program ≤ node_limit = leb-true (program_nodes program) node_limit (program_parts program formed).nodes_fit in
@@ -89,3 +92,17 @@ bodies-short program formed k d inside =
     let room = block-room program procedure.body in
     let sum : 4 * block_nodes procedure.body ≤ 4194304 = omega (arith, few, least) in
     omega (arith, room, sum)
+
+end-room : (falls : Bool) → length (end_code falls) ≤ 1
+end-room true = omega arith
+end-room false = omega arith
+
+-- a body with the return behind it
+pub body-short : (program : Program) (loop : Loop) (body : Block) (falls : Bool) (none code whole read : List Instruction) → block_size program body + 1 < 2 ^ 32
+    → none ≡ [] → code ≡ none ++ block_code program loop (length none) body → whole ≡ code ++ end_code falls → read ≡ whole → length read < 2 ^ 32
+body-short program loop body falls none code whole read few empty made ended same =
+    let nothing : length none ≡ 0 = ap length empty in
+    let first : length code ≡ length none + block_size program body =
+    ap length made ∙ length-append none (block_code program loop (length none) body) ∙ ap (λ n. length none + n) (block-sized program loop (length none) body) in
+    let all : length read ≡ length code + length (end_code falls) = ap length (same ∙ ended) ∙ length-append code (end_code falls) in
+    omega (arith, few, nothing, first, all, end-room falls)

@@ -1,5 +1,5 @@
 -- Single steps of a machine that runs the code of a procedure.
-use Rattle.std.proofs.Common.{◌≡◌, ℕ, ◌+◌, true, ℤ, List, [], ◌∷◌, refl, ap, ◌∙◌, subst}
+use Rattle.std.proofs.Common.{◌≡◌, ℕ, ◌+◌, true, ℤ, List, [], ◌∷◌, refl, ap, ◌∙◌, arith}
 use Rattle.std.specs.Prelude.{Option, Some, None}
 use Rattle.resolved.specs.declared.expression.Value.{Value}
 use Rattle.resolved.specs.declared.expression.Variable.{Variable}
@@ -16,7 +16,8 @@ use Rattle.bytecode.specs.Values.{has_kind}
 use Rattle.bytecode.specs.Machine.{Machine, State, act, acts, step, goes_on, with_slot, with_global, loads, stores, with_element, loads_element, stores_element, changes, bounds}
 use Rattle.lowering.specs.Expressions.{load_of, store_of, load_element_of, store_element_of}
 use Rattle.lowering.proofs.Places.{Stands, stands-here}
-use Rattle.lowering.proofs.Steps.{Leads, Strides, leads-step, leads-itself}
+use Rattle.lowering.specs.Threaded.{jump_of}
+use Rattle.lowering.proofs.Steps.{Leads, Strides, counted, leads-step}
 use Rattle.lowering.proofs.States.{Setting, state_at, place, cell_of, cells_of, slot_of_type, with_slot-is, with_global-is, thrown_to, raised-is}
 
 -- the instruction that stands at the place acts
@@ -34,10 +35,13 @@ pub does : (g : Setting) (more : List Instruction) (i : Instruction) (at : ℕ) 
     → Stands g.code (i ∷ more) at → act g.p i (state_at g at operands s) ≡ to → Leads g.p (place g at operands s) to
 does g more i at operands s to h e = leads-step g.p _ _ (stepped g more i at operands s h ∙ e)
 
+-- an instruction that is no unconditional jump
 pub does_stride : (g : Setting) (more : List Instruction) (i : Instruction) (at : ℕ) (operands : List Cell) (s : source.State) (to : Machine)
-    → Stands g.code (i ∷ more) at → act g.p i (state_at g at operands s) ≡ to → Strides g.p (place g at operands s) to
-does_stride g more i at operands s to h e =
-    subst (λ (m : Machine). Leads g.p (step g.p (place g at operands s)) m) (stepped g more i at operands s h ∙ e) (leads-itself g.p _)
+    → Stands g.code (i ∷ more) at → jump_of (Some i) ≡ None → act g.p i (state_at g at operands s) ≡ to → Strides g.p (place g at operands s) to
+does_stride g more i at operands s to h none e =
+    let one : counted (jump_of (g.p.fetch g.number at)) ≡ 1 =
+    ap (λ (o : Option Instruction). counted (jump_of o)) (g.fetched at ∙ stands-here g.code more i at h) ∙ ap counted none in
+    record { steps = 1; enough = omega (arith, one); reached = stepped g more i at operands s h ∙ e }
 
 -- ---- variables
 

@@ -95,12 +95,12 @@ listed-found (i ∷ code) kinds at list h =
         record { position = suc r.position; below = omega (arith, r.below); is = omega (arith, r.is, ltb-false at (width_of i) f); same = r.same }
 
 -- ---- instructions that are renamed
-same-effect : (m : ModuleContents) (p : ProcedureContents) (f : ℕ → ℕ) (x : Instruction) (kinds : List Kind) → effect m p (renamed_instruction f x) kinds ≡ effect m p x kinds
+pub same-effect : (m : ModuleContents) (p : ProcedureContents) (f : ℕ → ℕ) (x : Instruction) (kinds : List Kind) → effect m p (renamed_instruction f x) kinds ≡ effect m p x kinds
 same-effect m p f (Jump target) kinds = refl
 same-effect m p f (JumpIfFalse target) kinds = refl
 same-effect m p f x kinds = refl
 
-same-goes : (f : ℕ → ℕ) (x : Instruction) → goes_on (renamed_instruction f x) ≡ goes_on x
+pub same-goes : (f : ℕ → ℕ) (x : Instruction) → goes_on (renamed_instruction f x) ≡ goes_on x
 same-goes f (Jump target) = refl
 same-goes f (JumpIfFalse target) = refl
 same-goes f x = refl
@@ -114,7 +114,7 @@ target-inside : (n : ℕ) (x : Instruction) → IfSome (target_of x) (λ target.
 target-inside n x h t e = subst (λ (o : Option ℕ). IfSome o (λ target. target < n)) e h
 
 -- a target that was renamed
-renamed-from : (f : ℕ → ℕ) (o : Option ℕ) (to : ℕ) → option_map f o ≡ Some to → (t : ℕ) × (o ≡ Some t) × (f t ≡ to)
+pub renamed-from : (f : ℕ → ℕ) (o : Option ℕ) (to : ℕ) → option_map f o ≡ Some to → (t : ℕ) × (o ≡ Some t) × (f t ≡ to)
 renamed-from f None to h = absurd (let no : None ≡ Some to = h in cc)
 renamed-from f (Some t) to h = (t, refl, let same : Some (f t) ≡ Some to = h in cc)
 

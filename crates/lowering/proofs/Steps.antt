@@ -1,24 +1,45 @@
 -- Runs of a machine put together, and what a run that ends has sent on its way.
-use Rattle.std.proofs.Common.{◌≡◌, ℕ, zero, suc, ◌≤◌, List, refl, sym, ap, ◌∙◌, subst, arith}
+use Rattle.std.proofs.Common.{◌≡◌, ℕ, zero, suc, ◌+◌, ◌≤◌, List, Option, Some, None, refl, sym, ap, ◌∙◌, subst, arith}
 use Rattle.labels.specs.declared.sent.Pair.{Pair}
 use Rattle.labels.specs.Sent.{Begins}
-use Rattle.bytecode.specs.Machine.{State, Machine, Running, Ended, Ending, Program, sent_of, step, exec}
+use Rattle.bytecode.specs.Machine.{State, Machine, Running, Ended, Stuck, Ending, Program, sent_of, step, exec}
 use Rattle.labels.proofs.Begins.{Begins-itself}
+use Rattle.lowering.specs.Threaded.{jump_of}
 use Rattle.lowering.proofs.Sent.{exec-keeps}
+
+-- ---- steps that count: all but those at an unconditional jump, which threaded code may leave out
+abbrev pub counted : (jump : Option ℕ) → ℕ
+counted None = 1
+counted (Some target) = 0
+
+abbrev pub count : Program → Machine → ℕ
+count p (Running s) = counted (jump_of (p.fetch s.frame.procedure s.frame.position))
+count p (Ended ending sent) = 1
+count p (Stuck sent) = 1
+
+abbrev pub counts : Program → ℕ → Machine → ℕ
+counts p zero m = 0
+counts p (suc n) m = count p m + counts p n (step p m)
 
 -- some steps lead from one machine to another
 pub record Leads (p : Program) (from to : Machine) : Type 0 where
   pub steps : ℕ
   pub reached : exec p steps from ≡ to
 
--- at least one step does
-abbrev pub Strides : Program → Machine → Machine → Type 0
-Strides p from to = Leads p (step p from) to
+-- steps of which k count at least
+pub record Counting (p : Program) (k : ℕ) (from to : Machine) : Type 0 where
+  pub steps : ℕ
+  pub enough : k ≤ counts p steps from
+  pub reached : exec p steps from ≡ to
 
--- after k steps at least a machine still runs and has sent this
+-- steps of which one counts
+abbrev pub Strides : Program → Machine → Machine → Type 0
+Strides p from to = Counting p 1 from to
+
+-- after steps of which k count at least a machine still runs and has sent this
 pub record Waits (p : Program) (k : ℕ) (from : Machine) (sent : List Pair) : Type 0 where
   pub steps : ℕ
-  pub enough : k ≤ steps
+  pub enough : k ≤ counts p steps from
   pub state : State
   pub reached : exec p steps from ≡ Running state
   pub sent_is : state.sent ≡ sent
@@ -30,19 +51,36 @@ pub leads-step : (p : Program) (from to : Machine) → step p from ≡ to → Le
 leads-step p from to e = record { steps = 1; reached = e }
 
 pub strides-leads : (p : Program) (from to : Machine) → Strides p from to → Leads p from to
-strides-leads p from to h = record { steps = suc h.steps; reached = h.reached }
+strides-leads p from to h = record { steps = h.steps; reached = h.reached }
 
 leads-after : (p : Program) (n : ℕ) (from mid to : Machine) → exec p n from ≡ mid → Leads p mid to → Leads p from to
 leads-after p zero from mid to e h = subst (λ m. Leads p m to) (sym e) h
 leads-after p (suc n) from mid to e h =
-    strides-leads p from to (leads-after p n (step p from) mid to e h)
+    let rest : Leads p (step p from) to = leads-after p n (step p from) mid to e h in
+    record { steps = suc rest.steps; reached = rest.reached }
 
 pub leads-through : (p : Program) (from mid to : Machine) → Leads p from mid → Leads p mid to → Leads p from to
 leads-through p from mid to first second = leads-after p first.steps from mid to first.reached second
 
 strides-after : (p : Program) (n : ℕ) (from mid to : Machine) → exec p n from ≡ mid → Strides p mid to → Strides p from to
 strides-after p zero from mid to e h = subst (λ m. Strides p m to) (sym e) h
-strides-after p (suc n) from mid to e h = leads-after p n (step p from) mid to e (strides-leads p mid to h)
+strides-after p (suc n) from mid to e h =
+    let rest : Strides p (step p from) to = strides-after p n (step p from) mid to e h in
+    record { steps = suc rest.steps; enough = omega (arith, rest.enough); reached = rest.reached }
+
+-- and then some more
+counting-before : (p : Program) (n : ℕ) (from mid to : Machine) → exec p n from ≡ mid → Leads p mid to → Counting p (counts p n from) from to
+counting-before p zero from mid to e h =
+    let same : Leads p from to = subst (λ m. Leads p m to) (sym e) h in
+    record { steps = same.steps; enough = omega arith; reached = same.reached }
+counting-before p (suc n) from mid to e h =
+    let rest : Counting p (counts p n (step p from)) (step p from) to = counting-before p n (step p from) mid to e h in
+    record { steps = suc rest.steps; enough = omega (arith, rest.enough); reached = rest.reached }
+
+pub strides-on : (p : Program) (from mid to : Machine) → Strides p from mid → Leads p mid to → Strides p from to
+strides-on p from mid to first second =
+    let all : Counting p (counts p first.steps from) from to = counting-before p first.steps from mid to first.reached second in
+    record { steps = all.steps; enough = omega (arith, all.enough, first.enough); reached = all.reached }
 
 pub strides-through : (p : Program) (from mid to : Machine) → Leads p from mid → Strides p mid to → Strides p from to
 strides-through p from mid to first second = strides-after p first.steps from mid to first.reached second
@@ -56,14 +94,22 @@ waits-after p (suc n) k from mid sent e h =
 pub waits-through : (p : Program) (k : ℕ) (from mid : Machine) (sent : List Pair) → Leads p from mid → Waits p k mid sent → Waits p k from sent
 waits-through p k from mid sent first second = waits-after p first.steps k from mid sent first.reached second
 
--- a step more
-pub waits-stride : (p : Program) (k : ℕ) (from mid : Machine) (sent : List Pair) → Strides p from mid → Waits p k mid sent → Waits p (suc k) from sent
-waits-stride p k from mid sent first second =
-    let rest : Waits p k (step p from) sent = waits-through p k (step p from) mid sent first second in
+-- those on the way count too
+waits-more : (p : Program) (n k : ℕ) (from mid : Machine) (sent : List Pair) → exec p n from ≡ mid → Waits p k mid sent → Waits p (counts p n from + k) from sent
+waits-more p zero k from mid sent e h =
+    let same : Waits p k from sent = subst (λ m. Waits p k m sent) (sym e) h in
+    record { steps = same.steps; enough = omega (arith, same.enough); state = same.state; reached = same.reached; sent_is = same.sent_is }
+waits-more p (suc n) k from mid sent e h =
+    let rest : Waits p (counts p n (step p from) + k) (step p from) sent = waits-more p n k (step p from) mid sent e h in
     record { steps = suc rest.steps; enough = omega (arith, rest.enough); state = rest.state; reached = rest.reached; sent_is = rest.sent_is }
 
 pub waits-less : (p : Program) (j k : ℕ) (from : Machine) (sent : List Pair) → j ≤ k → Waits p k from sent → Waits p j from sent
 waits-less p j k from sent less h = record { steps = h.steps; enough = omega (arith, h.enough, less); state = h.state; reached = h.reached; sent_is = h.sent_is }
+
+-- a stride more
+pub waits-stride : (p : Program) (k : ℕ) (from mid : Machine) (sent : List Pair) → Strides p from mid → Waits p k mid sent → Waits p (suc k) from sent
+waits-stride p k from mid sent first second =
+    waits-less p (suc k) (counts p first.steps from + k) from sent (omega (arith, first.enough)) (waits-more p first.steps k from mid sent first.reached second)
 
 -- what has ended stays so
 pub ended-stays : (p : Program) (n : ℕ) (ending : Ending) (sent : List Pair) → exec p n (Ended ending sent) ≡ Ended ending sent

@@ -8,6 +8,7 @@ use Rattle.bytecode.specs.declared.instruction.Instruction.TheVariants.{Return}
 use Rattle.bytecode.specs.Contents.{ProcedureContents, ModuleContents}
 use Rattle.lowering.specs.Interface.{hierarchy_contents, channel_contents, global_contents, slot_contents, returned_kind}
 use Rattle.lowering.specs.Code.{Loop, block_falls, block_code, block_table}
+use Rattle.lowering.specs.Threaded.{threaded}
 
 -- a return behind a body that may end normally
 abbrev pub end_code : (falls : Bool) → List Instruction
@@ -26,7 +27,7 @@ procedure_contents program procedure = record {
   returned = returned_kind procedure.result;
   parameters = procedure.parameters;
   slots = map slot_contents procedure.slots;
-  code = body_code program procedure.body;
+  code = threaded (body_code program procedure.body);
   handlers = block_table program 0 procedure.body;
 }
 

@@ -1,9 +1,11 @@
 pub mod Interface
 pub mod Expressions
 pub mod Code
+pub mod Threaded
 pub mod Graphs
 pub mod Kept
 pub mod Added
 pub mod Positions
+pub mod Direct
 pub mod Fitting
 pub mod Verified

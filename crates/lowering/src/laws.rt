@@ -1,4 +1,5 @@
 //! Laws of the definitions, each the contract of a function that does nothing.
+ghost use Rattle.lowering.specs.Direct.{GraphsHaveDirectJumps};
 ghost use Rattle.lowering.specs.Fitting.{GraphsFitTheFile};
 ghost use Rattle.lowering.specs.Kept.{GraphsKeepMeaning, ModulesKeepMeaning};
 ghost use Rattle.lowering.specs.Positions.{GraphsHavePositions};
@@ -18,6 +19,11 @@ pub fn modules_keep_meaning()
 /// Each target of a jump or a handler of such a graph is a position of its procedure's code.
 pub fn graphs_have_positions()
     ensures { GraphsHavePositions }
+{}
+
+/// No jump of such a graph leads to an unconditional jump.
+pub fn graphs_have_direct_jumps()
+    ensures { GraphsHaveDirectJumps }
 {}
 
 /// Such a graph is within the limits of the module file, where the program's names are as a file keeps them and its globals hold

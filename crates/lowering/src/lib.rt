@@ -13,5 +13,6 @@ mod lengths;
 mod operands;
 mod procedures;
 pub mod program;
+mod threading;
 
 pub use program::lower;

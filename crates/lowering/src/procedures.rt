@@ -5,12 +5,13 @@ ghost use Rattle.resolved.specs.TreeOf.{block_of};
 ghost use Rattle.lowering.specs.Code.{block_size};
 ghost use Rattle.lowering.specs.Graphs.{end_code, procedure_contents};
 ghost use Rattle.lowering.specs.Interface.{declared_slot, returned_kind, slot_contents};
-ghost use Rattle.std.specs.Prelude.{IfOk, OnOk, map, ◌++◌, ◌<◌, ◌^◌, ◌≡◌};
+ghost use Rattle.std.specs.Prelude.{IfOk, OnOk, map, ◌++◌, ◌+◌, ◌<◌, ◌^◌, ◌≡◌};
 
 use crate::emission::{LoopPlaces, push_block};
 use crate::emitter::push;
 use crate::endings::block_falls;
 use crate::interface::kind_of_base;
+use crate::threading::thread;
 use bytecode::{Instruction, Kind, Procedure, Slot};
 use resolved::expression::Base;
 use resolved::program::Core;
@@ -64,7 +65,7 @@ fn procedure_of(
     core: &Core,
     procedure: &tables::Procedure,
 ) -> Result<Procedure, AllocError>
-    requires { block_size (program_of core.now) (block_of procedure.now.body.items) < 2 ^ 32 }
+    requires { block_size (program_of core.now) (block_of procedure.now.body.items) + 1 < 2 ^ 32 }
     ensures { IfOk result (λ made.
         made ≡ procedure_contents (program_of core.now) (procedure_entry procedure.now)) }
 {
@@ -73,6 +74,7 @@ fn procedure_of(
     let mut handlers = Vec::new(alloc);
     push_block(core, outside, &mut code, &mut handlers, &procedure.body)?;
     push_end(&mut code, block_falls(&procedure.body))?;
+    let code = thread(alloc, &code)?;
     let returned = returned_kind(&procedure.result);
     let slots = slots_of(alloc, &procedure.slots)?;
     Ok(Procedure::new(returned, procedure.parameters, slots, code, handlers))

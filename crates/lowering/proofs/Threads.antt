@@ -1,0 +1,117 @@
+-- A procedure that is threaded is sound where its own code flows: each position has the same kinds as before, since at an unconditional jump
+-- they are those at its target.
+use Rattle.std.proofs.Common.{◌≡◌, refl, sym, ap, ◌∙◌, subst, ℕ, zero, suc, ◌+◌, ◌<◌, Bool, true, false, cond, ltb, List, [], ◌∷◌, All, length, map, take, get_or, Option, Some, None, slice_get, arith}
+use Rattle.std.specs.Option.{option_map}
+use Rattle.std.proofs.lemmas.List.{take-map}
+use Rattle.std.proofs.lemmas.Option.{slice_get-map}
+use Rattle.bytecode.specs.Contents.{ProcedureContents, ModuleContents}
+use Rattle.bytecode.specs.declared.declaration.Handler.{Handler}
+use Rattle.bytecode.specs.declared.instruction.Instruction.{Instruction}
+use Rattle.bytecode.specs.declared.instruction.Instruction.TheVariants.{Jump, JumpIfFalse}
+use Rattle.bytecode.specs.declared.value.Kind.{Kind}
+use Rattle.bytecode.specs.Targets.{target_of, renamed_instruction}
+use Rattle.layout.specs.Graph.{HasPositions}
+use Rattle.layout.specs.Offsets.{laid_out_procedure}
+use Rattle.verifier.specs.Fixed.{instruction_defect}
+use Rattle.verifier.specs.Flow.{Effect, Leaves, effect, goes_on}
+use Rattle.lowering.specs.Threaded.{jump_of, onward as onward_place, followed, final_place, threaded}
+use Rattle.lowering.proofs.Unthreaded.{threaded_procedure}
+use Rattle.lowering.proofs.Finals.{length-threaded, target-renamed}
+use Rattle.lowering.proofs.Flowing.{Fine, EachFine, fine-at, kinds_at, along, onward, following}
+use Rattle.lowering.proofs.Following.{jump-is}
+use Rattle.lowering.proofs.Settled.{Catches}
+use Rattle.lowering.proofs.Standing.{Sound, same-effect, same-goes, renamed-from}
+
+-- an instruction that still has no target is the same
+same_without : (f : ℕ → ℕ) (i : Instruction) → target_of (renamed_instruction f i) ≡ None → renamed_instruction f i ≡ i
+same_without f (Jump target) none = absurd (let no : Some (f target) ≡ None = none in cc)
+same_without f (JumpIfFalse target) none = absurd (let no : Some (f target) ≡ None = none in cc)
+same_without f i none = refl
+
+module _ (m : ModuleContents) (p : ProcedureContents) (code : List Instruction) where
+  abbrev f : ℕ → ℕ
+  f place = final_place code place
+
+  onward-renamed : (i : Instruction) (kinds : List Kind) → onward m p (renamed_instruction f i) kinds ≡ onward m p i kinds
+  onward-renamed i kinds =
+      ap (λ (b : Bool). following b (effect m p (renamed_instruction f i) kinds)) (same-goes f i) ∙ ap (following (goes_on i)) (same-effect m p f i kinds)
+
+  along-renamed : (xs : List Instruction) (kinds : List Kind) → along m p (map (renamed_instruction f) xs) kinds ≡ along m p xs kinds
+  along-renamed [] kinds = refl
+  along-renamed (i ∷ xs) kinds = ap (along m p (map (renamed_instruction f) xs)) (onward-renamed i kinds) ∙ along-renamed xs (onward m p i kinds)
+
+  kinds-same : (k : ℕ) → kinds_at m p (threaded code) k ≡ kinds_at m p code k
+  kinds-same k = ap (λ (xs : List Instruction). along m p xs []) (take-map (renamed_instruction f) k code) ∙ along-renamed (take k code) []
+
+  -- the kinds at an unconditional jump are those at its target
+  kinds-jumped : EachFine m p code code [] → (place target : ℕ) → jump_of (slice_get code place) ≡ Some target → kinds_at m p code target ≡ kinds_at m p code place
+  kinds-jumped fine place target e =
+      let here = fine-at m p code code [] place (Jump target) fine (jump-is (slice_get code place) target e) in
+      let left : Leaves (kinds_at m p code place) ≡ Leaves here.after = here.leaves in
+      let after : here.after ≡ kinds_at m p code place = cc in
+      here.jumps target refl ∙ after
+
+  kinds-onward : (place : ℕ) (on : ℕ → ℕ) (jump : Option ℕ) → ((target : ℕ) → kinds_at m p code (on target) ≡ kinds_at m p code target)
+      → ((target : ℕ) → jump ≡ Some target → kinds_at m p code target ≡ kinds_at m p code place) → kinds_at m p code (onward_place place on jump) ≡ kinds_at m p code place
+  kinds-onward place on None later jumped = refl
+  kinds-onward place on (Some target) later jumped = by (ltb place target)
+    where
+      by : (b : Bool) → kinds_at m p code (cond b (on target) place) ≡ kinds_at m p code place
+      by true = later target ∙ jumped target refl
+      by false = refl
+
+  kinds-followed : EachFine m p code code [] → (jumps place : ℕ) → kinds_at m p code (followed jumps code place) ≡ kinds_at m p code place
+  kinds-followed fine zero place = refl
+  kinds-followed fine (suc jumps) place =
+      kinds-onward place (followed jumps code) (jump_of (slice_get code place)) (kinds-followed fine jumps) (λ target e. kinds-jumped fine place target e)
+
+  fine-renamed : EachFine m p code code [] → (i : Instruction) (kinds : List Kind) → Fine m p code i kinds → Fine m p (threaded code) (renamed_instruction f i) kinds
+  fine-renamed fine i kinds h = record {
+    after = h.after;
+    leaves = same-effect m p f i kinds ∙ h.leaves;
+    jumps = λ to e.
+        let from = renamed-from f (target_of i) to (sym (target-renamed f i) ∙ e) in
+        kinds-same to ∙ ap (kinds_at m p code) (sym from.2) ∙ kinds-followed fine (length code) from.0 ∙ h.jumps from.0 from.1;
+    fixed = λ none.
+        let same : renamed_instruction f i ≡ i = same_without f i none in
+        ap (instruction_defect m p) same ∙ h.fixed (ap target_of (sym same) ∙ none);
+  }
+
+  each-renamed : EachFine m p code code [] → (xs : List Instruction) (kinds : List Kind) → EachFine m p code xs kinds
+      → EachFine m p (threaded code) (map (renamed_instruction f) xs) kinds
+  each-renamed fine [] kinds h = tt
+  each-renamed fine (i ∷ xs) kinds h =
+      (fine-renamed fine i kinds h.0, subst (EachFine m p (threaded code) (map (renamed_instruction f) xs)) (sym (onward-renamed i kinds)) (each-renamed fine xs (onward m p i kinds) h.1))
+
+  catches-same : (handlers : List Handler) → All (Catches m p code) handlers → All (Catches m p (threaded code)) handlers
+  catches-same handlers each k d below =
+      let h = each k d below in
+      record { empty = kinds-same (get_or handlers k d).target ∙ h.empty; there = h.there }
+
+-- where control goes on, an instruction stands behind
+abbrev pub StaysIn : List Instruction → Type 0
+StaysIn code = (k : ℕ) (i : Instruction) → slice_get code k ≡ Some i → goes_on i ≡ true → k + 1 < length code
+
+stays-threaded : (code : List Instruction) → StaysIn code → StaysIn (threaded code)
+stays-threaded code stays k i there goes =
+    by (slice_get code k) refl (sym (slice_get-map (renamed_instruction (final_place code)) code k) ∙ there)
+  where
+    by : (o : Option Instruction) → slice_get code k ≡ o → option_map (renamed_instruction (final_place code)) o ≡ Some i → k + 1 < length (threaded code)
+    by None e h = absurd (let no : None ≡ Some i = h in cc)
+    by (Some x) e h =
+        let same : renamed_instruction (final_place code) x ≡ i = cc in
+        let x_goes : goes_on x ≡ true = sym (same-goes (final_place code) x) ∙ ap goes_on same ∙ goes in
+        omega (arith, stays k x e x_goes, length-threaded code)
+
+pub threaded-sound : (m : ModuleContents) (g : ProcedureContents) → EachFine m (laid_out_procedure (threaded_procedure g)) g.code g.code []
+    → All (Catches m (laid_out_procedure (threaded_procedure g)) g.code) g.handlers → HasPositions (threaded_procedure g) → 0 < length g.code → StaysIn g.code
+    → Sound m (threaded_procedure g)
+threaded-sound m g fine catches positions starts stays =
+    let p = laid_out_procedure (threaded_procedure g) in
+    record {
+      fine = each-renamed m p g.code fine g.code [] fine;
+      catches = catches-same m p g.code g.handlers catches;
+      positions = positions;
+      starts = omega (arith, starts, length-threaded g.code);
+      stays = stays-threaded g.code stays;
+    }
