@@ -1,5 +1,5 @@
 -- What an instruction does is the same in two programs that differ in what they fetch alone.
-use Rattle.std.proofs.Common.{◌≡◌, ℕ, ◌+◌, refl, ap, Bool, true, false, cond, not, List, [], ◌∷◌, reverse, Option, Some, None, ltb, ℤ, slice_get}
+use Rattle.std.proofs.Common.{◌≡◌, ℕ, refl, ap, Bool, true, false, cond, not, List, [], ◌∷◌, reverse, Option, Some, None, ltb, ℤ, slice_get}
 use Rattle.bytecode.specs.Values.{has_kind}
 use Rattle.bytecode.specs.declared.instruction.Arithmetic.{Arithmetic}
 use Rattle.bytecode.specs.declared.instruction.Comparison.{Comparison}

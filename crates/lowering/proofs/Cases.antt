@@ -10,13 +10,17 @@ use Rattle.resolved.specs.Value.{literal_number}
 use Rattle.bytecode.specs.declared.instruction.Arithmetic.TheVariants.{Divide}
 use Rattle.bytecode.specs.declared.instruction.Comparison.TheVariants.{Less, Greater}
 use Rattle.bytecode.specs.declared.instruction.Instruction.{Instruction}
-use Rattle.bytecode.specs.declared.instruction.Instruction.TheVariants.{Push, Load, Compute, Compare, Jump, JumpIfFalse, Return, Send}
+use Rattle.bytecode.specs.declared.instruction.Instruction.TheVariants.{Push, Load, Compute, Compare, Not, Jump, JumpIfFalse, Return, Send}
 use Rattle.bytecode.specs.declared.declaration.Handler.{Handler}
 use Rattle.lowering.specs.Code.{block_table}
 use Rattle.lowering.specs.Graphs.{body_code}
+use Rattle.lowering.specs.Threaded.{threaded}
 
 abbrev x : tree.Expression
 x = tree.Read (Local 0)
+
+abbrev y : tree.Expression
+y = tree.Read (Local 1)
 
 -- `while (x < 3 && 5 <= x) { send pub, 1; break; }`
 looping : (p : Program) → ◌≡◌ {A = List Instruction}
@@ -26,6 +30,12 @@ looping : (p : Program) → ◌≡◌ {A = List Instruction}
     ∷ Load 0 ∷ Push (literal_number 3) ∷ Compare Less ∷ JumpIfFalse 12
     ∷ Push (literal_number 5) ∷ Load 0 ∷ Compare Greater ∷ JumpIfFalse 1 ∷ Return ∷ [])
 looping p = refl
+
+-- `while (x) { while (y) { } }`: from the test of the outer loop control goes on at that of the inner one
+nested : (p : Program) → ◌≡◌ {A = List Instruction}
+    (threaded (body_code p (tree.Then (tree.While 0 0 x (tree.Then (tree.While 0 0 y tree.Empty) tree.Empty)) tree.Empty)))
+    (Jump 5 ∷ Jump 2 ∷ Load 1 ∷ Not ∷ JumpIfFalse 2 ∷ Load 0 ∷ Not ∷ JumpIfFalse 2 ∷ Return ∷ [])
+nested p = refl
 
 -- `try { send pub, 1 / x; } catch (Arith) { return; }`
 catching : (p : Program) → ◌≡◌ {A = List Instruction}

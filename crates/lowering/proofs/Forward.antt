@@ -1,7 +1,6 @@
 -- All unconditional jumps of a procedure go forward.
-use Rattle.std.proofs.Common.{◌≡◌, refl, sym, ap, ◌∙◌, ℕ, zero, suc, ◌+◌, ◌<◌, ◌≤◌, Bool, true, false, not, ◌&&◌, List, [], ◌∷◌, ◌++◌, All, length, get_or, Option, Some, None, slice_get, arith}
-use Rattle.std.specs.Prelude.{filter, if◌then◌else◌}
-use Rattle.std.proofs.lemmas.List.Elements.{All-map}
+use Rattle.std.proofs.Common.{◌≡◌, refl, sym, ◌∙◌, ℕ, zero, suc, ◌+◌, ◌<◌, ◌≤◌, Bool, true, false, not, List, [], ◌∷◌, ◌++◌, length, Option, Some, None, slice_get, arith}
+use Rattle.std.specs.Prelude.{filter}
 use Rattle.resolved.specs.declared.expression.Variable.{Variable}
 use Rattle.resolved.specs.declared.expression.Variable.TheVariants.{Global, Local}
 use Rattle.resolved.specs.declared.expression.Prefix.{Prefix}
@@ -20,7 +19,7 @@ use Rattle.isolation.proofs.Declared.{append-empty, no_fault-test}
 use Rattle.bytecode.specs.declared.instruction.Instruction.{Instruction}
 use Rattle.bytecode.specs.declared.instruction.Instruction.TheVariants as instruction
 use Rattle.lowering.specs.Expressions.{load_of, store_of, load_element_of, store_element_of, prefix_instruction, operator_instruction, value_size, value_code, rest_of_short, arguments_size, arguments_code, tested, deciding, branch_size, branch_code, test_code}
-use Rattle.lowering.specs.Code.{Loop, block_falls, jump_size, jump_code, jumps_over, jumps_behind, kept_code, result_code, leave_code, return_code, no_place, test_place, handlers_place, statement_size, block_size, handlers_size, statement_code, block_code, handlers_code}
+use Rattle.lowering.specs.Code.{Loop, block_falls, jump_size, jump_code, jumps_over, jumps_behind, kept_code, result_code, leave_code, return_code, statement_size, block_size, handlers_size, statement_code, block_code, handlers_code}
 use Rattle.lowering.specs.Graphs.{end_code, no_loop, body_code}
 use Rattle.lowering.specs.Threaded.{jump_of}
 use Rattle.lowering.proofs.Finals.{GoForward}

@@ -20,7 +20,7 @@ use Rattle.lowering.specs.Threaded.{jump_of}
 use Rattle.lowering.specs.Kept.{ending_of, MeaningKept, GraphsKeepMeaning, ModulesKeepMeaning}
 use Rattle.lowering.proofs.Sent.{exec-keeps}
 use Rattle.lowering.proofs.Steps.{counted, counts, sent-before, ends-once, ended-stays}
-use Rattle.lowering.proofs.Unthreaded.{threaded_graph, unthreaded_graph, graph-threaded}
+use Rattle.lowering.proofs.Unthreaded.{unthreaded_graph, graph-threaded}
 use Rattle.lowering.proofs.Following.{Follows, jump-is, runs-follow}
 use Rattle.lowering.proofs.Programs.{Comes, GoesOn, run-within-limit}
 
@@ -126,9 +126,11 @@ module _ (program : Program) (formed : well_formed program ≡ true) (none : end
   no_less world k (inr goes) =
       let f = follow world goes.waits.steps in
       let later : Begins (machine.sent_of (machine.exec p goes.waits.steps (start world))) (machine.sent_of (machine.exec p f.steps (start world))) =
-      sent-grows p goes.waits.steps f.steps (start world) f.enough in
-      (goes.waits.steps, subst (λ sent. Begins sent (machine.sent_of (after world goes.waits.steps))) (ap machine.sent_of goes.waits.reached ∙ goes.waits.sent_is)
-      (subst (λ x. Begins (machine.sent_of (machine.exec p goes.waits.steps (start world))) (machine.sent_of x)) f.reached later))
+      sent-grows p goes.waits.steps f.steps (start world) f.enough in (
+        goes.waits.steps,
+        subst (λ sent. Begins sent (machine.sent_of (after world goes.waits.steps))) (ap machine.sent_of goes.waits.reached ∙ goes.waits.sent_is)
+            (subst (λ x. Begins (machine.sent_of (machine.exec p goes.waits.steps (start world))) (machine.sent_of x)) f.reached later),
+      )
 
   ends_so : (world : source.World) (n : ℕ) (ending : machine.Ending) (sent : List Pair) → Comes p (start world) (run world n) ⊎ GoesOn p n (start world) (run world n)
       → after world n ≡ machine.Ended ending sent

@@ -13,7 +13,7 @@ use Rattle.bytecode.specs.Targets.{target_of, renamed_instruction}
 use Rattle.layout.specs.Graph.{HasPositions}
 use Rattle.layout.specs.Offsets.{laid_out_procedure}
 use Rattle.verifier.specs.Fixed.{instruction_defect}
-use Rattle.verifier.specs.Flow.{Effect, Leaves, effect, goes_on}
+use Rattle.verifier.specs.Flow.{Leaves, effect, goes_on}
 use Rattle.lowering.specs.Threaded.{jump_of, onward as onward_place, followed, final_place, threaded}
 use Rattle.lowering.proofs.Unthreaded.{threaded_procedure}
 use Rattle.lowering.proofs.Finals.{length-threaded, target-renamed}

@@ -2,8 +2,7 @@
 use Rattle.std.proofs.Common.{◌≡◌, refl, ap, List, [], ◌∷◌, map}
 use Rattle.bytecode.specs.Contents.{ProcedureContents, ModuleContents}
 use Rattle.resolved.specs.Program.{Program, ProcedureEntry}
-use Rattle.lowering.specs.Code.{block_table}
-use Rattle.lowering.specs.Graphs.{no_loop, body_code, procedure_contents, graph_of}
+use Rattle.lowering.specs.Graphs.{body_code, procedure_contents, graph_of}
 use Rattle.lowering.specs.Threaded.{threaded}
 
 abbrev pub threaded_procedure : ProcedureContents → ProcedureContents
