@@ -12,6 +12,7 @@ pub mod Reported
 pub mod Rows
 pub mod Runs
 pub mod Shared
+pub mod Packing
 pub mod Positioned
 pub mod Trees
 pub mod Covering

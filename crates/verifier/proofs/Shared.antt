@@ -1,10 +1,10 @@
 -- One more list that is kept once.
-use Rattle.std.proofs.Common.{◌≡◌, ◌≢◌, ◌⊎◌, inl, inr, ℕ, suc, zero, ◌+◌, ◌<◌, ◌≤◌, List, [], ◌∷◌, ◌++◌, length, get_or, set, Option, Some, None, refl, sym, ap, ◌∙◌, subst, arith, length-append}
-use Rattle.std.proofs.lemmas.List.{get_or_append_left, get_or-set_same, get_or-set_other}
+use Rattle.std.proofs.Common.{◌≡◌, ◌≢◌, ◌⊎◌, inl, inr, ℕ, suc, zero, ◌+◌, ◌-◌, ◌<◌, ◌≤◌, List, [], ◌∷◌, ◌++◌, length, drop, get_or, set, Option, Some, None, refl, sym, ap, ◌∙◌, subst, arith, length-append}
+use Rattle.std.proofs.lemmas.List.{drop_all, get_or_append_left, get_or-set_same, get_or-set_other}
 use Rattle.std.proofs.Math.Seq.{get_or-append_seam}
 use Rattle.std.proofs.Math.ListN.{length-set}
 use Rattle.std.specs.Prelude.{IfSome}
-use Rattle.verifier.specs.Operands.{list_of, spelled, HasAbove, IsLink, IsShared}
+use Rattle.verifier.specs.Operands.{list_of, packed, spelled, HasAbove, IsLink, IsShared}
 use Rattle.verifier.specs.declared.operands.Link.{Link}
 use Rattle.bytecode.specs.declared.value.Kind.{Kind}
 use Rattle.bytecode.specs.declared.value.Kind.TheVariants.{Int, Boolean}
@@ -138,15 +138,15 @@ module _ (lists : List (List Kind)) (kind : Kind) (below : ℕ) (there : below <
 pub tails_of : (lists : List (List Kind)) (links : List Link) (ints booleans : List (Option ℕ)) → IsShared lists links ints booleans → HasTails lists
 tails_of lists links ints booleans s zero q tail l e = absurd (let f : ◌≡◌ {A = List Kind} [] (q ∷ tail) = sym s.root ∙ e in cc)
 tails_of lists links ints booleans s (suc r) q tail l e =
-    let d : Link = record { kind = Int; below = 0; depth = 0 } in
+    let d : Link = record { kind = Int; below = 0; depth = 0; bits = 0; skip = 0 } in
     let h = s.link r d (omega (arith, s.long)) in
     let r_is : r + 1 ≡ suc r = omega arith in
     let f : (get_or links r d).kind ∷ list_of lists (get_or links r d).below ≡ q ∷ tail = sym h.list ∙ ap (list_of lists) r_is ∙ e in
     ((get_or links r d).below, omega (arith, h.below), cc)
 
 -- the same links with one more
-pub link_more : (lists : List (List Kind)) (links : List Link) (n : List Kind) (link : Link) → length lists ≡ length links + 1 → ((k : ℕ) (d : Link) → k < length links → IsLink lists (k + 1) (get_or links k d)) → link.below < length lists → n ≡ link.kind ∷ list_of lists link.below → link.depth ≡ length n → link.depth ≤ length lists → (k : ℕ) (d : Link) → k < length links + 1 → IsLink (lists ++ n ∷ []) (k + 1) (get_or (links ++ link ∷ []) k d)
-link_more lists links n link long h below list depth few k d l =
+pub link_more : (lists : List (List Kind)) (links : List Link) (n : List Kind) (link : Link) → length lists ≡ length links + 1 → ((k : ℕ) (d : Link) → k < length links → IsLink lists (k + 1) (get_or links k d)) → link.below < length lists → n ≡ link.kind ∷ list_of lists link.below → link.depth ≡ length n → link.depth ≤ length lists → link.bits ≡ packed 64 n → list_of lists link.skip ≡ drop 64 n → link.skip < length lists → (k : ℕ) (d : Link) → k < length links + 1 → IsLink (lists ++ n ∷ []) (k + 1) (get_or (links ++ link ∷ []) k d)
+link_more lists links n link long h below list depth few bits skip skips k d l =
     elim (last_cases k (length links) l) [
       | inl lk ↦
           let old_link = h k d lk in
@@ -155,6 +155,9 @@ link_more lists links n link long h below list depth few k d l =
             below = old_link.below;
             depth = old_link.depth ∙ ap length (sym (old lists n (k + 1) (omega arith)));
             few = old_link.few;
+            bits = old_link.bits ∙ ap (packed 64) (sym (old lists n (k + 1) (omega arith)));
+            skip = old lists n (get_or links k d).skip (omega (arith, old_link.skips)) ∙ old_link.skip ∙ ap (drop 64) (sym (old lists n (k + 1) (omega arith)));
+            skips = old_link.skips;
           })
       | inr ek ↦
           let link_is : link ≡ get_or (links ++ link ∷ []) k d = sym (get_or-append_seam links link [] d) ∙ ap (λ j. get_or (links ++ link ∷ []) j d) (sym ek) in
@@ -164,6 +167,9 @@ link_more lists links n link long h below list depth few k d l =
             below = omega arith;
             depth = depth ∙ ap length (sym (new lists n) ∙ ap (list_of (lists ++ n ∷ [])) (sym number));
             few = omega arith;
+            bits = bits ∙ ap (packed 64) (sym (new lists n) ∙ ap (list_of (lists ++ n ∷ [])) (sym number));
+            skip = old lists n link.skip skips ∙ skip ∙ ap (drop 64) (sym (new lists n) ∙ ap (list_of (lists ++ n ∷ [])) (sym number));
+            skips = omega arith;
           })
     ]
 
@@ -173,17 +179,17 @@ differ_int e = cc
 differ_boolean : Boolean ≢ Int
 differ_boolean e = cc
 
-module _ (first : List (List Kind)) (links more_links : List Link) (ints more_ints booleans more_booleans : List (Option ℕ)) (below depth number : ℕ) where
-  pub shared_int : IsShared (spelled first links) links ints booleans → (kind : Kind) → kind ≡ Int → below < length (spelled first links) → ((k : ℕ) → k < length (spelled first links) → list_of (spelled first links) k ≢ kind ∷ list_of (spelled first links) below) → depth ≡ length (list_of (spelled first links) below) + 1 → depth ≤ below + 1 → number ≡ length links → more_links ≡ links ++ record { kind = kind; below = below; depth = depth } ∷ [] → more_ints ≡ ints ++ None ∷ [] → more_booleans ≡ booleans ++ None ∷ [] → IsShared (spelled first more_links) more_links (set more_ints below (Some (number + 1))) more_booleans
-  shared_int s kind is there fresh deep few count el ei eb =
+module _ (first : List (List Kind)) (links more_links : List Link) (ints more_ints booleans more_booleans : List (Option ℕ)) (below depth bits skip number : ℕ) where
+  pub shared_int : IsShared (spelled first links) links ints booleans → (kind : Kind) → kind ≡ Int → below < length (spelled first links) → ((k : ℕ) → k < length (spelled first links) → list_of (spelled first links) k ≢ kind ∷ list_of (spelled first links) below) → depth ≡ length (list_of (spelled first links) below) + 1 → depth ≤ below + 1 → bits ≡ packed 64 (kind ∷ list_of (spelled first links) below) → list_of (spelled first links) skip ≡ drop 63 (list_of (spelled first links) below) → skip < length (spelled first links) → number ≡ length links → more_links ≡ links ++ record { kind = kind; below = below; depth = depth; bits = bits; skip = skip } ∷ [] → more_ints ≡ ints ++ None ∷ [] → more_booleans ≡ booleans ++ None ∷ [] → IsShared (spelled first more_links) more_links (set more_ints below (Some (number + 1))) more_booleans
+  shared_int s kind is there fresh deep few bits_are skip_is skip_there count el ei eb =
       let n : List Kind = kind ∷ list_of (spelled first links) below in
-      let link : Link = record { kind = kind; below = below; depth = depth } in
+      let link : Link = record { kind = kind; below = below; depth = depth; bits = bits; skip = skip } in
       let number_is : length (spelled first links) ≡ number + 1 = omega (arith, s.long) in
       let lists_are : spelled first links ++ n ∷ [] ≡ spelled first more_links = sym (ap (spelled first) el ∙ spelled_push first links link) in
       let shared : IsShared (spelled first links ++ n ∷ []) (links ++ link ∷ []) (set (ints ++ None ∷ []) below (Some (length (spelled first links)))) (booleans ++ None ∷ []) = record {
         root = old (spelled first links) n 0 (omega arith) ∙ s.root;
         long = omega (arith, longer_one (spelled first links) n, length-append links (link ∷ []), s.long);
-        link = λ k d l. link_more (spelled first links) links n link s.long s.link there refl (deep ∙ (omega arith)) (omega arith) k d (omega (arith, l, length-append links (link ∷ [])));
+        link = λ k d l. link_more (spelled first links) links n link s.long s.link there refl (deep ∙ (omega arith)) (omega arith) bits_are skip_is skip_there k d (omega (arith, l, length-append links (link ∷ [])));
         int_above = subst (λ q. HasAbove q (spelled first links ++ n ∷ []) (set (ints ++ None ∷ []) below (Some (length (spelled first links))))) is (above_same (spelled first links) kind below there fresh ints (tails_of (spelled first links) links ints booleans s) s.distinct (subst (λ q. HasAbove q (spelled first links) ints) (sym is) s.int_above));
         boolean_above = above_other (spelled first links) kind below there fresh Boolean booleans (λ e. differ_int (sym is ∙ e)) (tails_of (spelled first links) links ints booleans s) s.boolean_above;
         distinct = λ a b la lb. distinct_more (spelled first links) kind below there fresh s.distinct a b (omega (arith, la, longer_one (spelled first links) n)) (omega (arith, lb, longer_one (spelled first links) n));
@@ -194,16 +200,16 @@ module _ (first : List (List Kind)) (links more_links : List Link) (ints more_in
       (subst (λ l. IsShared l (links ++ link ∷ []) (set (ints ++ None ∷ []) below (Some (number + 1))) (booleans ++ None ∷ [])) lists_are
       (subst (λ l. IsShared (spelled first links ++ n ∷ []) (links ++ link ∷ []) (set (ints ++ None ∷ []) below (Some l)) (booleans ++ None ∷ [])) number_is shared))))
 
-  pub shared_boolean : IsShared (spelled first links) links ints booleans → (kind : Kind) → kind ≡ Boolean → below < length (spelled first links) → ((k : ℕ) → k < length (spelled first links) → list_of (spelled first links) k ≢ kind ∷ list_of (spelled first links) below) → depth ≡ length (list_of (spelled first links) below) + 1 → depth ≤ below + 1 → number ≡ length links → more_links ≡ links ++ record { kind = kind; below = below; depth = depth } ∷ [] → more_ints ≡ ints ++ None ∷ [] → more_booleans ≡ booleans ++ None ∷ [] → IsShared (spelled first more_links) more_links more_ints (set more_booleans below (Some (number + 1)))
-  shared_boolean s kind is there fresh deep few count el ei eb =
+  pub shared_boolean : IsShared (spelled first links) links ints booleans → (kind : Kind) → kind ≡ Boolean → below < length (spelled first links) → ((k : ℕ) → k < length (spelled first links) → list_of (spelled first links) k ≢ kind ∷ list_of (spelled first links) below) → depth ≡ length (list_of (spelled first links) below) + 1 → depth ≤ below + 1 → bits ≡ packed 64 (kind ∷ list_of (spelled first links) below) → list_of (spelled first links) skip ≡ drop 63 (list_of (spelled first links) below) → skip < length (spelled first links) → number ≡ length links → more_links ≡ links ++ record { kind = kind; below = below; depth = depth; bits = bits; skip = skip } ∷ [] → more_ints ≡ ints ++ None ∷ [] → more_booleans ≡ booleans ++ None ∷ [] → IsShared (spelled first more_links) more_links more_ints (set more_booleans below (Some (number + 1)))
+  shared_boolean s kind is there fresh deep few bits_are skip_is skip_there count el ei eb =
       let n : List Kind = kind ∷ list_of (spelled first links) below in
-      let link : Link = record { kind = kind; below = below; depth = depth } in
+      let link : Link = record { kind = kind; below = below; depth = depth; bits = bits; skip = skip } in
       let number_is : length (spelled first links) ≡ number + 1 = omega (arith, s.long) in
       let lists_are : spelled first links ++ n ∷ [] ≡ spelled first more_links = sym (ap (spelled first) el ∙ spelled_push first links link) in
       let shared : IsShared (spelled first links ++ n ∷ []) (links ++ link ∷ []) (ints ++ None ∷ []) (set (booleans ++ None ∷ []) below (Some (length (spelled first links)))) = record {
         root = old (spelled first links) n 0 (omega arith) ∙ s.root;
         long = omega (arith, longer_one (spelled first links) n, length-append links (link ∷ []), s.long);
-        link = λ k d l. link_more (spelled first links) links n link s.long s.link there refl (deep ∙ (omega arith)) (omega arith) k d (omega (arith, l, length-append links (link ∷ [])));
+        link = λ k d l. link_more (spelled first links) links n link s.long s.link there refl (deep ∙ (omega arith)) (omega arith) bits_are skip_is skip_there k d (omega (arith, l, length-append links (link ∷ [])));
         boolean_above = subst (λ q. HasAbove q (spelled first links ++ n ∷ []) (set (booleans ++ None ∷ []) below (Some (length (spelled first links))))) is (above_same (spelled first links) kind below there fresh booleans (tails_of (spelled first links) links ints booleans s) s.distinct (subst (λ q. HasAbove q (spelled first links) booleans) (sym is) s.boolean_above));
         int_above = above_other (spelled first links) kind below there fresh Int ints (λ e. differ_boolean (sym is ∙ e)) (tails_of (spelled first links) links ints booleans s) s.int_above;
         distinct = λ a b la lb. distinct_more (spelled first links) kind below there fresh s.distinct a b (omega (arith, la, longer_one (spelled first links) n)) (omega (arith, lb, longer_one (spelled first links) n));
@@ -215,9 +221,9 @@ module _ (first : List (List Kind)) (links more_links : List Link) (ints more_in
       (subst (λ l. IsShared (spelled first links ++ n ∷ []) (links ++ link ∷ []) (ints ++ None ∷ []) (set (booleans ++ None ∷ []) below (Some l))) number_is shared))))
 
 -- the lists after a push
-pub pushed : (first lists : List (List Kind)) (links more_links : List Link) (kind : Kind) (below depth number : ℕ) → spelled first links ≡ lists → length lists ≡ length links + 1 → number ≡ length links → more_links ≡ links ++ record { kind = kind; below = below; depth = depth } ∷ [] → (spelled first more_links ≡ lists ++ (kind ∷ list_of lists below) ∷ []) × (length (spelled first more_links) ≡ length lists + 1) × (list_of (spelled first more_links) (number + 1) ≡ kind ∷ list_of lists below)
-pushed first lists links more_links kind below depth number view long count el =
-    let e : spelled first more_links ≡ lists ++ (kind ∷ list_of lists below) ∷ [] = ap (spelled first) el ∙ spelled_push first links (record { kind = kind; below = below; depth = depth }) ∙ ap (λ l. l ++ (kind ∷ list_of l below) ∷ []) view in
+pub pushed : (first lists : List (List Kind)) (links more_links : List Link) (kind : Kind) (below depth bits skip number : ℕ) → spelled first links ≡ lists → length lists ≡ length links + 1 → number ≡ length links → more_links ≡ links ++ record { kind = kind; below = below; depth = depth; bits = bits; skip = skip } ∷ [] → (spelled first more_links ≡ lists ++ (kind ∷ list_of lists below) ∷ []) × (length (spelled first more_links) ≡ length lists + 1) × (list_of (spelled first more_links) (number + 1) ≡ kind ∷ list_of lists below)
+pushed first lists links more_links kind below depth bits skip number view long count el =
+    let e : spelled first more_links ≡ lists ++ (kind ∷ list_of lists below) ∷ [] = ap (spelled first) el ∙ spelled_push first links (record { kind = kind; below = below; depth = depth; bits = bits; skip = skip }) ∙ ap (λ l. l ++ (kind ∷ list_of l below) ∷ []) view in
     let n : number + 1 ≡ length lists = omega arith in
     (e, ap length e ∙ longer_one lists (kind ∷ list_of lists below), ap (λ l. list_of l (number + 1)) e ∙ ap (list_of (lists ++ (kind ∷ list_of lists below) ∷ [])) n ∙ new lists (kind ∷ list_of lists below))
 
@@ -231,3 +237,33 @@ above_there kind inside lists above k None same h l e = tt
 above_there kind inside lists above k (Some r) same h l e =
     let k_in : k < length inside = omega (arith, ap length same) in
     subst (λ ls. r < length ls) same (h.some k r k_in (any_default above k None (Some r) (omega (arith, h.long)) ∙ sym e)).0
+
+-- ---- the list below the topmost 64
+
+-- what is below so many operands is there
+pub tails_drop : (lists : List (List Kind)) → HasTails lists → (n r : ℕ) → r < length lists → n ≤ length (list_of lists r) → (b : ℕ) × (b < length lists) × (list_of lists b ≡ drop n (list_of lists r))
+tails_drop lists tails n r l long = along n r (list_of lists r) l refl long
+  where
+    along : (n r : ℕ) (kinds : List Kind) → r < length lists → list_of lists r ≡ kinds → n ≤ length kinds → (b : ℕ) × (b < length lists) × (list_of lists b ≡ drop n kinds)
+    along zero r kinds l is h = (r, l, is)
+    along (suc n) r [] l is h = absurd (omega arith)
+    along (suc n) r (q ∷ kinds) l is h = let t = tails r q kinds l is in along n t.0 kinds t.1 t.2 (omega arith)
+
+module _ (lists : List (List Kind)) (links : List Link) (ints booleans : List (Option ℕ)) (s : IsShared lists links ints booleans) where
+  pub link_at : (list : ℕ) (link : Link) → list ≢ 0 → list < length lists → link ≡ get_or links (list - 1) link → IsLink lists list link
+  link_at zero link ne l is = absurd (ne refl)
+  link_at (suc k) link ne l is =
+      let n : k + 1 ≡ suc k = omega arith in
+      let at : suc k - 1 ≡ k = omega arith in
+      subst (λ (j : ℕ). IsLink lists j link) n (subst (IsLink lists (k + 1)) (sym (is ∙ ap (λ (j : ℕ). get_or links j link) at)) (s.link k link (omega (arith, s.long))))
+
+  pub skip_first : (list : ℕ) → list ≡ 0 → list_of lists 0 ≡ drop 63 (list_of lists list)
+  skip_first list is = s.root ∙ sym (drop_all 63 (list_of lists list) (omega (arith, ap (λ k. length (list_of lists k)) is, ap length s.root)))
+
+  pub skip_short : (list : ℕ) (link : Link) → IsLink lists list link → link.depth < 64 → list_of lists 0 ≡ drop 63 (list_of lists list)
+  skip_short list link h short = s.root ∙ sym (drop_all 63 (list_of lists list) (omega (arith, h.depth)))
+
+  pub skip_missing : (list : ℕ) (link : Link) (kind : Kind) → IsLink lists list link → list < length lists → 64 ≤ link.depth → drop 63 (list_of lists list) ≡ kind ∷ drop 64 (list_of lists list) → ((k : ℕ) → k < length lists → list_of lists k ≢ kind ∷ list_of lists link.skip) → ⊥
+  skip_missing list link kind h l long last none =
+      let t = tails_drop lists (tails_of lists links ints booleans s) 63 list l (omega (arith, h.depth)) in
+      none t.0 t.1 (t.2 ∙ last ∙ ap (λ ks. kind ∷ ks) (sym h.skip))

@@ -9,4 +9,5 @@ pub mod Safety
 pub mod Search
 pub mod Verified
 pub mod Words
+pub mod Parameters
 pub mod Positions

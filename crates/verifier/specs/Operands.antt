@@ -1,6 +1,6 @@
--- Lists of kinds that are kept once each, and go by their numbers.
+-- Lists of kinds that are kept once each, and go by their numbers; and kinds as bits, of which 64 are compared at once.
 -- Source: our own.
-use Rattle.std.specs.Prelude.{◌≡◌, ◌≢◌, ℕ, ◌+◌, ◌<◌, ◌≤◌, List, [], ◌∷◌, ◌++◌, length, slice_index_or, Option, Some, None}
+use Rattle.std.specs.Prelude.{◌≡◌, ◌≢◌, ℕ, zero, suc, ◌+◌, ◌*◌, ◌/◌, ◌<◌, ◌≤◌, List, [], ◌∷◌, ◌++◌, drop, length, slice_index_or, Option, Some, None}
 use Rattle.bytecode.specs.declared.value.Kind.{Kind}
 use Rattle.bytecode.specs.declared.value.Kind.TheVariants.{Int, Boolean}
 use Rattle.verifier.specs.declared.operands.Link.{Link}
@@ -23,12 +23,37 @@ pub record HasAbove (kind : Kind) (lists : List (List Kind)) (above : List (Opti
   pub some : (k r : ℕ) → k < length lists → slice_index_or above k None ≡ Some r → (r < length lists) × (list_of lists r ≡ kind ∷ list_of lists k)
   pub none : (k : ℕ) → k < length lists → slice_index_or above k None ≡ None → (r : ℕ) → r < length lists → list_of lists r ≢ kind ∷ list_of lists k
 
+-- ---- kinds as bits
+
+abbrev pub bit : Kind → ℕ
+bit Int = 0
+bit Boolean = 1
+
+-- the first so many of some kinds, the first one as the lowest bit
+abbrev pub packed : ℕ → List Kind → ℕ
+packed zero kinds = 0
+packed (suc count) [] = 0
+packed (suc count) (kind ∷ kinds) = bit kind + 2 * packed count kinds
+
+-- kinds in so many blocks of 64, and in all that they fill
+abbrev pub blocks : ℕ → List Kind → List ℕ
+blocks zero kinds = []
+blocks (suc count) kinds = packed 64 kinds ∷ blocks count (drop 64 kinds)
+
+abbrev pub full_blocks : List Kind → List ℕ
+full_blocks kinds = blocks (length kinds / 64) kinds
+
+-- ---- links
+
 -- a link gives the list with its number
 pub record IsLink (lists : List (List Kind)) (k : ℕ) (link : Link) : Type 0 where
   pub list : list_of lists k ≡ link.kind ∷ list_of lists link.below
   pub below : link.below < k
   pub depth : link.depth ≡ length (list_of lists k)
   pub few : link.depth ≤ k
+  pub bits : link.bits ≡ packed 64 (list_of lists k)
+  pub skip : list_of lists link.skip ≡ drop 64 (list_of lists k)
+  pub skips : link.skip < k
 
 -- links are shared: each list is there once, and is found from the list below
 pub record IsShared (lists : List (List Kind)) (links : List Link) (ints booleans : List (Option ℕ)) : Type 0 where

@@ -4,13 +4,14 @@ ghost use Rattle.bytecode.specs.Code.{code_length, instruction_at};
 ghost use Rattle.std.specs.Prelude.{IfOk, slice_get, slice_index_or, ◌<◌, ◌^◌, ◌≡◌};
 ghost use Rattle.verifier.specs.Search.{IsBody, indices_from};
 
-use bytecode::{Instruction, Module, Procedure};
+use crate::parameters::PackedModule;
+use bytecode::{Instruction, Procedure};
 use std::alloc::{AllocError, Global};
 
 /// A procedure of a module, and for each byte of its code the number of the instruction that begins there.
 #[derive(Drop)]
 pub(crate) struct Body<'a> {
-    pub program: &'a Module,
+    pub program: &'a PackedModule,
     pub procedure: &'a Procedure,
     pub indices: Vec<Option<u32>>,
 }
@@ -19,7 +20,7 @@ impl<'a> Body<'a> {
     /// A procedure whose code has less than 4 GiB.
     pub(crate) fn new(
         alloc: Global,
-        program: &'a Module,
+        program: &'a PackedModule,
         procedure: &'a Procedure,
     ) -> Result<Body<'a>, AllocError>
         requires { code_length procedure.now.code < 2 ^ 32 }

@@ -9,6 +9,7 @@ pub mod fault;
 mod fixed;
 pub mod loading;
 mod operands;
+mod parameters;
 mod positions;
 pub mod safety;
 mod search;

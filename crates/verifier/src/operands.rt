@@ -1,20 +1,56 @@
 //! The kinds of the operands with which control reaches instructions, as lists that share what is below.
 
 ghost use Rattle.verifier.specs.Flow.{Leaves, Misses, all_popped, between, popped};
-ghost use Rattle.verifier.specs.Operands.{list_of, IsLonger};
-ghost use Rattle.std.specs.Prelude.{◌≡◌, ◌≢◌, ◌+◌, ◌<◌, ◌≤◌, ◌^◌, ℕ, ◌∷◌, [], IfOk, IfErr, IfNone, IfSome, OnOk, length};
+ghost use Rattle.verifier.specs.Operands.{bit, full_blocks, list_of, packed, IsLonger};
+ghost use Rattle.std.specs.Prelude.{◌≡◌, ◌≢◌, ◌+◌, ◌*◌, ◌<◌, ◌≤◌, ◌^◌, ℕ, List, Some, ◌∷◌, [], IfOk, IfErr, IfNone, IfSome, OnOk, drop, length, map};
+ghost use Rattle.bytecode.specs.declared.value.Kind.{Kind};
 
 use crate::fault::Defect;
 use bytecode::Kind;
 use std::alloc::{AllocError, Global};
 use std::marker::Model;
 
-// One more operand on a list: its kind, the number of the list below, and how many operands there are.
+// The highest one of 64 bits.
+const HIGHEST: u64 = 1 << 63;
+
+// One more operand on a list: its kind, the number of the list below, and how many operands there are. So that 64 operands are
+// popped at once, also the kinds of the topmost 64 as bits, the top the lowest, and the number of the list below those.
 #[derive(Clone, Copy, Debug)]
 struct Link {
     kind: Kind,
     below: u32,
     depth: u32,
+    bits: u64,
+    skip: u32,
+}
+
+/// A kind as a bit.
+pub fn bit_of(kind: Kind) -> u64
+    ensures { result ≡ bit kind }
+{
+    match kind {
+        Kind::Int => 0,
+        Kind::Boolean => 1,
+    }
+}
+
+// The kinds as bits, where one more kind stands before them.
+fn bits_with(bits: u64, kind: Kind) -> u64
+    ensures { (kinds : List Kind) → bits ≡ packed 64 kinds → result ≡ packed 64 (kind ∷ kinds) }
+{
+    bits % HIGHEST * 2 + bit_of(kind)
+}
+
+// The last one of 64 kinds.
+fn last_kind(bits: u64) -> Kind
+    ensures { (kinds : List Kind) → 64 ≤ length kinds → bits ≡ packed 64 kinds →
+        drop 63 kinds ≡ result ∷ drop 64 kinds }
+{
+    if bits < HIGHEST {
+        Kind::Int
+    } else {
+        Kind::Boolean
+    }
 }
 
 /// Lists of kinds, each of which is kept once and goes by a number. The list 0 is empty.
@@ -95,6 +131,8 @@ impl Operands {
     {
         let above = self.links.len() as u32 + 1;
         let depth = self.depth(list) + 1;
+        let bits = bits_with(self.bits(list), kind);
+        let skip = self.skip_with(list);
         self.ints.push(None)?;
         if let Err(fault) = self.booleans.push(None) {
             self.ints.pop();
@@ -104,6 +142,8 @@ impl Operands {
             kind,
             below: list,
             depth,
+            bits,
+            skip,
         }) {
             self.ints.pop();
             self.booleans.pop();
@@ -114,6 +154,39 @@ impl Operands {
             Kind::Boolean => self.booleans[list as usize] = Some(above),
         }
         Ok(above)
+    }
+
+    // The kinds of the topmost 64 operands as bits.
+    fn bits(&self, list: u32) -> u64
+        requires { list < length self.now }
+        ensures { result ≡ packed 64 (list_of self.now list) }
+    {
+        let _ = &self.links;
+        if list == 0 {
+            0
+        } else {
+            self.links[list as usize - 1].bits
+        }
+    }
+
+    // The list below the topmost 64 operands, where one more operand is on a list.
+    fn skip_with(&self, list: u32) -> u32
+        requires { list < length self.now }
+        ensures there { result < length self.now }
+        ensures skip { list_of self.now result ≡ drop 63 (list_of self.now list) }
+    {
+        let _ = &self.links;
+        if list == 0 {
+            return 0;
+        }
+        let link = self.links[list as usize - 1];
+        if link.depth < 64 {
+            return 0;
+        }
+        match self.above(link.skip, last_kind(link.bits)) {
+            Some(skip) => skip,
+            None => unreachable!(),
+        }
     }
 
     /// Takes an operand of a kind off a list, or of any kind.
@@ -159,6 +232,47 @@ impl Operands {
             }
         }
         Ok(rest)
+    }
+
+    // The list below the topmost 64 operands, if they are of the kinds of a block.
+    fn pop_block(&self, list: u32, block: u64) -> Option<u32>
+        requires { list < length self.now }
+        ensures there { IfSome result (λ r. r < length self.now) }
+        ensures some { IfSome result (λ r. (64 ≤ length (list_of self.now list))
+            × ((block ≡ packed 64 (list_of self.now list))
+            × (list_of self.now r ≡ drop 64 (list_of self.now list)))) }
+    {
+        let _ = &self.links;
+        if list == 0 {
+            return None;
+        }
+        let link = self.links[list as usize - 1];
+        if link.depth >= 64 && link.bits == block {
+            Some(link.skip)
+        } else {
+            None
+        }
+    }
+
+    /// Takes operands off a list, a block of 64 at once, while they are of the kinds of the blocks; and how many blocks.
+    pub fn pop_blocks(&self, list: u32, blocks: &[u64]) -> (u32, usize)
+        requires { list < length self.now }
+        ensures there { result.0 < length self.now }
+        ensures few { result.1 ≤ length blocks.now }
+        ensures same { (kinds : List Kind) → blocks.now ≡ full_blocks kinds →
+            all_popped (map (λ kind. Some kind) kinds) (list_of self.now list)
+            ≡ all_popped (map (λ kind. Some kind) (drop (result.1 * 64) kinds)) (list_of self.now result.0) }
+    {
+        let mut rest = list;
+        let mut count = 0;
+        for block in blocks {
+            match self.pop_block(rest, *block) {
+                Some(below) => rest = below,
+                None => return (rest, count),
+            }
+            count += 1;
+        }
+        (rest, count)
     }
 
     fn depth(&self, list: u32) -> u32

@@ -11,6 +11,7 @@ ghost use Rattle.verifier.specs.Verified.{HasCodes};
 use crate::body::Body;
 use crate::fault::{Fault, VerifyFault};
 use crate::fixed::fixed_fault;
+use crate::parameters::PackedModule;
 use crate::positions::Code;
 use crate::search::{Stop, find_defect};
 use bytecode::{Instruction, Module};
@@ -68,15 +69,16 @@ pub fn verify(alloc: Global, program: Module) -> Result<Verified, VerifyFault>
     ensures faultless { OnOk result (HasNoFault program) }
     ensures fault { IfErr result (λ fault. IsRefusal program fault) }
 {
-    let codes = look_for_faults(alloc, &program)?;
+    let packed = PackedModule::new(alloc, program)?;
+    let codes = look_for_faults(alloc, &packed)?;
     Ok(Verified {
-        inner: program,
+        inner: packed.into_module(),
         codes,
     })
 }
 
 // Looks for a fault of a module, and answers the code of each procedure where there is none.
-fn look_for_faults(alloc: Global, program: &Module) -> Result<Vec<Code>, VerifyFault>
+fn look_for_faults(alloc: Global, program: &PackedModule) -> Result<Vec<Code>, VerifyFault>
     ensures ok { IfOk result (λ codes. HasCodes program.now codes.items) }
     ensures err { IfErr result (λ fault. IsRefusal program.now fault) }
 {
@@ -87,7 +89,7 @@ fn look_for_faults(alloc: Global, program: &Module) -> Result<Vec<Code>, VerifyF
 }
 
 // Looks for a fault of the flow of a module, where no instruction and no handler has one by itself.
-fn look_for_flow_faults(alloc: Global, program: &Module) -> Result<Vec<Code>, VerifyFault>
+fn look_for_flow_faults(alloc: Global, program: &PackedModule) -> Result<Vec<Code>, VerifyFault>
     requires { fixed_faults program.now ≡ [] }
     ensures ok { IfOk result (λ codes. HasCodes program.now codes.items) }
     ensures err { IfErr result (λ fault. IsRefusal program.now fault) }

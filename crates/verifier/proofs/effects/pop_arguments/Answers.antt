@@ -1,9 +1,30 @@
-use Rattle.std.proofs.Common.{◌≡◌, ◌-◌, ◌+◌, ◌<◌, length, arith, ◌∙◌}
+use Rattle.std.proofs.Common.{◌≡◌, ◌-◌, ◌+◌, ◌*◌, ◌<◌, min, length, drop, map, Some, arith, ap, sym, ◌∙◌}
 use Rattle.bytecode.specs.declared.value.Kind.TheVariants.{Int}
 use Rattle.bytecode.specs.declared.declaration.Slot.TheVariants.{Scalar}
-use Rattle.verifier.specs.Operands.{list_of}
-use Rattle.verifier.proofs.Arguments.{pop_step, pop_fail}
+use Rattle.verifier.specs.Flow.{all_popped}
+use Rattle.verifier.specs.Operands.{full_blocks, list_of}
+use Rattle.verifier.proofs.Arguments.{pop_step, pop_fail, popped_inside, popped_left, reversed}
 use Rattle.verifier.proofs.effects.pop_arguments.Goals as goal
+
+pub overflow_mul-count : goal.overflow_mul-count
+overflow_mul-count c =
+    omega (arith, c.min.type_inv, popped_inside c.slots-slots.result.now c.args.callee.now.parameters c.min.result c.pop_blocks-below.result.1 c.args.blocks.now (c.requires.blocks ∙ ap (λ s. full_blocks (reversed c.args.callee.now.parameters s)) (sym c.slots-slots.ensures)) (c.min.ensures ∙ ap (min (length c.slots-slots.result.now)) c.parameters.ensures) c.pop_blocks-below.ensures.few)
+
+pub overflow_sub-count : goal.overflow_sub-count
+overflow_sub-count c =
+    popped_inside c.slots-slots.result.now c.args.callee.now.parameters c.min.result c.pop_blocks-below.result.1 c.args.blocks.now (c.requires.blocks ∙ ap (λ s. full_blocks (reversed c.args.callee.now.parameters s)) (sym c.slots-slots.ensures)) (c.min.ensures ∙ ap (min (length c.slots-slots.result.now)) c.parameters.ensures) c.pop_blocks-below.ensures.few
+
+pub loop-count-init : goal.loop-count-init
+loop-count-init c =
+    let least = c.min.ensures in
+    record {
+      inside = omega (arith, least);
+      there = c.pop_blocks-below.ensures.there;
+      same =
+          c.pop_blocks-below.ensures.same (reversed c.args.callee.now.parameters c.args.callee.now.slots) c.requires.blocks
+          ∙ ap (λ kinds. all_popped (map (λ kind. Some kind) kinds) (list_of c.args.operands.now c.pop_blocks-below.result.0)) (ap (λ s. drop (c.pop_blocks-below.result.1 * 64) (reversed c.args.callee.now.parameters s)) (sym c.slots-slots.ensures)
+          ∙ popped_left c.slots-slots.result.now c.args.callee.now.parameters c.min.result c.pop_blocks-below.result.1 c.args.blocks.now (c.requires.blocks ∙ ap (λ s. full_blocks (reversed c.args.callee.now.parameters s)) (sym c.slots-slots.ensures)) (c.min.ensures ∙ ap (min (length c.slots-slots.result.now)) c.parameters.ensures) c.pop_blocks-below.ensures.few);
+    }
 
 pub loop-count-preserved : goal.loop-count-preserved
 loop-count-preserved c =
