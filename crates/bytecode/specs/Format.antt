@@ -123,7 +123,8 @@ unfoldable pub reader_after : ℕ → ℕ → List ℕ → Form ℕ
 reader_after count owner before =
     Checked NotCanonical (λ reader. not (reader == owner) && is_above nat_cmp before reader) (number_below count)
 
--- policies ascend by owner, then by the list of readers, where a list that begins another one is the smaller
+-- policies ascend by owner, then by the list of readers, where a list that is a prefix of another one is the
+-- smaller
 unfoldable pub policy_after : ℕ → List ReaderPolicy → Form ReaderPolicy
 policy_after count before =
     Checked NotCanonical (is_above policy_cmp before)

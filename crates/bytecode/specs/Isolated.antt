@@ -33,12 +33,12 @@ pub record ReadsInput (m : ModuleContents) (p k : ℕ) : Type 0 where
 abbrev pub Agree : ModuleContents → (p : ℕ) → (first second : ℕ → List ℤ) → Type 0
 Agree m p first second = (k : ℕ) → ReadsInput m p k → first k ≡ second k
 
--- one of two lists begins the other
+-- one of two lists is a prefix of the other
 abbrev pub OneBegins : {X : Type 0} → List X → List X → Type 0
 OneBegins xs ys = Begins xs ys ⊎ Begins ys xs
 
 -- an isolated module: for every principal, all worlds that agree for it and any two numbers of steps, one of the lists that it
--- sees begins the other
+-- sees is a prefix of the other
 abbrev pub IsIsolated : ModuleContents → Type 0
 IsIsolated m =
     (p : ℕ) (first second : ℕ → List ℤ) → Agree m p first second → (i j : ℕ)

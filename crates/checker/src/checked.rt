@@ -1,6 +1,7 @@
 //! An accepted program with its least labels.
-ghost use Rattle.std.specs.Prelude.{IfOk, length, ◌+◌, ◌≡◌, ◌≤◌};
+ghost use Rattle.std.specs.Prelude.{IfOk, length, ◌≡◌, ◌≤◌};
 
+use gathering::unknowns::{first_after, number_after};
 use labels::{Label, LabelLattice};
 use resolved::program::Core;
 use solver::Solution;
@@ -17,21 +18,8 @@ pub struct Checked {
     pub ghost rows: { length solution ≤ length written.items },
 }
 
-// A sum of numbers of unknowns, or out of memory where it does not fit.
-fn plus(number: u32, more: usize) -> Result<u32, AllocError>
-    ensures { IfOk result (λ sum. sum ≡ number + more) }
-{
-    let Ok(more) = u32::try_from(more) else {
-        return Err(AllocError);
-    };
-    let Some(sum) = number.checked_add(more) else {
-        return Err(AllocError);
-    };
-    Ok(sum)
-}
-
 impl Checked {
-    ghost use Rattle.checker.specs.Least.{least_label};
+    ghost use Rattle.checker.specs.Least.{least_label, least_value};
     ghost use Rattle.gathering.specs.Names.{unknowns_before};
     ghost use Rattle.labels.specs.Constraints.{label_lattice};
     ghost use Rattle.resolved.specs.CoreOf.{program_of};
@@ -48,14 +36,13 @@ impl Checked {
             if number == procedure as usize {
                 return Ok(first);
             }
-            first = plus(first, entry.slots.len())?;
-            first = plus(first, entry.loops as usize)?;
+            first = first_after(first, entry)?;
         }
         Ok(first)
     }
 
     /// The least label of a local without a written one, by the numbers of its procedure and its own: exact up to flow both ways. It
-    /// goes through the solution.
+    /// counts the unknowns of all procedures before it.
     ///
     /// # Errors
     ///
@@ -64,11 +51,24 @@ impl Checked {
         ensures { IfOk result (AreAlike (label_lattice (program_of self.now.core).hierarchy)
             (least_label self.now (OfLocal procedure slot))) }
     {
-        let number = plus(self.first_unknown(procedure)?, slot as usize)?;
+        let number = number_after(self.first_unknown(procedure)?, slot as usize)?;
+        self.label_of_unknown(alloc, number)
+    }
+
+    /// The least label of the local or the loop that is the unknown with this number: exact up to flow both ways. It goes through the
+    /// row of the unknown in the solution alone.
+    ///
+    /// # Errors
+    ///
+    /// Memory ran out.
+    pub fn label_of_unknown(&self, alloc: Global, unknown: u32) -> Result<Label, AllocError>
+        ensures { IfOk result (AreAlike (label_lattice (program_of self.now.core).hierarchy)
+            (least_value self.now unknown)) }
+    {
         let lattice = LabelLattice {
             hierarchy: &self.core.hierarchy,
         };
         self.solution
-            .value(alloc, &lattice, self.written.as_slice(), number)
+            .value(alloc, &lattice, self.written.as_slice(), unknown)
     }
 }

@@ -7,30 +7,40 @@ use Rattle.resolved.specs.CoreOf.{program_of}
 use Rattle.resolved.specs.Ends.{thrown_ends}
 use Rattle.resolved.specs.declared.program.Core.{Core}
 use Rattle.resolved.specs.declared.statement.Exit.TheVariants.{Throw}
-use Rattle.gathering.specs.Names.{NamedAtom, NamedConstraint, numbered}
+use Rattle.gathering.specs.Names.{NamedAtom, NamedConstraint}
 use Rattle.gathering.specs.Walk as walk
 use Rattle.gathering.specs.Walk.{flow, flows, raised_flows, raised_once}
 use Rattle.path_map.specs.declared.raises.Raises.{Raises}
 use Rattle.path_map.specs.Joins.{raised_list}
 use Rattle.path_map.specs.Sets.{AreRaised, is_one_of}
 use Rattle.solver.specs.declared.system.Atom.{Atom}
-use Rattle.constraints.specs.Parts.{parts}
-use Rattle.constraints.specs.Added.{AreAdded, IsLeft, IsPart, Stored, flow_if, stand_for}
+use Rattle.constraints.specs.Parts.{part, parts}
+use Rattle.constraints.specs.Added.{AreAdded, IsLeft, IsPart, PartConstraint, Stored, flow_if, stand_for, stands_for, wanted_constraint}
 
 pub added-none : (core : Core) (table : List Label) (old : List Stored) → AreAdded core table [] old old
-added-none core table old = sym (append-nil (stand_for (program_of core) table old))
+added-none core table old = sym (append-nil (stand_for table old))
+
+-- one more
+pub stands-made : (table : List Label) (c : Stored) (wanted : PartConstraint) → c.at ≡ wanted.at → c.rule ≡ wanted.rule → parts table c.left.items ≡ wanted.left
+    → c.target ≡ wanted.target → part table c.right ≡ wanted.right → stands_for table c ≡ wanted
+stands-made table c wanted at rule left target right = rw (at, rule, left, target, right) refl
+
+pub added-one : (core : Core) (table : List Label) (c : Stored) (named : NamedConstraint) (old new : List Stored)
+    → new ≡ old ++ c ∷ [] → stands_for table c ≡ wanted_constraint (program_of core) named → AreAdded core table (named ∷ []) old new
+added-one core table c named old new pushed is =
+    ap (stand_for table) pushed ∙ (map-append (stands_for table) old (c ∷ []) ∙ ap (λ x. stand_for table old ++ x ∷ []) is)
 
 pub added-then : (core : Core) (table : List Label) (a b : List NamedConstraint) (old middle new : List Stored)
     → AreAdded core table a old middle → AreAdded core table b middle new → AreAdded core table (a ++ b) old new
 added-then core table a b old middle new first second =
     let program = program_of core in
-    second ∙ (ap (λ cs. cs ++ map (numbered program) b) first
-    ∙ (append_assoc (stand_for program table old) (map (numbered program) a) (map (numbered program) b)
-    ∙ ap (λ cs. stand_for program table old ++ cs) (sym (map-append (numbered program) a b))))
+    second ∙ (ap (λ cs. cs ++ map (wanted_constraint program) b) first
+    ∙ (append_assoc (stand_for table old) (map (wanted_constraint program) a) (map (wanted_constraint program) b)
+    ∙ ap (λ cs. stand_for table old ++ cs) (sym (map-append (wanted_constraint program) a b))))
 
 pub added-same : (core : Core) (table : List Label) (a b : List NamedConstraint) (old new : List Stored)
     → a ≡ b → AreAdded core table b old new → AreAdded core table a old new
-added-same core table a b old new same added = added ∙ ap (λ cs. stand_for (program_of core) table old ++ map (numbered (program_of core)) cs) (sym same)
+added-same core table a b old new same added = added ∙ ap (λ cs. stand_for table old ++ map (wanted_constraint (program_of core)) cs) (sym same)
 
 -- exceptions of expressions, each once
 once-list : (a b : Bool) → (if a then (0 ∷ (if b then 1 ∷ [] else [])) else (if b then 1 ∷ [] else [])) ≡ raised_list a b
@@ -71,7 +81,7 @@ raised-flows atoms takers found exceptions are =
 
 pub left-same : (core : Core) (table : List Label) (atoms : List NamedAtom) (given found : List Atom)
     → found ≡ given → IsLeft core table atoms given → IsLeft core table atoms found
-left-same core table atoms given found same is = ap (parts (program_of core) table) same ∙ is
+left-same core table atoms given found same is = ap (parts table) same ∙ is
 
 pub raised-added : (core : Core) (table : List Label) (atoms : List NamedAtom) (takers : walk.Takers) (found : Raises) (exceptions : List ℕ) (arith bounds : Option ℕ) (old middle new : List Stored)
     → AreRaised found exceptions → arith ≡ takers (Throw 0) → bounds ≡ takers (Throw 1)
@@ -91,4 +101,4 @@ flow-added core table atoms taker wanted old new is added = added-same core tabl
 -- the left side of the pc alone
 pub alone-left : (core : Core) (table : List Label) (named : NamedAtom) (pc : Atom) (left : List Atom)
     → left ≡ pc ∷ [] → IsPart core table named pc → IsLeft core table (named ∷ []) left
-alone-left core table named pc left is stands = ap (parts (program_of core) table) is ∙ ap (λ p. p ∷ []) stands
+alone-left core table named pc left is stands = ap (parts table) is ∙ ap (λ p. p ∷ []) stands

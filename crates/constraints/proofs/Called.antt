@@ -13,7 +13,7 @@ use Rattle.resolved.specs.declared.expression.Expression as E
 use Rattle.resolved.specs.declared.statement.Exit.{Exit}
 use Rattle.resolved.specs.declared.statement.Exit.TheVariants.{Throw}
 use Rattle.resolved.specs.declared.target.Target.TheVariants.{ToParameter}
-use Rattle.gathering.specs.Names.{NamedConstraint, named_atoms, numbered_atom}
+use Rattle.gathering.specs.Names.{NamedConstraint, named_atoms}
 use Rattle.gathering.specs.Walk as walk
 use Rattle.gathering.specs.Walk.{argument_constraints, call_atoms, call_flows, flow, inner_atom, raised_once, rule_constraint}
 use Rattle.path_map.specs.declared.raises.Raises.{Raises}
@@ -21,7 +21,7 @@ use Rattle.path_map.specs.Joins.{raised_list}
 use Rattle.path_map.specs.Sets.{AreRaised}
 use Rattle.solver.specs.declared.system.Atom.{Atom}
 use Rattle.constraints.specs.Added.{AreAdded, IsLeftFrom, Stored, flow_if}
-use Rattle.constraints.specs.Parts.{IsJoined, joined, scope_of}
+use Rattle.constraints.specs.Parts.{IsJoined, joined, scope_of, wanted_part}
 use Rattle.constraints.specs.declared.rows.ThrownLabel.{ThrownLabel}
 use Rattle.constraints.proofs.Added.{added-then, added-same, raised-once}
 use Rattle.constraints.proofs.Joined.{joined-append}
@@ -33,7 +33,7 @@ pub left-then : (core : Core) (table : List Label) (pc : Atom) (a b : Join) (fir
 left-then core table pc a b first left from joined-is named stands =
     let program : Program = program_of core in
     joined-is ∙ (ap (λ ps. ps ++ joined program b) (from named stands)
-    ∙ ap (λ ps. numbered_atom program named ∷ ps) (sym (joined-append program a b)))
+    ∙ ap (λ ps. wanted_part program named ∷ ps) (sym (joined-append program a b)))
 
 -- one more argument
 arguments-append : (scope : Scope) (at own callee i : ℕ) (xs : List Expression) (x : Expression)

@@ -29,14 +29,14 @@ pub joined-then : (core : Core) (table : List Label) (a b : Join) (old middle ne
 joined-then core table a b old middle new first second =
     let program : Program = program_of core in
     second ∙ (ap (λ xs. xs ++ joined program b) first
-    ∙ (append_assoc (parts program table old) (joined program a) (joined program b)
-    ∙ ap (λ xs. parts program table old ++ xs) (sym (joined-append program a b))))
+    ∙ (append_assoc (parts table old) (joined program a) (joined program b)
+    ∙ ap (λ xs. parts table old ++ xs) (sym (joined-append program a b))))
 
 pub joined-none : (core : Core) (table : List Label) (old : List Atom) → IsJoined core table [] old old
-joined-none core table old = sym (append-nil (parts (program_of core) table old))
+joined-none core table old = sym (append-nil (parts table old))
 
 pub joined-same : (core : Core) (table : List Label) (a b : Join) (old new : List Atom) → a ≡ b → IsJoined core table b old new → IsJoined core table a old new
-joined-same core table a b old new same is = is ∙ ap (λ join. parts (program_of core) table old ++ joined (program_of core) join) (sym same)
+joined-same core table a b old new same is = is ∙ ap (λ join. parts table old ++ joined (program_of core) join) (sym same)
 
 -- whether there are any in lists that are put together
 pub any-append : {A : Type 0} (xs ys : List A) → any_of (xs ++ ys) ≡ (any_of xs || any_of ys)
@@ -129,5 +129,5 @@ raise-next core table f xs i x old middle new inside is first second =
 pub left-from : (core : Core) (table : List Label) (pc : Atom) (join : Join) (first left : List Atom)
     → first ≡ pc ∷ [] → IsJoined core table join first left → IsLeftFrom core table pc join left
 left-from core table pc join first left is joined-is named stands =
-    joined-is ∙ (ap (λ list. parts (program_of core) table list ++ joined (program_of core) join) is
+    joined-is ∙ (ap (λ list. parts table list ++ joined (program_of core) join) is
     ∙ ap (λ p. p ∷ joined (program_of core) join) stands)

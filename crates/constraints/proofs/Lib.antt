@@ -12,3 +12,4 @@ pub mod Begun
 pub mod Measured
 pub mod Declared
 pub mod Bodies
+mod Gathered

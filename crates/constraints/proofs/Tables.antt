@@ -1,10 +1,12 @@
 -- Tables of labels that grow, and what stands in them.
-use Rattle.std.proofs.Common.{◌≡◌, refl, sym, ap, ◌∙◌, subst, ℕ, suc, zero, ◌+◌, ◌<◌, ◌≤◌, List, [], ◌∷◌, ◌++◌, map, take, length, get_or, arith, append_assoc, append-nil}
+use Rattle.std.proofs.Common.{◌≡◌, refl, sym, ap, ◌∙◌, subst, ℕ, suc, zero, ◌+◌, ◌<◌, ◌≤◌, List, [], ◌∷◌, ◌++◌, map, take, length, length-append, get_or, arith, append_assoc, append-nil}
 use Rattle.std.specs.Prelude.{Option, Some, None, Bool, true, false, sum_by, if◌then◌else◌, ◌==◌}
 use Rattle.std.proofs.lemmas.List.{get_or_append_left, map-append, map_more, length-map, length-take-le}
-use Rattle.std.proofs.lemmas.List.Sums.{sum_by-append, sum_by-cons}
+use Rattle.std.proofs.lemmas.Option.{slice_get-get_or}
+use Rattle.std.proofs.lemmas.List.Sums.{sum_by-cons}
 use Rattle.labels.specs.Label.{Label}
-use Rattle.labels.specs.Constraints.{Written, Unknown, renamed}
+use Rattle.labels.specs.Constraints.{renamed}
+use Rattle.labels.specs.Constraints as formal
 use Rattle.resolved.specs.Program.{Program, ChannelEntry, GlobalEntry, ProcedureEntry, SlotEntry, ThrownEntry, procedure_at, slot_at}
 use Rattle.resolved.specs.ProgramOf.{channel_entry, global_entry, procedure_entry, result_entry, slot_entry, thrown_entry}
 use Rattle.resolved.specs.CoreOf.{program_of}
@@ -19,10 +21,10 @@ use Rattle.resolved.specs.declared.target.Target.TheVariants.{ToVariable, ToPara
 use Rattle.resolved.specs.Labelled.{OfLocal, parameter_label, result_label, thrown_label, written_or}
 use Rattle.resolved.specs.Ends.{declared_by}
 use Rattle.resolved.specs.Tree.{Empty}
-use Rattle.gathering.specs.Names.{Real, numbered_atom, own_unknowns, unknowns_before}
+use Rattle.gathering.specs.Names.{Real, own_unknowns, unknowns_before}
 use Rattle.solver.specs.declared.system.Atom.{Atom}
 use Rattle.solver.specs.declared.system.Atom.TheVariants as stored
-use Rattle.constraints.specs.Parts.{Part, part, part_of, parts}
+use Rattle.constraints.specs.Parts.{Part, Unknown, Written, part, part_of, parts, wanted_part}
 use Rattle.constraints.specs.Rows.{Grows, Mean, Means, AreRows, IsRow, IsTable, label_among, slot_parts, thrown_parts, written_atom, written_part}
 use Rattle.constraints.specs.declared.rows.Row.{Row}
 use Rattle.constraints.specs.declared.rows.ThrownLabel.{ThrownLabel}
@@ -42,30 +44,42 @@ pub behind : (old new more : List Label) (grown : Grows old new) → new ++ more
 behind old new more grown = ap (λ t. t ++ more) grown.is ∙ append_assoc old grown.added more
 
 pub means-more : (old new : List Label) (atom : Atom) (m : Part) → Grows old new → Means old atom m → Means new atom m
-means-more old new atom m grown means = λ program more.
-    ap (λ t. part program t atom) (behind old new more grown) ∙ means program (grown.added ++ more)
+means-more old new atom m grown means = λ more.
+    ap (λ t. part t atom) (behind old new more grown) ∙ means (grown.added ++ more)
 
 -- a label that stands in a table
 pub means-listed : (table : List Label) (n : ℕ) (label : Label) → n < length table → ((none : Label) → get_or table n none ≡ label)
     → Means table (stored.Written n) (Written label)
-means-listed table n label inside listed = λ program more.
-    ap (λ l. Written l) (get_or_append_left table more [] n inside ∙ listed [])
+means-listed table n label inside listed = λ more.
+    ap (λ found. formal.Written found)
+    (slice_get-get_or (table ++ more) n [] (let within : n < length (table ++ more) = omega (arith, inside, length-append table more) in within)
+    ∙ ap (λ l. Some l) (get_or_append_left table more [] n inside ∙ listed []))
 
 pub mean-more : (old new : List Label) (atoms : List Atom) (ms : List Part) → Grows old new → Mean old atoms ms → Mean new atoms ms
-mean-more old new atoms ms grown mean = λ program more.
-    ap (λ t. parts program t atoms) (behind old new more grown) ∙ mean program (grown.added ++ more)
+mean-more old new atoms ms grown mean = λ more.
+    ap (λ t. parts t atoms) (behind old new more grown) ∙ mean (grown.added ++ more)
 
 pub mean-step : (old new : List Label) (atoms : List Atom) (atom : Atom) (ms : List Part) (m : Part)
     → Grows old new → Mean old atoms ms → Means new atom m → Mean new (atoms ++ atom ∷ []) (ms ++ m ∷ [])
-mean-step old new atoms atom ms m grown mean means = λ program more.
-    map-append (part program (new ++ more)) atoms (atom ∷ [])
-    ∙ (ap (λ xs. xs ++ (part program (new ++ more) atom ∷ [])) (mean-more old new atoms ms grown mean program more)
-    ∙ ap (λ x. ms ++ (x ∷ [])) (means program more))
+mean-step old new atoms atom ms m grown mean means = λ more.
+    map-append (part (new ++ more)) atoms (atom ∷ [])
+    ∙ (ap (λ xs. xs ++ (part (new ++ more) atom ∷ [])) (mean-more old new atoms ms grown mean more)
+    ∙ ap (λ x. ms ++ (x ∷ [])) (means more))
 
 -- one more of a list
 pub next-of : {A B : Type 0} (f : A → B) (xs : List A) (i : ℕ) (x : A) → i < length xs → x ≡ get_or xs i x
     → map f (take (i + 1) xs) ≡ map f (take i xs) ++ f x ∷ []
 next-of f xs i x inside is = map_more f xs i x inside ∙ ap (λ y. map f (take i xs) ++ f y ∷ []) (sym is)
+
+-- written labels: one more
+pub written-next : {A : Type 0} (label : A → Label) (xs : List A) (i : ℕ) (x : A) (old new : List Label) (atoms atoms' : List Atom) (atom : Atom)
+    → i < length xs → x ≡ get_or xs i x → atoms' ≡ atoms ++ atom ∷ [] → Grows old new
+    → Mean old atoms (map (λ y. Written (label y)) (take i xs)) → Means new atom (Written (label x))
+    → Mean new atoms' (map (λ y. Written (label y)) (take (i + 1) xs))
+written-next label xs i x old new atoms atoms' atom inside is pushed grown mean means = λ more.
+    ap (parts (new ++ more)) pushed
+    ∙ (mean-step old new atoms atom (map (λ y. Written (label y)) (take i xs)) (Written (label x)) grown mean means more
+    ∙ sym (next-of (λ y. Written (label y)) xs i x inside is))
 
 -- declared exceptions
 pub exceptions-next : (throws : List Thrown) (i : ℕ) (x : Thrown) (labels labels' : List ThrownLabel) (label : Atom)
@@ -82,18 +96,18 @@ exceptions-next throws i x labels labels' label inside is pushed before =
 pub labels-next : (throws : List Thrown) (i : ℕ) (x : Thrown) (old new : List Label) (labels labels' : List ThrownLabel) (label : Atom)
     → i < length throws → x ≡ get_or throws i x → labels' ≡ labels ++ record { exception = x.exception; label = label } ∷ []
     → Grows old new
-    → ((program : Program) (more : List Label) → thrown_parts program (old ++ more) labels
+    → ((more : List Label) → thrown_parts (old ++ more) labels
     ≡ map (λ (entry : ThrownEntry). Written entry.label) (map thrown_entry (take i throws)))
     → Means new label (Written x.label)
-    → (program : Program) (more : List Label) → thrown_parts program (new ++ more) labels'
+    → (more : List Label) → thrown_parts (new ++ more) labels'
     ≡ map (λ (entry : ThrownEntry). Written entry.label) (map thrown_entry (take (i + 1) throws))
-labels-next throws i x old new labels labels' label inside is pushed grown mean means program more =
+labels-next throws i x old new labels labels' label inside is pushed grown mean means more =
     let written : ThrownEntry → Part = λ (entry : ThrownEntry). Written entry.label in
-    ap (thrown_parts program (new ++ more)) pushed
-    ∙ (map-append (λ (thrown : ThrownLabel). part program (new ++ more) thrown.label) labels (record { exception = x.exception; label = label } ∷ [])
-    ∙ (ap (λ ys. ys ++ (part program (new ++ more) label ∷ []))
-    (ap (λ table. thrown_parts program table labels) (behind old new more grown) ∙ mean program (grown.added ++ more))
-    ∙ (ap (λ y. map written (map thrown_entry (take i throws)) ++ (y ∷ [])) (means program more)
+    ap (thrown_parts (new ++ more)) pushed
+    ∙ (map-append (λ (thrown : ThrownLabel). part (new ++ more) thrown.label) labels (record { exception = x.exception; label = label } ∷ [])
+    ∙ (ap (λ ys. ys ++ (part (new ++ more) label ∷ []))
+    (ap (λ table. thrown_parts table labels) (behind old new more grown) ∙ mean (grown.added ++ more))
+    ∙ (ap (λ y. map written (map thrown_entry (take i throws)) ++ (y ∷ [])) (means more)
     ∙ (sym (map-append written (map thrown_entry (take i throws)) (thrown_entry x ∷ []))
     ∙ ap (map written) (sym (next-of thrown_entry throws i x inside is))))))
 
@@ -110,42 +124,42 @@ pub slots-next : (slots : List Slot) (i : ℕ) (x : Slot) (first number : ℕ) (
     → i < length slots → x ≡ get_or slots i x → number ≡ first + i → atoms' ≡ atoms ++ atom ∷ []
     → Grows old new → Mean old atoms (slot_parts first (map slot_entry (take i slots))) → Means new atom (written_part x.written number)
     → Mean new atoms' (slot_parts first (map slot_entry (take (i + 1) slots)))
-slots-next slots i x first number old new atoms atoms' atom inside is counted pushed grown mean means = λ program more.
+slots-next slots i x first number old new atoms atoms' atom inside is counted pushed grown mean means = λ more.
     let before : List SlotEntry = map slot_entry (take i slots) in
     let count : length before ≡ i = length-map (take i slots) slot_entry ∙ length-take-le i slots (let le : i ≤ length slots = omega (arith, inside) in le) in
-    ap (parts program (new ++ more)) pushed
-    ∙ (mean-step old new atoms atom (slot_parts first before) (written_part x.written number) grown mean means program more
+    ap (parts (new ++ more)) pushed
+    ∙ (mean-step old new atoms atom (slot_parts first before) (written_part x.written number) grown mean means more
     ∙ (ap (λ n. slot_parts first before ++ written_part x.written n ∷ []) (counted ∙ ap (λ k. first + k) (sym count))
     ∙ (sym (slots-append first before (slot_entry x))
     ∙ ap (slot_parts first) (sym (next-of slot_entry slots i x inside is)))))
 
 -- rows
-pub row-more : (program : Program) (old new more : List Label) (first : ℕ) (procedure : ProcedureEntry) (row : Row) → Grows old new
-    → ((more : List Label) → IsRow program (old ++ more) first procedure row) → IsRow program (new ++ more) first procedure row
-row-more program old new more first procedure row grown each =
-    subst (λ table. IsRow program table first procedure row) (sym (behind old new more grown)) (each (grown.added ++ more))
+pub row-more : (old new more : List Label) (first : ℕ) (procedure : ProcedureEntry) (row : Row) → Grows old new
+    → ((more : List Label) → IsRow (old ++ more) first procedure row) → IsRow (new ++ more) first procedure row
+row-more old new more first procedure row grown each =
+    subst (λ table. IsRow table first procedure row) (sym (behind old new more grown)) (each (grown.added ++ more))
 
-pub rows-more : (program : Program) (old new more : List Label) (first : ℕ) (procedures : List ProcedureEntry) (rows : List Row) → Grows old new
-    → ((more : List Label) → AreRows program (old ++ more) first procedures rows) → AreRows program (new ++ more) first procedures rows
-rows-more program old new more first procedures rows grown each =
-    subst (λ table. AreRows program table first procedures rows) (sym (behind old new more grown)) (each (grown.added ++ more))
+pub rows-more : (old new more : List Label) (first : ℕ) (procedures : List ProcedureEntry) (rows : List Row) → Grows old new
+    → ((more : List Label) → AreRows (old ++ more) first procedures rows) → AreRows (new ++ more) first procedures rows
+rows-more old new more first procedures rows grown each =
+    subst (λ table. AreRows table first procedures rows) (sym (behind old new more grown)) (each (grown.added ++ more))
 
 step-count : (first : ℕ) (p : ProcedureEntry) (procedures : List ProcedureEntry)
     → first + sum_by own_unknowns (p ∷ procedures) ≡ (first + own_unknowns p) + sum_by own_unknowns procedures
 step-count first p procedures = omega (arith, sum_by-cons own_unknowns p procedures)
 
-pub rows-append : (program : Program) (table : List Label) (first : ℕ) (procedures : List ProcedureEntry) (procedure : ProcedureEntry) (rows : List Row) (row : Row)
-    → AreRows program table first procedures rows → IsRow program table (first + sum_by own_unknowns procedures) procedure row
-    → AreRows program table first (procedures ++ procedure ∷ []) (rows ++ row ∷ [])
-rows-append program table first [] procedure [] row are is =
-    (subst (λ n. IsRow program table n procedure row) (let e : first + 0 ≡ first = omega arith in e) is, tt)
-rows-append program table first (p ∷ procedures) procedure (r ∷ rows) row are is = (
+pub rows-append : (table : List Label) (first : ℕ) (procedures : List ProcedureEntry) (procedure : ProcedureEntry) (rows : List Row) (row : Row)
+    → AreRows table first procedures rows → IsRow table (first + sum_by own_unknowns procedures) procedure row
+    → AreRows table first (procedures ++ procedure ∷ []) (rows ++ row ∷ [])
+rows-append table first [] procedure [] row are is =
+    (subst (λ n. IsRow table n procedure row) (let e : first + 0 ≡ first = omega arith in e) is, tt)
+rows-append table first (p ∷ procedures) procedure (r ∷ rows) row are is = (
   are.0,
-  rows-append program table (first + own_unknowns p) procedures procedure rows row are.1
-      (subst (λ n. IsRow program table n procedure row) (step-count first p procedures) is),
+  rows-append table (first + own_unknowns p) procedures procedure rows row are.1
+      (subst (λ n. IsRow table n procedure row) (step-count first p procedures) is),
 )
-rows-append program table first [] procedure (r ∷ rows) row are is = absurd are
-rows-append program table first (p ∷ procedures) procedure [] row are is = absurd are
+rows-append table first [] procedure (r ∷ rows) row are is = absurd are
+rows-append table first (p ∷ procedures) procedure [] row are is = absurd are
 
 pub row-made : (procedure : Procedure) (first : ℕ) (t1 t2 t3 t4 t5 : List Label) (begin end value : Atom) (slots : List Slot) (atoms : List Atom) (throws : List Thrown) (labels : List ThrownLabel) (count loops : ℕ)
     → Grows t1 t2 → Grows t2 t3 → Grows t3 t4 → Grows t4 t5
@@ -154,55 +168,43 @@ pub row-made : (procedure : Procedure) (first : ℕ) (t1 t2 t3 t4 t5 : List Labe
     → slots ≡ procedure.slots.items → Mean t4 atoms (slot_parts first (map slot_entry slots))
     → throws ≡ procedure.throws.items
     → map (λ (thrown : ThrownLabel). thrown.exception) labels ≡ declared_by (map thrown_entry throws)
-    → ((program : Program) (more : List Label) → thrown_parts program (t5 ++ more) labels
+    → ((more : List Label) → thrown_parts (t5 ++ more) labels
     ≡ map (λ (entry : ThrownEntry). Written entry.label) (map thrown_entry throws))
     → count ≡ length procedure.slots.items → loops ≡ first + count
-    → (program : Program) (more : List Label)
+    → (more : List Label)
     → (row : Row) → row.begin ≡ begin → row.end ≡ end → row.value ≡ value → row.slots.items ≡ atoms → row.throws.items ≡ labels → row.first ≡ first → row.loops ≡ loops
-    → IsRow program (t5 ++ more) first (procedure_entry procedure) row
-row-made procedure first t1 t2 t3 t4 t5 begin end value slots atoms throws labels count loops g2 g3 g4 g5 b e v same-slots ss same-throws es ls counted summed program more row rb re rv rs rt rf rl = record {
-  begin_is = ap (part program (t5 ++ more)) rb
-      ∙ means-more t1 t5 begin (Written procedure.begin_label) (grows-then t1 t2 t5 g2 (grows-then t2 t3 t5 g3 (grows-then t3 t4 t5 g4 g5))) b program more;
-  end_is = ap (part program (t5 ++ more)) re
-      ∙ means-more t2 t5 end (Written procedure.end_label) (grows-then t2 t3 t5 g3 (grows-then t3 t4 t5 g4 g5)) e program more;
-  value_is = ap (part program (t5 ++ more)) rv
-      ∙ means-more t3 t5 value (Written (result_label (result_entry procedure.result))) (grows-then t3 t4 t5 g4 g5) v program more;
-  slots_are = ap (parts program (t5 ++ more)) rs
-      ∙ (mean-more t4 t5 atoms (slot_parts first (map slot_entry slots)) g5 ss program more
+    → IsRow (t5 ++ more) first (procedure_entry procedure) row
+row-made procedure first t1 t2 t3 t4 t5 begin end value slots atoms throws labels count loops g2 g3 g4 g5 b e v same-slots ss same-throws es ls counted summed more row rb re rv rs rt rf rl = record {
+  begin_is = ap (part (t5 ++ more)) rb
+      ∙ means-more t1 t5 begin (Written procedure.begin_label) (grows-then t1 t2 t5 g2 (grows-then t2 t3 t5 g3 (grows-then t3 t4 t5 g4 g5))) b more;
+  end_is = ap (part (t5 ++ more)) re
+      ∙ means-more t2 t5 end (Written procedure.end_label) (grows-then t2 t3 t5 g3 (grows-then t3 t4 t5 g4 g5)) e more;
+  value_is = ap (part (t5 ++ more)) rv
+      ∙ means-more t3 t5 value (Written (result_label (result_entry procedure.result))) (grows-then t3 t4 t5 g4 g5) v more;
+  slots_are = ap (parts (t5 ++ more)) rs
+      ∙ (mean-more t4 t5 atoms (slot_parts first (map slot_entry slots)) g5 ss more
       ∙ ap (λ list. slot_parts first (map slot_entry list)) same-slots);
   exceptions_are = ap (map (λ (thrown : ThrownLabel). thrown.exception)) rt ∙ (es ∙ ap (λ list. declared_by (map thrown_entry list)) same-throws);
-  labels_are = ap (thrown_parts program (t5 ++ more)) rt
-      ∙ (ls program more ∙ ap (λ list. map (λ (entry : ThrownEntry). Written entry.label) (map thrown_entry list)) same-throws);
+  labels_are = ap (thrown_parts (t5 ++ more)) rt
+      ∙ (ls more ∙ ap (λ list. map (λ (entry : ThrownEntry). Written entry.label) (map thrown_entry list)) same-throws);
   first_is = rf;
   loops_is = rl ∙ (summed ∙ ap (λ n. first + n) (counted ∙ sym (length-map procedure.slots.items slot_entry)));
 }
 
 pub rows-next : (procedures : List Procedure) (i : ℕ) (p : Procedure) (old new : List Label) (rows rows' : List Row) (row : Row) (first : ℕ)
     → i < length procedures → p ≡ get_or procedures i p → rows' ≡ rows ++ row ∷ [] → Grows old new
-    → ((program : Program) (more : List Label) → AreRows program (old ++ more) 0 (map procedure_entry (take i procedures)) rows)
-    → ((program : Program) (more : List Label) → IsRow program (new ++ more) first (procedure_entry p) row)
+    → ((more : List Label) → AreRows (old ++ more) 0 (map procedure_entry (take i procedures)) rows)
+    → ((more : List Label) → IsRow (new ++ more) first (procedure_entry p) row)
     → first ≡ sum_by own_unknowns (map procedure_entry (take i procedures))
-    → (program : Program) (more : List Label) → AreRows program (new ++ more) 0 (map procedure_entry (take (i + 1) procedures)) rows'
-rows-next procedures i p old new rows rows' row first inside is pushed grown are each counted program more =
+    → (more : List Label) → AreRows (new ++ more) 0 (map procedure_entry (take (i + 1) procedures)) rows'
+rows-next procedures i p old new rows rows' row first inside is pushed grown are each counted more =
     let before : List ProcedureEntry = map procedure_entry (take i procedures) in
-    subst (λ all. AreRows program (new ++ more) 0 all rows') (sym (next-of procedure_entry procedures i p inside is))
-    (subst (λ all. AreRows program (new ++ more) 0 (before ++ procedure_entry p ∷ []) all) (sym pushed)
-    (rows-append program (new ++ more) 0 before (procedure_entry p) rows row
-    (rows-more program old new more 0 before rows grown (λ rest. are program rest))
-    (subst (λ n. IsRow program (new ++ more) n (procedure_entry p) row)
-    (counted ∙ (let e : sum_by own_unknowns before ≡ 0 + sum_by own_unknowns before = omega arith in e)) (each program more))))
-
-pub count-next : (procedures : List Procedure) (i : ℕ) (p : Procedure) (first count middle next : ℕ)
-    → i < length procedures → p ≡ get_or procedures i p → count ≡ length p.slots.items → middle ≡ first + count → next ≡ middle + p.loops
-    → first ≡ sum_by own_unknowns (map procedure_entry (take i procedures))
-    → next ≡ sum_by own_unknowns (map procedure_entry (take (i + 1) procedures))
-count-next procedures i p first count middle next inside is counted one two before =
-    let list : List ProcedureEntry = map procedure_entry (take i procedures) in
-    let more : sum_by own_unknowns (map procedure_entry (take (i + 1) procedures)) ≡ sum_by own_unknowns list + sum_by own_unknowns (procedure_entry p ∷ []) =
-    ap (sum_by own_unknowns) (next-of procedure_entry procedures i p inside is) ∙ sum_by-append own_unknowns list (procedure_entry p ∷ []) in
-    let own : length (map slot_entry p.slots.items) ≡ length p.slots.items = length-map p.slots.items slot_entry in
-    let alone : sum_by own_unknowns (procedure_entry p ∷ []) ≡ own_unknowns (procedure_entry p) + 0 = sum_by-cons own_unknowns (procedure_entry p) [] in
-    omega (arith, more, alone, own, counted, one, two, before)
+    subst (λ all. AreRows (new ++ more) 0 all rows') (sym (next-of procedure_entry procedures i p inside is))
+    (subst (λ all. AreRows (new ++ more) 0 (before ++ procedure_entry p ∷ []) all) (sym pushed)
+    (rows-append (new ++ more) 0 before (procedure_entry p) rows row
+    (rows-more old new more 0 before rows grown (λ rest. are rest))
+    (subst (λ n. IsRow (new ++ more) n (procedure_entry p) row)
+    (counted ∙ (let e : sum_by own_unknowns before ≡ 0 + sum_by own_unknowns before = omega arith in e)) (each more))))
 
 -- what stands in a list under a number, of lists that mean the same
 pub looked-up : {A B C : Type 0} (f : A → C) (g : B → C) (xs : List A) (ys : List B) (n : ℕ) (d : A) (e : B)
@@ -213,20 +215,20 @@ looked-up f g (x ∷ xs) [] n d e same default = absurd (cc)
 looked-up f g (x ∷ xs) (y ∷ ys) zero d e same default = cc
 looked-up f g (x ∷ xs) (y ∷ ys) (suc n) d e same default = looked-up f g xs ys n d e (let tails : map f xs ≡ map g ys = cc in tails) default
 
-pub row-at : (program : Program) (table : List Label) (first : ℕ) (procedures : List ProcedureEntry) (rows : List Row) (f : ℕ) (empty : ProcedureEntry) (outside : Row)
-    → AreRows program table first procedures rows → IsRow program table (first + sum_by own_unknowns procedures) empty outside
-    → IsRow program table (first + sum_by own_unknowns (take f procedures)) (get_or procedures f empty) (get_or rows f outside)
-row-at program table first [] [] zero empty outside are is = is
-row-at program table first [] [] (suc f) empty outside are is = is
-row-at program table first (p ∷ procedures) (r ∷ rows) zero empty outside are is =
-    subst (λ n. IsRow program table n p r) (let e : first ≡ first + 0 = omega arith in e) are.0
-row-at program table first (p ∷ procedures) (r ∷ rows) (suc f) empty outside are is =
-    subst (λ n. IsRow program table n (get_or procedures f empty) (get_or rows f outside))
+pub row-at : (table : List Label) (first : ℕ) (procedures : List ProcedureEntry) (rows : List Row) (f : ℕ) (empty : ProcedureEntry) (outside : Row)
+    → AreRows table first procedures rows → IsRow table (first + sum_by own_unknowns procedures) empty outside
+    → IsRow table (first + sum_by own_unknowns (take f procedures)) (get_or procedures f empty) (get_or rows f outside)
+row-at table first [] [] zero empty outside are is = is
+row-at table first [] [] (suc f) empty outside are is = is
+row-at table first (p ∷ procedures) (r ∷ rows) zero empty outside are is =
+    subst (λ n. IsRow table n p r) (let e : first ≡ first + 0 = omega arith in e) are.0
+row-at table first (p ∷ procedures) (r ∷ rows) (suc f) empty outside are is =
+    subst (λ n. IsRow table n (get_or procedures f empty) (get_or rows f outside))
     (sym (step-count first p (take f procedures)))
-    (row-at program table (first + own_unknowns p) procedures rows f empty outside are.1
-    (subst (λ n. IsRow program table n empty outside) (step-count first p procedures) is))
-row-at program table first [] (r ∷ rows) f empty outside are is = absurd are
-row-at program table first (p ∷ procedures) [] f empty outside are is = absurd are
+    (row-at table (first + own_unknowns p) procedures rows f empty outside are.1
+    (subst (λ n. IsRow table n empty outside) (step-count first p procedures) is))
+row-at table first [] (r ∷ rows) f empty outside are is = absurd are
+row-at table first (p ∷ procedures) [] f empty outside are is = absurd are
 
 -- a map of a map
 pub map-map : {A B C : Type 0} (f : A → B) (g : B → C) (xs : List A) → map (λ x. g (f x)) xs ≡ map g (map f xs)
@@ -243,96 +245,96 @@ slot-at first (slot ∷ slots) (suc n) empty none =
     ap (λ k. get_or (slot_parts (suc first) slots) n (Unknown k)) (sym e)
     ∙ (slot-at (suc first) slots n empty none ∙ ap (written_part (get_or slots n empty).written) e)
 
-pub part-at : (program : Program) (table : List Label) (atoms : List Atom) (n : ℕ) (d : Atom)
-    → part program table (get_or atoms n d) ≡ get_or (parts program table atoms) n (part program table d)
-part-at program table atoms n d = looked-up (part program table) (λ m. m) atoms (parts program table atoms) n d (part program table d) (sym (map-same (parts program table atoms))) refl
+pub part-at : (table : List Label) (atoms : List Atom) (n : ℕ) (d : Atom)
+    → part table (get_or atoms n d) ≡ get_or (parts table atoms) n (part table d)
+part-at table atoms n d = looked-up (part table) (λ m. m) atoms (parts table atoms) n d (part table d) (sym (map-same (parts table atoms))) refl
   where
     map-same : {A : Type 0} (xs : List A) → map (λ x. x) xs ≡ xs
     map-same [] = refl
     map-same (x ∷ xs) = ap (λ ys. x ∷ ys) (map-same xs)
 
 -- the label of a parameter
-pub parameter-at : (program : Program) (table : List Label) (first : ℕ) (slots : List SlotEntry) (atoms : List Atom) (n : ℕ) (nothing : Atom) (empty : SlotEntry)
-    → empty.written ≡ None → part program table nothing ≡ Written [] → parts program table atoms ≡ slot_parts first slots
-    → part program table (written_atom (get_or atoms n nothing) nothing) ≡ Written (parameter_label (get_or slots n empty).written)
-parameter-at program table first [] [] n nothing empty none is same = rw none (neither nothing is)
+pub parameter-at : (table : List Label) (first : ℕ) (slots : List SlotEntry) (atoms : List Atom) (n : ℕ) (nothing : Atom) (empty : SlotEntry)
+    → empty.written ≡ None → part table nothing ≡ Written [] → parts table atoms ≡ slot_parts first slots
+    → part table (written_atom (get_or atoms n nothing) nothing) ≡ Written (parameter_label (get_or slots n empty).written)
+parameter-at table first [] [] n nothing empty none is same = rw none (neither nothing is)
   where
-    neither : (atom : Atom) → part program table atom ≡ Written [] → part program table (written_atom atom nothing) ≡ Written []
+    neither : (atom : Atom) → part table atom ≡ Written [] → part table (written_atom atom nothing) ≡ Written []
     neither (stored.Written m) e = e
     neither (stored.Unknown u) e = is
-parameter-at program table first (slot ∷ slots) (atom ∷ atoms) zero nothing empty none is same = go slot.written atom (let head : part program table atom ≡ written_part slot.written first = cc in head)
+parameter-at table first (slot ∷ slots) (atom ∷ atoms) zero nothing empty none is same = go slot.written atom (let head : part table atom ≡ written_part slot.written first = cc in head)
   where
-    go : (written : Option Label) (a : Atom) → part program table a ≡ written_part written first
-        → part program table (written_atom a nothing) ≡ Written (parameter_label written)
+    go : (written : Option Label) (a : Atom) → part table a ≡ written_part written first
+        → part table (written_atom a nothing) ≡ Written (parameter_label written)
     go (Some label) (stored.Written m) e = e
     go None (stored.Unknown u) e = is
     go (Some label) (stored.Unknown u) e = absurd (cc)
     go None (stored.Written m) e = absurd (cc)
-parameter-at program table first (slot ∷ slots) (atom ∷ atoms) (suc n) nothing empty none is same =
-    parameter-at program table (suc first) slots atoms n nothing empty none is (let tails : parts program table atoms ≡ slot_parts (suc first) slots = cc in tails)
-parameter-at program table first [] (atom ∷ atoms) n nothing empty none is same = absurd (cc)
-parameter-at program table first (slot ∷ slots) [] n nothing empty none is same = absurd (cc)
+parameter-at table first (slot ∷ slots) (atom ∷ atoms) (suc n) nothing empty none is same =
+    parameter-at table (suc first) slots atoms n nothing empty none is (let tails : parts table atoms ≡ slot_parts (suc first) slots = cc in tails)
+parameter-at table first [] (atom ∷ atoms) n nothing empty none is same = absurd (cc)
+parameter-at table first (slot ∷ slots) [] n nothing empty none is same = absurd (cc)
 
 -- the label of a declared exception
-pub thrown-at : (program : Program) (table : List Label) (entries : List ThrownEntry) (labels : List ThrownLabel) (x : ℕ) (nothing : Atom)
+pub thrown-at : (table : List Label) (entries : List ThrownEntry) (labels : List ThrownLabel) (x : ℕ) (nothing : Atom)
     → map (λ (thrown : ThrownLabel). thrown.exception) labels ≡ declared_by entries
-    → thrown_parts program table labels ≡ map (λ (entry : ThrownEntry). Written entry.label) entries
-    → part program table nothing ≡ Written []
-    → part program table (label_among labels x nothing) ≡ Written (thrown_label entries x)
-thrown-at program table [] [] x nothing es ls is = is
-thrown-at program table (entry ∷ entries) (label ∷ labels) x nothing es ls is =
+    → thrown_parts table labels ≡ map (λ (entry : ThrownEntry). Written entry.label) entries
+    → part table nothing ≡ Written []
+    → part table (label_among labels x nothing) ≡ Written (thrown_label entries x)
+thrown-at table [] [] x nothing es ls is = is
+thrown-at table (entry ∷ entries) (label ∷ labels) x nothing es ls is =
     let same : label.exception ≡ entry.exception = cc in
-    let here : part program table label.label ≡ Written entry.label = cc in
+    let here : part table label.label ≡ Written entry.label = cc in
     let more : map (λ (thrown : ThrownLabel). thrown.exception) labels ≡ declared_by entries = cc in
-    let rest : thrown_parts program table labels ≡ map (λ (e : ThrownEntry). Written e.label) entries = cc in
-    let inner : part program table (label_among labels x nothing) ≡ Written (thrown_label entries x) = thrown-at program table entries labels x nothing more rest is in
+    let rest : thrown_parts table labels ≡ map (λ (e : ThrownEntry). Written e.label) entries = cc in
+    let inner : part table (label_among labels x nothing) ≡ Written (thrown_label entries x) = thrown-at table entries labels x nothing more rest is in
     go label.exception same (x == entry.exception) refl here inner
   where
     go : (e : ℕ) → e ≡ entry.exception → (b : Bool) → (x == entry.exception) ≡ b
-        → part program table label.label ≡ Written entry.label → part program table (label_among labels x nothing) ≡ Written (thrown_label entries x)
-        → part program table (if x == e then label.label else label_among labels x nothing)
+        → part table label.label ≡ Written entry.label → part table (label_among labels x nothing) ≡ Written (thrown_label entries x)
+        → part table (if x == e then label.label else label_among labels x nothing)
         ≡ Written (if x == entry.exception then entry.label else thrown_label entries x)
     go e same true f here inner = rw (same, f) here
     go e same false f here inner = rw (same, f) inner
-thrown-at program table [] (label ∷ labels) x nothing es ls is = absurd (cc)
-thrown-at program table (entry ∷ entries) [] x nothing es ls is = absurd (cc)
+thrown-at table [] (label ∷ labels) x nothing es ls is = absurd (cc)
+thrown-at table (entry ∷ entries) [] x nothing es ls is = absurd (cc)
 
 -- the same of a procedure of a program
 named-part : (program : Program) (f n : ℕ) (written : Option Label)
-    → written_part written (unknowns_before program f + n) ≡ numbered_atom program (renamed Real (written_or written (OfLocal f n)))
+    → written_part written (unknowns_before program f + n) ≡ wanted_part program (renamed Real (written_or written (OfLocal f n)))
 named-part program f n (Some label) = refl
 named-part program f n None = refl
 
 pub slot-named : (program : Program) (table : List Label) (f n : ℕ) (row : Row) (atoms : List Atom) (number : ℕ) (found : Atom)
-    → IsRow program table (unknowns_before program f) (procedure_at program f) row → atoms ≡ row.slots.items → number ≡ row.first + n
+    → IsRow table (unknowns_before program f) (procedure_at program f) row → atoms ≡ row.slots.items → number ≡ row.first + n
     → found ≡ get_or atoms n (stored.Unknown number)
-    → part program table found ≡ part_of program (ToVariable f (Local n))
+    → part table found ≡ part_of program (ToVariable f (Local n))
 slot-named program table f n row atoms number found is same counted found-is =
     let first : ℕ = unknowns_before program f in
     let procedure : ProcedureEntry = procedure_at program f in
     let total : number ≡ first + n = counted ∙ ap (λ k. k + n) is.first_is in
-    ap (part program table) found-is
-    ∙ (part-at program table atoms n (stored.Unknown number)
-    ∙ (ap (λ list. get_or (parts program table list) n (Unknown number)) same
+    ap (part table) found-is
+    ∙ (part-at table atoms n (stored.Unknown number)
+    ∙ (ap (λ list. get_or (parts table list) n (Unknown number)) same
     ∙ (ap (λ list. get_or list n (Unknown number)) is.slots_are
     ∙ (ap (λ k. get_or (slot_parts first procedure.slots) n (Unknown k)) total
     ∙ (slot-at first procedure.slots n _ refl ∙ named-part program f n (slot_at procedure n).written)))))
 
 pub parameter-named : (program : Program) (table : List Label) (f n : ℕ) (row : Row) (atoms : List Atom) (nothing found result : Atom)
-    → IsRow program table (unknowns_before program f) (procedure_at program f) row → part program table nothing ≡ Written []
+    → IsRow table (unknowns_before program f) (procedure_at program f) row → part table nothing ≡ Written []
     → atoms ≡ row.slots.items → found ≡ get_or atoms n nothing → result ≡ written_atom found nothing
-    → part program table result ≡ part_of program (ToParameter f n)
+    → part table result ≡ part_of program (ToParameter f n)
 parameter-named program table f n row atoms nothing found result is none same found-is result-is =
-    ap (part program table) (result-is ∙ ap (λ a. written_atom a nothing) (found-is ∙ ap (λ list. get_or list n nothing) same))
-    ∙ parameter-at program table (unknowns_before program f) (procedure_at program f).slots row.slots.items n nothing _ refl none is.slots_are
+    ap (part table) (result-is ∙ ap (λ a. written_atom a nothing) (found-is ∙ ap (λ list. get_or list n nothing) same))
+    ∙ parameter-at table (unknowns_before program f) (procedure_at program f).slots row.slots.items n nothing _ refl none is.slots_are
 
 pub thrown-named : (program : Program) (table : List Label) (f x : ℕ) (row : Row) (labels : List ThrownLabel) (nothing found : Atom)
-    → IsRow program table (unknowns_before program f) (procedure_at program f) row → part program table nothing ≡ Written []
+    → IsRow table (unknowns_before program f) (procedure_at program f) row → part table nothing ≡ Written []
     → labels ≡ row.throws.items → found ≡ label_among labels x nothing
-    → part program table found ≡ Written (thrown_label (procedure_at program f).throws x)
+    → part table found ≡ Written (thrown_label (procedure_at program f).throws x)
 thrown-named program table f x row labels nothing found is none same found-is =
-    ap (part program table) (found-is ∙ ap (λ list. label_among list x nothing) same)
-    ∙ thrown-at program table (procedure_at program f).throws row.throws.items x nothing is.exceptions_are is.labels_are none
+    ap (part table) (found-is ∙ ap (λ list. label_among list x nothing) same)
+    ∙ thrown-at table (procedure_at program f).throws row.throws.items x nothing is.exceptions_are is.labels_are none
 
 -- the entry of a procedure that is not there
 abbrev pub no_procedure : ProcedureEntry
@@ -355,7 +357,7 @@ pub table-made : (core : Core) (t1 t2 t3 t4 : List Label) (nothing : Atom) (chan
     → Grows t1 t2 → Grows t2 t3 → Grows t3 t4
     → Means t1 nothing (Written []) → Mean t2 channels (map (λ (channel : Channel). Written channel.label) cs)
     → Mean t3 globals (map (λ (variable : GlobalVariable). Written variable.label) gs)
-    → ((program : Program) (more : List Label) → AreRows program (t4 ++ more) 0 (map procedure_entry ps) rows)
+    → ((more : List Label) → AreRows (t4 ++ more) 0 (map procedure_entry ps) rows)
     → unknowns ≡ sum_by own_unknowns (map procedure_entry ps)
     → cs ≡ core.channels.items → gs ≡ core.globals.items → ps ≡ core.procedures.items
     → outside.begin ≡ nothing → outside.end ≡ nothing → outside.value ≡ nothing → outside.slots.items ≡ [] → outside.throws.items ≡ []
@@ -364,34 +366,34 @@ pub table-made : (core : Core) (t1 t2 t3 t4 : List Label) (nothing : Atom) (chan
 table-made core t1 t2 t3 t4 nothing channels globals rows outside cs gs ps unknowns g2 g3 g4 none chans globs are counted same-cs same-gs same-ps ob oe ov os ot off ol =
     let program : Program = program_of core in
     let nil : t4 ++ [] ≡ t4 = append-nil t4 in
-    let nothing-is : part program t4 nothing ≡ Written [] =
-    subst (λ t. part program t nothing ≡ Written []) nil (means-more t1 t4 nothing (Written []) (grows-then t1 t2 t4 g2 (grows-then t2 t3 t4 g3 g4)) none program []) in
-    let rows-here : AreRows program t4 0 program.procedures rows =
-    subst (λ t. AreRows program t 0 program.procedures rows) nil
-    (subst (λ list. AreRows program (t4 ++ []) 0 (map procedure_entry list) rows) same-ps (are program [])) in
+    let nothing-is : part t4 nothing ≡ Written [] =
+    subst (λ t. part t nothing ≡ Written []) nil (means-more t1 t4 nothing (Written []) (grows-then t1 t2 t4 g2 (grows-then t2 t3 t4 g3 g4)) none []) in
+    let rows-here : AreRows t4 0 program.procedures rows =
+    subst (λ t. AreRows t 0 program.procedures rows) nil
+    (subst (λ list. AreRows (t4 ++ []) 0 (map procedure_entry list) rows) same-ps (are [])) in
     let total : unknowns ≡ sum_by own_unknowns program.procedures = counted ∙ ap (λ list. sum_by own_unknowns (map procedure_entry list)) same-ps in
     let all : 0 + sum_by own_unknowns program.procedures ≡ unknowns = omega (arith, total) in
     record {
       nothing_is = nothing-is;
-      channels_are = subst (λ t. parts program t channels ≡ map (λ (entry : ChannelEntry). Written entry.label) program.channels) nil
-          (mean-more t2 t4 channels (map (λ (channel : Channel). Written channel.label) cs) (grows-then t2 t3 t4 g3 g4) chans program []
+      channels_are = subst (λ t. parts t channels ≡ map (λ (entry : ChannelEntry). Written entry.label) program.channels) nil
+          (mean-more t2 t4 channels (map (λ (channel : Channel). Written channel.label) cs) (grows-then t2 t3 t4 g3 g4) chans []
           ∙ (ap (map (λ (channel : Channel). Written channel.label)) same-cs
           ∙ map-map channel_entry (λ (entry : ChannelEntry). Written entry.label) core.channels.items));
-      globals_are = subst (λ t. parts program t globals ≡ map (λ (entry : GlobalEntry). Written entry.label) program.globals) nil
-          (mean-more t3 t4 globals (map (λ (variable : GlobalVariable). Written variable.label) gs) g4 globs program []
+      globals_are = subst (λ t. parts t globals ≡ map (λ (entry : GlobalEntry). Written entry.label) program.globals) nil
+          (mean-more t3 t4 globals (map (λ (variable : GlobalVariable). Written variable.label) gs) g4 globs []
           ∙ (ap (map (λ (variable : GlobalVariable). Written variable.label)) same-gs
           ∙ map-map global_entry (λ (entry : GlobalEntry). Written entry.label) core.globals.items));
       rows_are = λ f.
-          subst (λ n. IsRow program t4 n (procedure_at program f) (get_or rows f outside))
+          subst (λ n. IsRow t4 n (procedure_at program f) (get_or rows f outside))
           (let e : 0 + sum_by own_unknowns (take f program.procedures) ≡ unknowns_before program f = omega arith in e)
-          (row-at program t4 0 program.procedures rows f no_procedure outside rows-here
-          (subst (λ n. IsRow program t4 n no_procedure outside) (sym all) (record {
-            begin_is = ap (part program t4) ob ∙ nothing-is;
-            end_is = ap (part program t4) oe ∙ nothing-is;
-            value_is = ap (part program t4) ov ∙ nothing-is;
-            slots_are = ap (parts program t4) os;
+          (row-at t4 0 program.procedures rows f no_procedure outside rows-here
+          (subst (λ n. IsRow t4 n no_procedure outside) (sym all) (record {
+            begin_is = ap (part t4) ob ∙ nothing-is;
+            end_is = ap (part t4) oe ∙ nothing-is;
+            value_is = ap (part t4) ov ∙ nothing-is;
+            slots_are = ap (parts t4) os;
             exceptions_are = ap (map (λ (thrown : ThrownLabel). thrown.exception)) ot;
-            labels_are = ap (thrown_parts program t4) ot;
+            labels_are = ap (thrown_parts t4) ot;
             first_is = off;
             loops_is = ol ∙ (let e : unknowns ≡ unknowns + 0 = omega arith in e);
           })));

@@ -2,34 +2,58 @@
 -- Source: our own.
 use Rattle.std.specs.Prelude.{◌≡◌, ℕ, List, [], ◌∷◌, ◌++◌, map, Bool, Option, if◌then◌else◌}
 use Rattle.labels.specs.Label.{Label}
-use Rattle.labels.specs.Constraints.{label_lattice}
+use Rattle.labels.specs.Constraints as formal
 use Rattle.resolved.specs.declared.program.Core.{Core}
 use Rattle.resolved.specs.declared.target.Target.{Target}
 use Rattle.resolved.specs.CoreOf.{program_of}
 use Rattle.resolved.specs.Flow.{Gathered}
 use Rattle.resolved.specs.Labelled.{Join}
 use Rattle.resolved.specs.Program.{Program}
-use Rattle.gathering.specs.Names.{NamedAtom, NamedConstraint, named_atoms, numbered, numbered_atom}
+use Rattle.gathering.specs.Names.{NamedAtom, NamedConstraint, named_atoms, numbered}
 use Rattle.gathering.specs.Walk.{flow}
-use Rattle.solver.specs.System.{constraint_of}
 use Rattle.solver.specs.declared.system.Atom.{Atom}
 use Rattle.solver.specs.declared.system.Constraint.{Constraint}
-use Rattle.constraints.specs.Parts.{part, parts}
+use Rattle.constraints.specs.Parts.{part, parts, wanted, wanted_part}
 
 abbrev pub Stored : Type 0
 Stored = Constraint (Option Target)
 
--- what stored constraints stand for
-abbrev pub stand_for : Program → (table : List Label) → List Stored → List Gathered
-stand_for program table constraints = map (constraint_of (label_lattice program.hierarchy) table) constraints
+-- a constraint of parts
+abbrev pub PartConstraint : Type 0
+PartConstraint = formal.Constraint (Option Target) ℕ (Option Label)
+
+-- what stored constraints stand for, and what they are to stand for
+abbrev pub stands_for : (table : List Label) → Stored → PartConstraint
+stands_for table c = record {
+  at = c.at;
+  rule = c.rule;
+  left = parts table c.left.items;
+  target = c.target;
+  right = part table c.right;
+}
+
+abbrev pub stand_for : (table : List Label) → List Stored → List PartConstraint
+stand_for table constraints = map (stands_for table) constraints
+
+abbrev pub wanted_of : Gathered → PartConstraint
+wanted_of c = record {
+  at = c.at;
+  rule = c.rule;
+  left = map wanted c.left;
+  target = c.target;
+  right = wanted c.right;
+}
+
+abbrev pub wanted_constraint : Program → NamedConstraint → PartConstraint
+wanted_constraint program c = wanted_of (numbered program c)
 
 -- a left side stands for these parts
 abbrev pub IsLeft : Core → (table : List Label) → List NamedAtom → List Atom → Type 0
-IsLeft core table named left = parts (program_of core) table left ≡ map (numbered_atom (program_of core)) named
+IsLeft core table named left = parts table left ≡ map (wanted_part (program_of core)) named
 
 -- an atom stands for this part; and a left side for what begins with the part of the pc and goes on with a join
 abbrev pub IsPart : Core → (table : List Label) → NamedAtom → Atom → Type 0
-IsPart core table named atom = part (program_of core) table atom ≡ numbered_atom (program_of core) named
+IsPart core table named atom = part table atom ≡ wanted_part (program_of core) named
 
 abbrev pub IsLeftFrom : Core → (table : List Label) → (pc : Atom) → Join → List Atom → Type 0
 IsLeftFrom core table pc join left =
@@ -38,7 +62,7 @@ IsLeftFrom core table pc join left =
 -- constraints were added
 abbrev pub AreAdded : Core → (table : List Label) → (added : List NamedConstraint) → (old new : List Stored) → Type 0
 AreAdded core table added old new =
-    stand_for (program_of core) table new ≡ stand_for (program_of core) table old ++ map (numbered (program_of core)) added
+    stand_for table new ≡ stand_for table old ++ map (wanted_constraint (program_of core)) added
 
 -- what is gathered at a pc was added
 abbrev pub IsGathered : Core → (table : List Label) → (pc : Atom) → (NamedAtom → List NamedConstraint) → (old new : List Stored) → Type 0

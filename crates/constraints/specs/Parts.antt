@@ -1,8 +1,9 @@
--- What a stored part of a constraint stands for, by the table of written labels: a label, or an unknown by its number.
+-- What a stored part of a constraint stands for, by the table of written labels: the label that the table has under its number, or
+-- an unknown by its number.
 -- Source: our own.
-use Rattle.std.specs.Prelude.{◌≡◌, ℕ, List, ◌++◌, map, if◌then◌else◌}
+use Rattle.std.specs.Prelude.{◌≡◌, ℕ, List, ◌++◌, map, Option, Some, slice_get, if◌then◌else◌}
 use Rattle.labels.specs.Label.{Label}
-use Rattle.labels.specs.Constraints.{renamed, label_lattice}
+use Rattle.labels.specs.Constraints.{renamed}
 use Rattle.labels.specs.Constraints as formal
 use Rattle.resolved.specs.declared.program.Core.{Core}
 use Rattle.resolved.specs.declared.target.Target.{Target}
@@ -11,26 +12,42 @@ use Rattle.resolved.specs.Program.{Program}
 use Rattle.resolved.specs.Tree.{Expression}
 use Rattle.resolved.specs.Ends.{index_can_raise}
 use Rattle.resolved.specs.Labelled.{Join, Scope, label_of, value_label}
-use Rattle.gathering.specs.Names.{Real, named_atoms, numbered_atom}
+use Rattle.gathering.specs.Names.{NamedAtom, Real, named_atoms, numbered_atom}
 use Rattle.gathering.specs.Walk.{raise_atoms}
-use Rattle.solver.specs.System.{atom_of}
 use Rattle.solver.specs.declared.system.Atom.{Atom}
+use Rattle.solver.specs.declared.system.Atom.TheVariants as stored
 
+-- a label, or none where the table has none under the number; or an unknown
 abbrev pub Part : Type 0
-Part = formal.Atom ℕ Label
+Part = formal.Atom ℕ (Option Label)
 
-abbrev pub part : Program → (table : List Label) → Atom → Part
-part program table atom = atom_of (label_lattice program.hierarchy) table atom
+abbrev pub Written : Label → Part
+Written label = formal.Written (Some label)
 
-abbrev pub parts : Program → (table : List Label) → List Atom → List Part
-parts program table atoms = map (part program table) atoms
+abbrev pub Unknown : ℕ → Part
+Unknown number = formal.Unknown number
+
+abbrev pub part : (table : List Label) → Atom → Part
+part table (stored.Written n) = formal.Written (slice_get table n)
+part table (stored.Unknown u) = Unknown u
+
+abbrev pub parts : (table : List Label) → List Atom → List Part
+parts table atoms = map (part table) atoms
+
+-- the part that an atom is to stand for
+abbrev pub wanted : formal.Atom ℕ Label → Part
+wanted (formal.Written label) = Written label
+wanted (formal.Unknown u) = Unknown u
+
+abbrev pub wanted_part : Program → NamedAtom → Part
+wanted_part program named = wanted (numbered_atom program named)
 
 -- the label of what a rule names, and the labels of a join
 abbrev pub part_of : Program → Target → Part
-part_of program target = numbered_atom program (renamed Real (label_of program target))
+part_of program target = wanted_part program (renamed Real (label_of program target))
 
 abbrev pub joined : Program → Join → List Part
-joined program join = map (numbered_atom program) (named_atoms join)
+joined program join = map (wanted_part program) (named_atoms join)
 
 -- a procedure of a program, by its number
 abbrev pub scope_of : Core → (procedure : ℕ) → Scope
@@ -39,7 +56,7 @@ scope_of core procedure = record { program = program_of core; number = procedure
 -- the labels of a join were added to a left side
 abbrev pub IsJoined : Core → (table : List Label) → Join → (old new : List Atom) → Type 0
 IsJoined core table join old new =
-    parts (program_of core) table new ≡ parts (program_of core) table old ++ joined (program_of core) join
+    parts table new ≡ parts table old ++ joined (program_of core) join
 
 -- what decides whether the index of an array of this length raises an exception
 abbrev pub index_atoms : Scope → (length : ℕ) → Expression → Join

@@ -2,16 +2,15 @@
 -- Source: our own.
 use Rattle.std.specs.Prelude.{◌≡◌, ℕ, suc, ◌+◌, List, [], ◌∷◌, ◌++◌, map, length, Option, Some, None, slice_index_or, if◌then◌else◌, ◌==◌}
 use Rattle.labels.specs.Label.{Label}
-use Rattle.labels.specs.Constraints.{Written, Unknown}
 use Rattle.resolved.specs.declared.program.Core.{Core}
 use Rattle.resolved.specs.CoreOf.{program_of}
-use Rattle.resolved.specs.Program.{Program, ProcedureEntry, SlotEntry, ThrownEntry, ChannelEntry, GlobalEntry, procedure_at}
+use Rattle.resolved.specs.Program.{ProcedureEntry, SlotEntry, ThrownEntry, ChannelEntry, GlobalEntry, procedure_at}
 use Rattle.resolved.specs.Ends.{declared_by}
 use Rattle.resolved.specs.Labelled.{result_label}
 use Rattle.gathering.specs.Names.{own_unknowns, unknowns_before}
 use Rattle.solver.specs.declared.system.Atom.{Atom}
 use Rattle.solver.specs.declared.system.Atom.TheVariants as stored
-use Rattle.constraints.specs.Parts.{Part, part, parts}
+use Rattle.constraints.specs.Parts.{Part, Unknown, Written, part, parts}
 use Rattle.constraints.specs.declared.rows.Row.{Row}
 use Rattle.constraints.specs.declared.rows.ThrownLabel.{ThrownLabel}
 
@@ -26,28 +25,28 @@ slot_parts first [] = []
 slot_parts first (slot ∷ rest) = written_part slot.written first ∷ slot_parts (suc first) rest
 
 -- those of declared exceptions
-abbrev pub thrown_parts : Program → (table : List Label) → List ThrownLabel → List Part
-thrown_parts program table labels = map (λ (thrown : ThrownLabel). part program table thrown.label) labels
+abbrev pub thrown_parts : (table : List Label) → List ThrownLabel → List Part
+thrown_parts table labels = map (λ (thrown : ThrownLabel). part table thrown.label) labels
 
 -- a row stands for a procedure whose own unknowns have numbers from the first on
-pub record IsRow (program : Program) (table : List Label) (first : ℕ) (procedure : ProcedureEntry) (row : Row) : Type 0 where
-  pub begin_is : part program table row.begin ≡ Written procedure.begin_label
-  pub end_is : part program table row.end ≡ Written procedure.end_label
-  pub value_is : part program table row.value ≡ Written (result_label procedure.result)
-  pub slots_are : parts program table row.slots.items ≡ slot_parts first procedure.slots
+pub record IsRow (table : List Label) (first : ℕ) (procedure : ProcedureEntry) (row : Row) : Type 0 where
+  pub begin_is : part table row.begin ≡ Written procedure.begin_label
+  pub end_is : part table row.end ≡ Written procedure.end_label
+  pub value_is : part table row.value ≡ Written (result_label procedure.result)
+  pub slots_are : parts table row.slots.items ≡ slot_parts first procedure.slots
   pub exceptions_are : map (λ (thrown : ThrownLabel). thrown.exception) row.throws.items ≡ declared_by procedure.throws
-  pub labels_are : thrown_parts program table row.throws.items
+  pub labels_are : thrown_parts table row.throws.items
       ≡ map (λ (entry : ThrownEntry). Written entry.label) procedure.throws
   pub first_is : row.first ≡ first
   pub loops_is : row.loops ≡ first + length procedure.slots
 
 -- rows for procedures in order
-abbrev pub AreRows : Program → (table : List Label) → (first : ℕ) → List ProcedureEntry → List Row → Type 0
-AreRows program table first [] [] = Unit {0}
-AreRows program table first [] (row ∷ rows) = ⊥
-AreRows program table first (procedure ∷ rest) [] = ⊥
-AreRows program table first (procedure ∷ rest) (row ∷ rows) =
-    IsRow program table first procedure row × AreRows program table (first + own_unknowns procedure) rest rows
+abbrev pub AreRows : (table : List Label) → (first : ℕ) → List ProcedureEntry → List Row → Type 0
+AreRows table first [] [] = Unit {0}
+AreRows table first [] (row ∷ rows) = ⊥
+AreRows table first (procedure ∷ rest) [] = ⊥
+AreRows table first (procedure ∷ rest) (row ∷ rows) =
+    IsRow table first procedure row × AreRows table (first + own_unknowns procedure) rest rows
 
 -- an atom that is written, or else another one; and the label of an exception among declared ones, or else another one
 abbrev pub written_atom : Atom → (default : Atom) → Atom
@@ -61,10 +60,10 @@ label_among (thrown ∷ rest) exception default =
 
 -- under each longer table
 abbrev pub Means : (table : List Label) → Atom → Part → Type 0
-Means table atom meaning = (program : Program) (more : List Label) → part program (table ++ more) atom ≡ meaning
+Means table atom meaning = (more : List Label) → part (table ++ more) atom ≡ meaning
 
 abbrev pub Mean : (table : List Label) → List Atom → List Part → Type 0
-Mean table atoms meanings = (program : Program) (more : List Label) → parts program (table ++ more) atoms ≡ meanings
+Mean table atoms meanings = (more : List Label) → parts (table ++ more) atoms ≡ meanings
 
 -- a table of written labels that grew
 pub record Grows (old new : List Label) : Type 0 where
@@ -73,10 +72,10 @@ pub record Grows (old new : List Label) : Type 0 where
 
 -- the parts of a whole program
 pub record IsTable (core : Core) (table : List Label) (nothing : Atom) (channels globals : List Atom) (rows : List Row) (outside : Row) : Type 0 where
-  pub nothing_is : part (program_of core) table nothing ≡ Written []
-  pub channels_are : parts (program_of core) table channels
+  pub nothing_is : part table nothing ≡ Written []
+  pub channels_are : parts table channels
       ≡ map (λ (entry : ChannelEntry). Written entry.label) (program_of core).channels
-  pub globals_are : parts (program_of core) table globals
+  pub globals_are : parts table globals
       ≡ map (λ (entry : GlobalEntry). Written entry.label) (program_of core).globals
-  pub rows_are : (f : ℕ) → IsRow (program_of core) table (unknowns_before (program_of core) f) (procedure_at (program_of core) f)
+  pub rows_are : (f : ℕ) → IsRow table (unknowns_before (program_of core) f) (procedure_at (program_of core) f)
       (slice_index_or rows f outside)

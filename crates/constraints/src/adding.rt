@@ -7,9 +7,9 @@ ghost use Rattle.gathering.specs.Names.{NamedAtom};
 ghost use Rattle.gathering.specs.Walk.{flow, inner_atom, inner_constraint, raised_flows, rule_constraint};
 ghost use Rattle.std.specs.Prelude.{IfOk, List, OnOk, ℕ, ◌++◌};
 
-use crate::building::plus;
 use crate::table::Table;
 use crate::takers::{Entry, Takers};
+use gathering::unknowns::number_after;
 use path_map::Raises;
 use resolved::exceptions::{ARITH, BOUNDS};
 use resolved::statement::Exit;
@@ -56,7 +56,7 @@ impl<'a> Table<'a> {
             AreAdded self.now.core.now self.now.written.items (inner_constraint atoms number)
             constraints.old.items constraints.new.items) }
     {
-        let right = Atom::Unknown(plus(self.unknowns, number as usize)?);
+        let right = Atom::Unknown(number_after(self.unknowns, number as usize)?);
         constraints.push(Constraint {
             at: 0,
             rule: 0,
@@ -159,6 +159,6 @@ impl<'a> Table<'a> {
         ensures { IfOk result (λ atom.
             IsPart self.now.core.now self.now.written.items (inner_atom number) atom) }
     {
-        Ok(Atom::Unknown(plus(self.unknowns, number as usize)?))
+        Ok(Atom::Unknown(number_after(self.unknowns, number as usize)?))
     }
 }

@@ -1,7 +1,7 @@
 //! How the table of a program's labels is built.
 ghost use Rattle.constraints.specs.Rows.{AreRows, Grows, IsRow, Mean, Means, slot_parts, thrown_parts, written_part};
 ghost use Rattle.gathering.specs.Names.{own_unknowns};
-ghost use Rattle.labels.specs.Constraints.{Written};
+ghost use Rattle.constraints.specs.Parts.{Written};
 ghost use Rattle.labels.specs.Label.{Label};
 ghost use Rattle.resolved.specs.Ends.{declared_by};
 ghost use Rattle.resolved.specs.Labelled.{result_label};
@@ -10,27 +10,15 @@ ghost use Rattle.resolved.specs.ProgramOf.{procedure_entry, result_entry, slot_e
 ghost use Rattle.resolved.specs.declared.tables.Channel.{Channel};
 ghost use Rattle.resolved.specs.declared.tables.GlobalVariable.{GlobalVariable};
 ghost use Rattle.constraints.specs.declared.rows.ThrownLabel.{ThrownLabel};
-ghost use Rattle.std.specs.Prelude.{IfOk, List, OnOk, [], map, sum_by, ℕ, ◌+◌, ◌++◌, ◌∷◌, ◌≡◌};
+ghost use Rattle.std.specs.Prelude.{IfOk, List, OnOk, [], map, sum_by, ℕ, ◌++◌, ◌∷◌, ◌≡◌};
 
 use crate::rows::{Row, ThrownLabel};
 use crate::written::{Labels, add};
+use gathering::unknowns::{first_after, number_after};
 use labels::Label;
 use resolved::tables::{Channel, GlobalVariable, Procedure, ResultType, Slot, Thrown};
 use solver::Atom;
 use std::alloc::{AllocError, Global};
-
-// A sum of numbers of unknowns.
-pub(crate) fn plus(number: u32, more: usize) -> Result<u32, AllocError>
-    ensures { IfOk result (λ sum. sum ≡ number + more) }
-{
-    let Ok(more) = u32::try_from(more) else {
-        return Err(AllocError);
-    };
-    let Some(sum) = number.checked_add(more) else {
-        return Err(AllocError);
-    };
-    Ok(sum)
-}
 
 // The parts of the labels of channels.
 pub(crate) fn channel_parts(
@@ -91,7 +79,7 @@ fn slot_parts(
 {
     let mut atoms = Vec::new(alloc);
     for (i, slot) in slots.iter().enumerate() {
-        atoms.push(slot_part(written, &slot.written, plus(first, i)?)?)?;
+        atoms.push(slot_part(written, &slot.written, number_after(first, i)?)?)?;
     }
     Ok(atoms)
 }
@@ -106,8 +94,8 @@ fn thrown_labels(
     ensures exceptions { IfOk result (λ labels.
         map (λ (thrown : ThrownLabel). thrown.exception) labels.items
         ≡ declared_by (map thrown_entry throws.now)) }
-    ensures meaning { IfOk result (λ labels. (program : Program) (more : List Label) →
-        thrown_parts program (written.new.list.items ++ more) labels.items
+    ensures meaning { IfOk result (λ labels. (more : List Label) →
+        thrown_parts (written.new.list.items ++ more) labels.items
         ≡ map (λ (entry : ThrownEntry). Written entry.label) (map thrown_entry throws.now)) }
 {
     let mut labels = Vec::new(alloc);
@@ -145,8 +133,8 @@ fn row_of(
     first: u32,
 ) -> Result<Row, AllocError>
     ensures grown { OnOk result (Grows written.old.list.items written.new.list.items) }
-    ensures row { IfOk result (λ row. (program : Program) (more : List Label) →
-        IsRow program (written.new.list.items ++ more) first (procedure_entry procedure.now) row) }
+    ensures row { IfOk result (λ row. (more : List Label) →
+        IsRow (written.new.list.items ++ more) first (procedure_entry procedure.now) row) }
 {
     Ok(Row {
         begin: add(written, &procedure.begin_label)?,
@@ -155,7 +143,7 @@ fn row_of(
         slots: slot_parts(alloc, written, &procedure.slots, first)?,
         throws: thrown_labels(alloc, written, &procedure.throws)?,
         first,
-        loops: plus(first, procedure.slots.len())?,
+        loops: number_after(first, procedure.slots.len())?,
     })
 }
 
@@ -166,8 +154,8 @@ pub(crate) fn rows_of(
     procedures: &[Procedure],
 ) -> Result<(Vec<Row>, u32), AllocError>
     ensures grown { OnOk result (Grows written.old.list.items written.new.list.items) }
-    ensures rows { IfOk result (λ found. (program : Program) (more : List Label) →
-        AreRows program (written.new.list.items ++ more) 0
+    ensures rows { IfOk result (λ found. (more : List Label) →
+        AreRows (written.new.list.items ++ more) 0
         (map procedure_entry procedures.now) found.0.items) }
     ensures count { IfOk result (λ found. found.1
         ≡ sum_by own_unknowns (map procedure_entry procedures.now)) }
@@ -176,10 +164,7 @@ pub(crate) fn rows_of(
     let mut first = 0;
     for procedure in procedures {
         rows.push(row_of(alloc, written, procedure, first)?)?;
-        first = plus(
-            plus(first, procedure.slots.len())?,
-            procedure.loops as usize,
-        )?;
+        first = first_after(first, procedure)?;
     }
     Ok((rows, first))
 }

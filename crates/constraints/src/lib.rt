@@ -12,7 +12,6 @@ mod plain;
 mod procedures;
 mod program;
 pub mod progress;
-mod range;
 pub mod rows;
 pub mod statements;
 pub mod table;

@@ -15,11 +15,11 @@ ghost use Rattle.resolved.specs.declared.statement.Exit.{Exit};
 ghost use Rattle.resolved.specs.declared.target.Target.TheVariants.{ToLoop};
 ghost use Rattle.std.specs.Prelude.{IfOk, List, OnOk, [], drop, map, ℕ, ◌+◌, ◌∷◌, ◌≡◌};
 
-use crate::building::plus;
 use crate::lefts::alone;
 use crate::progress::Progress;
 use crate::statements::Walk;
 use crate::takers::{Saved, Takers, numbers_of, take_handled};
+use gathering::unknowns::number_after;
 use path_map::Exits;
 use resolved::expression::{Expression, Variable};
 use resolved::statement::{Exit, Handler};
@@ -170,7 +170,7 @@ impl<'a> Walk<'a> {
             (expression_of condition.now)) 2 progress.old progress.new) }
     {
         let inner = progress.make(2)?;
-        let back = plus(inner, 1)?;
+        let back = number_after(inner, 1)?;
         self.add_loop_head(
             at,
             number,

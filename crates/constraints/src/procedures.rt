@@ -12,13 +12,13 @@ ghost use Rattle.resolved.specs.Labelled.{here};
 ghost use Rattle.std.specs.Prelude.{IfOk, List, OnOk, [], map, suc, ℕ, ◌<◌, ◌≡◌};
 ghost use Rattle.constraints.specs.declared.takers.Entry.{Entry};
 
-use crate::building::plus;
 use crate::lefts::alone;
 use crate::progress::Progress;
 use crate::statements::Walk;
 use crate::table::Table;
 use crate::takers::{Entry, Takers, entry_in, take};
 use crate::walking::walk_block;
+use gathering::unknowns::number_after;
 use path_map::PathMap;
 use resolved::tables::{Procedure, Thrown};
 use resolved::target::Target;
@@ -40,7 +40,7 @@ fn take_declared(
     let mut saved = Vec::new(alloc);
     for (i, declared) in throws.iter().enumerate() {
         let entry = Entry {
-            number: plus(number, i)?,
+            number: number_after(number, i)?,
             level,
         };
         take(declared.exception, entry, thrown, &mut saved)?;
@@ -121,9 +121,9 @@ impl<'a> Walk<'a> {
             self.now.map.now.entries.items self.now.procedure barrier progress.old progress.new) }
     {
         let number = progress.number;
-        let level = plus(barrier, 1)?;
-        let first = plus(number, 1)?;
-        progress.number = plus(first, procedure.throws.len())?;
+        let level = number_after(barrier, 1)?;
+        let first = number_after(number, 1)?;
+        progress.number = number_after(first, procedure.throws.len())?;
         take_declared(
             self.alloc,
             &procedure.throws,

@@ -8,10 +8,9 @@ ghost use Rattle.solver.specs.Links.{InRange};
 ghost use Rattle.solver.specs.System.{constraints_of};
 ghost use Rattle.std.specs.Prelude.{IfOk, length, map, ◌≡◌};
 
-use crate::building::plus;
 use crate::procedures::walk_procedures;
-use crate::range::are_in_range;
 use crate::table::Table;
+use gathering::unknowns::number_after;
 use labels::Label;
 use path_map::PathMap;
 use resolved::program::Core;
@@ -40,13 +39,9 @@ pub fn gather(
 {
     let table = Table::of(alloc, core)?;
     let progress = walk_procedures(alloc, &table, ends)?;
-    let unknowns = plus(table.unknowns, progress.number as usize)?;
-    let written = table.written;
-    if !are_in_range(written.len(), unknowns, &progress.constraints) {
-        return Err(AllocError);
-    }
+    let unknowns = number_after(table.unknowns, progress.number as usize)?;
     Ok(System {
-        written,
+        written: table.written,
         unknowns,
         constraints: progress.constraints,
     })

@@ -1,8 +1,8 @@
 //! How far a walk along a program has come.
 ghost use Rattle.std.specs.Prelude.{IfOk, OnOk, ◌+◌, ◌≡◌};
 
-use crate::building::plus;
 use crate::takers::Entry;
+use gathering::unknowns::number_after;
 use resolved::target::Target;
 use solver::Constraint;
 use std::alloc::AllocError;
@@ -25,7 +25,7 @@ impl Progress {
             ≡ record self.old { number = self.old.number + count }) }
     {
         let first = self.number;
-        self.number = plus(first, count)?;
+        self.number = number_after(first, count)?;
         Ok(first)
     }
 }

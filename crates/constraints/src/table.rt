@@ -1,8 +1,7 @@
 //! The parts of constraints that stand for the labels of a program.
-ghost use Rattle.constraints.specs.Parts.{part, part_of};
+ghost use Rattle.constraints.specs.Parts.{Written, part, part_of};
 ghost use Rattle.constraints.specs.Rows.{IsRow, IsTable, label_among, written_atom};
 ghost use Rattle.gathering.specs.Names.{real_unknowns, unknowns_before};
-ghost use Rattle.labels.specs.Constraints.{Written};
 ghost use Rattle.resolved.specs.CoreOf.{program_of};
 ghost use Rattle.resolved.specs.Labelled.{thrown_label};
 ghost use Rattle.resolved.specs.Program.{channel_at, global_at, procedure_at};
@@ -10,9 +9,10 @@ ghost use Rattle.resolved.specs.declared.expression.Variable.TheVariants.{Local}
 ghost use Rattle.resolved.specs.declared.target.Target.TheVariants.{ToParameter, ToVariable};
 ghost use Rattle.std.specs.Prelude.{IfOk, slice_index_or, ◌≡◌};
 
-use crate::building::{channel_parts, global_parts, plus, rows_of};
+use crate::building::{channel_parts, global_parts, rows_of};
 use crate::rows::{Row, ThrownLabel};
 use crate::written::{Labels, add};
+use gathering::unknowns::number_after;
 use labels::Label;
 use resolved::expression::Variable;
 use resolved::program::Core;
@@ -101,7 +101,7 @@ impl<'a> Table<'a> {
 
     // The part of a channel's label.
     fn channel(&self, channel: u32) -> Atom
-        ensures { part (program_of self.now.core.now) self.now.written.items result
+        ensures { part self.now.written.items result
             ≡ Written (channel_at (program_of self.now.core.now) channel).label }
     {
         at(&self.channels, channel as usize, self.nothing)
@@ -109,7 +109,7 @@ impl<'a> Table<'a> {
 
     // The part of a global's label.
     fn global(&self, variable: u32) -> Atom
-        ensures { part (program_of self.now.core.now) self.now.written.items result
+        ensures { part self.now.written.items result
             ≡ Written (global_at (program_of self.now.core.now) variable).label }
     {
         at(&self.globals, variable as usize, self.nothing)
@@ -117,7 +117,7 @@ impl<'a> Table<'a> {
 
     // The row of a procedure.
     pub(crate) fn row(&self, procedure: u32) -> &Row
-        ensures { IsRow (program_of self.now.core.now) self.now.written.items
+        ensures { IsRow self.now.written.items
             (unknowns_before (program_of self.now.core.now) procedure)
             (procedure_at (program_of self.now.core.now) procedure) result.now }
     {
@@ -130,17 +130,17 @@ impl<'a> Table<'a> {
     // The part of the label of a slot.
     fn slot(&self, procedure: u32, slot: u32) -> Result<Atom, AllocError>
         ensures { IfOk result (λ atom.
-            part (program_of self.now.core.now) self.now.written.items atom
+            part self.now.written.items atom
             ≡ part_of (program_of self.now.core.now) (ToVariable procedure (Local slot))) }
     {
         let row = self.row(procedure);
-        let number = plus(row.first, slot as usize)?;
+        let number = number_after(row.first, slot as usize)?;
         Ok(at(&row.slots, slot as usize, Atom::Unknown(number)))
     }
 
     // The part of the label of a parameter.
     fn parameter(&self, procedure: u32, parameter: usize) -> Atom
-        ensures { part (program_of self.now.core.now) self.now.written.items result
+        ensures { part self.now.written.items result
             ≡ part_of (program_of self.now.core.now) (ToParameter procedure parameter) }
     {
         written_or(
@@ -151,7 +151,7 @@ impl<'a> Table<'a> {
 
     // The part of the label of an exception that a procedure declares.
     fn thrown(&self, procedure: u32, exception: u32) -> Atom
-        ensures { part (program_of self.now.core.now) self.now.written.items result
+        ensures { part self.now.written.items result
             ≡ Written (thrown_label (procedure_at (program_of self.now.core.now) procedure).throws
             exception) }
     {
@@ -161,7 +161,7 @@ impl<'a> Table<'a> {
     /// The part of the label of what a rule names, or out of memory where the numbers of the unknowns do not suffice.
     pub fn part(&self, target: Target) -> Result<Atom, AllocError>
         ensures { IfOk result (λ atom.
-            part (program_of self.now.core.now) self.now.written.items atom
+            part self.now.written.items atom
             ≡ part_of (program_of self.now.core.now) target) }
     {
         match target {
@@ -175,7 +175,7 @@ impl<'a> Table<'a> {
             Target::ToThrown(procedure, exception) => Ok(self.thrown(procedure, exception)),
             Target::ToLoop(procedure, number) => {
                 let row = self.row(procedure);
-                Ok(Atom::Unknown(plus(row.loops, number as usize)?))
+                Ok(Atom::Unknown(number_after(row.loops, number as usize)?))
             }
         }
     }

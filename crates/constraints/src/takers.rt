@@ -6,7 +6,7 @@ ghost use Rattle.resolved.specs.declared.statement.Handler.{Handler};
 ghost use Rattle.std.specs.Prelude.{IfOk, List, OnOk, map, set, slice_index_or, ℕ, ◌+◌, ◌≡◌};
 ghost use Rattle.constraints.specs.declared.takers.Entry.{Entry};
 
-use crate::building::plus;
+use gathering::unknowns::number_after;
 use resolved::statement::{Exit, Handler};
 use std::alloc::{AllocError, Global};
 
@@ -123,7 +123,7 @@ pub(crate) fn take_handled(
         (slice_index_or thrown.old.items x no_entry)) }
 {
     for (i, handler) in handlers.iter().enumerate() {
-        let number = plus(first, i)?;
+        let number = number_after(first, i)?;
         take(handler.exception, Entry { number, level }, thrown, saved)?;
     }
     Ok(())
@@ -189,7 +189,7 @@ impl Takers {
         ensures { IfOk result (λ inner. inner ≡ record self { level = self.level + 1 }) }
     {
         Ok(Takers {
-            level: plus(self.level, 1)?,
+            level: number_after(self.level, 1)?,
             ..self
         })
     }

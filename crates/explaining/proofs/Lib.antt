@@ -1,4 +1,3 @@
 mod Texts
-mod Counts
 mod Kept
 mod Lists

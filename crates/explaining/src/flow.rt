@@ -7,7 +7,7 @@ ghost use Rattle.std.specs.Io.KnownBytes.{Appends};
 ghost use Rattle.std.specs.Prelude.{Err, IfOk, IsTrue, OnErr, OnOk, flat_map, ◌≡◌};
 ghost use Rattle.std.specs.String.{string_bytes};
 
-use crate::places::Places;
+use crate::marks::MarkedText;
 use crate::target_names::NamedTarget;
 use channels::{Sink, ViewFault, write_all};
 use checker::{RefusedFlow, Step};
@@ -35,10 +35,10 @@ pub fn write_flow<O: Sink>(
         (flow_text source.now flow.now)) }
     ensures failed { result ≡ Err ViewFault.Sink → IsTrue (O.has_failed out.new) }
 {
-    let places = Places::of(alloc, source)?;
+    let marked = MarkedText::of(alloc, source)?;
     let line = line_of_policy(alloc, &flow.core.hierarchy, &flow.policy)?;
     write_all(out, line.as_bytes())?;
-    write_steps(alloc, &flow.core, &places, flow.steps.as_slice(), out)
+    write_steps(alloc, &flow.core, &marked, flow.steps.as_slice(), out)
 }
 
 // The line of the policy that flows: the label of that policy alone.
@@ -64,18 +64,18 @@ fn line_of_policy(
 fn write_steps<O: Sink>(
     alloc: Global,
     core: &Core,
-    places: &Places,
+    marked: &MarkedText,
     steps: &[Step],
     out: &mut O,
 ) -> Result<(), ViewFault>
     ensures written { OnOk result (Appends (O.taken out.old) (O.taken out.new)
-        (flat_map (step_line places.now.text.now (program_of core.now)) steps.now)) }
+        (flat_map (step_line marked.now.text.now (program_of core.now)) steps.now)) }
     ensures prefix { OnErr result (AppendsPrefix (O.taken out.old) (O.taken out.new)
-        (flat_map (step_line places.now.text.now (program_of core.now)) steps.now)) }
+        (flat_map (step_line marked.now.text.now (program_of core.now)) steps.now)) }
     ensures failed { result ≡ Err ViewFault.Sink → IsTrue (O.has_failed out.new) }
 {
     for step in steps {
-        let line = line_of_step(alloc, core, places, *step)?;
+        let line = line_of_step(alloc, core, marked, *step)?;
         write_all(out, line.as_bytes())?;
     }
     Ok(())
@@ -85,13 +85,13 @@ fn write_steps<O: Sink>(
 fn line_of_step(
     alloc: Global,
     core: &Core,
-    places: &Places,
+    marked: &MarkedText,
     step: Step,
 ) -> Result<String, AllocError>
     ensures { IfOk result (λ line. string_bytes line
-        ≡ step_line places.now.text.now (program_of core.now) step) }
+        ≡ step_line marked.now.text.now (program_of core.now) step) }
 {
-    let Place { line, column } = places.place_of(step.at);
+    let Place { line, column } = marked.place_of(step.at);
     let rule = step.rule;
     let target = NamedTarget {
         core,

@@ -3,17 +3,16 @@
 ghost use Rattle.explaining.specs.Locals.{AreLines, IsLine, WritesLabels, WritesSomeLabels, if_unlabelled, local_of, locals_in};
 ghost use Rattle.explaining.specs.Text.{Writes, WritesPrefix};
 ghost use Rattle.gathering.specs.Names.{unknowns_before};
-ghost use Rattle.labels.specs.Constraints.{label_lattice};
 ghost use Rattle.resolved.specs.CoreOf.{program_of};
 ghost use Rattle.resolved.specs.ProgramOf.{slot_entry};
-ghost use Rattle.solver.specs.System.{AreAlike, values_of};
-ghost use Rattle.std.specs.Prelude.{Err, IfOk, IsTrue, OnErr, OnOk, map, ◌+◌, ◌≡◌};
+ghost use Rattle.std.specs.Prelude.{Err, IfOk, IsTrue, OnErr, OnOk, map, ◌≡◌};
 ghost use Rattle.std.specs.String.{string_bytes};
 
-use crate::places::Places;
+use crate::marks::MarkedText;
 use channels::{Sink, ViewFault, write_all};
 use checker::Checked;
-use labels::{Label, LabelLattice, PrintedLabel};
+use gathering::unknowns::{first_after, number_after};
+use labels::PrintedLabel;
 use lexer::Place;
 use resolved::tables::Slot;
 use std::alloc::{AllocError, Global};
@@ -36,13 +35,12 @@ pub fn write_labels<O: Sink>(
         (O.taken out.old) (O.taken out.new)) }
     ensures failed { result ≡ Err ViewFault.Sink → IsTrue (O.has_failed out.new) }
 {
-    let places = Places::of(alloc, source)?;
+    let marked = MarkedText::of(alloc, source)?;
     let mut first = 0;
     for (number, procedure) in checked.core.procedures.iter().enumerate() {
         let slots = procedure.slots.as_slice();
-        write_locals(alloc, checked, &places, number, first, slots, out)?;
-        first = plus(first, slots.len())?;
-        first = plus(first, procedure.loops as usize)?;
+        write_locals(alloc, checked, &marked, number, first, slots, out)?;
+        first = first_after(first, procedure)?;
     }
     Ok(())
 }
@@ -52,21 +50,21 @@ pub fn write_labels<O: Sink>(
 fn write_locals<O: Sink>(
     alloc: Global,
     checked: &Checked,
-    places: &Places,
+    marked: &MarkedText,
     procedure: usize,
     first: u32,
     slots: &[Slot],
     out: &mut O,
 ) -> Result<(), ViewFault>
     requires { first ≡ unknowns_before (program_of checked.now.core) procedure }
-    ensures written { OnOk result (Writes (AreLines places.now.text.now checked.now
+    ensures written { OnOk result (Writes (AreLines marked.now.text.now checked.now
         (locals_in procedure 0 (map slot_entry slots.now))) (O.taken out.old) (O.taken out.new)) }
-    ensures prefix { OnErr result (WritesPrefix (AreLines places.now.text.now checked.now
+    ensures prefix { OnErr result (WritesPrefix (AreLines marked.now.text.now checked.now
         (locals_in procedure 0 (map slot_entry slots.now))) (O.taken out.old) (O.taken out.new)) }
     ensures failed { result ≡ Err ViewFault.Sink → IsTrue (O.has_failed out.new) }
 {
     for (number, slot) in slots.iter().enumerate() {
-        write_local(alloc, checked, places, procedure, first, number, slot, out)?;
+        write_local(alloc, checked, marked, procedure, first, number, slot, out)?;
     }
     Ok(())
 }
@@ -75,7 +73,7 @@ fn write_locals<O: Sink>(
 fn write_local<O: Sink>(
     alloc: Global,
     checked: &Checked,
-    places: &Places,
+    marked: &MarkedText,
     procedure: usize,
     first: u32,
     number: usize,
@@ -83,10 +81,10 @@ fn write_local<O: Sink>(
     out: &mut O,
 ) -> Result<(), ViewFault>
     requires { first ≡ unknowns_before (program_of checked.now.core) procedure }
-    ensures written { OnOk result (Writes (AreLines places.now.text.now checked.now
+    ensures written { OnOk result (Writes (AreLines marked.now.text.now checked.now
         (if_unlabelled (local_of procedure number (slot_entry slot.now)) slot.now.written))
         (O.taken out.old) (O.taken out.new)) }
-    ensures prefix { OnErr result (WritesPrefix (AreLines places.now.text.now checked.now
+    ensures prefix { OnErr result (WritesPrefix (AreLines marked.now.text.now checked.now
         (if_unlabelled (local_of procedure number (slot_entry slot.now)) slot.now.written))
         (O.taken out.old) (O.taken out.new)) }
     ensures failed { result ≡ Err ViewFault.Sink → IsTrue (O.has_failed out.new) }
@@ -94,7 +92,7 @@ fn write_local<O: Sink>(
     if slot.written.is_some() {
         return Ok(());
     }
-    let line = line_of_local(alloc, checked, places, procedure, first, number, slot)?;
+    let line = line_of_local(alloc, checked, marked, procedure, first, number, slot)?;
     write_all(out, line.as_bytes())?;
     Ok(())
 }
@@ -103,50 +101,22 @@ fn write_local<O: Sink>(
 fn line_of_local(
     alloc: Global,
     checked: &Checked,
-    places: &Places,
+    marked: &MarkedText,
     procedure: usize,
     first: u32,
     number: usize,
     slot: &Slot,
 ) -> Result<String, AllocError>
     requires { first ≡ unknowns_before (program_of checked.now.core) procedure }
-    ensures { IfOk result (λ line. IsLine places.now.text.now checked.now
+    ensures { IfOk result (λ line. IsLine marked.now.text.now checked.now
         (local_of procedure number (slot_entry slot.now)) (string_bytes line)) }
 {
-    let label = label_of(alloc, checked, plus(first, number)?)?;
-    let Place { line, column } = places.place_of(slot.at);
+    let label = checked.label_of_unknown(alloc, number_after(first, number)?)?;
+    let Place { line, column } = marked.place_of(slot.at);
     let name = slot.name.as_str();
     let printed = PrintedLabel {
         hierarchy: &checked.core.hierarchy,
         label: &label,
     };
     format!(in alloc; "{line}:{column} {name} {printed}\n")
-}
-
-// The least label of what is written without one, by the number of its unknown: exact up to flow both ways.
-fn label_of(alloc: Global, checked: &Checked, unknown: u32) -> Result<Label, AllocError>
-    ensures { IfOk result (AreAlike (label_lattice (program_of checked.now.core).hierarchy)
-        (values_of (label_lattice (program_of checked.now.core).hierarchy)
-        checked.now.written.items
-        checked.now.solution unknown)) }
-{
-    let lattice = LabelLattice {
-        hierarchy: &checked.core.hierarchy,
-    };
-    checked
-        .solution
-        .value(alloc, &lattice, checked.written.as_slice(), unknown)
-}
-
-// A sum of numbers of unknowns, or out of memory where it does not fit.
-fn plus(number: u32, more: usize) -> Result<u32, AllocError>
-    ensures { IfOk result (λ sum. sum ≡ number + more) }
-{
-    let Ok(more) = u32::try_from(more) else {
-        return Err(AllocError);
-    };
-    let Some(sum) = number.checked_add(more) else {
-        return Err(AllocError);
-    };
-    Ok(sum)
 }

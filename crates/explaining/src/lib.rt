@@ -3,7 +3,7 @@
 
 pub mod flow;
 pub mod labels_of_locals;
-mod places;
+mod marks;
 mod target_names;
 
 pub use flow::write_flow;

@@ -13,3 +13,4 @@ pub mod Renaming
 pub mod Numbers
 pub mod Small
 pub mod Counted
+pub mod Before

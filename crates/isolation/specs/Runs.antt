@@ -71,7 +71,7 @@ GoesOn (Stopped OutOfTurns s) more = Begins s.sent (state_after more).sent
 GoesOn (Stopped Deep s) more = more ≡ Stopped Deep s
 GoesOn (Ended exit returned s) more = more ≡ Ended exit returned s
 
--- so it is for all runs of a program, and what it sends with fewer turns begins what it sends with more
+-- so it is for all runs of a program, and what it sends with fewer turns is a prefix of what it sends with more
 abbrev pub RunsGoOn : Program → Type 0
 RunsGoOn program =
     (frames : ℕ) (world : World) (k m : ℕ) → k ≤ m → GoesOn (run_within frames program world k) (run_within frames program world m)

@@ -9,13 +9,13 @@ use Rattle.resolved.specs.EndFaults.{end_faults}
 use Rattle.resolved.specs.Labelled.{Scope, here, Labelling, Join, ExitLabels, Fits, Labelled, result_label, statement_demands, statement_exits}
 use Rattle.isolation.specs.Confinement.{reads, reads_under, sees, SameFor}
 
--- what the principal sees in one state begins what it sees in another
+-- what the principal sees in one state is a prefix of what it sees in another
 abbrev pub SeesBeginning : Scope → (p : ℕ) → State → State → Type 0
 SeesBeginning scope p s t = Begins (sees scope p s) (sees scope p t)
 
 -- two outcomes agree for a principal. Where both runs have ended, their states are the same for it, they ended in the same way if
 -- it may read the label of either end, and returned the same if it may read the label of the procedure's value. Where one was
--- stopped, what the principal sees of it begins what it sees of the other
+-- stopped, what the principal sees of it is a prefix of what it sees of the other
 abbrev pub OutcomesAgree : Scope → Labelling → (p : ℕ) → ExitLabels → Outcome → Outcome → Type 0
 OutcomesAgree scope labelling p exits (Ended exit returned s) (Ended other given t) =
     SameFor scope labelling p s t

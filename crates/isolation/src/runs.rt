@@ -18,7 +18,7 @@ pub fn calls_give_their_value()
     ensures { (program : Program) → CallsGiveTheirValue program }
 {}
 
-/// Nothing that was sent is taken back: what was sent before a statement begins what is sent after it.
+/// Nothing that was sent is taken back: what was sent before a statement is a prefix of what is sent after it.
 pub fn sent_stays_sent()
     ensures { (program : Program) → SentStaysSent program }
 {}

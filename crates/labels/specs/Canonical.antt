@@ -9,7 +9,7 @@ use Rattle.std.specs.List.Sorted.{IsStrictlyIncreasing, IsStrictlySortedBy}
 use Rattle.labels.specs.Label.{ReaderPolicy, Label}
 use Rattle.labels.specs.Sets.{ascending_set}
 
--- the order of policies: by owner, then by the list of readers, where a list that begins another one is the smaller
+-- the order of policies: by owner, then by the list of readers, where a list that is a prefix of another one is the smaller
 abbrev pub policy_cmp : ReaderPolicy → ReaderPolicy → Ordering
 policy_cmp = then_cmp (on (λ policy. policy.owner) nat_cmp) (on (λ policy. policy.readers) (slice_cmp nat_cmp))
 

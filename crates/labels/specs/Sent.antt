@@ -5,7 +5,7 @@ use Rattle.labels.specs.declared.sent.Pair.{Pair}
 use Rattle.principals.specs.ActsFor.{PrincipalHierarchy}
 use Rattle.labels.specs.Label.{Label, may_read}
 
--- a list begins another one
+-- a list is a prefix of another one
 abbrev pub Begins : {X : Type 0} → List X → List X → Type 0
 Begins {X} xs ys = (rest : List X) × (xs ++ rest ≡ ys)
 

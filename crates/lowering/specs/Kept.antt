@@ -25,9 +25,9 @@ ending_of (Ended (Throw exception) returned s) = Some (machine.Threw exception)
 ending_of (Stopped Deep s) = Some machine.Deep
 ending_of (Stopped OutOfTurns s) = None
 
--- a machine by its world and how many steps it has made. What n steps send begins what the program sends with n turns, and what it
--- sends with k turns begins what some steps send; a machine that has ended within n steps has sent what the program sends with n
--- turns, which ends so; and where the program ends with k turns, so does the machine after some steps, and has sent the same
+-- a machine by its world and how many steps it has made. What n steps send is a prefix of what the program sends with n turns,
+-- and what it sends with k turns is a prefix of what some steps send; a machine that has ended within n steps has sent what the
+-- program sends with n turns, which ends so; and where the program ends with k turns, so does the machine after some steps, and has sent the same
 pub record MeaningKept (program : Program) (after : World → ℕ → machine.Machine) : Type 0 where
   pub no_more : (world : World) (n : ℕ) → Begins (machine.sent_of (after world n)) (sent_by program world n)
   pub no_less : (world : World) (k : ℕ) → (n : ℕ) × Begins (sent_by program world k) (machine.sent_of (after world n))

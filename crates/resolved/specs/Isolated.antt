@@ -1,4 +1,4 @@
--- Isolation: what a principal can tell of the inputs that it may not read from what it sees of the outputs.
+-- Isolation: what a principal can learn of the inputs that it may not read from what it sees of the outputs.
 -- Source: our own, for runs that may be stopped anywhere; noninterference after Volpano, Smith and Irvine 1996.
 use Rattle.std.specs.Prelude.{◌≡◌, ℕ, ◌<◌, length, ◌⊎◌, IsTrue}
 use Rattle.principals.specs.ActsFor.{PrincipalHierarchy}
@@ -18,7 +18,8 @@ Agree h label_of program p first second =
     → IsTrue (may_read h p (label_of channel)) → first channel ≡ second channel
 
 -- a program is isolated under a hierarchy and labels of its channels: for every principal and all worlds that agree for it,
--- what it sees of two runs, each with any bound on the turns of loops, is such that one list begins the other
+-- what it sees of two runs, each with any bound on the turns of loops, is such that one list is a prefix of the
+-- other
 abbrev pub IsolatedUnder : PrincipalHierarchy → (ℕ → Label) → Program → Type 0
 IsolatedUnder h label_of program =
     (p : ℕ) (first second : World) → Agree h label_of program p first second → (k m : ℕ)

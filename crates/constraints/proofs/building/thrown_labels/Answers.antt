@@ -1,6 +1,6 @@
 use Rattle.std.proofs.Common.{ap, ◌∙◌, map}
 use Rattle.std.proofs.lemmas.List.{take_all}
-use Rattle.labels.specs.Constraints.{Written}
+use Rattle.constraints.specs.Parts.{Written}
 use Rattle.resolved.specs.Program.{ThrownEntry}
 use Rattle.resolved.specs.ProgramOf.{thrown_entry}
 use Rattle.constraints.proofs.Tables.{grows-then, exceptions-next, labels-next}
@@ -16,6 +16,6 @@ loop-thrown-preserved c = record {
 }
 
 pub returns-clause-meaning : goal.returns-clause-meaning
-returns-clause-meaning c = λ program more.
-    c.loop-thrown.invariant.meaning program more
+returns-clause-meaning c = λ more.
+    c.loop-thrown.invariant.meaning more
     ∙ ap (λ throws. map (λ (entry : ThrownEntry). Written entry.label) (map thrown_entry throws)) (take_all c.loop-thrown.thrown-index c.args.throws.now c.loop-thrown-test.false)

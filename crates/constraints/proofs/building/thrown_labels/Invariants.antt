@@ -1,8 +1,8 @@
 use Rattle.std.proofs.Common.{◌≡◌, List, map, take, ◌++◌}
-use Rattle.labels.specs.Constraints.{Written}
+use Rattle.constraints.specs.Parts.{Written}
 use Rattle.labels.specs.Label.{Label}
 use Rattle.resolved.specs.Ends.{declared_by}
-use Rattle.resolved.specs.Program.{Program, ThrownEntry}
+use Rattle.resolved.specs.Program.{ThrownEntry}
 use Rattle.resolved.specs.ProgramOf.{thrown_entry}
 use Rattle.constraints.specs.Rows.{Grows, thrown_parts}
 use Rattle.constraints.specs.declared.rows.ThrownLabel.{ThrownLabel}
@@ -13,6 +13,6 @@ invariant-loop-thrown l = record {
   grown : Grows l.fn.written.list.items l.written.list.items;
   exceptions : map (λ (thrown : ThrownLabel). thrown.exception) l.labels.items
       ≡ declared_by (map thrown_entry (take l.thrown-index l.throws));
-  meaning : (program : Program) (more : List Label) → thrown_parts program (l.written.list.items ++ more) l.labels.items
+  meaning : (more : List Label) → thrown_parts (l.written.list.items ++ more) l.labels.items
       ≡ map (λ (entry : ThrownEntry). Written entry.label) (map thrown_entry (take l.thrown-index l.throws));
 }

@@ -12,8 +12,8 @@ loop-i-preserved c = λ barrier below within e.
     let i = c.loop-i.i in
     let x : Thrown = c.index-throws-i.result in
     let old = get_or c.args.thrown.now.items e no_entry in
-    declared-next c.args.throws.now i x c.args.number c.in_ok-plus.field-0 c.args.level e _ _ old
-    c.loop-i-test.true c.index-throws-i.is c.in_ok-plus.ensures (level-free barrier c.args.level old below (within e))
+    declared-next c.args.throws.now i x c.args.number c.in_ok-number_after.field-0 c.args.level e _ _ old
+    c.loop-i-test.true c.index-throws-i.is c.in_ok-number_after.ensures.sum (level-free barrier c.args.level old below (within e))
     (c.loop-i.invariant barrier below within e) (c.in_ok-take.ensures.taken e)
 
 pub returns : goal.returns

@@ -20,7 +20,7 @@ returns-clause-written g c =
     let flow = c.args.flow.now in
     all_or_none _ _ _ (policy_line flow.core.hierarchy flow.policy) (flat_map (step_line c.args.source.now (program_of flow.core)) flow.steps.items)
     _ _ c.write_steps.result (c.as_bytes.ensures.value ∙ c.in_ok-line.ensures)
-    (ap (λ text. flat_map (step_line text (program_of flow.core)) c.as_slice.result.now) c.in_ok-places.ensures
+    (ap (λ text. flat_map (step_line text (program_of flow.core)) c.as_slice.result.now) c.in_ok-marked.ensures
     ∙ ap (flat_map (step_line c.args.source.now (program_of flow.core))) c.as_slice.ensures.value)
     c.in_ok-write_all.ensures.written c.write_steps.ensures.written
 
@@ -29,6 +29,6 @@ returns-clause-prefix g c =
     let flow = c.args.flow.now in
     part_or_none _ _ _ (policy_line flow.core.hierarchy flow.policy) (flat_map (step_line c.args.source.now (program_of flow.core)) flow.steps.items)
     _ _ c.write_steps.result (c.as_bytes.ensures.value ∙ c.in_ok-line.ensures)
-    (ap (λ text. flat_map (step_line text (program_of flow.core)) c.as_slice.result.now) c.in_ok-places.ensures
+    (ap (λ text. flat_map (step_line text (program_of flow.core)) c.as_slice.result.now) c.in_ok-marked.ensures
     ∙ ap (flat_map (step_line c.args.source.now (program_of flow.core))) c.as_slice.ensures.value)
     c.in_ok-write_all.ensures.written c.write_steps.ensures.prefix

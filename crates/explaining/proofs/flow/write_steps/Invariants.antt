@@ -9,4 +9,4 @@ use Rattle.explaining.proofs.flow.write_steps.Given as goal
 abbrev pub invariant-loop-step : goal.invariant-loop-step
 invariant-loop-step g l =
     Appends (g.O.Sink.taken l.fn.out) (g.O.Sink.taken l.out)
-    (flat_map (step_line l.places.text.now (program_of l.core)) (take l.step-index l.steps))
+    (flat_map (step_line l.marked.text.now (program_of l.core)) (take l.step-index l.steps))

@@ -4,11 +4,11 @@ use Rattle.resolved.specs.declared.tables.Procedure.{Procedure}
 use Rattle.explaining.specs.Locals.{unlabelled_locals}
 use Rattle.explaining.proofs.Texts.{on_err}
 use Rattle.explaining.proofs.Lists.{part_of_none, writes_none, writes_procedure, writes_procedures, writes_some_procedures}
-use Rattle.explaining.proofs.Counts.{counted-here, counted-more}
+use Rattle.gathering.proofs.Before.{before-here, before-next}
 use Rattle.explaining.proofs.labels_of_locals.write_labels.Goals as goal
 
-pub returns-in_err-places-clause-prefix : goal.returns-in_err-places-clause-prefix
-returns-in_err-places-clause-prefix g c =
+pub returns-in_err-marked-clause-prefix : goal.returns-in_err-marked-clause-prefix
+returns-in_err-marked-clause-prefix g c =
     on_err c.from_residual.result _
     (part_of_none c.args.source.now c.args.checked.now (unlabelled_locals (program_of c.args.checked.now.core)) _)
 
@@ -25,7 +25,7 @@ returns-in_err-write_locals-clause-prefix g c =
     let is : here ≡ get_or procedures number here = c.procedure-item.is ∙ ap (λ list. get_or list number here) c.deref-procedure-items.ensures.value in
     on_err c.from_residual-in_err-write_locals.result _
     (writes_some_procedures c.args.source.now c.args.checked.now procedures number here c.as_slice-slots.result.now _ _ _ within is c.as_slice-slots.ensures.value
-    c.loop-number.invariant.written _ c.in_ok-places.ensures c.in_err-write_locals.ensures.prefix)
+    c.loop-number.invariant.written _ c.in_ok-marked.ensures c.in_err-write_locals.ensures.prefix)
 
 pub loop-number-preserved : goal.loop-number-preserved
 loop-number-preserved g c =
@@ -38,10 +38,8 @@ loop-number-preserved g c =
     record {
       written =
           writes_procedure c.args.source.now c.args.checked.now procedures number here c.as_slice-slots.result.now _ _ _ within is c.as_slice-slots.ensures.value
-          c.loop-number.invariant.written _ c.in_ok-places.ensures c.in_ok-write_locals.ensures.written;
-      counted =
-          counted-more procedures number c.loop-number.first c.loop-number.invariant.counted here c.as_slice-slots.result.now c.in_ok-first.first
-          c.in_ok-first-2.first within is c.as_slice-slots.ensures.value c.in_ok-first.ensures c.in_ok-first-2.ensures;
+          c.loop-number.invariant.written _ c.in_ok-marked.ensures c.in_ok-write_locals.ensures.written;
+      counted = before-next procedures number c.loop-number.first c.loop-number.invariant.counted here c.in_ok-first.first within is c.in_ok-first.ensures.sum;
     }
 
 pub returns-in_err-first-clause-prefix : goal.returns-in_err-first-clause-prefix
@@ -54,20 +52,8 @@ returns-in_err-first-clause-prefix g c =
     let is : here ≡ get_or procedures number here = c.procedure-item.is ∙ ap (λ list. get_or list number here) c.deref-procedure-items.ensures.value in
     on_err c.from_residual-in_err-first.result _
     (writes_procedures c.args.source.now c.args.checked.now procedures number here c.as_slice-slots.result.now _ _ _ within is c.as_slice-slots.ensures.value
-    c.loop-number.invariant.written _ c.in_ok-places.ensures c.in_ok-write_locals.ensures.written)
-
-pub returns-in_err-first-2-clause-prefix : goal.returns-in_err-first-2-clause-prefix
-returns-in_err-first-2-clause-prefix g c =
-    let procedures = c.args.checked.now.core.procedures.items in
-    let number = c.loop-number.number in
-    let here = c.procedure-item.result in
-    let within : number < length procedures =
-    subst (λ (list : List Procedure). number < length list) c.deref-procedure-items.ensures.value c.loop-number-test.true in
-    let is : here ≡ get_or procedures number here = c.procedure-item.is ∙ ap (λ list. get_or list number here) c.deref-procedure-items.ensures.value in
-    on_err c.from_residual-in_err-first-2.result _
-    (writes_procedures c.args.source.now c.args.checked.now procedures number here c.as_slice-slots.result.now _ _ _ within is c.as_slice-slots.ensures.value
-    c.loop-number.invariant.written _ c.in_ok-places.ensures c.in_ok-write_locals.ensures.written)
+    c.loop-number.invariant.written _ c.in_ok-marked.ensures c.in_ok-write_locals.ensures.written)
 
 pub write_locals-requires : goal.write_locals-requires
 write_locals-requires g c =
-    counted-here c.args.checked.now.core.procedures.items c.loop-number.number c.loop-number.first c.loop-number.invariant.counted
+    before-here c.args.checked.now.core.procedures.items c.loop-number.number c.loop-number.first c.loop-number.invariant.counted

@@ -9,28 +9,28 @@ pub returns-then-is_some-clause-written : goal.returns-then-is_some-clause-writt
 returns-then-is_some-clause-written g c =
     let slot = slot_entry c.args.slot.now in
     let local = local_of c.args.procedure c.args.number slot in
-    writes_none c.args.places.now.text.now c.args.checked.now (if_unlabelled local slot.written)
+    writes_none c.args.marked.now.text.now c.args.checked.now (if_unlabelled local slot.written)
     (with_label local slot.written (sym c.is_some.ensures ∙ c.if-is_some.true)) _
 
 pub returns-in_err-line-clause-prefix : goal.returns-in_err-line-clause-prefix
 returns-in_err-line-clause-prefix g c =
     let slot = slot_entry c.args.slot.now in
     on_err c.from_residual.result _
-    (part_of_none c.args.places.now.text.now c.args.checked.now (if_unlabelled (local_of c.args.procedure c.args.number slot) slot.written) _)
+    (part_of_none c.args.marked.now.text.now c.args.checked.now (if_unlabelled (local_of c.args.procedure c.args.number slot) slot.written) _)
 
 pub returns-in_err-write_all-clause-prefix : goal.returns-in_err-write_all-clause-prefix
 returns-in_err-write_all-clause-prefix g c =
     let slot = slot_entry c.args.slot.now in
     let local = local_of c.args.procedure c.args.number slot in
     on_err c.from_residual-in_err-write_all.result _
-    (writes_part c.args.places.now.text.now c.args.checked.now _ _ local slot.written (sym c.is_some.ensures ∙ c.if-is_some.false) c.as_bytes.result.now
-    (subst (λ (line : List ℕ). IsLine c.args.places.now.text.now c.args.checked.now local line) (sym c.as_bytes.ensures.value) c.in_ok-line.ensures)
+    (writes_part c.args.marked.now.text.now c.args.checked.now _ _ local slot.written (sym c.is_some.ensures ∙ c.if-is_some.false) c.as_bytes.result.now
+    (subst (λ (line : List ℕ). IsLine c.args.marked.now.text.now c.args.checked.now local line) (sym c.as_bytes.ensures.value) c.in_ok-line.ensures)
     c.in_err-write_all.ensures.prefix)
 
 pub returns-clause-written : goal.returns-clause-written
 returns-clause-written g c =
     let slot = slot_entry c.args.slot.now in
     let local = local_of c.args.procedure c.args.number slot in
-    writes_one c.args.places.now.text.now c.args.checked.now _ _ local slot.written (sym c.is_some.ensures ∙ c.if-is_some.false) c.as_bytes.result.now
-    (subst (λ (line : List ℕ). IsLine c.args.places.now.text.now c.args.checked.now local line) (sym c.as_bytes.ensures.value) c.in_ok-line.ensures)
+    writes_one c.args.marked.now.text.now c.args.checked.now _ _ local slot.written (sym c.is_some.ensures ∙ c.if-is_some.false) c.as_bytes.result.now
+    (subst (λ (line : List ℕ). IsLine c.args.marked.now.text.now c.args.checked.now local line) (sym c.as_bytes.ensures.value) c.in_ok-line.ensures)
     c.in_ok-write_all.ensures.written

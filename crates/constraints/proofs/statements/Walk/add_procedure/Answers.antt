@@ -16,7 +16,7 @@ returns c = λ is left goes within.
     let body = (here (scope_of core walk.procedure)).body in
     procedure-passed core walk.table.now.written.items walk.map.now.entries.items walk.procedure c.args.barrier c.in_ok-level.level c.in_ok-first.first c.len.result
     c.args.procedure.now c.deref.result.now c.deref-2.result.now c.in_ok-begin.begin c.end_takers-takers.result c.is_single_of_procedure-only.result left c.args.progress.now _ c.walk_block.new.progress c.add_end_demands.new.progress
-    is goes within c.in_ok-level.ensures c.in_ok-first.ensures (c.len.ensures ∙ c.args.procedure.now.throws.ok.0) c.deref.ensures.value c.deref-2.ensures.value
+    is goes within c.in_ok-level.ensures.sum c.in_ok-first.ensures.sum (c.len.ensures ∙ c.args.procedure.now.throws.ok.0) c.deref.ensures.value c.deref-2.ensures.value
     (c.is_single_of_procedure-only.ensures (block_ends program body) (c.exits_at.ensures (exits_of (block_ends program body)) (map exits_of (rest_paths program body) ++ left) goes))
-    c.end_takers-takers.ensures c.in_ok-begin.ensures refl c.in_ok-progress.ensures refl c.in_ok-take_declared.ensures c.in_ok-walk_block.ensures
+    c.end_takers-takers.ensures c.in_ok-begin.ensures refl c.in_ok-progress.ensures.sum refl c.in_ok-take_declared.ensures c.in_ok-walk_block.ensures
     c.in_ok-add_end_demands.ensures.kept c.in_ok-add_end_demands.ensures.added

@@ -7,7 +7,7 @@ use Rattle.constraints.proofs.Begun.{made-walked}
 use Rattle.constraints.proofs.statements.Walk.begin_loop.Goals as goal
 
 pub returns-clause-back : goal.returns-clause-back
-returns-clause-back c = c.in_ok-back.ensures ∙ ap (λ n. n + 1) c.in_ok-inner.ensures.first
+returns-clause-back c = c.in_ok-back.ensures.sum ∙ ap (λ n. n + 1) c.in_ok-inner.ensures.first
 
 pub returns-clause-added : goal.returns-clause-added
 returns-clause-added c =

@@ -1,8 +1,7 @@
 use Rattle.std.proofs.Common.{ap, ◌∙◌, get_or}
-use Rattle.labels.specs.Constraints.{Written}
 use Rattle.resolved.specs.CoreOf.{program_of}
 use Rattle.resolved.specs.Program.{ChannelEntry}
-use Rattle.constraints.specs.Parts.{part}
+use Rattle.constraints.specs.Parts.{Written, part}
 use Rattle.constraints.proofs.Tables.{looked-up}
 use Rattle.constraints.proofs.table.Table.channel.Goals as goal
 
@@ -10,6 +9,6 @@ pub returns : goal.returns
 returns c =
     let table = c.args.self.now in
     let program = program_of table.core.now in
-    ap (part program table.written.items) (c.at.ensures ∙ ap (λ atoms. get_or atoms c.args.channel table.nothing) c.deref.ensures.value)
-    ∙ looked-up (part program table.written.items) (λ (entry : ChannelEntry). Written entry.label) table.channels.items program.channels c.args.channel table.nothing _
+    ap (part table.written.items) (c.at.ensures ∙ ap (λ atoms. get_or atoms c.args.channel table.nothing) c.deref.ensures.value)
+    ∙ looked-up (part table.written.items) (λ (entry : ChannelEntry). Written entry.label) table.channels.items program.channels c.args.channel table.nothing _
     table.are.channels_are table.are.nothing_is

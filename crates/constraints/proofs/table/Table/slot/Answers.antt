@@ -7,4 +7,4 @@ returns c =
     let table = c.args.self.now in
     let program = program_of table.core.now in
     slot-named program table.written.items c.args.procedure c.args.slot c.row-row.result.now c.deref.result.now c.in_ok-number.number c.at.result
-    c.row-row.ensures c.deref.ensures.value c.in_ok-number.ensures c.at.ensures
+    c.row-row.ensures c.deref.ensures.value c.in_ok-number.ensures.sum c.at.ensures

@@ -13,16 +13,16 @@ const STRIDE: usize = 256;
 
 /// A text with marks: the places of its first byte and of every 256th after it. From a mark it is never far to a byte.
 #[derive(Drop)]
-pub struct Places<'a> {
+pub struct MarkedText<'a> {
     text: &'a [u8],
     marks: Vec<Place>,
     ghost known: { marks.items ≡ marks_of text.now },
 }
 
-impl<'a> Places<'a> {
+impl<'a> MarkedText<'a> {
     /// A text with its marks, which it takes one walk along the text to set.
-    pub fn of(alloc: Global, text: &'a [u8]) -> Result<Places<'a>, AllocError>
-        ensures { IfOk result (λ places. places.text.now ≡ text.entry.now) }
+    pub fn of(alloc: Global, text: &'a [u8]) -> Result<MarkedText<'a>, AllocError>
+        ensures { IfOk result (λ marked. marked.text.now ≡ text.entry.now) }
     {
         let mut marks = Vec::new(alloc);
         let mut place = Place { line: 1, column: 1 };
@@ -32,7 +32,7 @@ impl<'a> Places<'a> {
             place = place_after(text, place, from, from + STRIDE);
             marks.push(place)?;
         }
-        Ok(Places { text, marks })
+        Ok(MarkedText { text, marks })
     }
 
     /// The line and the column of a byte of the text; of a byte behind it, those of its end.

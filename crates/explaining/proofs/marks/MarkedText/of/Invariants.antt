@@ -1,7 +1,7 @@
 use Rattle.std.proofs.Common.{◌≡◌, ◌+◌, ◌*◌, map}
 use Rattle.std.specs.List.{range_with_len}
 use Rattle.compiler.specs.Position.{place_at}
-use Rattle.explaining.proofs.places.Places.of.Given as goal
+use Rattle.explaining.proofs.marks.MarkedText.of.Given as goal
 
 -- the marks so far, the last of which is at the place
 abbrev pub invariant-loop-mark : goal.invariant-loop-mark

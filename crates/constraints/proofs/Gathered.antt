@@ -1,0 +1,101 @@
+-- Stored constraints that stand for what is gathered: they are just that, and their numbers are in range.
+use Rattle.std.proofs.Common.{◌≡◌, refl, ap, ◌∙◌, subst, ℕ, ◌<◌, List, [], ◌∷◌, map, length}
+use Rattle.std.specs.Prelude.{Contains, Some, slice_get}
+use Rattle.std.proofs.lemmas.List.Elements.{All-cons, All-nil}
+use Rattle.principals.proofs.Closure.{Contains-first, Contains-later}
+use Rattle.std.proofs.lemmas.Option.{get_or_from_slice_get, slice_get_within}
+use Rattle.labels.specs.Label.{Label}
+use Rattle.labels.specs.Constraints.{Lattice}
+use Rattle.labels.specs.Constraints as formal
+use Rattle.resolved.specs.Flow.{Gathered}
+use Rattle.resolved.specs.declared.program.Core.{Core}
+use Rattle.resolved.specs.CoreOf.{program_of}
+use Rattle.gathering.specs.Names.{numbered}
+use Rattle.gathering.specs.Walk as walk
+use Rattle.gathering.specs.Walk.{gathered_constraints, program_constraints}
+use Rattle.solver.specs.Links.{AreBelow, InRange, IsBelow}
+use Rattle.solver.specs.System.{atom_of, constraint_of}
+use Rattle.solver.specs.declared.system.Atom.{Atom}
+use Rattle.solver.specs.declared.system.Atom.TheVariants as stored
+use Rattle.constraints.specs.Parts.{part, parts, wanted}
+use Rattle.constraints.specs.Added.{AreAdded, Stored, stand_for, stands_for, wanted_of}
+use Rattle.constraints.proofs.Tables.{map-map}
+
+module _ (l : Lattice Label) (table : List Label) where
+  atom-is : (a : Atom) (b : formal.Atom ℕ Label) → part table a ≡ wanted b → atom_of l table a ≡ b
+  atom-is (stored.Written n) (formal.Written label) is =
+      let there : slice_get table n ≡ Some label = cc in
+      ap (λ found. formal.Written found) (get_or_from_slice_get table n label l.least there)
+  atom-is (stored.Unknown u) (formal.Unknown w) is = let same : u ≡ w = cc in ap (λ k. formal.Unknown k) same
+  atom-is (stored.Written n) (formal.Unknown w) is = absurd (cc)
+  atom-is (stored.Unknown u) (formal.Written label) is = absurd (cc)
+
+  atoms-are : (xs : List Atom) (bs : List (formal.Atom ℕ Label)) → parts table xs ≡ map wanted bs → map (atom_of l table) xs ≡ bs
+  atoms-are [] [] is = refl
+  atoms-are (a ∷ xs) (b ∷ bs) is =
+      let head : part table a ≡ wanted b = cc in
+      let tail : parts table xs ≡ map wanted bs = cc in
+      ap (λ x. x ∷ map (atom_of l table) xs) (atom-is a b head) ∙ ap (λ ys. b ∷ ys) (atoms-are xs bs tail)
+  atoms-are [] (b ∷ bs) is = absurd (cc)
+  atoms-are (a ∷ xs) [] is = absurd (cc)
+
+  constraint-is : (c : Stored) (g : Gathered) → stands_for table c ≡ wanted_of g → constraint_of l table c ≡ g
+  constraint-is c g is =
+      let at : c.at ≡ g.at = ap (λ x. x.at) is in
+      let rule : c.rule ≡ g.rule = ap (λ x. x.rule) is in
+      let left : parts table c.left.items ≡ map wanted g.left = ap (λ x. x.left) is in
+      let target : c.target ≡ g.target = ap (λ x. x.target) is in
+      let right : part table c.right ≡ wanted g.right = ap (λ x. x.right) is in
+      rw (at, rule, atoms-are c.left.items g.left left, target, atom-is c.right g.right right) refl
+
+  pub constraints-are : (cs : List Stored) (gs : List Gathered) → stand_for table cs ≡ map wanted_of gs → map (constraint_of l table) cs ≡ gs
+  constraints-are [] [] is = refl
+  constraints-are (c ∷ cs) (g ∷ gs) is =
+      let head : stands_for table c ≡ wanted_of g = cc in
+      let tail : stand_for table cs ≡ map wanted_of gs = cc in
+      ap (λ x. x ∷ map (constraint_of l table) cs) (constraint-is c g head) ∙ ap (λ xs. g ∷ xs) (constraints-are cs gs tail)
+  constraints-are [] (g ∷ gs) is = absurd (cc)
+  constraints-are (c ∷ cs) [] is = absurd (cc)
+
+module _ (table : List Label) (count : ℕ) where
+  atom-below : (a : Atom) (b : formal.Atom ℕ Label) → part table a ≡ wanted b → walk.IsBelow count b → IsBelow (length table) count a
+  atom-below (stored.Written n) (formal.Written label) is below =
+      let there : slice_get table n ≡ Some label = cc in
+      slice_get_within table n label there
+  atom-below (stored.Unknown u) (formal.Unknown w) is below = let same : w ≡ u = cc in subst (λ k. k < count) same below
+  atom-below (stored.Written n) (formal.Unknown w) is below = absurd (cc)
+  atom-below (stored.Unknown u) (formal.Written label) is below = absurd (cc)
+
+  atoms-below : (xs : List Atom) (bs : List (formal.Atom ℕ Label)) → parts table xs ≡ map wanted bs
+      → ((b : formal.Atom ℕ Label) → Contains bs b → walk.IsBelow count b) → AreBelow (length table) count xs
+  atoms-below [] [] is below = All-nil (IsBelow (length table) count)
+  atoms-below (a ∷ xs) (b ∷ bs) is below =
+      let head : part table a ≡ wanted b = cc in
+      let tail : parts table xs ≡ map wanted bs = cc in
+      All-cons (IsBelow (length table) count) a xs (atom-below a b head (below b (Contains-first _ _))) (atoms-below xs bs tail (λ x there. below x (Contains-later _ _ x there)))
+  atoms-below [] (b ∷ bs) is below = absurd (cc)
+  atoms-below (a ∷ xs) [] is below = absurd (cc)
+
+  abbrev fits : Stored → Type 0
+  fits c = AreBelow (length table) count c.left.items × IsBelow (length table) count c.right
+
+  pub constraints-in-range : (cs : List Stored) (gs : List Gathered) → stand_for table cs ≡ map wanted_of gs → walk.AreBelow count gs
+      → InRange (length table) count cs
+  constraints-in-range [] [] is below = All-nil fits
+  constraints-in-range (c ∷ cs) (g ∷ gs) is below =
+      let head : stands_for table c ≡ wanted_of g = cc in
+      let tail : stand_for table cs ≡ map wanted_of gs = cc in
+      let left : parts table c.left.items ≡ map wanted g.left = ap (λ x. x.left) head in
+      let right : part table c.right ≡ wanted g.right = ap (λ x. x.right) head in
+      let here = below g (Contains-first _ _) in
+      All-cons fits c cs (atoms-below c.left.items g.left left here.0, atom-below c.right g.right right here.1)
+      (constraints-in-range cs gs tail (λ x there. below x (Contains-later _ _ x there)))
+  constraints-in-range [] (g ∷ gs) is below = absurd (cc)
+  constraints-in-range (c ∷ cs) [] is below = absurd (cc)
+
+-- what was added to nothing, of a core that is this one
+pub stand-for-gathered : (core given : Core) (table : List Label) (cs : List Stored) → given ≡ core
+    → AreAdded given table (program_constraints (program_of given)) [] cs → stand_for table cs ≡ map wanted_of (gathered_constraints (program_of core))
+stand-for-gathered core given table cs same added =
+    subst (λ (k : Core). stand_for table cs ≡ map wanted_of (gathered_constraints (program_of k))) same
+    (added ∙ map-map (numbered (program_of given)) wanted_of (program_constraints (program_of given)))
