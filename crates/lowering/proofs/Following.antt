@@ -29,9 +29,6 @@ pub record Follows (p : Program) (least most : ℕ) (from to : Machine) : Type 0
 follows-nowhere : (p : Program) (m : Machine) → Follows p 0 0 m m
 follows-nowhere p m = record { steps = 0; enough = omega arith; few = omega arith; reached = refl }
 
-follows-at : (p : Program) (from to : Machine) → to ≡ from → Follows p 0 0 from to
-follows-at p from to e = subst (λ m. Follows p 0 0 from m) (sym e) (follows-nowhere p from)
-
 follows-step : (p : Program) (least most : ℕ) (from to : Machine) → Follows p least most (step p from) to → Follows p (suc least) (count p from + most) from to
 follows-step p least most from to h = record { steps = suc h.steps; enough = omega (arith, h.enough); few = omega (arith, h.few); reached = h.reached }
 

@@ -37,7 +37,7 @@ ended-later p zero m from ending sent less e = ap (machine.exec p m) e ∙ ended
 ended-later p (suc n) zero from ending sent less e = absurd (omega (arith, less))
 ended-later p (suc n) (suc m) from ending sent less e = ended-later p n m (machine.step p from) ending sent (omega (arith, less)) e
 
--- a machine that has made as many steps that count as another number of steps does still runs then, and nothing more was sent
+-- after m steps a machine has not ended and has sent no more than this
 record Still (p : machine.Program) (m : ℕ) (from : Machine) (sent : List Pair) : Type 0 where
   sends : Begins (machine.sent_of (machine.exec p m from)) sent
   runs : (ending : machine.Ending) (more : List Pair) → machine.exec p m from ≡ machine.Ended ending more → ⊥
@@ -45,7 +45,7 @@ record Still (p : machine.Program) (m : ℕ) (from : Machine) (sent : List Pair)
 running : (state : machine.State) (ending : machine.Ending) (sent : List Pair) → ◌≡◌ {A = Machine} (Running state) (machine.Ended ending sent) → ⊥
 running state ending sent e = cc
 
--- steps that do not count are unconditional jumps
+-- steps that do not count are unconditional jumps, so a machine still runs behind them
 idle-by : (p : machine.Program) (m : ℕ) (state : machine.State) (sent : List Pair)
     → ((on : machine.State) (sent : List Pair) → counts p m (Running on) ≤ 0 → on.sent ≡ sent → Still p m (Running on) sent)
     → counts p (suc m) (Running state) ≤ 0 → state.sent ≡ sent
@@ -68,6 +68,7 @@ idle p zero state sent none e = record { sends = subst (Begins state.sent) e (Be
 idle p (suc m) state sent none e =
     idle-by p m state sent (idle p m) none e (jump_of (p.fetch state.frame.procedure state.frame.position)) refl
 
+-- where no more steps count than up to a time at which a machine runs
 still : (p : machine.Program) (w m : ℕ) (from : Machine) (state : machine.State) → machine.exec p w from ≡ Running state → counts p m from ≤ counts p w from
     → Still p m from state.sent
 still p zero m from state reached few =

@@ -1,4 +1,4 @@
--- What it means that no jump leads to an unconditional jump, so that no run goes from jump to jump.
+-- What it means that no jump leads to an unconditional jump.
 -- Source: our own.
 use Rattle.std.specs.Prelude.{◌≡◌, List, [], All, IfSome, IsTrue, None, slice_get}
 use Rattle.bytecode.specs.declared.instruction.Instruction.{Instruction}

@@ -6,7 +6,7 @@ ghost use Rattle.std.specs.Prelude.{IfOk, Some, get_or, length, ◌<◌, ◌^◌
 use bytecode::Instruction;
 use std::alloc::{AllocError, Global};
 
-/// The final place of a place, which a place behind the code is itself.
+/// The final place of a place; one behind the code is its own.
 fn place_in(finals: &[u32], place: u32) -> u32
     ensures { result ≡ get_or finals.now place place }
 {
@@ -17,7 +17,7 @@ fn place_in(finals: &[u32], place: u32) -> u32
     }
 }
 
-/// The final place of an instruction's place, by those of the places behind it.
+/// The final place of the place of an instruction, by those of the places behind it.
 fn place_from(finals: &[u32], place: u32, instruction: Instruction) -> u32
     ensures { result ≡
         onward place (λ target. get_or finals.now target target) (jump_of (Some instruction)) }
@@ -28,7 +28,8 @@ fn place_from(finals: &[u32], place: u32, instruction: Instruction) -> u32
     }
 }
 
-/// The final place of each place of the code, from the last one to the first, since jumps that are followed go forward.
+/// The final place of each place of the code. They are found from the last one to the first, since the jumps that are followed go
+/// forward.
 fn final_places(alloc: Global, code: &[Instruction]) -> Result<Vec<u32>, AllocError>
     requires { length code.now < 2 ^ 32 }
     ensures size { IfOk result (λ finals. length finals.items ≡ length code.now) }

@@ -43,6 +43,7 @@ fn laws_of_compiling(_rt: HostRuntime) {
     lowering::laws::graphs_keep_meaning();
     lowering::laws::modules_keep_meaning();
     lowering::laws::graphs_have_positions();
+    lowering::laws::graphs_have_direct_jumps();
     lowering::laws::graphs_fit_the_file();
     lowering::laws::modules_have_no_fault();
     lowering::laws::modules_are_never_stuck();
