@@ -16,3 +16,5 @@ pub mod Packing
 pub mod Positioned
 pub mod Trees
 pub mod Covering
+pub mod Depth
+pub mod Within
