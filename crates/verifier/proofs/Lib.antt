@@ -14,6 +14,7 @@ pub mod Runs
 pub mod Shared
 pub mod Packing
 pub mod Positioned
+pub mod Renamed
 pub mod Trees
 pub mod Covering
 pub mod Depth
