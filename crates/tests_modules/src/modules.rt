@@ -50,6 +50,8 @@ fn the_laws_are_called(_rt: HostRuntime) {
     bytecode::laws::instructions_are_spelled();
     verifier::safety::faultless_modules_are_never_stuck();
     verifier::safety::reported_faults_are_there();
+    verifier::safety::frames_stay_within_their_depth();
+    verifier::safety::positions_stand_for_their_offsets();
 }
 
 #[test]

@@ -124,5 +124,6 @@ fn a_verified_module_is_lent(rt: HostRuntime) -> Result<(), Fail> {
     let code = verified.code(0);
     assert_eq!(rt; code.len(), 3);
     assert!(rt; matches!(code[0], Instruction::Push(7)));
+    assert_eq!(rt; verified.greatest_depth(0), 1);
     Ok(())
 }

@@ -148,7 +148,7 @@ all_right m e k p is =
 
 -- ---- so control goes to instructions or to the end
 
-started : (o : Option Instruction) → is_some o ≡ true → (i : Instruction) × (o ≡ Some i)
+pub started : (o : Option Instruction) → is_some o ≡ true → (i : Instruction) × (o ≡ Some i)
 started None e = absurd (let no : false ≡ true = e in cc)
 started (Some i) e = (i, refl)
 
@@ -156,7 +156,7 @@ pub right_of_unless : (b : Bool) (wrong : Defect) → unless b wrong ≡ None �
 right_of_unless true wrong e = refl
 right_of_unless false wrong e = absurd (let no : Some wrong ≡ None = e in cc)
 
-jump_right : (m : ModuleContents) (p : ProcedureContents) (i : Instruction) (to : ℕ) → instruction_defect m p i ≡ None → target_of i ≡ Some to → is_start p to ≡ true
+pub jump_right : (m : ModuleContents) (p : ProcedureContents) (i : Instruction) (to : ℕ) → instruction_defect m p i ≡ None → target_of i ≡ Some to → is_start p to ≡ true
 jump_right m p (Jump target) to e is = let same : target ≡ to = cc in ap (is_start p) (sym same) ∙ right_of_unless (is_start p target) defect.Jump e
 jump_right m p (JumpIfFalse target) to e is = let same : target ≡ to = cc in ap (is_start p) (sym same) ∙ right_of_unless (is_start p target) defect.Jump e
 jump_right m p _ to e is = absurd (let no : None ≡ Some to = is in cc)

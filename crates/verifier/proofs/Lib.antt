@@ -14,5 +14,8 @@ pub mod Runs
 pub mod Shared
 pub mod Packing
 pub mod Positioned
+pub mod Renamed
 pub mod Trees
 pub mod Covering
+pub mod Depth
+pub mod Within

@@ -1,6 +1,6 @@
 -- A module without a fault is never stuck.
 use Rattle.std.proofs.Common.{◌≡◌, inl, inr, ℕ, zero, suc, ◌==◌, Bool, true, false, if◌then◌else◌, List, [], ◌∷◌, map, slice_get, Option, Some, None, refl, sym, ap, ◌∙◌, subst}
-use Rattle.std.specs.Prelude.{nat_lt, is_none, is_some}
+use Rattle.std.specs.Prelude.{ℤ, nat_lt, is_none, is_some}
 use Rattle.std.proofs.lemmas.Bool.{and_parts}
 use Rattle.bytecode.specs.Code.{instruction_at}
 use Rattle.bytecode.specs.Contents.{ProcedureContents, ModuleContents}
@@ -197,8 +197,8 @@ main_there (Some p) e = (p, (refl, none p.returned (and_parts (p.parameters == 0
     none None e = refl
     none (Some q) e = absurd (let no : false ≡ true = e in cc)
 
-pub never_stuck : (m : ModuleContents) → IsBounded m → HasNoFault m → IsNeverStuck m
-never_stuck m bounded free = λ world n.
+pub good_after : (m : ModuleContents) → IsBounded m → HasNoFault m → (world : ℕ → List ℤ) (n : ℕ) → Good m (after_steps m world n)
+good_after m bounded free world n =
     let main = main_there (slice_get m.procedures m.main) bounded.starts in
     let p = main.0 in
     let first : Good m (Running (first_state m world)) = runs _ (record {
@@ -209,4 +209,7 @@ never_stuck m bounded free = λ world n.
       globals = holds_globals m.globals;
       callers = outermost p main.1.1;
     }) in
-    good_row m (after_steps m world n) (exec_good m free n (Running (first_state m world)) first)
+    exec_good m free n (Running (first_state m world)) first
+
+pub never_stuck : (m : ModuleContents) → IsBounded m → HasNoFault m → IsNeverStuck m
+never_stuck m bounded free = λ world n. good_row m (after_steps m world n) (good_after m bounded free world n)

@@ -16,7 +16,9 @@ use Rattle.verifier.specs.Flow.{Edge, next, jumps, caught, Flow, starts, nowhere
 use Rattle.verifier.specs.Operands.{list_of, IsLonger}
 use Rattle.verifier.specs.Boundaries.{IsBoundary, KeepsBoundaries}
 use Rattle.verifier.specs.Coverage.{IsCoverage, Waits}
-use Rattle.verifier.specs.Search.{row, table, IsWaiting, IsKept, IsSearching, IsAtEdge, Flowed, Steps, IsApplied, HasEffect, HasInstruction, IsFirst, left, unset}
+use Rattle.verifier.specs.Depth as Depth
+use Rattle.verifier.specs.Depth.{IsMet, found}
+use Rattle.verifier.specs.Search.{row, table, AreMet, IsWaiting, IsKept, IsSearching, IsAtEdge, Flowed, Steps, IsApplied, HasEffect, HasInstruction, IsFirst, left, unset}
 use Rattle.verifier.specs.declared.fault.Defect.TheVariants.{OperandKind, FallsOffEnd}
 use Rattle.verifier.specs.declared.coverage.Coverage.{Coverage}
 use Rattle.verifier.specs.declared.search.Search.{Search}
@@ -128,6 +130,7 @@ module _ (m : ModuleContents) (p : ProcedureContents) (s new : Search) (at to li
         | inr ne ↦ g.begins offset kinds (sym (others offset ne) ∙ h)
       ];
       first = keeps 0 [] g.first;
+      met = subst (AreMet m p) (sym lists) g.met;
       flow = subst (Flow m p) (sym (fun_ext is_changed)) (grows (table s) at e.kinds to (list_of s.operands list) g.flow e.has e.edge was_none);
       pending = λ offset kinds h. elim (number_cases offset to) [
         | inl same ↦ inl (subst (λ w. Contains w offset) (sym work) (subst (Contains (s.work.items ++ to ∷ [])) (sym same) (Contains-push s.work.items to)))
@@ -213,6 +216,7 @@ looked_at m p s at g kept = record {
   begins = g.begins;
   first = g.first;
   flow = g.flow;
+  met = g.met;
   pending = λ offset kinds h. elim (g.pending offset kinds h) [
     | inl w ↦ inl w
     | inr b ↦ elim b [ inl busy ↦ inr (inr (here offset kinds h (one at offset busy))) | inr k ↦ inr (inr k) ]
@@ -232,11 +236,16 @@ looked_at m p s at g kept = record {
 
 -- ---- more lists
 
+pub before_or_not : (a b : ℕ) → (a < b) ⊎ (b ≤ a)
+before_or_not a zero = inr (omega arith)
+before_or_not zero (suc b) = inl (omega arith)
+before_or_not (suc a) (suc b) = elim (before_or_not a b) [ inl h ↦ inl (omega (arith, h)) | inr h ↦ inr (omega (arith, h)) ]
+
 longer_row : (lists more : List (List Kind)) (o : Option ℕ) → ((n : ℕ) → o ≡ Some n → n < length lists) → IsLonger lists more → row more o ≡ row lists o
 longer_row lists more None h l = refl
 longer_row lists more (Some n) h l = ap Some (ap (λ ls. get_or ls n []) l.1 ∙ get_or_append_left lists l.0 [] n (h n refl))
 
-module _ (m : ModuleContents) (p : ProcedureContents) (s new : Search) (busy : List ℕ) (g : IsSearching m p s busy) (longer : IsLonger s.operands new.operands) (shapes : new.shapes ≡ s.shapes) (work : new.work ≡ s.work) where
+module _ (m : ModuleContents) (p : ProcedureContents) (s new : Search) (busy : List ℕ) (g : IsSearching m p s busy) (longer : IsLonger s.operands new.operands) (shapes : new.shapes ≡ s.shapes) (work : new.work ≡ s.work) (met : (k : ℕ) → length s.operands ≤ k → k < length new.operands → IsMet m p (list_of new.operands k)) where
   pub same_table : (offset : ℕ) → table new offset ≡ table s offset
   same_table offset = ap (λ v. row new.operands (get_or v.items offset None)) shapes ∙ longer_row s.operands new.operands (get_or s.shapes.items offset None) (g.numbers offset) longer
 
@@ -248,6 +257,7 @@ module _ (m : ModuleContents) (p : ProcedureContents) (s new : Search) (busy : L
     begins = λ offset kinds h. g.begins offset kinds (sym (same_table offset) ∙ h);
     first = same_table 0 ∙ g.first;
     flow = subst (Flow m p) (sym (fun_ext same_table)) g.flow;
+    met = all_met;
     pending = λ offset kinds h. elim (g.pending offset kinds (sym (same_table offset) ∙ h)) [
       | inl w ↦ inl (subst (λ v. Contains v.items offset) (sym work) w)
       | inr b ↦ elim b [ inl busy ↦ inr (inl busy) | inr k ↦ inr (inr (kept offset kinds k)) ]
@@ -255,6 +265,13 @@ module _ (m : ModuleContents) (p : ProcedureContents) (s new : Search) (busy : L
     waits = λ offset w. let h = g.waits offset (subst (λ v. Contains v.items offset) work w) in (h.0, same_table offset ∙ h.1);
   }
     where
+      all_met : AreMet m p new.operands
+      all_met k inside =
+          elim (before_or_not k (length s.operands)) [
+            | inl old ↦ subst (IsMet m p) (sym (ap (λ ls. list_of ls k) longer.1 ∙ get_or_append_left s.operands longer.0 [] k old)) (g.met k old)
+            | inr added ↦ met k added inside
+          ]
+
       kept : (offset : ℕ) (kinds : List Kind) → IsKept m p s offset kinds → IsKept m p new offset kinds
       kept offset kinds k = record {
         instruction = k.instruction;
@@ -298,13 +315,22 @@ pub misses_own : (m : ModuleContents) (p : ProcedureContents) (s : Search) (busy
 misses_own m p s busy at kinds i g has is own =
     misses (table s) at kinds i OperandKind g.flow has is (ap (λ (b : Bool). if b then exchanged (signature m p i) kinds else Misses OperandKind) own)
 
+-- what an instruction pushes is met, and where it pushes nothing there is no new list
+pub pushed_met : (m : ModuleContents) (p : ProcedureContents) (s : Search) (busy : List ℕ) (more : List (List Kind)) (at : ℕ) (kinds rest after : List Kind) (i : Instruction) → IsSearching m p s busy → table s at ≡ Some kinds → instruction_at p.code at ≡ Some i → is_own p i ≡ true → all_popped (signature m p i).pops kinds ≡ Leaves rest → pushed (signature m p i).pushes rest ≡ after → ((k : ℕ) → length s.operands ≤ k → k < length more → list_of more k ≡ after) → (k : ℕ) → length s.operands ≤ k → k < length more → IsMet m p (list_of more k)
+pushed_met m p s busy more at kinds rest after i g has is own e is_after new k low high =
+    subst (IsMet m p) (sym (new k low high))
+    (Depth.left (table s) at kinds i after g.flow has is (effect_own m p i kinds own ∙ ap (λ o. and_then o (λ rest. Leaves (pushed (signature m p i).pushes rest))) e ∙ ap Leaves is_after))
+
+pub none_added : (m : ModuleContents) (p : ProcedureContents) (lists more : List (List Kind)) → more ≡ lists → (k : ℕ) → length lists ≤ k → k < length more → IsMet m p (list_of more k)
+none_added m p lists more same k low high = absurd (omega (arith, ap length same))
+
 -- the list that an instruction leaves, where the lists grew
-pub applied : (m : ModuleContents) (p : ProcedureContents) (s new : Search) (at : ℕ) → IsSearching m p s (at ∷ []) → IsLonger s.operands new.operands → length new.operands ≤ length s.operands + 1 → new.shapes ≡ s.shapes → new.work ≡ s.work → IsApplied m p s new at
-applied m p s new at g longer few shapes work = record {
-  searching = going_longer m p s new (at ∷ []) g longer shapes work;
-  keeps = λ offset kinds h. same_table m p s new (at ∷ []) g longer shapes work offset ∙ h;
+pub applied : (m : ModuleContents) (p : ProcedureContents) (s new : Search) (at : ℕ) → IsSearching m p s (at ∷ []) → IsLonger s.operands new.operands → length new.operands ≤ length s.operands + 1 → new.shapes ≡ s.shapes → new.work ≡ s.work → ((k : ℕ) → length s.operands ≤ k → k < length new.operands → IsMet m p (list_of new.operands k)) → IsApplied m p s new at
+applied m p s new at g longer few shapes work met = record {
+  searching = going_longer m p s new (at ∷ []) g longer shapes work met;
+  keeps = λ offset kinds h. same_table m p s new (at ∷ []) g longer shapes work met offset ∙ h;
   few = few;
-  left = omega (arith, same_left m p s new (at ∷ []) g longer shapes work);
+  left = omega (arith, same_left m p s new (at ∷ []) g longer shapes work met);
 }
 
 pub has_effect : (m : ModuleContents) (p : ProcedureContents) (s new : Search) (at : ℕ) (kinds rest after : List Kind) (i : Instruction) → IsApplied m p s new at → table s at ≡ Some kinds → instruction_at p.code at ≡ Some i → is_own p i ≡ true → all_popped (signature m p i).pops kinds ≡ Leaves rest → pushed (signature m p i).pushes rest ≡ after → HasEffect m p new at i after
@@ -383,7 +409,7 @@ take_all [] (suc n) h = refl
 take_all (x ∷ xs) zero h = absurd (omega arith)
 take_all (x ∷ xs) (suc n) h = ap (λ ys. x ∷ ys) (take_all xs n (omega arith))
 
-no_items : {A : Type 0} (xs : List A) → length xs ≡ 0 → xs ≡ []
+pub no_items : {A : Type 0} (xs : List A) → length xs ≡ 0 → xs ≡ []
 no_items [] e = refl
 no_items (x ∷ xs) e = absurd (omega arith)
 
@@ -414,6 +440,7 @@ module _ (m : ModuleContents) (p : ProcedureContents) (s new : Search) (at : ℕ
     begins = λ offset kinds h. g.begins offset kinds (sym (taken_table offset) ∙ h);
     first = taken_table 0 ∙ g.first;
     flow = subst (Flow m p) (sym (fun_ext taken_table)) g.flow;
+    met = subst (AreMet m p) (sym operands) g.met;
     pending = λ offset kinds h. elim (g.pending offset kinds (sym (taken_table offset) ∙ h)) [
       | inl w ↦ elim (Contains-push_cases new.work.items at offset (subst (λ l. Contains l offset) work w)) [
         | inl rest ↦ inl rest
@@ -473,10 +500,15 @@ module _ (m : ModuleContents) (p : ProcedureContents) (s : Search) (n : ℕ) (si
     begins = λ offset kinds h. subst (λ q. (i : Instruction) × (instruction_at p.code q ≡ Some i)) (sym (only_first offset kinds h)) (elim boundaries.first [ inl e ↦ absurd (omega (arith, e, size)) | inr i ↦ i ]);
     first = start_table 0;
     flow = subst (Flow m p) (sym (fun_ext (λ offset. start_table offset ∙ other_none offset))) starts;
+    met = subst (AreMet m p) (sym operands) first_met;
     pending = λ offset kinds h. inl (subst (λ l. Contains l offset) (sym work) (subst (Contains (0 ∷ [])) (sym (only_first offset kinds h)) (Contains-push [] 0)));
     waits = λ offset w. elim (Contains-push_cases [] 0 offset (subst (λ l. Contains l offset) work w)) [ inl none ↦ absurd (omega (arith, none.1)) | inr same ↦ ([], ap (table s) (sym same) ∙ start_table 0) ];
   }
     where
+      first_met : AreMet m p ([] ∷ [])
+      first_met zero inside = found (changed nowhere 0 (Some [])) 0 [] starts (changed_at nowhere 0 [])
+      first_met (suc k) inside = absurd (omega arith)
+
       numbers : (offset list : ℕ) → get_or s.shapes.items offset None ≡ Some list → list < length s.operands
       numbers zero list h = let f : Some 0 ≡ Some list = sym (ap (λ v. get_or v 0 None) shapes) ∙ h in let g : 0 ≡ list = cc in omega (arith, ap length operands)
       numbers (suc k) list h = absurd (let f : None ≡ Some list = sym (ap (λ v. get_or v (suc k) None) shapes ∙ all_none n k) ∙ h in cc)

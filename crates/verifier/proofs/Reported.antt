@@ -1,5 +1,5 @@
 -- What the verifier reports.
-use Rattle.std.proofs.Common.{◌≡◌, ◌⊎◌, inl, inr, ℕ, zero, suc, ◌+◌, ◌<◌, List, [], ◌∷◌, length, get_or, slice_get, Some, None, refl, sym, ap, ◌∙◌, subst, arith}
+use Rattle.std.proofs.Common.{◌≡◌, ◌⊎◌, inl, inr, ℕ, zero, suc, ◌+◌, ◌<◌, List, [], ◌∷◌, ◌++◌, length, get_or, slice_get, Some, None, refl, sym, ap, ◌∙◌, subst, arith}
 use Rattle.bytecode.specs.Contents.{ProcedureContents, ModuleContents}
 use Rattle.verifier.specs.Faults.{HasNoFault, IsReported, IsReportedAfter, IsRefusal}
 use Rattle.verifier.specs.Fixed.{fixed_faults}
@@ -8,7 +8,11 @@ use Rattle.verifier.specs.Search.{IsStop, stop_fault}
 use Rattle.verifier.specs.declared.search.Stop.{Stop}
 use Rattle.verifier.specs.declared.search.Stop.TheVariants as stop
 use Rattle.verifier.specs.declared.fault.Fault.{Fault}
+use Rattle.std.proofs.lemmas.List.{get_or_append_left}
+use Rattle.std.proofs.Math.Seq.{get_or-append_seam}
 use Rattle.verifier.specs.Boundaries.{KeepsBoundaries}
+use Rattle.verifier.specs.Depth.{IsGreatestDepth}
+use Rattle.verifier.specs.Positions.{VerifiedCode}
 use Rattle.verifier.specs.Verified.{IsVerified}
 use Rattle.verifier.proofs.Bounds.{IsBounded}
 use Rattle.verifier.proofs.NeverStuck.{never_stuck}
@@ -35,17 +39,17 @@ reported_stop m k number p (stop.Wrong offset defect) none there is e =
     subst (λ (faults : List Fault). IsReportedAfter m faults (record { defect = defect; procedure = number; offset = offset })) (sym none)
     (record { procedure = p; there = ap (slice_get m.procedures) is ∙ there; defect = e })
 
+pub there_inside : (all : List ProcedureContents) (k : ℕ) (p : ProcedureContents) → slice_get all k ≡ Some p → k < length all
+there_inside [] k p e = absurd (let no : None ≡ Some p = e in cc)
+there_inside (x ∷ all) zero p e = omega arith
+there_inside (x ∷ all) (suc k) p e = omega (arith, there_inside all k p e)
+
 -- each procedure flows well
 pub all_flow : (m : ModuleContents) → fixed_faults m ≡ [] → ((k : ℕ) (p : ProcedureContents) → k < length m.procedures → slice_get m.procedures k ≡ Some p → FlowsWell m p) → HasNoFault m
 all_flow m none flow = record {
   fixed = none;
-  flow = λ fault there. flow fault.procedure there.procedure (inside m.procedures fault.procedure there.procedure there.there) there.there fault.offset fault.defect there.defect;
+  flow = λ fault there. flow fault.procedure there.procedure (there_inside m.procedures fault.procedure there.procedure there.there) there.there fault.offset fault.defect there.defect;
 }
-  where
-    inside : (all : List ProcedureContents) (k : ℕ) (p : ProcedureContents) → slice_get all k ≡ Some p → k < length all
-    inside [] k p e = absurd (let no : None ≡ Some p = e in cc)
-    inside (x ∷ all) zero p e = omega arith
-    inside (x ∷ all) (suc k) p e = omega (arith, inside all k p e)
 
 -- ---- the loop over procedures
 
@@ -80,3 +84,16 @@ module _ (m : ModuleContents) (none : fixed_faults m ≡ []) (procedures : List 
             let body_is : body ≡ p = cc in
             subst (λ (x : ProcedureContents). FlowsWell m x) body_is (subst (λ (x : ModuleContents). FlowsWell x body) same_module flow)
       ]
+
+  -- one more code
+  pub depth_more : (q : ModuleContents) → q ≡ m → (codes new : List VerifiedCode) (code : VerifiedCode) → length codes ≡ index → new ≡ codes ++ code ∷ [] → IsGreatestDepth q body code.greatest_depth → ((k : ℕ) (p : ProcedureContents) (d : VerifiedCode) → k < index → slice_get procedures k ≡ Some p → IsGreatestDepth m p (get_or codes k d).greatest_depth) → (k : ℕ) (p : ProcedureContents) (d : VerifiedCode) → k < index + 1 → slice_get procedures k ≡ Some p → IsGreatestDepth m p (get_or new k d).greatest_depth
+  depth_more q same_module codes new code long pushed depth before k p d below there =
+      subst (λ (cs : List VerifiedCode). IsGreatestDepth m p (get_or cs k d).greatest_depth) (sym pushed) (elim (last_cases k index below) [
+        | inl less ↦ subst (λ (c : VerifiedCode). IsGreatestDepth m p c.greatest_depth) (sym (get_or_append_left codes (code ∷ []) d k (omega (arith, long, less)))) (before k p d less there)
+        | inr last ↦
+            let found : Some body ≡ Some p = sym item_there ∙ ap (λ all. slice_get all index) (sym are) ∙ ap (slice_get procedures) (sym last) ∙ there in
+            let body_is : body ≡ p = cc in
+            let at : get_or (codes ++ code ∷ []) k d ≡ code = ap (λ (j : ℕ). get_or (codes ++ code ∷ []) j d) (last ∙ sym long) ∙ get_or-append_seam codes code [] d in
+            subst (λ (c : VerifiedCode). IsGreatestDepth m p c.greatest_depth) (sym at)
+            (subst (λ (x : ProcedureContents). IsGreatestDepth m x code.greatest_depth) body_is (subst (λ (x : ModuleContents). IsGreatestDepth x body code.greatest_depth) same_module depth))
+      ])

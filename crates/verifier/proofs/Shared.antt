@@ -221,11 +221,17 @@ module _ (first : List (List Kind)) (links more_links : List Link) (ints more_in
       (subst (λ l. IsShared (spelled first links ++ n ∷ []) (links ++ link ∷ []) (ints ++ None ∷ []) (set (booleans ++ None ∷ []) below (Some l))) number_is shared))))
 
 -- the lists after a push
-pub pushed : (first lists : List (List Kind)) (links more_links : List Link) (kind : Kind) (below depth bits skip number : ℕ) → spelled first links ≡ lists → length lists ≡ length links + 1 → number ≡ length links → more_links ≡ links ++ record { kind = kind; below = below; depth = depth; bits = bits; skip = skip } ∷ [] → (spelled first more_links ≡ lists ++ (kind ∷ list_of lists below) ∷ []) × (length (spelled first more_links) ≡ length lists + 1) × (list_of (spelled first more_links) (number + 1) ≡ kind ∷ list_of lists below)
+pub pushed : (first lists : List (List Kind)) (links more_links : List Link) (kind : Kind) (below depth bits skip number : ℕ) → spelled first links ≡ lists → length lists ≡ length links + 1 → number ≡ length links → more_links ≡ links ++ record { kind = kind; below = below; depth = depth; bits = bits; skip = skip } ∷ [] → (spelled first more_links ≡ lists ++ (kind ∷ list_of lists below) ∷ []) × (length (spelled first more_links) ≡ length lists + 1) × (list_of (spelled first more_links) (number + 1) ≡ kind ∷ list_of lists below) × ((k : ℕ) → length lists ≤ k → k < length (spelled first more_links) → list_of (spelled first more_links) k ≡ kind ∷ list_of lists below)
 pushed first lists links more_links kind below depth bits skip number view long count el =
     let e : spelled first more_links ≡ lists ++ (kind ∷ list_of lists below) ∷ [] = ap (spelled first) el ∙ spelled_push first links (record { kind = kind; below = below; depth = depth; bits = bits; skip = skip }) ∙ ap (λ l. l ++ (kind ∷ list_of l below) ∷ []) view in
-    let n : number + 1 ≡ length lists = omega arith in
-    (e, ap length e ∙ longer_one lists (kind ∷ list_of lists below), ap (λ l. list_of l (number + 1)) e ∙ ap (list_of (lists ++ (kind ∷ list_of lists below) ∷ [])) n ∙ new lists (kind ∷ list_of lists below))
+    let n : number + 1 ≡ length lists = omega arith in (
+      e,
+      ap length e ∙ longer_one lists (kind ∷ list_of lists below),
+      ap (λ l. list_of l (number + 1)) e ∙ ap (list_of (lists ++ (kind ∷ list_of lists below) ∷ [])) n ∙ new lists (kind ∷ list_of lists below),
+      λ k low high.
+          let last : k ≡ length lists = omega (arith, ap length e, longer_one lists (kind ∷ list_of lists below)) in
+          ap (λ l. list_of l k) e ∙ ap (list_of (lists ++ (kind ∷ list_of lists below) ∷ [])) last ∙ new lists (kind ∷ list_of lists below),
+    )
 
 pub any_default : {A : Type 0} (xs : List A) (k : ℕ) (d e : A) → k < length xs → get_or xs k d ≡ get_or xs k e
 any_default [] k d e h = absurd (omega arith)

@@ -1,5 +1,6 @@
 pub mod Boundaries
 pub mod Coverage
+pub mod Depth
 pub mod Faults
 pub mod Fixed
 pub mod Flow

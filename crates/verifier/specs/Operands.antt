@@ -1,6 +1,6 @@
 -- Lists of kinds that are kept once each, and go by their numbers; and kinds as bits, of which 64 are compared at once.
 -- Source: our own.
-use Rattle.std.specs.Prelude.{◌≡◌, ◌≢◌, ℕ, zero, suc, ◌+◌, ◌*◌, ◌/◌, ◌<◌, ◌≤◌, List, [], ◌∷◌, ◌++◌, drop, length, slice_index_or, Option, Some, None}
+use Rattle.std.specs.Prelude.{◌≡◌, ◌≢◌, ℕ, zero, suc, ◌+◌, ◌*◌, ◌/◌, ◌<◌, ◌≤◌, List, [], ◌∷◌, ◌++◌, drop, length, max, slice_index_or, Option, Some, None}
 use Rattle.bytecode.specs.declared.value.Kind.{Kind}
 use Rattle.bytecode.specs.declared.value.Kind.TheVariants.{Int, Boolean}
 use Rattle.verifier.specs.declared.operands.Link.{Link}
@@ -63,3 +63,8 @@ pub record IsShared (lists : List (List Kind)) (links : List Link) (ints boolean
   pub int_above : HasAbove Int lists ints
   pub boolean_above : HasAbove Boolean lists booleans
   pub distinct : (a b : ℕ) → a < length lists → b < length lists → list_of lists a ≡ list_of lists b → a ≡ b
+
+-- how many operands the longest list has
+abbrev pub greatest : List Link → ℕ
+greatest [] = 0
+greatest (link ∷ links) = max link.depth (greatest links)

@@ -10,6 +10,7 @@ use Rattle.bytecode.specs.declared.declaration.Handler.{Handler}
 use Rattle.bytecode.specs.Targets.{target_of}
 use Rattle.verifier.specs.Flow.{Edge, Flow, Leaves, effect, goes_on, IsFlowDefect}
 use Rattle.verifier.specs.Coverage.{IsCoverage, Waits}
+use Rattle.verifier.specs.Depth.{IsMet}
 use Rattle.verifier.specs.Operands.{list_of}
 use Rattle.verifier.specs.declared.fault.VerifyFault.{VerifyFault}
 use Rattle.verifier.specs.declared.fault.VerifyFault.TheVariants as verify
@@ -70,7 +71,16 @@ left s = unset s.shapes.items + length s.work.items
 abbrev pub IsFirst : List (List Kind) → Type 0
 IsFirst lists = (0 < length lists) × (list_of lists 0 ≡ [])
 
--- a search at work: its table is one of the flow, and each offset that has a list waits, is being looked at, or is kept
+-- each list is one that an instruction finds or leaves, and none that is so is longer than all of them
+abbrev pub AreMet : ModuleContents → ProcedureContents → List (List Kind) → Type 0
+AreMet m p lists = (k : ℕ) → k < length lists → IsMet m p (list_of lists k)
+
+pub record HaveLongest (m : ModuleContents) (p : ProcedureContents) (lists : List (List Kind)) : Type 0 where
+  pub met : AreMet m p lists
+  pub longest : (kinds : List Kind) → IsMet m p kinds → (k : ℕ) × ((k < length lists) × (length kinds ≤ length (list_of lists k)))
+
+-- a search at work: its table is one of the flow, its lists are met, and each offset that has a list waits, is being looked at, or
+-- is kept
 pub record IsSearching (m : ModuleContents) (p : ProcedureContents) (s : Search) (busy : List ℕ) : Type 0 where
   pub root : IsFirst s.operands
   pub sized : length s.shapes.items ≡ code_length p.code
@@ -78,6 +88,7 @@ pub record IsSearching (m : ModuleContents) (p : ProcedureContents) (s : Search)
   pub begins : (offset : ℕ) (kinds : List Kind) → table s offset ≡ Some kinds → (i : Instruction) × (instruction_at p.code offset ≡ Some i)
   pub first : table s 0 ≡ Some []
   pub flow : Flow m p (table s)
+  pub met : AreMet m p s.operands
   pub pending : (at : ℕ) (kinds : List Kind) → table s at ≡ Some kinds → Contains s.work.items at ⊎ (Contains busy at ⊎ IsKept m p s at kinds)
   pub waits : (at : ℕ) → Contains s.work.items at → (kinds : List Kind) × (table s at ≡ Some kinds)
 

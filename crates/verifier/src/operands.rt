@@ -1,7 +1,7 @@
 //! The kinds of the operands with which control reaches instructions, as lists that share what is below.
 
 ghost use Rattle.verifier.specs.Flow.{Leaves, Misses, all_popped, between, popped};
-ghost use Rattle.verifier.specs.Operands.{bit, full_blocks, list_of, packed, IsLonger};
+ghost use Rattle.verifier.specs.Operands.{bit, full_blocks, greatest, list_of, packed, IsLonger};
 ghost use Rattle.std.specs.Prelude.{◌≡◌, ◌≢◌, ◌+◌, ◌*◌, ◌<◌, ◌≤◌, ◌^◌, ℕ, List, Some, ◌∷◌, [], IfOk, IfErr, IfNone, IfSome, OnOk, drop, length, map};
 ghost use Rattle.bytecode.specs.declared.value.Kind.{Kind};
 
@@ -53,6 +53,17 @@ fn last_kind(bits: u64) -> Kind
     }
 }
 
+// The greatest depth of links.
+fn greatest_of(links: &[Link]) -> u32
+    ensures { result ≡ greatest links.now }
+{
+    let mut deepest = 0;
+    for link in links {
+        deepest = link.depth.max(deepest);
+    }
+    deepest
+}
+
 /// Lists of kinds, each of which is kept once and goes by a number. The list 0 is empty.
 #[derive(Debug, Drop)]
 pub struct Operands {
@@ -99,6 +110,8 @@ impl Operands {
         ensures few { length self.new ≤ length self.old + 1 }
         ensures there { IfOk result (λ r. r < length self.new) }
         ensures made { IfOk result (λ r. list_of self.new r ≡ kind ∷ list_of self.old list) }
+        ensures alone { OnOk result ((k : ℕ) → length self.old ≤ k → k < length self.new →
+            list_of self.new k ≡ kind ∷ list_of self.old list) }
     {
         match self.above(list, kind) {
             Some(above) => Ok(above),
@@ -128,6 +141,8 @@ impl Operands {
         ensures few { length self.new ≤ length self.old + 1 }
         ensures there { IfOk result (λ r. r < length self.new) }
         ensures made { IfOk result (λ r. list_of self.new r ≡ kind ∷ list_of self.old list) }
+        ensures alone { OnOk result ((k : ℕ) → length self.old ≤ k → k < length self.new →
+            list_of self.new k ≡ kind ∷ list_of self.old list) }
     {
         let above = self.links.len() as u32 + 1;
         let depth = self.depth(list) + 1;
@@ -286,6 +301,14 @@ impl Operands {
         } else {
             self.links[list as usize - 1].depth
         }
+    }
+
+    /// How many operands the longest list has.
+    pub fn greatest_depth(&self) -> u32
+        ensures bounds { (k : ℕ) → k < length self.now → length (list_of self.now k) ≤ result }
+        ensures there { (k : ℕ) × ((k < length self.now) × (length (list_of self.now k) ≡ result)) }
+    {
+        greatest_of(self.links.as_slice())
     }
 
     /// Whether two lists are the same, or else what is wrong where they meet.

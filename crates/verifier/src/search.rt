@@ -8,10 +8,11 @@ ghost use Rattle.std.specs.Prelude.{Some, true, ℕ, [], ◌≡◌, ◌+◌, ◌
 ghost use Rattle.bytecode.specs.Targets as targets;
 ghost use Rattle.verifier.specs.Flow as flow;
 ghost use Rattle.verifier.specs.Flow.{FlowsWell};
+ghost use Rattle.verifier.specs.Depth.{IsGreatestDepth};
 ghost use Rattle.verifier.specs.Operands.{list_of};
 ghost use Rattle.verifier.specs.Boundaries.{IsBoundary, KeepsBoundaries};
 ghost use Rattle.verifier.specs.declared.search.Stop.TheVariants.{NoMemory};
-ghost use Rattle.verifier.specs.Search.{Flowed, HasEffect, HasInstruction, IsApplied, IsAtEdge, IsBody, IsSearching, IsStop, IsWaiting, Steps, left, table};
+ghost use Rattle.verifier.specs.Search.{Flowed, HasEffect, HaveLongest, HasInstruction, IsApplied, IsAtEdge, IsBody, IsSearching, IsStop, IsWaiting, Steps, left, table};
 
 use crate::body::Body;
 use crate::coverage::Coverage;
@@ -234,6 +235,7 @@ impl Search {
         requires body { IsBody body.now }
         requires room { length self.old.operands + left self.old ≤ 2 ^ 32 }
         ensures ok { OnOk result (FlowsWell body.now.program.now body.now.procedure.now) }
+        ensures longest { OnOk result (HaveLongest body.now.program.now body.now.procedure.now self.new.operands) }
         ensures err { IfErr result (λ stop. IsStop body.now.program.now body.now.procedure.now stop) }
     {
         while let Some(at) = self.work.pop() {
@@ -243,12 +245,14 @@ impl Search {
     }
 }
 
-/// Looks for a fault of the flow of a procedure whose targets are right.
-pub(crate) fn find_defect(alloc: Global, body: &Body) -> Result<(), Stop>
+/// Looks for a fault of the flow of a procedure whose targets are right, and answers the greatest number of operands where there
+/// is none.
+pub(crate) fn find_defect(alloc: Global, body: &Body) -> Result<u32, Stop>
     requires boundaries { KeepsBoundaries body.now.procedure.now }
     requires body { IsBody body.now }
     requires few { length body.now.procedure.now.handlers < 2 ^ 32 }
     ensures ok { OnOk result (FlowsWell body.now.program.now body.now.procedure.now) }
+    ensures depth { IfOk result (λ depth. IsGreatestDepth body.now.program.now body.now.procedure.now depth) }
     ensures err { IfErr result (λ stop. IsStop body.now.program.now body.now.procedure.now stop) }
 {
     let size = body.indices.len();
@@ -265,5 +269,6 @@ pub(crate) fn find_defect(alloc: Global, body: &Body) -> Result<(), Stop>
         shapes,
         work,
     };
-    search.run(body, &mut coverage)
+    search.run(body, &mut coverage)?;
+    Ok(search.operands.greatest_depth())
 }

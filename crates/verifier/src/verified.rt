@@ -1,11 +1,12 @@
 ghost use Rattle.bytecode.specs.Machine.{code_of};
-ghost use Rattle.std.specs.Prelude.{IfErr, IfOk, OnOk, [], length, slice_get, ◌++◌, ◌<◌, ◌∷◌, ◌≡◌};
+ghost use Rattle.std.specs.Prelude.{IfErr, IfOk, OnOk, Some, [], length, slice_get, ◌<◌, ◌≡◌};
+ghost use Rattle.bytecode.specs.Contents.{ProcedureContents};
+ghost use Rattle.verifier.specs.Depth.{IsGreatestDepth};
 ghost use Rattle.verifier.specs.Faults.{HasNoFault, IsRefusal};
 ghost use Rattle.verifier.specs.Fixed.{fixed_faults};
 ghost use Rattle.verifier.specs.Safety.{IsNeverStuck};
 ghost use Rattle.verifier.specs.Search.{stop_fault};
 ghost use Rattle.verifier.specs.Positions.{positioned};
-ghost use Rattle.verifier.specs.Search.{IsBody};
 ghost use Rattle.verifier.specs.Verified.{HasCodes};
 
 use crate::body::Body;
@@ -56,6 +57,16 @@ impl Verified {
     {
         self.codes[procedure as usize].instructions()
     }
+
+    /// The greatest number of operands that an instruction of a procedure finds or leaves, where control reaches it. No frame of
+    /// that procedure ever has more. Precondition: there is a procedure of that number.
+    pub fn greatest_depth(&self, procedure: u32) -> u32
+        requires { procedure < length self.now.procedures }
+        ensures { (p : ProcedureContents) → slice_get self.now.procedures procedure ≡ Some p
+            → IsGreatestDepth self.now p result }
+    {
+        self.codes[procedure as usize].greatest_depth()
+    }
 }
 
 /// Verifies a module.
@@ -99,24 +110,13 @@ fn look_for_flow_faults(alloc: Global, program: &PackedModule) -> Result<Vec<Cod
     let mut number = 0;
     for procedure in procedures {
         let body = Body::new(alloc, program, procedure)?;
-        if let Err(stop) = find_defect(alloc, &body) {
-            return Err(fault_at(number, stop));
+        match find_defect(alloc, &body) {
+            Ok(greatest_depth) => codes.push(Code::of(alloc, &body, greatest_depth)?)?,
+            Err(stop) => return Err(fault_at(number, stop)),
         }
-        add_code(alloc, &mut codes, &body)?;
         number += 1;
     }
     Ok(codes)
-}
-
-// Adds the code of a procedure.
-fn add_code(alloc: Global, codes: &mut Vec<Code>, body: &Body) -> Result<(), VerifyFault>
-    requires { IsBody body.now }
-    ensures added { OnOk result (codes.new.items
-        ≡ codes.old.items ++ positioned body.now.procedure.now.code ∷ []) }
-    ensures no_memory { IfErr result (λ fault. fault ≡ VerifyFault.NoMemory) }
-{
-    codes.push(Code::of(alloc, body)?)?;
-    Ok(())
 }
 
 // The fault for which the search of a procedure stopped.

@@ -1,5 +1,6 @@
 use Rattle.std.proofs.Common.{rules, ◌≡◌, suc, ◌-◌, ◌∷◌, [], length, set, replicate, Some, None, arith, ap, ◌∙◌}
 use Rattle.bytecode.specs.Code.{code_length}
+use Rattle.verifier.proofs.Depth.{is_greatest}
 use Rattle.verifier.proofs.Indices.{length-indices}
 use Rattle.verifier.proofs.Reaching.{empty_falls, started, start_left, waiting_start}
 use Rattle.std.specs.Vec.{with_item}
@@ -31,3 +32,6 @@ run-requires-clause-room c =
 pub run-requires-clause-waiting : goal.run-requires-clause-waiting
 run-requires-clause-waiting c =
     waiting_start c.args.body.now.procedure.now c.in_ok-coverage.coverage _ c.handlers.result.now c.handlers.ensures c.in_ok-coverage.ensures.coverage c.in_ok-coverage.ensures.real c.in_ok-coverage.ensures.all
+
+pub returns-clause-depth : goal.returns-clause-depth
+returns-clause-depth c = is_greatest c.args.body.now.program.now c.args.body.now.procedure.now _ c.greatest_depth.result c.in_ok-run.ensures.longest c.greatest_depth.ensures.bounds c.greatest_depth.ensures.there

@@ -50,6 +50,13 @@ returns-in-Int-clause-made c =
     let long : length c.args.self.now ≡ length c.self.inside.links.items + 1 = ap length (sym c.self.view_is) ∙ c.self.invariant.long in
     (pushed ([] ∷ []) c.args.self.now c.self.inside.links.items c.push-3.new.self.items c.args.kind c.args.list (c.depth-depth.result + 1) c.bits_with-bits.result c.skip_with-skip.result c.len.result c.self.view_is long count el).2
 
+pub returns-in-Int-clause-alone : goal.returns-in-Int-clause-alone
+returns-in-Int-clause-alone c =
+    let el : c.push-3.new.self.items ≡ c.self.inside.links.items ++ record { kind = c.args.kind; below = c.args.list; depth = c.depth-depth.result + 1; bits = c.bits_with-bits.result; skip = c.skip_with-skip.result } ∷ [] = search rules in
+    let count : c.len.result ≡ length c.self.inside.links.items = search rules in
+    let long : length c.args.self.now ≡ length c.self.inside.links.items + 1 = ap length (sym c.self.view_is) ∙ c.self.invariant.long in
+    (pushed ([] ∷ []) c.args.self.now c.self.inside.links.items c.push-3.new.self.items c.args.kind c.args.list (c.depth-depth.result + 1) c.bits_with-bits.result c.skip_with-skip.result c.len.result c.self.view_is long count el).3
+
 pub invariant_of-self-in-Boolean : goal.invariant_of-self-in-Boolean
 invariant_of-self-in-Boolean c =
     let view = c.self.view_is in
@@ -96,3 +103,10 @@ returns-in-Boolean-clause-made c =
     let count : c.len.result ≡ length c.self.inside.links.items = search rules in
     let long : length c.args.self.now ≡ length c.self.inside.links.items + 1 = ap length (sym c.self.view_is) ∙ c.self.invariant.long in
     (pushed ([] ∷ []) c.args.self.now c.self.inside.links.items c.push-3.new.self.items c.args.kind c.args.list (c.depth-depth.result + 1) c.bits_with-bits.result c.skip_with-skip.result c.len.result c.self.view_is long count el).2
+
+pub returns-in-Boolean-clause-alone : goal.returns-in-Boolean-clause-alone
+returns-in-Boolean-clause-alone c =
+    let el : c.push-3.new.self.items ≡ c.self.inside.links.items ++ record { kind = c.args.kind; below = c.args.list; depth = c.depth-depth.result + 1; bits = c.bits_with-bits.result; skip = c.skip_with-skip.result } ∷ [] = search rules in
+    let count : c.len.result ≡ length c.self.inside.links.items = search rules in
+    let long : length c.args.self.now ≡ length c.self.inside.links.items + 1 = ap length (sym c.self.view_is) ∙ c.self.invariant.long in
+    (pushed ([] ∷ []) c.args.self.now c.self.inside.links.items c.push-3.new.self.items c.args.kind c.args.list (c.depth-depth.result + 1) c.bits_with-bits.result c.skip_with-skip.result c.len.result c.self.view_is long count el).3

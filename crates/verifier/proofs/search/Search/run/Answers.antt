@@ -1,5 +1,6 @@
 use Rattle.std.proofs.Common.{rules, ◌≡◌, arith, refl}
 use Rattle.std.specs.Vec.{vec_len}
+use Rattle.verifier.proofs.Depth.{run_longest}
 use Rattle.verifier.proofs.Reaching.{taken, taken_instruction, run_done, waiting_kept}
 use Rattle.verifier.proofs.search.Search.run.Goals as goal
 
@@ -16,3 +17,8 @@ returns-clause-ok c =
 
 pub look-requires-clause-waiting : goal.look-requires-clause-waiting
 look-requires-clause-waiting c = waiting_kept c.args.body.now.procedure.now c.loop-at.coverage c.loop-at.self _ (λ offset kinds has. has) c.loop-at.invariant.waiting
+
+pub returns-clause-longest : goal.returns-clause-longest
+returns-clause-longest c =
+    let none : vec_len c.loop-at.self.work ≡ 0 = search rules in
+    run_longest c.args.body.now.program.now c.args.body.now.procedure.now c.loop-at.self c.loop-at.invariant.searching (omega (arith, none, c.loop-at.self.work.ok.0))

@@ -1,0 +1,138 @@
+-- The longest list of a search is as long as any that an instruction finds or leaves.
+use Rattle.std.proofs.Common.{◌≡◌, ◌⊎◌, inl, inr, ℕ, zero, suc, ◌+◌, ◌<◌, ◌≤◌, Bool, true, false, if◌then◌else◌, List, [], ◌∷◌, length, get_or, drop, max, Option, Some, None, refl, sym, ap, ◌∙◌, arith}
+use Rattle.std.proofs.lemmas.List.{drop_more}
+use Rattle.bytecode.specs.Contents.{ProcedureContents, ModuleContents}
+use Rattle.bytecode.specs.Code.{width_of}
+use Rattle.bytecode.specs.Values.{is_same_kind}
+use Rattle.bytecode.specs.declared.instruction.Instruction.{Instruction}
+use Rattle.bytecode.specs.declared.instruction.Instruction.TheVariants.{Push, PushBoolean, Pop, Load, Store, LoadGlobal, StoreGlobal, LoadElement, StoreElement, LoadGlobalElement, StoreGlobalElement, Clear, Compute, Negate, Not, Compare, SameBoolean, OtherBoolean, Jump, JumpIfFalse, Call, Return, ReturnValue, Receive, Send, Throw}
+use Rattle.bytecode.specs.declared.value.Kind.{Kind}
+use Rattle.bytecode.specs.declared.value.Kind.TheVariants.{Int}
+use Rattle.verifier.specs.Depth.{IsMet, IsGreatestDepth, found, left}
+use Rattle.verifier.specs.Flow.{Effect, Leaves, Misses, Signature, all_popped, and_then, exchanged, goes_on, is_own, next, pushed, signature}
+use Rattle.verifier.specs.Operands.{greatest, list_of, IsShared}
+use Rattle.verifier.specs.Search.{row, table, IsSearching, HaveLongest}
+use Rattle.verifier.specs.declared.fault.Defect.TheVariants.{OperandKind}
+use Rattle.verifier.specs.declared.operands.Link.{Link}
+use Rattle.verifier.specs.declared.search.Search.{Search}
+use Rattle.verifier.proofs.Laws.{flow_within}
+use Rattle.verifier.proofs.Reaching.{before_or_not, going_done, no_items}
+use Rattle.verifier.proofs.Runs.{leaves_same}
+
+-- ---- the greatest depth of links
+
+max_cases : (a b : ℕ) → (max a b ≡ a) ⊎ (max a b ≡ b)
+max_cases a b = elim (before_or_not a b) [ inl h ↦ inr (omega (arith, h)) | inr h ↦ inl (omega (arith, h)) ]
+
+-- one more link of those that are left
+pub greatest_more : (links : List Link) (k deepest : ℕ) (d : Link) → k < length links → max deepest (greatest (drop k links)) ≡ greatest links → max (max (get_or links k d).depth deepest) (greatest (drop (k + 1) links)) ≡ greatest links
+greatest_more links k deepest d h e = omega (arith, e, ap greatest (drop_more links k d h))
+
+greatest_bound : (links : List Link) (k : ℕ) (d : Link) → k < length links → (get_or links k d).depth ≤ greatest links
+greatest_bound [] k d h = absurd (omega arith)
+greatest_bound (x ∷ links) zero d h = omega arith
+greatest_bound (x ∷ links) (suc k) d h = omega (arith, greatest_bound links k d (omega arith))
+
+greatest_there : (links : List Link) → (greatest links ≡ 0) ⊎ ((k : ℕ) × ((k < length links) × ((d : Link) → (get_or links k d).depth ≡ greatest links)))
+greatest_there [] = inl refl
+greatest_there (x ∷ links) = elim (max_cases x.depth (greatest links)) [
+  | inl own ↦ inr (0, (omega arith, λ d. sym own))
+  | inr more ↦ elim (greatest_there links) [
+    | inl none ↦ inl (more ∙ none)
+    | inr h ↦ inr (suc h.0, (omega (arith, h.1.0), λ d. h.1.1 d ∙ sym more))
+  ]
+]
+
+module _ (lists : List (List Kind)) (links : List Link) (ints booleans : List (Option ℕ)) (s : IsShared lists links ints booleans) where
+  no_link : Link
+  no_link = record { kind = Int; below = 0; depth = 0; bits = 0; skip = 0 }
+
+  pub lists_bound : (k : ℕ) → k < length lists → length (list_of lists k) ≤ greatest links
+  lists_bound zero h = omega (arith, ap length s.root)
+  lists_bound (suc k) h =
+      let inside : k < length links = omega (arith, s.long) in
+      let at : k + 1 ≡ suc k = omega arith in
+      omega (arith, (s.link k no_link inside).depth, greatest_bound links k no_link inside, ap (λ j. length (list_of lists j)) at)
+
+  pub lists_there : (k : ℕ) × ((k < length lists) × (length (list_of lists k) ≡ greatest links))
+  lists_there = elim (greatest_there links) [
+    | inl none ↦ (0, (omega (arith, s.long), ap length s.root ∙ sym none))
+    | inr h ↦ (h.0 + 1, (omega (arith, s.long, h.1.0), sym (s.link h.0 no_link h.1.0).depth ∙ h.1.1 no_link))
+  ]
+
+-- ---- where nothing is pushed, no more is left than was found
+
+popped_less : (wanted : List (Option Kind)) (kinds rest : List Kind) → all_popped wanted kinds ≡ Leaves rest → length rest ≤ length kinds
+popped_less [] kinds rest e = omega (arith, ap length (leaves_same kinds rest e))
+popped_less (w ∷ wanted) [] rest e = absurd (cc)
+popped_less (None ∷ wanted) (kind ∷ kinds) rest e = omega (arith, popped_less wanted kinds rest e)
+popped_less (Some w ∷ wanted) (kind ∷ kinds) rest e = split (λ more. popped_less wanted kinds rest more) (is_same_kind w kind) e
+  where
+    split : (all_popped wanted kinds ≡ Leaves rest → length rest ≤ length kinds) → (b : Bool) → and_then (if b then Leaves kinds else Misses OperandKind) (all_popped wanted) ≡ Leaves rest → length rest ≤ suc (length kinds)
+    split less true e = omega (arith, less e)
+    split less false e = absurd (cc)
+
+left_less : (b : Bool) (s : Signature) (kinds after : List Kind) → (if b then exchanged s kinds else Misses OperandKind) ≡ Leaves after → s.pushes ≡ None → length after ≤ length kinds
+left_less false s kinds after e none = absurd (cc)
+left_less true s kinds after e none = split (all_popped s.pops kinds) refl e
+  where
+    split : (popped : Effect) → all_popped s.pops kinds ≡ popped → and_then popped (λ rest. Leaves (pushed s.pushes rest)) ≡ Leaves after → length after ≤ length kinds
+    split (Misses wrong) is e = absurd (cc)
+    split (Leaves rest) is e = omega (arith, popped_less s.pops kinds rest is, ap length (leaves_same (pushed s.pushes rest) after e), ap (λ (o : Option Kind). length (pushed o rest)) none)
+
+-- an instruction behind which control does not go on pushes nothing
+settles : (m : ModuleContents) (p : ProcedureContents) (i : Instruction) → (goes_on i ≡ true) ⊎ ((signature m p i).pushes ≡ None)
+settles m p (Push n) = inl refl
+settles m p (PushBoolean b) = inl refl
+settles m p Pop = inl refl
+settles m p (Load k) = inl refl
+settles m p (Store k) = inl refl
+settles m p (LoadGlobal k) = inl refl
+settles m p (StoreGlobal k) = inl refl
+settles m p (LoadElement k) = inl refl
+settles m p (StoreElement k) = inl refl
+settles m p (LoadGlobalElement k) = inl refl
+settles m p (StoreGlobalElement k) = inl refl
+settles m p (Clear k) = inl refl
+settles m p (Compute operator) = inl refl
+settles m p Negate = inl refl
+settles m p Not = inl refl
+settles m p (Compare comparison) = inl refl
+settles m p SameBoolean = inl refl
+settles m p OtherBoolean = inl refl
+settles m p (Jump target) = inr refl
+settles m p (JumpIfFalse target) = inl refl
+settles m p (Call callee) = inl refl
+settles m p Return = inr refl
+settles m p ReturnValue = inr refl
+settles m p (Receive channel) = inl refl
+settles m p (Send channel) = inl refl
+settles m p (Throw exception) = inr refl
+
+-- ---- the lists of a search that is done
+
+row_there : (lists : List (List Kind)) (o : Option ℕ) (kinds : List Kind) → row lists o ≡ Some kinds → ((n : ℕ) → o ≡ Some n → n < length lists) → (k : ℕ) × ((k < length lists) × (length kinds ≤ length (list_of lists k)))
+row_there lists None kinds e h = absurd (let no : None ≡ Some kinds = e in cc)
+row_there lists (Some n) kinds e h = let some : Some (list_of lists n) ≡ Some kinds = e in let same : list_of lists n ≡ kinds = cc in (n, (h n refl, omega (arith, ap length same)))
+
+pub run_longest : (m : ModuleContents) (p : ProcedureContents) (s : Search) → IsSearching m p s [] → length s.work.items ≡ 0 → HaveLongest m p s.operands
+run_longest m p s g empty = record { met = g.met; longest = along }
+  where
+    in_table : (at : ℕ) (kinds : List Kind) → table s at ≡ Some kinds → (k : ℕ) × ((k < length s.operands) × (length kinds ≤ length (list_of s.operands k)))
+    in_table at kinds has = row_there s.operands (get_or s.shapes.items at None) kinds has (g.numbers at)
+
+    along : (kinds : List Kind) → IsMet m p kinds → (k : ℕ) × ((k < length s.operands) × (length kinds ≤ length (list_of s.operands k)))
+    along _ (found flowing at kinds f has) = in_table at kinds (flow_within m p (table s) flowing (going_done m p s g (no_items s.work.items empty)) f at kinds has)
+    along _ (left flowing at kinds i after f has is e) =
+        let done = going_done m p s g (no_items s.work.items empty) in
+        let here = flow_within m p (table s) flowing done f at kinds has in
+        elim (settles m p i) [
+          | inl goes ↦ in_table (at + width_of i) after (done.keeps at kinds (at + width_of i) after here (next i (at + width_of i) after is e goes refl))
+          | inr none ↦ let r = in_table at kinds here in (r.0, (r.1.0, omega (arith, r.1.1, left_less (is_own p i) (signature m p i) kinds after e none)))
+        ]
+
+pub is_greatest : (m : ModuleContents) (p : ProcedureContents) (lists : List (List Kind)) (depth : ℕ) → HaveLongest m p lists → ((k : ℕ) → k < length lists → length (list_of lists k) ≤ depth) → (k : ℕ) × ((k < length lists) × (length (list_of lists k) ≡ depth)) → IsGreatestDepth m p depth
+is_greatest m p lists depth h bounds there = record {
+  bounds = λ kinds is. let l = h.longest kinds is in omega (arith, l.1.1, bounds l.0 l.1.0);
+  met = (list_of lists there.0, (h.met there.0 there.1.0, there.1.1));
+}
