@@ -5,9 +5,9 @@
 
 PROGRAM is the built program (crates/flowc_main/out/flowc_main), LUA the interpreter (`lua5.4` if none is given). Four programs are
 written for both: a loop of 20,000,000 turns, a sieve of 65,536 cells that is run 40 times, fib(30) by calls, and a loop of
-2,000,000 turns that throws and catches. The modules are assembled here from names of instructions and labels. Each is run ROUNDS
-times, in turn with its twin, and the least time counts; the time of a program that does nothing is taken off. Both have to send
-the same number.
+2,000,000 turns that throws and catches. Each is there as a module that is assembled here from names of instructions and labels,
+and as a source that PROGRAM builds. All three are run ROUNDS times, in turn, and the least time counts; the time of a program that
+does nothing is taken off. All have to send the same number.
 """
 
 import struct
@@ -223,6 +223,64 @@ while i < 2000000 do pcall(error, nil); caught = caught + 1; i = i + 1 end
 print(caught)"""),
 }
 
+# The same as sources, where PROGRAM builds them.
+SOURCES = {
+    "nothing": "output{} out; void main() { send out, 0; }",
+    "loop": """
+output{} out;
+void main() {
+    int{} i = 0;
+    int{} sum = 0;
+    while (i <= 20000000) { sum = sum + i; i = i + 1; }
+    send out, sum;
+}""",
+    "sieve": """
+output{} out;
+void main() throws (Bounds{}) {
+    int{} round = 0;
+    int{} count = 0;
+    while (round < 40) {
+        int{} sieve[65536];
+        count = 0;
+        int{} i = 2;
+        while (i < 65536) {
+            if (sieve[i] == 0) {
+                count = count + 1;
+                int{} multiple = i + i;
+                while (multiple < 65536) { sieve[multiple] = 1; multiple = multiple + i; }
+            }
+            i = i + 1;
+        }
+        round = round + 1;
+    }
+    send out, count;
+}""",
+    "fib": """
+output{} out;
+int{} fib{}(int{} n) {
+    if (n < 2) { return n; }
+    int{} one = fib(n - 1);
+    int{} two = fib(n - 2);
+    return one + two;
+}
+void main() {
+    int{} result = fib(30);
+    send out, result;
+}""",
+    "throws": """
+exception Oops;
+output{} out;
+void main() {
+    int{} caught = 0;
+    int{} i = 0;
+    while (i < 2000000) {
+        try { throw Oops; } catch (Oops) { caught = caught + 1; }
+        i = i + 1;
+    }
+    send out, caught;
+}""",
+}
+
 
 def seconds(command):
     begun = time.perf_counter()
@@ -230,30 +288,44 @@ def seconds(command):
     return time.perf_counter() - begun, said.split()[-1]
 
 
+def build(program, folder, name):
+    """Builds a source to a module."""
+    (folder / "hierarchy").write_text("")
+    (folder / f"{name}.flow").write_text(SOURCES[name])
+    module = folder / f"{name}.compiled"
+    subprocess.run([program, "build", folder / "hierarchy", folder / f"{name}.flow", module], check=True)
+    return module
+
+
 def main():
     program, lua = sys.argv[1], sys.argv[2] if len(sys.argv) > 2 else "lua5.4"
     folder = Path(tempfile.mkdtemp())
     (folder / "world").write_text("")
     start = None
-    print("| Program | flowc | Lua | times as fast |")
-    print("|---|---|---|---|")
+    print("| Program | Lua | assembled | times as fast | compiled | times as fast |")
+    print("|---|---|---|---|---|---|")
     for name, (code, text) in PROGRAMS.items():
         (folder / name).write_bytes(code)
         (folder / f"{name}.lua").write_text(text)
-        commands = [program, "run", folder / name, folder / "world", "--steps", "4000000000"], [lua, folder / f"{name}.lua"]
-        best = [float("inf")] * 2
-        sent = [None] * 2
+        modules = folder / name, build(program, folder, name)
+        commands = [[lua, folder / f"{name}.lua"]]
+        commands += [[program, "run", module, folder / "world", "--steps", "4000000000"] for module in modules]
+        best = [float("inf")] * 3
+        sent = [None] * 3
         for _ in range(ROUNDS):
             for i, command in enumerate(commands):
                 took, sent[i] = seconds(command)
                 best[i] = min(best[i], took)
-        if sent[0] != sent[1]:
-            sys.exit(f"{name}: {sent[0]!r} is not {sent[1]!r}")
+        if len(set(sent)) > 1:
+            sys.exit(f"{name}: {sent!r} differ")
         if start is None:
             start = best
             continue
-        ours, theirs = best[0] - start[0], best[1] - start[1]
-        print(f"| {name} | {ours:.3f} s | {theirs:.3f} s | {theirs / ours:.2f} |")
+        theirs, assembled, compiled = (took - least for took, least in zip(best, start))
+        print(
+            f"| {name} | {theirs:.3f} s | {assembled:.3f} s | {theirs / assembled:.2f} "
+            f"| {compiled:.3f} s | {theirs / compiled:.2f} |"
+        )
 
 
 if __name__ == "__main__":

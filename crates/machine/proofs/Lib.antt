@@ -19,6 +19,7 @@ pub mod Places
 pub mod Fusing
 pub mod Each
 pub mod OnOperations
+pub mod Switching
 pub mod Turning
 pub mod OnWindow
 pub mod OpenCells
