@@ -12,6 +12,9 @@ use bytecode::instruction::Instruction;
 use bytecode::opcode::{spelled, width_after};
 use std::alloc::Global;
 
+// An instruction takes one byte, two or five. Code with so many bytes for each of its instructions finds room for all.
+const USUAL_WIDTH: usize = 3;
+
 /// The instruction at the front, which ends within the room that is left in its code.
 #[tactic(auto, unfolding(bytecode::specs::Opcodes::instructions))]
 fn instruction(room: u32, bytes: &[u8]) -> Result<(Instruction, &[u8]), ReadError>
@@ -40,7 +43,8 @@ fn instructions(
 ) -> Result<(Vec<Instruction>, &[u8]), ReadError>
     ensures { Gives (λ x. (x.0.items, x.1.now)) result (code_at instructions size size [] bytes.now) }
 {
-    let mut code = Vec::new(alloc);
+    // Room for the bytes that are there, whatever the size claims.
+    let mut code = Vec::with_capacity(alloc, bytes.len().min(size as usize) / USUAL_WIDTH)?;
     let mut rest = bytes;
     let mut room = size;
     while room > 0 {
