@@ -58,7 +58,7 @@ pub record ShowsRun (code text : List ℕ) (observer : Option (List ℕ)) (steps
   pub ended : ReportsStatus (program_of program) steps taken end (after_steps program (numbers_in program text) taken)
   pub reported : status ≡ reported_status principal end
 
--- a text shows nothing else than a run on the world: it begins what is shown of the run after at most so many steps
+-- a text shows nothing else than a run on the world: it is a prefix of what is shown of the run after at most so many steps
 pub record IsShown (code text : List ℕ) (observer : Option (List ℕ)) (steps : ℕ) (out : List ℕ) : Type 0 where
   pub program : ModuleContents
   pub principal : Option ℕ

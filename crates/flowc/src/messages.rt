@@ -11,6 +11,35 @@ use lexer::Place;
 use std::alloc::{AllocError, Global};
 use verifier::Fault;
 
+// The line that reports a number with its words, at one number that says where in a file.
+fn line_at(
+    alloc: Global,
+    path: &str,
+    at: usize,
+    number: u32,
+    words: &str,
+) -> Result<String, AllocError>
+    ensures { IfOk result (λ line. string_bytes line
+        ≡ lines.at_one path.now at (lines.saying number words.now)) }
+{
+    format!(in alloc; "{path}:{at}: {number} {words}\n")
+}
+
+// The same at two numbers that say where in a file.
+fn line_at_two(
+    alloc: Global,
+    path: &str,
+    first: usize,
+    second: usize,
+    number: u32,
+    words: &str,
+) -> Result<String, AllocError>
+    ensures { IfOk result (λ line. string_bytes line
+        ≡ lines.at_two path.now first second (lines.saying number words.now)) }
+{
+    format!(in alloc; "{path}:{first}:{second}: {number} {words}\n")
+}
+
 /// The line that reports a refusal of a module's bytes, at a byte offset.
 pub fn refusal_line(
     alloc: Global,
@@ -20,19 +49,16 @@ pub fn refusal_line(
 ) -> Result<String, AllocError>
     ensures { IfOk result (λ line. string_bytes line ≡ lines.refusal_line path.now refusal offset) }
 {
-    let number = refusal.number();
-    let words = refusal.words();
-    format!(in alloc; "{path}:{offset}: {number} {words}\n")
+    line_at(alloc, path, offset, refusal.number(), refusal.words())
 }
 
 /// The line that reports a fault of a module's code, at a procedure and a byte offset.
 pub fn fault_line(alloc: Global, path: &str, fault: Fault) -> Result<String, AllocError>
     ensures { IfOk result (λ line. string_bytes line ≡ lines.fault_line path.now fault) }
 {
+    let (procedure, offset) = (fault.procedure as usize, fault.offset as usize);
     let (number, words) = (fault.defect.number(), fault.defect.words());
-    let procedure = fault.procedure;
-    let offset = fault.offset;
-    format!(in alloc; "{path}:{procedure}:{offset}: {number} {words}\n")
+    line_at_two(alloc, path, procedure, offset, number, words)
 }
 
 /// The line that reports what is wrong with a world's text, at a line.
@@ -44,27 +70,22 @@ pub fn world_line(
 ) -> Result<String, AllocError>
     ensures { IfOk result (λ text. string_bytes text ≡ lines.world_line path.now line defect) }
 {
-    let (number, words) = (defect.number(), defect.words());
-    format!(in alloc; "{path}:{line}: {number} {words}\n")
+    line_at(alloc, path, line, defect.number(), defect.words())
 }
 
 /// The line that says that the bytes of a world are no text.
 pub fn encoding_line(alloc: Global, path: &str) -> Result<String, AllocError>
     ensures { IfOk result (λ line. string_bytes line ≡ lines.encoding_line path.now) }
 {
-    let line = 1u32;
     let cause = Cause::NotUtf8;
-    let (number, words) = (cause.number(), cause.words());
-    format!(in alloc; "{path}:{line}: {number} {words}\n")
+    line_at(alloc, path, 1, cause.number(), cause.words())
 }
 
 /// The line that reports what is wrong with a text, at a line and a column.
 pub fn cause_line(alloc: Global, path: &str, cause: Cause, at: Place) -> Result<String, AllocError>
     ensures { IfOk result (λ text. string_bytes text ≡ lines.cause_line path.now cause at) }
 {
-    let Place { line, column } = at;
-    let (number, words) = (cause.number(), cause.words());
-    format!(in alloc; "{path}:{line}:{column}: {number} {words}\n")
+    line_at_two(alloc, path, at.line, at.column, cause.number(), cause.words())
 }
 
 /// The line that says that no principal of a module has the name of an observer.

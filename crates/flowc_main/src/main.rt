@@ -74,12 +74,12 @@ fn perform_words(rt: &HostRuntime) -> Result<u8, Failure> {
     let files = read_files(rt, &asked)?;
     let mut out = Device::new(rt.stdout());
     let mut err = Device::new(rt.stderr());
-    let done = perform(rt.alloc(), &asked, &files, &mut out, &mut err);
+    let outcome = perform(rt.alloc(), &asked, &files, &mut out, &mut err);
     // The file for a module is not touched before there is a module.
-    if let (Task::Build { out, .. }, Some(code)) = (&asked, &done.code) {
+    if let (Task::Build { out, .. }, Some(code)) = (&asked, &outcome.code) {
         write(rt, out.as_str(), code)?;
     }
-    Ok(done.status)
+    Ok(outcome.status)
 }
 
 // The bytes of each file that the task reads, one or two, in the order in which it names them.

@@ -217,11 +217,11 @@ fn joined(alloc: Global, labels: &[Label], left: usize, right: usize) -> Result<
 
 fn printed(alloc: Global, label: &Label) -> Result<String, Fail> {
     let hierarchy = Hierarchy::read(alloc, THREE)?;
-    let shown = PrintedLabel {
+    let printed = PrintedLabel {
         hierarchy: &hierarchy,
         label,
     };
-    Ok(format!(in alloc; "{shown}")?)
+    Ok(format!(in alloc; "{printed}")?)
 }
 
 #[test]

@@ -78,8 +78,8 @@ fn faults_of_a_host(rt: HostRuntime) -> Result<(), Fail> {
             fault.number() == number && fault.words() == words,
             "{words}"
         );
-        let shown = format!(in rt.alloc(); "{fault}")?;
-        assert!(rt; shown.as_str() == words);
+        let printed = format!(in rt.alloc(); "{fault}")?;
+        assert!(rt; printed.as_str() == words);
     }
     Ok(())
 }

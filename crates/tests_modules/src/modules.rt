@@ -190,8 +190,8 @@ fn prints_names_and_operands(rt: HostRuntime) -> Result<(), Fail> {
         (Instruction::Throw(3), "THROW 3"),
     ];
     for (instruction, text) in printed {
-        let shown = format!(in rt.alloc(); "{instruction}")?;
-        assert!(rt; shown.as_str() == text);
+        let printed = format!(in rt.alloc(); "{instruction}")?;
+        assert!(rt; printed.as_str() == text);
     }
     Ok(())
 }

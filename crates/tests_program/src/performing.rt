@@ -40,9 +40,9 @@ fn run_closed<E: Sink>(alloc: Global, err: &mut E) -> Result<Outcome, Fail> {
 #[test]
 fn reports_an_output_that_fails(rt: HostRuntime) -> Result<(), Fail> {
     let mut err = Device::new(Vec::new(rt.alloc()));
-    let done = run_closed(rt.alloc(), &mut err)?;
-    assert_eq!(rt; done.status, 3);
-    assert!(rt; done.code.is_none());
+    let outcome = run_closed(rt.alloc(), &mut err)?;
+    assert_eq!(rt; outcome.status, 3);
+    assert!(rt; outcome.code.is_none());
     let line = b"flowc: cannot write\n".as_slice();
     assert_eq!(rt; err.into_inner().as_slice(), line);
     Ok(())
@@ -51,7 +51,7 @@ fn reports_an_output_that_fails(rt: HostRuntime) -> Result<(), Fail> {
 // Where standard error fails too, the status is the same.
 #[test]
 fn an_error_that_fails_too_changes_no_status(rt: HostRuntime) -> Result<(), Fail> {
-    let done = run_closed(rt.alloc(), &mut Closed)?;
-    assert_eq!(rt; done.status, 3);
+    let outcome = run_closed(rt.alloc(), &mut Closed)?;
+    assert_eq!(rt; outcome.status, 3);
     Ok(())
 }
