@@ -85,7 +85,14 @@ pub fn encoding_line(alloc: Global, path: &str) -> Result<String, AllocError>
 pub fn cause_line(alloc: Global, path: &str, cause: Cause, at: Place) -> Result<String, AllocError>
     ensures { IfOk result (λ text. string_bytes text ≡ lines.cause_line path.now cause at) }
 {
-    line_at_two(alloc, path, at.line, at.column, cause.number(), cause.words())
+    line_at_two(
+        alloc,
+        path,
+        at.line,
+        at.column,
+        cause.number(),
+        cause.words(),
+    )
 }
 
 /// The line that says that no principal of a module has the name of an observer.
