@@ -40,7 +40,7 @@ past_end [] k d h = refl
 past_end (x ∷ xs) zero d h = absurd (omega arith)
 past_end (x ∷ xs) (suc k) d h = past_end xs k d (omega arith)
 
-unset_set : (shapes : List (Option ℕ)) (k list : ℕ) → k < length shapes → get_or shapes k None ≡ None → unset (set shapes k (Some list)) + 1 ≡ unset shapes
+pub unset_set : (shapes : List (Option ℕ)) (k list : ℕ) → k < length shapes → get_or shapes k None ≡ None → unset (set shapes k (Some list)) + 1 ≡ unset shapes
 unset_set [] k list h e = absurd (omega arith)
 unset_set (None ∷ shapes) zero list h e = omega arith
 unset_set (Some other ∷ shapes) zero list h e = absurd (let f : Some other ≡ None = e in cc)
@@ -49,7 +49,7 @@ unset_set (Some other ∷ shapes) (suc k) list h e = unset_set shapes k list (om
 
 -- nothing is at the end
 pub none_at_end : (m : ModuleContents) (p : ProcedureContents) (s : Search) (busy : List ℕ) → IsSearching m p s busy → table s (code_length p.code) ≡ None
-none_at_end m p s busy g = ap (row s.operands) (past_end s.shapes.items (code_length p.code) None (omega (arith, g.sized)))
+none_at_end m p s busy g = ap (row s.operands) (past_end s.shapes (code_length p.code) None (omega (arith, g.sized)))
 
 -- an edge to the end is a fault
 pub falls_at : (m : ModuleContents) (p : ProcedureContents) (s : Search) (busy : List ℕ) (at to : ℕ) (after : List Kind) → IsSearching m p s busy → IsAtEdge m p s at to after → to ≡ code_length p.code → IsFlowDefect m p to FallsOffEnd
@@ -63,18 +63,18 @@ meets_at m p s busy at to after others defect g e inside there ne is =
     subst (IsFlowDefect m p to) (sym is) (meets (table s) at e.kinds to after others g.flow e.has e.edge inside there ne)
 
 -- the search with one more list
-module _ (m : ModuleContents) (p : ProcedureContents) (s new : Search) (at to list : ℕ) (g : IsSearching m p s (at ∷ [])) (e : IsAtEdge m p s at to (list_of s.operands list)) (number : list < length s.operands) (is_boundary : IsBoundary p to) (inside : to < length s.shapes.items) (unset_there : get_or s.shapes.items to None ≡ None) (lists : new.operands ≡ s.operands) (shapes : new.shapes.items ≡ set s.shapes.items to (Some list)) (work : new.work.items ≡ s.work.items ++ to ∷ []) where
-  at_to : get_or new.shapes.items to None ≡ Some list
-  at_to = ap (λ l. get_or l to None) shapes ∙ get_or-set_same s.shapes.items to (Some list) None inside
+module _ (m : ModuleContents) (p : ProcedureContents) (s new : Search) (at to list : ℕ) (g : IsSearching m p s (at ∷ [])) (e : IsAtEdge m p s at to (list_of s.operands list)) (number : list < length s.operands) (is_boundary : IsBoundary p to) (inside : to < length s.shapes) (unset_there : get_or s.shapes to None ≡ None) (lists : new.operands ≡ s.operands) (shapes : new.shapes ≡ set s.shapes to (Some list)) (work : new.work.items ≡ s.work.items ++ to ∷ []) where
+  at_to : get_or new.shapes to None ≡ Some list
+  at_to = ap (λ l. get_or l to None) shapes ∙ get_or-set_same s.shapes to (Some list) None inside
 
-  at_other : (offset : ℕ) → offset ≢ to → get_or new.shapes.items offset None ≡ get_or s.shapes.items offset None
-  at_other offset ne = ap (λ l. get_or l offset None) shapes ∙ get_or-set_other s.shapes.items to offset (Some list) None ne
+  at_other : (offset : ℕ) → offset ≢ to → get_or new.shapes offset None ≡ get_or s.shapes offset None
+  at_other offset ne = ap (λ l. get_or l offset None) shapes ∙ get_or-set_other s.shapes to offset (Some list) None ne
 
   arrives : table new to ≡ Some (list_of s.operands list)
   arrives = ap (row new.operands) at_to ∙ ap (λ l. Some (list_of l list)) lists
 
   others : (offset : ℕ) → offset ≢ to → table new offset ≡ table s offset
-  others offset ne = ap (row new.operands) (at_other offset ne) ∙ ap (λ l. row l (get_or s.shapes.items offset None)) lists
+  others offset ne = ap (row new.operands) (at_other offset ne) ∙ ap (λ l. row l (get_or s.shapes offset None)) lists
 
   is_changed : (offset : ℕ) → table new offset ≡ changed (table s) to (Some (list_of s.operands list)) offset
   is_changed offset =
@@ -118,9 +118,9 @@ module _ (m : ModuleContents) (p : ProcedureContents) (s new : Search) (at to li
   flowed = record {
     searching = record {
       root = subst IsFirst (sym lists) g.root;
-      sized = ap length shapes ∙ length-set s.shapes.items to (Some list) ∙ g.sized;
+      sized = ap length shapes ∙ length-set s.shapes to (Some list) ∙ g.sized;
       numbers = λ offset n h. elim (number_cases offset to) [
-        | inl same ↦ let f : Some list ≡ Some n = sym at_to ∙ ap (λ k. get_or new.shapes.items k None) (sym same) ∙ h in let n_is : list ≡ n = cc in omega (arith, ap length lists)
+        | inl same ↦ let f : Some list ≡ Some n = sym at_to ∙ ap (λ k. get_or new.shapes k None) (sym same) ∙ h in let n_is : list ≡ n = cc in omega (arith, ap length lists)
         | inr ne ↦ omega (arith, ap length lists, g.numbers offset n (sym (at_other offset ne) ∙ h))
       ];
       begins = λ offset kinds h. elim (number_cases offset to) [
@@ -144,11 +144,11 @@ module _ (m : ModuleContents) (p : ProcedureContents) (s new : Search) (at to li
     keeps = keeps;
     arrives = arrives;
     same = lists;
-    left = omega (arith, ap unset shapes, unset_set s.shapes.items to list inside unset_there, ap length work, length-append s.work.items (to ∷ []));
+    left = omega (arith, ap unset shapes, unset_set s.shapes to list inside unset_there, ap length work, length-append s.work.items (to ∷ []));
   }
 
 -- the list was there
-pub flowed_there : (m : ModuleContents) (p : ProcedureContents) (s new : Search) (at to list other : ℕ) → IsSearching m p s (at ∷ []) → get_or s.shapes.items to None ≡ Some other → list_of s.operands list ≡ list_of s.operands other → new ≡ s → Flowed m p s new at to list
+pub flowed_there : (m : ModuleContents) (p : ProcedureContents) (s new : Search) (at to list other : ℕ) → IsSearching m p s (at ∷ []) → get_or s.shapes to None ≡ Some other → list_of s.operands list ≡ list_of s.operands other → new ≡ s → Flowed m p s new at to list
 flowed_there m p s new at to list other g there same is =
     subst (λ n. Flowed m p s n at to list) (sym is) (record {
       searching = g;
@@ -159,7 +159,7 @@ flowed_there m p s new at to list other g there same is =
     })
 
 -- a offset that control may go to, and that is not the end, has an index
-pub boundary_inside : (m : ModuleContents) (p : ProcedureContents) (s : Search) (busy : List ℕ) (to : ℕ) → IsSearching m p s busy → IsBoundary p to → to ≢ length s.shapes.items → to < length s.shapes.items
+pub boundary_inside : (m : ModuleContents) (p : ProcedureContents) (s : Search) (busy : List ℕ) (to : ℕ) → IsSearching m p s busy → IsBoundary p to → to ≢ length s.shapes → to < length s.shapes
 boundary_inside m p s busy to g offset ne =
     elim offset [
       | inl e ↦ absurd (ne (e ∙ sym g.sized))
@@ -238,13 +238,13 @@ longer_row lists more (Some n) h l = ap Some (ap (λ ls. get_or ls n []) l.1 ∙
 
 module _ (m : ModuleContents) (p : ProcedureContents) (s new : Search) (busy : List ℕ) (g : IsSearching m p s busy) (longer : IsLonger s.operands new.operands) (shapes : new.shapes ≡ s.shapes) (work : new.work ≡ s.work) where
   pub same_table : (offset : ℕ) → table new offset ≡ table s offset
-  same_table offset = ap (λ v. row new.operands (get_or v.items offset None)) shapes ∙ longer_row s.operands new.operands (get_or s.shapes.items offset None) (g.numbers offset) longer
+  same_table offset = ap (λ (v : List (Option ℕ)). row new.operands (get_or v offset None)) shapes ∙ longer_row s.operands new.operands (get_or s.shapes offset None) (g.numbers offset) longer
 
   pub going_longer : IsSearching m p new busy
   going_longer = record {
     root = (omega (arith, g.root.0, ap length longer.1, length-append s.operands longer.0), ap (λ ls. get_or ls 0 []) longer.1 ∙ get_or_append_left s.operands longer.0 [] 0 g.root.0 ∙ g.root.1);
-    sized = ap (λ v. length v.items) shapes ∙ g.sized;
-    numbers = λ offset n h. let k = g.numbers offset n (ap (λ v. get_or v.items offset None) (sym shapes) ∙ h) in omega (arith, k, ap length longer.1, length-append s.operands longer.0);
+    sized = ap length shapes ∙ g.sized;
+    numbers = λ offset n h. let k = g.numbers offset n (ap (λ (v : List (Option ℕ)). get_or v offset None) (sym shapes) ∙ h) in omega (arith, k, ap length longer.1, length-append s.operands longer.0);
     begins = λ offset kinds h. g.begins offset kinds (sym (same_table offset) ∙ h);
     first = same_table 0 ∙ g.first;
     flow = subst (Flow m p) (sym (fun_ext same_table)) g.flow;
@@ -267,7 +267,7 @@ module _ (m : ModuleContents) (p : ProcedureContents) (s new : Search) (busy : L
       }
 
   pub same_left : left new ≡ left s
-  same_left = ap (λ v. unset v.items + length new.work.items) shapes ∙ ap (λ v. unset s.shapes.items + length v.items) work
+  same_left = ap (λ v. unset v + length new.work.items) shapes ∙ ap (λ v. unset s.shapes + length v.items) work
 
 -- ---- steps from a offset
 
@@ -393,7 +393,7 @@ run_done m p s g e = search_done m p s g (no_items s.work.items e)
 -- a offset is taken from those that wait
 module _ (m : ModuleContents) (p : ProcedureContents) (s new : Search) (at : ℕ) (g : IsSearching m p s []) (operands : new.operands ≡ s.operands) (shapes : new.shapes ≡ s.shapes) (work : s.work.items ≡ new.work.items ++ at ∷ []) where
   taken_table : (offset : ℕ) → table new offset ≡ table s offset
-  taken_table offset = ap (λ v. row new.operands (get_or v.items offset None)) shapes ∙ ap (λ ls. row ls (get_or s.shapes.items offset None)) operands
+  taken_table offset = ap (λ (v : List (Option ℕ)). row new.operands (get_or v offset None)) shapes ∙ ap (λ ls. row ls (get_or s.shapes offset None)) operands
 
   taken_kept : (offset : ℕ) (kinds : List Kind) → IsKept m p s offset kinds → IsKept m p new offset kinds
   taken_kept offset kinds k = record {
@@ -409,8 +409,8 @@ module _ (m : ModuleContents) (p : ProcedureContents) (s new : Search) (at : ℕ
   pub taken : IsSearching m p new (at ∷ [])
   taken = record {
     root = subst IsFirst (sym operands) g.root;
-    sized = ap (λ v. length v.items) shapes ∙ g.sized;
-    numbers = λ offset n h. let k = g.numbers offset n (ap (λ v. get_or v.items offset None) (sym shapes) ∙ h) in omega (arith, k, ap length operands);
+    sized = ap length shapes ∙ g.sized;
+    numbers = λ offset n h. let k = g.numbers offset n (ap (λ (v : List (Option ℕ)). get_or v offset None) (sym shapes) ∙ h) in omega (arith, k, ap length operands);
     begins = λ offset kinds h. g.begins offset kinds (sym (taken_table offset) ∙ h);
     first = taken_table 0 ∙ g.first;
     flow = subst (Flow m p) (sym (fun_ext taken_table)) g.flow;
@@ -425,7 +425,7 @@ module _ (m : ModuleContents) (p : ProcedureContents) (s new : Search) (at : ℕ
   }
 
   pub taken_left : left new + 1 ≡ left s
-  taken_left = omega (arith, ap (λ v. unset v.items) shapes, ap length work, length-append new.work.items (at ∷ []))
+  taken_left = omega (arith, ap unset shapes, ap length work, length-append new.work.items (at ∷ []))
 
   pub taken_instruction : HasInstruction p new at
   taken_instruction =
@@ -450,7 +450,7 @@ all_unset (suc n) = ap suc (all_unset n)
 pub empty_falls : (m : ModuleContents) (p : ProcedureContents) → code_length p.code ≡ 0 → IsFlowDefect m p 0 FallsOffEnd
 empty_falls m p e = subst (λ t. IsFlowDefect m p t FallsOffEnd) e (falls (changed nowhere 0 (Some [])) [] starts (subst (λ t. changed nowhere 0 (Some []) t ≡ Some []) (sym e) (changed_at nowhere 0 [])))
 
-module _ (m : ModuleContents) (p : ProcedureContents) (s : Search) (n : ℕ) (size : code_length p.code ≡ suc n) (boundaries : KeepsBoundaries p) (operands : s.operands ≡ [] ∷ []) (shapes : s.shapes.items ≡ set (replicate (suc n) None) 0 (Some 0)) (work : s.work.items ≡ 0 ∷ []) where
+module _ (m : ModuleContents) (p : ProcedureContents) (s : Search) (n : ℕ) (size : code_length p.code ≡ suc n) (boundaries : KeepsBoundaries p) (operands : s.operands ≡ [] ∷ []) (shapes : s.shapes ≡ set (replicate (suc n) None) 0 (Some 0)) (work : s.work.items ≡ 0 ∷ []) where
   start_table : (offset : ℕ) → table s offset ≡ row ([] ∷ []) (get_or (Some 0 ∷ replicate n None) offset None)
   start_table offset = ap (λ v. row s.operands (get_or v offset None)) shapes ∙ ap (λ ls. row ls (get_or (Some 0 ∷ replicate n None) offset None)) operands
 
@@ -477,6 +477,6 @@ module _ (m : ModuleContents) (p : ProcedureContents) (s : Search) (n : ℕ) (si
     waits = λ offset w. elim (Contains-push_cases [] 0 offset (subst (λ l. Contains l offset) work w)) [ inl none ↦ absurd (omega (arith, none.1)) | inr same ↦ ([], ap (table s) (sym same) ∙ start_table 0) ];
   }
     where
-      numbers : (offset list : ℕ) → get_or s.shapes.items offset None ≡ Some list → list < length s.operands
+      numbers : (offset list : ℕ) → get_or s.shapes offset None ≡ Some list → list < length s.operands
       numbers zero list h = let f : Some 0 ≡ Some list = sym (ap (λ v. get_or v 0 None) shapes) ∙ h in let g : 0 ≡ list = cc in omega (arith, ap length operands)
       numbers (suc k) list h = absurd (let f : None ≡ Some list = sym (ap (λ v. get_or v (suc k) None) shapes ∙ all_none n k) ∙ h in cc)

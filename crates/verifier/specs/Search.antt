@@ -11,8 +11,6 @@ use Rattle.bytecode.specs.Targets.{target_of}
 use Rattle.verifier.specs.Flow.{Edge, Flow, Leaves, effect, goes_on, IsFlowDefect}
 use Rattle.verifier.specs.Coverage.{IsCoverage, Waits}
 use Rattle.verifier.specs.Operands.{list_of}
-use Rattle.verifier.specs.declared.fault.VerifyFault.{VerifyFault}
-use Rattle.verifier.specs.declared.fault.VerifyFault.TheVariants as verify
 use Rattle.verifier.specs.declared.search.Search.{Search}
 use Rattle.verifier.specs.declared.search.Stop.{Stop}
 use Rattle.verifier.specs.declared.search.Stop.TheVariants.{NoMemory, Wrong}
@@ -34,7 +32,7 @@ numbered code (Some index) = slice_get code index
 
 -- a procedure that the search may look at: its indices are those of its code, which has less than 4 GiB
 pub record IsBody (b : Body) : Type 0 where
-  pub indices : b.indices.items ≡ indices_from 0 b.procedure.now.code
+  pub indices : b.indices ≡ indices_from 0 b.procedure.now.code
   pub short : code_length b.procedure.now.code < 2 ^ 32
 
 -- ---- the table that was found so far
@@ -44,7 +42,7 @@ row lists None = None
 row lists (Some list) = Some (list_of lists list)
 
 abbrev pub table : Search → ℕ → Option (List Kind)
-table s offset = row s.operands (slice_index_or s.shapes.items offset None)
+table s offset = row s.operands (slice_index_or s.shapes offset None)
 
 -- a offset whose instruction finds its operands, and from which each edge was followed
 pub record IsKept (m : ModuleContents) (p : ProcedureContents) (s : Search) (at : ℕ) (kinds : List Kind) : Type 0 where
@@ -64,7 +62,7 @@ unset (Some list ∷ shapes) = unset shapes
 
 -- how many offsets may still be looked at: each without a list, and each that waits
 abbrev pub left : Search → ℕ
-left s = unset s.shapes.items + length s.work.items
+left s = unset s.shapes + length s.work.items
 
 -- the list 0 is there and empty
 abbrev pub IsFirst : List (List Kind) → Type 0
@@ -73,8 +71,8 @@ IsFirst lists = (0 < length lists) × (list_of lists 0 ≡ [])
 -- a search at work: its table is one of the flow, and each offset that has a list waits, is being looked at, or is kept
 pub record IsSearching (m : ModuleContents) (p : ProcedureContents) (s : Search) (busy : List ℕ) : Type 0 where
   pub root : IsFirst s.operands
-  pub sized : length s.shapes.items ≡ code_length p.code
-  pub numbers : (offset list : ℕ) → slice_index_or s.shapes.items offset None ≡ Some list → list < length s.operands
+  pub sized : length s.shapes ≡ code_length p.code
+  pub numbers : (offset list : ℕ) → slice_index_or s.shapes offset None ≡ Some list → list < length s.operands
   pub begins : (offset : ℕ) (kinds : List Kind) → table s offset ≡ Some kinds → (i : Instruction) × (instruction_at p.code offset ≡ Some i)
   pub first : table s 0 ≡ Some []
   pub flow : Flow m p (table s)
@@ -135,9 +133,3 @@ pub record IsWaiting (p : ProcedureContents) (c : Coverage) (s : Search) : Type 
 abbrev pub IsStop : ModuleContents → ProcedureContents → Stop → Type 0
 IsStop m p NoMemory = Unit {0}
 IsStop m p (Wrong offset defect) = IsFlowDefect m p offset defect
-
--- what is reported where the search of a procedure stopped
-abbrev pub stop_fault : ℕ → Stop → VerifyFault
-stop_fault number NoMemory = verify.NoMemory
-stop_fault number (Wrong offset defect) =
-    verify.Wrong (record { defect = defect; procedure = number; offset = offset })

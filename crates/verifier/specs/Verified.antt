@@ -1,11 +1,13 @@
--- What is known of a module that was verified.
+-- What is known of a module that was verified, and of each procedure that was looked at.
 -- Source: our own.
-use Rattle.std.specs.Prelude.{◌≡◌, List}
-use Rattle.bytecode.specs.Contents.{ModuleContents}
+use Rattle.std.specs.Prelude.{◌≡◌, ℕ, List, [], ◌∷◌, ◌++◌, Option, None}
+use Rattle.bytecode.specs.Contents.{ProcedureContents, ModuleContents}
 use Rattle.bytecode.specs.declared.instruction.Instruction.{Instruction}
 use Rattle.verifier.specs.Faults.{HasNoFault}
+use Rattle.verifier.specs.Flow.{FlowsWell, IsFlowDefect}
 use Rattle.verifier.specs.Safety.{IsNeverStuck}
-use Rattle.verifier.specs.Positions.{positioned_codes}
+use Rattle.verifier.specs.Positions.{positioned, positioned_codes}
+use Rattle.verifier.specs.declared.fault.Fault.{Fault}
 
 pub record IsVerified (m : ModuleContents) : Type 0 where
   pub no_fault : HasNoFault m
@@ -15,3 +17,14 @@ pub record IsVerified (m : ModuleContents) : Type 0 where
 pub record HasCodes (m : ModuleContents) (codes : List (List Instruction)) : Type 0 where
   pub verified : IsVerified m
   pub codes_are : codes ≡ positioned_codes m
+
+-- a fault of the flow of a procedure with a number
+pub record IsFaultOf (m : ModuleContents) (number : ℕ) (p : ProcedureContents) (fault : Fault) : Type 0 where
+  pub procedure : fault.procedure ≡ number
+  pub defect : IsFlowDefect m p fault.offset fault.defect
+
+-- no fault of the flow was found before or in this procedure, and its code was added
+pub record IsAdded (m : ModuleContents) (p : ProcedureContents) (found : Option Fault) (old new : List (List Instruction)) : Type 0 where
+  pub none_before : found ≡ None
+  pub flow : FlowsWell m p
+  pub code : new ≡ old ++ positioned p.code ∷ []

@@ -8,6 +8,8 @@ mod ends;
 pub mod fault;
 mod fixed;
 pub mod loading;
+mod looking;
+mod numbers;
 mod operands;
 mod positions;
 pub mod safety;

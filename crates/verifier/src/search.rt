@@ -17,6 +17,7 @@ use crate::body::Body;
 use crate::coverage::Coverage;
 use crate::effects::{goes_on, is_own, pops, pushes, target_of};
 use crate::fault::Defect;
+use crate::numbers::Numbers;
 use crate::operands::Operands;
 use bytecode::Instruction;
 use std::alloc::{AllocError, AllocFailed, Global};
@@ -49,7 +50,7 @@ impl<T: Drop> From<AllocFailed<T>> for Stop {
 pub(crate) struct Search {
     operands: Operands,
     // The number of the list of each offset that has one.
-    shapes: Vec<Option<u32>>,
+    shapes: Numbers,
     work: Vec<u32>,
 }
 
@@ -60,16 +61,17 @@ impl Search {
         requires edge { IsAtEdge body.now.program.now body.now.procedure.now self.old at to (list_of self.old.operands list) }
         requires list { list < length self.old.operands }
         requires boundary { IsBoundary body.now.procedure.now to }
+        requires room { length self.old.operands + left self.old ≤ 2 ^ 32 }
         ensures ok { OnOk result (Flowed body.now.program.now body.now.procedure.now self.old self.new at to list) }
         ensures err { IfErr result (λ stop. IsStop body.now.program.now body.now.procedure.now stop) }
     {
         if to as usize == self.shapes.len() {
             return Err(Stop::Wrong(to, Defect::FallsOffEnd));
         }
-        match self.shapes[to as usize] {
+        match self.shapes.at(to) {
             None => {
                 self.work.push(to)?;
-                self.shapes[to as usize] = Some(list);
+                self.shapes.set(to as usize, list);
                 Ok(())
             }
             Some(other) => match self.operands.meet(list, other) {
@@ -123,6 +125,7 @@ impl Search {
         requires list { list < length self.old.operands }
         requires boundaries { KeepsBoundaries body.now.procedure.now }
         requires short { code_length body.now.procedure.now.code < 2 ^ 32 }
+        requires room { length self.old.operands + left self.old ≤ 2 ^ 32 }
         ensures ok { OnOk result (Steps body.now.program.now body.now.procedure.now self.old self.new at) }
         ensures there { OnOk result (flow.goes_on instruction ≡ true → table self.new (at + width_of instruction) ≡ Some (list_of self.old.operands list)) }
         ensures err { IfErr result (λ stop. IsStop body.now.program.now body.now.procedure.now stop) }
@@ -146,6 +149,7 @@ impl Search {
         requires effect { HasEffect body.now.program.now body.now.procedure.now self.old at instruction (list_of self.old.operands list) }
         requires list { list < length self.old.operands }
         requires boundaries { KeepsBoundaries body.now.procedure.now }
+        requires room { length self.old.operands + left self.old ≤ 2 ^ 32 }
         ensures ok { OnOk result (Steps body.now.program.now body.now.procedure.now self.old self.new at) }
         ensures there { OnOk result ((to : ℕ) → targets.target_of instruction ≡ Some to → table self.new to ≡ Some (list_of self.old.operands list)) }
         ensures err { IfErr result (λ stop. IsStop body.now.program.now body.now.procedure.now stop) }
@@ -162,6 +166,7 @@ impl Search {
         requires there { HasInstruction body.now.procedure.now self.old at }
         requires boundaries { KeepsBoundaries body.now.procedure.now }
         requires waiting { IsWaiting body.now.procedure.now coverage.old self.old }
+        requires room { length self.old.operands + left self.old ≤ 2 ^ 32 }
         ensures ok { OnOk result (Steps body.now.program.now body.now.procedure.now self.old self.new at) }
         ensures waiting { OnOk result (IsWaiting body.now.procedure.now coverage.new self.new) }
         ensures there { OnOk result ((h : Handler) → Contains body.now.procedure.now.handlers h → h.start ≤ at → at < h.end → table self.new h.target ≡ Some []) }
@@ -188,7 +193,7 @@ impl Search {
         requires instruction { instruction_at body.now.procedure.now.code at ≡ Some instruction }
         requires boundaries { KeepsBoundaries body.now.procedure.now }
         requires waiting { IsWaiting body.now.procedure.now coverage.old self.old }
-        requires room { length self.old.operands < 2 ^ 32 }
+        requires room { length self.old.operands + left self.old < 2 ^ 32 }
         requires short { code_length body.now.procedure.now.code < 2 ^ 32 }
         ensures ok { OnOk result (IsSearching body.now.program.now body.now.procedure.now self.new []) }
         ensures waiting { OnOk result (IsWaiting body.now.procedure.now coverage.new self.new) }
@@ -210,14 +215,14 @@ impl Search {
         requires boundaries { KeepsBoundaries body.now.procedure.now }
         requires waiting { IsWaiting body.now.procedure.now coverage.old self.old }
         requires body { IsBody body.now }
-        requires room { length self.old.operands < 2 ^ 32 }
+        requires room { length self.old.operands + left self.old < 2 ^ 32 }
         ensures ok { OnOk result (IsSearching body.now.program.now body.now.procedure.now self.new []) }
         ensures waiting { OnOk result (IsWaiting body.now.procedure.now coverage.new self.new) }
         ensures left { OnOk result (left self.new ≤ left self.old) }
         ensures few { OnOk result (length self.new.operands ≤ length self.old.operands + 1) }
         ensures err { IfErr result (λ stop. IsStop body.now.program.now body.now.procedure.now stop) }
     {
-        let Some(list) = self.shapes[at as usize] else {
+        let Some(list) = self.shapes.at(at) else {
             unreachable!()
         };
         let Some(instruction) = body.at(at) else {
@@ -257,8 +262,8 @@ pub(crate) fn find_defect(alloc: Global, body: &Body) -> Result<(), Stop>
     }
     let mut coverage = Coverage::new(alloc, body.procedure.handlers())?;
     let operands = Operands::new(alloc)?;
-    let mut shapes = vec![in alloc; None; size]?;
-    shapes[0] = Some(0);
+    let mut shapes = Numbers::new(alloc, size)?;
+    shapes.set(0, 0);
     let work = vec![in alloc; 0]?;
     let mut search = Search {
         operands,
