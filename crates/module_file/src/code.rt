@@ -12,6 +12,9 @@ use bytecode::instruction::Instruction;
 use bytecode::opcode::{spelled, width_after};
 use std::alloc::Global;
 
+// How many bytes an instruction takes at most.
+const WIDEST: usize = 5;
+
 /// The instruction at the front, which ends within the room that is left in its code.
 #[tactic(auto, unfolding(bytecode::specs::Opcodes::instructions))]
 fn instruction(room: u32, bytes: &[u8]) -> Result<(Instruction, &[u8]), ReadError>
@@ -40,7 +43,8 @@ fn instructions(
 ) -> Result<(Vec<Instruction>, &[u8]), ReadError>
     ensures { Gives (λ x. (x.0.items, x.1.now)) result (code_at instructions size size [] bytes.now) }
 {
-    let mut code = Vec::new(alloc);
+    // There are so many instructions at least, if the bytes are there.
+    let mut code = Vec::with_capacity(alloc, bytes.len().min(size as usize) / WIDEST)?;
     let mut rest = bytes;
     let mut room = size;
     while room > 0 {
