@@ -12,8 +12,8 @@ use bytecode::instruction::Instruction;
 use bytecode::opcode::{spelled, width_after};
 use std::alloc::Global;
 
-// How many bytes an instruction takes at most.
-const WIDEST: usize = 5;
+// An instruction takes one byte, two or five. Code with so many bytes for each of its instructions finds room for all.
+const USUAL_WIDTH: usize = 3;
 
 /// The instruction at the front, which ends within the room that is left in its code.
 #[tactic(auto, unfolding(bytecode::specs::Opcodes::instructions))]
@@ -43,8 +43,8 @@ fn instructions(
 ) -> Result<(Vec<Instruction>, &[u8]), ReadError>
     ensures { Gives (λ x. (x.0.items, x.1.now)) result (code_at instructions size size [] bytes.now) }
 {
-    // There are so many instructions at least, if the bytes are there.
-    let mut code = Vec::with_capacity(alloc, bytes.len().min(size as usize) / WIDEST)?;
+    // Room for the bytes that are there, whatever the size claims.
+    let mut code = Vec::with_capacity(alloc, bytes.len().min(size as usize) / USUAL_WIDTH)?;
     let mut rest = bytes;
     let mut room = size;
     while room > 0 {

@@ -264,7 +264,8 @@ pub(crate) fn find_defect(alloc: Global, body: &Body) -> Result<(), Stop>
     let operands = Operands::new(alloc)?;
     let mut shapes = Numbers::new(alloc, size)?;
     shapes.set(0, 0);
-    let work = vec![in alloc; 0]?;
+    let mut work = Vec::with_capacity(alloc, 16)?;
+    work.push_reserved(0);
     let mut search = Search {
         operands,
         shapes,
