@@ -63,7 +63,7 @@ meets_at m p s busy at to after others defect g e inside there ne is =
     subst (IsFlowDefect m p to) (sym is) (meets (table s) at e.kinds to after others g.flow e.has e.edge inside there ne)
 
 -- the search with one more list
-module _ (m : ModuleContents) (p : ProcedureContents) (s new : Search) (at to list : ℕ) (g : IsSearching m p s (at ∷ [])) (e : IsAtEdge m p s at to (list_of s.operands list)) (number : list < length s.operands) (is_boundary : IsBoundary p to) (inside : to < length s.shapes) (unset_there : get_or s.shapes to None ≡ None) (lists : new.operands ≡ s.operands) (shapes : new.shapes ≡ set s.shapes to (Some list)) (work : new.work.items ≡ s.work.items ++ to ∷ []) where
+module _ (m : ModuleContents) (p : ProcedureContents) (s new : Search) (at to list : ℕ) (g : IsSearching m p s (at ∷ [])) (e : IsAtEdge m p s at to (list_of s.operands list)) (number : list < length s.operands) (is_boundary : IsBoundary p to) (inside : to < length s.shapes) (unset_there : get_or s.shapes to None ≡ None) (lists : new.operands ≡ s.operands) (shapes : new.shapes ≡ set s.shapes to (Some list)) (work : new.work ≡ s.work ++ to ∷ []) where
   at_to : get_or new.shapes to None ≡ Some list
   at_to = ap (λ l. get_or l to None) shapes ∙ get_or-set_same s.shapes to (Some list) None inside
 
@@ -130,13 +130,13 @@ module _ (m : ModuleContents) (p : ProcedureContents) (s new : Search) (at to li
       first = keeps 0 [] g.first;
       flow = subst (Flow m p) (sym (fun_ext is_changed)) (grows (table s) at e.kinds to (list_of s.operands list) g.flow e.has e.edge was_none);
       pending = λ offset kinds h. elim (number_cases offset to) [
-        | inl same ↦ inl (subst (λ w. Contains w offset) (sym work) (subst (Contains (s.work.items ++ to ∷ [])) (sym same) (Contains-push s.work.items to)))
+        | inl same ↦ inl (subst (λ w. Contains w offset) (sym work) (subst (Contains (s.work ++ to ∷ [])) (sym same) (Contains-push s.work to)))
         | inr ne ↦ elim (g.pending offset kinds (sym (others offset ne) ∙ h)) [
-          | inl w ↦ inl (subst (λ l. Contains l offset) (sym work) (Contains-append_left s.work.items (to ∷ []) offset w))
+          | inl w ↦ inl (subst (λ l. Contains l offset) (sym work) (Contains-append_left s.work (to ∷ []) offset w))
           | inr b ↦ elim b [ inl busy ↦ inr (inl busy) | inr k ↦ inr (inr (kept offset kinds k)) ]
         ]
       ];
-      waits = λ offset w. elim (Contains-push_cases s.work.items to offset (subst (λ l. Contains l offset) work w)) [
+      waits = λ offset w. elim (Contains-push_cases s.work to offset (subst (λ l. Contains l offset) work w)) [
         | inl old ↦ let h = g.waits offset old in (h.0, keeps offset h.0 h.1)
         | inr same ↦ (list_of s.operands list, ap (table new) (sym same) ∙ arrives)
       ];
@@ -144,7 +144,7 @@ module _ (m : ModuleContents) (p : ProcedureContents) (s new : Search) (at to li
     keeps = keeps;
     arrives = arrives;
     same = lists;
-    left = omega (arith, ap unset shapes, unset_set s.shapes to list inside unset_there, ap length work, length-append s.work.items (to ∷ []));
+    left = omega (arith, ap unset shapes, unset_set s.shapes to list inside unset_there, ap length work, length-append s.work (to ∷ []));
   }
 
 -- the list was there
@@ -169,7 +169,7 @@ boundary_inside m p s busy to g offset ne =
 -- ---- the end of the search
 
 -- with nothing to look at, the table is done
-pub going_done : (m : ModuleContents) (p : ProcedureContents) (s : Search) → IsSearching m p s [] → s.work.items ≡ [] → IsDone m p (table s)
+pub going_done : (m : ModuleContents) (p : ProcedureContents) (s : Search) → IsSearching m p s [] → s.work ≡ [] → IsDone m p (table s)
 going_done m p s g empty = record {
   first = g.first;
   finds = λ at kinds i wrong h is e. let k = every at kinds h in
@@ -199,7 +199,7 @@ going_done m p s g empty = record {
         k.jumps to (ap target_of same ∙ jumps_to) ∙ ap Some after_is
     along at kinds k _ _ (caught i h is c l m) = k.caught h c l m
 
-pub search_done : (m : ModuleContents) (p : ProcedureContents) (s : Search) → IsSearching m p s [] → s.work.items ≡ [] → FlowsWell m p
+pub search_done : (m : ModuleContents) (p : ProcedureContents) (s : Search) → IsSearching m p s [] → s.work ≡ [] → FlowsWell m p
 search_done m p s g empty = no_fault m p (table s) (going_done m p s g empty)
 
 -- ---- a offset is looked at
@@ -249,10 +249,10 @@ module _ (m : ModuleContents) (p : ProcedureContents) (s new : Search) (busy : L
     first = same_table 0 ∙ g.first;
     flow = subst (Flow m p) (sym (fun_ext same_table)) g.flow;
     pending = λ offset kinds h. elim (g.pending offset kinds (sym (same_table offset) ∙ h)) [
-      | inl w ↦ inl (subst (λ v. Contains v.items offset) (sym work) w)
+      | inl w ↦ inl (subst (λ (v : List ℕ). Contains v offset) (sym work) w)
       | inr b ↦ elim b [ inl busy ↦ inr (inl busy) | inr k ↦ inr (inr (kept offset kinds k)) ]
     ];
-    waits = λ offset w. let h = g.waits offset (subst (λ v. Contains v.items offset) work w) in (h.0, same_table offset ∙ h.1);
+    waits = λ offset w. let h = g.waits offset (subst (λ (v : List ℕ). Contains v offset) work w) in (h.0, same_table offset ∙ h.1);
   }
     where
       kept : (offset : ℕ) (kinds : List Kind) → IsKept m p s offset kinds → IsKept m p new offset kinds
@@ -267,7 +267,7 @@ module _ (m : ModuleContents) (p : ProcedureContents) (s new : Search) (busy : L
       }
 
   pub same_left : left new ≡ left s
-  same_left = ap (λ v. unset v + length new.work.items) shapes ∙ ap (λ v. unset s.shapes + length v.items) work
+  same_left = ap (λ v. unset v + length new.work) shapes ∙ ap (λ (v : List ℕ). unset s.shapes + length v) work
 
 -- ---- steps from a offset
 
@@ -315,21 +315,20 @@ has_effect m p s new at kinds rest after i a has is own e is_after = record {
   effect = effect_own m p i kinds own ∙ ap (λ o. and_then o (λ rest. Leaves (pushed (signature m p i).pushes rest))) e ∙ ap Leaves is_after;
 }
 
--- a offset from which each edge was followed is kept
-pub all_followed : (m : ModuleContents) (p : ProcedureContents) (s one two three four : Search) (at : ℕ) (i : Instruction) (after : List Kind) → HasEffect m p one at i after → (goes_on i ≡ true → table two (at + width_of i) ≡ Some after) → ((to : ℕ) → target_of i ≡ Some to → table three to ≡ Some after) → ((h : Handler) → Contains p.handlers h → h.start ≤ at → at < h.end → table four h.target ≡ Some []) → Steps m p one two at → Steps m p two three at → Steps m p three four at → IsSearching m p four []
-all_followed m p s one two three four at i after e a b c f g h =
-    looked_at m p four at h.searching (λ kinds has.
-    let here : table four at ≡ Some e.kinds = h.keeps at e.kinds (g.keeps at e.kinds (f.keeps at e.kinds e.has)) in
-    let some : Some e.kinds ≡ Some kinds = sym here ∙ has in
+-- an offset from which each edge was followed is kept
+pub all_followed : (m : ModuleContents) (p : ProcedureContents) (s new : Search) (at : ℕ) (i : Instruction) (after : List Kind) → HasEffect m p s at i after → ((to : ℕ) → target_of i ≡ Some to → table s to ≡ Some after) → ((h : Handler) → Contains p.handlers h → h.start ≤ at → at < h.end → table s h.target ≡ Some []) → ((offset : ℕ) (kinds : List Kind) → table s offset ≡ Some kinds → table new offset ≡ Some kinds) → (goes_on i ≡ true → table new (at + width_of i) ≡ Some after) → IsSearching m p new (at ∷ []) → IsSearching m p new []
+all_followed m p s new at i after e to_targets to_handlers still to_next g =
+    looked_at m p new at g (λ kinds has.
+    let some : Some e.kinds ≡ Some kinds = sym (still at e.kinds e.has) ∙ has in
     let same : e.kinds ≡ kinds = cc in
     record {
       instruction = i;
       there = e.there;
       after = after;
       finds = ap (effect m p i) (sym same) ∙ e.effect;
-      next = λ goes. h.keeps (at + width_of i) after (g.keeps (at + width_of i) after (a goes));
-      jumps = λ to is. h.keeps to after (b to is);
-      caught = c;
+      next = to_next;
+      jumps = λ to is. still to after (to_targets to is);
+      caught = λ h there low high. still h.target [] (to_handlers h there low high);
     })
 
 pub steps_more : (m : ModuleContents) (p : ProcedureContents) (old between new : Search) (at to list : ℕ) → Steps m p old between at → Flowed m p between new at to list → Steps m p old new at
@@ -387,11 +386,11 @@ no_items : {A : Type 0} (xs : List A) → length xs ≡ 0 → xs ≡ []
 no_items [] e = refl
 no_items (x ∷ xs) e = absurd (omega arith)
 
-pub run_done : (m : ModuleContents) (p : ProcedureContents) (s : Search) → IsSearching m p s [] → length s.work.items ≡ 0 → FlowsWell m p
-run_done m p s g e = search_done m p s g (no_items s.work.items e)
+pub run_done : (m : ModuleContents) (p : ProcedureContents) (s : Search) → IsSearching m p s [] → length s.work ≡ 0 → FlowsWell m p
+run_done m p s g e = search_done m p s g (no_items s.work e)
 
 -- a offset is taken from those that wait
-module _ (m : ModuleContents) (p : ProcedureContents) (s new : Search) (at : ℕ) (g : IsSearching m p s []) (operands : new.operands ≡ s.operands) (shapes : new.shapes ≡ s.shapes) (work : s.work.items ≡ new.work.items ++ at ∷ []) where
+module _ (m : ModuleContents) (p : ProcedureContents) (s new : Search) (at : ℕ) (g : IsSearching m p s []) (operands : new.operands ≡ s.operands) (shapes : new.shapes ≡ s.shapes) (work : s.work ≡ new.work ++ at ∷ []) where
   taken_table : (offset : ℕ) → table new offset ≡ table s offset
   taken_table offset = ap (λ (v : List (Option ℕ)). row new.operands (get_or v offset None)) shapes ∙ ap (λ ls. row ls (get_or s.shapes offset None)) operands
 
@@ -415,21 +414,21 @@ module _ (m : ModuleContents) (p : ProcedureContents) (s new : Search) (at : ℕ
     first = taken_table 0 ∙ g.first;
     flow = subst (Flow m p) (sym (fun_ext taken_table)) g.flow;
     pending = λ offset kinds h. elim (g.pending offset kinds (sym (taken_table offset) ∙ h)) [
-      | inl w ↦ elim (Contains-push_cases new.work.items at offset (subst (λ l. Contains l offset) work w)) [
+      | inl w ↦ elim (Contains-push_cases new.work at offset (subst (λ l. Contains l offset) work w)) [
         | inl rest ↦ inl rest
         | inr same ↦ inr (inl (subst (Contains (at ∷ [])) same (Contains-push [] at)))
       ]
       | inr b ↦ elim b [ inl busy ↦ absurd (omega (arith, busy.1)) | inr k ↦ inr (inr (taken_kept offset kinds k)) ]
     ];
-    waits = λ offset w. let h = g.waits offset (subst (λ l. Contains l offset) (sym work) (Contains-append_left new.work.items (at ∷ []) offset w)) in (h.0, taken_table offset ∙ h.1);
+    waits = λ offset w. let h = g.waits offset (subst (λ l. Contains l offset) (sym work) (Contains-append_left new.work (at ∷ []) offset w)) in (h.0, taken_table offset ∙ h.1);
   }
 
   pub taken_left : left new + 1 ≡ left s
-  taken_left = omega (arith, ap unset shapes, ap length work, length-append new.work.items (at ∷ []))
+  taken_left = omega (arith, ap unset shapes, ap length work, length-append new.work (at ∷ []))
 
   pub taken_instruction : HasInstruction p new at
   taken_instruction =
-      let h = g.waits at (subst (λ l. Contains l at) (sym work) (Contains-push new.work.items at)) in
+      let h = g.waits at (subst (λ l. Contains l at) (sym work) (Contains-push new.work at)) in
       let i = g.begins at h.0 h.1 in
       record { instruction = i.0; there = i.1; kinds = h.0; has = taken_table at ∙ h.1 }
 
@@ -450,7 +449,7 @@ all_unset (suc n) = ap suc (all_unset n)
 pub empty_falls : (m : ModuleContents) (p : ProcedureContents) → code_length p.code ≡ 0 → IsFlowDefect m p 0 FallsOffEnd
 empty_falls m p e = subst (λ t. IsFlowDefect m p t FallsOffEnd) e (falls (changed nowhere 0 (Some [])) [] starts (subst (λ t. changed nowhere 0 (Some []) t ≡ Some []) (sym e) (changed_at nowhere 0 [])))
 
-module _ (m : ModuleContents) (p : ProcedureContents) (s : Search) (n : ℕ) (size : code_length p.code ≡ suc n) (boundaries : KeepsBoundaries p) (operands : s.operands ≡ [] ∷ []) (shapes : s.shapes ≡ set (replicate (suc n) None) 0 (Some 0)) (work : s.work.items ≡ 0 ∷ []) where
+module _ (m : ModuleContents) (p : ProcedureContents) (s : Search) (n : ℕ) (size : code_length p.code ≡ suc n) (boundaries : KeepsBoundaries p) (operands : s.operands ≡ [] ∷ []) (shapes : s.shapes ≡ set (replicate (suc n) None) 0 (Some 0)) (work : s.work ≡ 0 ∷ []) where
   start_table : (offset : ℕ) → table s offset ≡ row ([] ∷ []) (get_or (Some 0 ∷ replicate n None) offset None)
   start_table offset = ap (λ v. row s.operands (get_or v offset None)) shapes ∙ ap (λ ls. row ls (get_or (Some 0 ∷ replicate n None) offset None)) operands
 

@@ -62,7 +62,7 @@ unset (Some list ∷ shapes) = unset shapes
 
 -- how many offsets may still be looked at: each without a list, and each that waits
 abbrev pub left : Search → ℕ
-left s = unset s.shapes + length s.work.items
+left s = unset s.shapes + length s.work
 
 -- the list 0 is there and empty
 abbrev pub IsFirst : List (List Kind) → Type 0
@@ -76,10 +76,14 @@ pub record IsSearching (m : ModuleContents) (p : ProcedureContents) (s : Search)
   pub begins : (offset : ℕ) (kinds : List Kind) → table s offset ≡ Some kinds → (i : Instruction) × (instruction_at p.code offset ≡ Some i)
   pub first : table s 0 ≡ Some []
   pub flow : Flow m p (table s)
-  pub pending : (at : ℕ) (kinds : List Kind) → table s at ≡ Some kinds → Contains s.work.items at ⊎ (Contains busy at ⊎ IsKept m p s at kinds)
-  pub waits : (at : ℕ) → Contains s.work.items at → (kinds : List Kind) × (table s at ≡ Some kinds)
+  pub pending : (at : ℕ) (kinds : List Kind) → table s at ≡ Some kinds → Contains s.work at ⊎ (Contains busy at ⊎ IsKept m p s at kinds)
+  pub waits : (at : ℕ) → Contains s.work at → (kinds : List Kind) × (table s at ≡ Some kinds)
 
 -- ---- steps
+
+-- a search in which one more offset waits
+abbrev pub waiting : Search → ℕ → Search
+waiting s at = record { operands = s.operands; shapes = s.shapes; work = s.work ++ at ∷ [] }
 
 -- an edge from a offset that has a list
 pub record IsAtEdge (m : ModuleContents) (p : ProcedureContents) (s : Search) (at to : ℕ) (after : List Kind) : Type 0 where
@@ -122,6 +126,16 @@ pub record HasInstruction (p : ProcedureContents) (s : Search) (at : ℕ) : Type
   pub there : instruction_at p.code at ≡ Some instruction
   pub kinds : List Kind
   pub has : table s at ≡ Some kinds
+
+-- a search at work that goes straight on to an offset, or to none
+abbrev pub IsNext : ModuleContents → ProcedureContents → Search → Option ℕ → Type 0
+IsNext m p s None = IsSearching m p s []
+IsNext m p s (Some at) = (IsSearching m p s (at ∷ [])) × HasInstruction p s at
+
+-- 1 where there is an offset to go straight on to
+abbrev pub count : Option ℕ → ℕ
+count None = 0
+count (Some at) = 1
 
 -- the handlers that wait are the procedure's, and control went to each other one that covers an offset
 pub record IsWaiting (p : ProcedureContents) (c : Coverage) (s : Search) : Type 0 where

@@ -15,6 +15,7 @@ mod positions;
 pub mod safety;
 mod search;
 pub mod verified;
+mod work;
 
 pub use fault::{Defect, Fault, VerifyFault};
 pub use loading::{LoadFault, load};
