@@ -9,7 +9,8 @@ use Rattle.bytecode.specs.Code.{width_of, code_length, instruction_at}
 use Rattle.bytecode.specs.Contents.{ProcedureContents, ModuleContents}
 use Rattle.bytecode.specs.declared.instruction.Instruction.{Instruction}
 use Rattle.bytecode.specs.declared.declaration.Handler.{Handler}
-use Rattle.verifier.specs.Fixed.{instruction_defect, instruction_faults, handler_defect, handler_faults, own_faults, procedure_faults, fixed_faults, fault_list, unless, is_start, is_end, has_right_offsets}
+use Rattle.verifier.specs.Fixed.{instruction_defect, instruction_faults, handler_defect, handler_faults, procedure_faults, fixed_faults, fault_list, unless, is_start, is_end, has_right_offsets}
+use Rattle.verifier.specs.Verified.{own_faults}
 use Rattle.bytecode.specs.declared.instruction.Instruction.TheVariants.{Jump, JumpIfFalse}
 use Rattle.bytecode.specs.Machine.{program_of}
 use Rattle.bytecode.specs.Targets.{target_of}

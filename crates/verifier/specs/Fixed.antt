@@ -110,16 +110,12 @@ handler_faults m number procedure [] = []
 handler_faults m number procedure (handler ∷ handlers) =
     fault_list number handler.start (handler_defect m procedure handler) ++ handler_faults m number procedure handlers
 
--- the fixed faults of a procedure with a number: instructions by offset, then handlers in order
-abbrev pub own_faults : ModuleContents → ℕ → ProcedureContents → List Fault
-own_faults m number procedure =
-    instruction_faults m number procedure 0 procedure.code ++ handler_faults m number procedure procedure.handlers
-
 -- the fixed faults of procedures that are numbered from a number on
 abbrev pub procedure_faults : ModuleContents → ℕ → List ProcedureContents → List Fault
 procedure_faults m number [] = []
 procedure_faults m number (procedure ∷ procedures) =
-    own_faults m number procedure ++ procedure_faults m (number + 1) procedures
+    instruction_faults m number procedure 0 procedure.code ++ handler_faults m number procedure procedure.handlers
+    ++ procedure_faults m (number + 1) procedures
 
 -- the fixed faults of a module: procedures in order, instructions by offset, then handlers in order
 abbrev pub fixed_faults : ModuleContents → List Fault

@@ -4,6 +4,7 @@ use Rattle.std.specs.Prelude.{◌≡◌, ℕ, List, [], ◌∷◌, ◌++◌, Opt
 use Rattle.bytecode.specs.Contents.{ProcedureContents, ModuleContents}
 use Rattle.bytecode.specs.declared.instruction.Instruction.{Instruction}
 use Rattle.verifier.specs.Faults.{HasNoFault}
+use Rattle.verifier.specs.Fixed.{instruction_faults, handler_faults}
 use Rattle.verifier.specs.Flow.{FlowsWell, IsFlowDefect}
 use Rattle.verifier.specs.Safety.{IsNeverStuck}
 use Rattle.verifier.specs.Positions.{positioned, positioned_codes}
@@ -17,6 +18,11 @@ pub record IsVerified (m : ModuleContents) : Type 0 where
 pub record HasCodes (m : ModuleContents) (codes : List (List Instruction)) : Type 0 where
   pub verified : IsVerified m
   pub codes_are : codes ≡ positioned_codes m
+
+-- the fixed faults of a procedure with a number: instructions by offset, then handlers in order
+abbrev pub own_faults : ModuleContents → ℕ → ProcedureContents → List Fault
+own_faults m number procedure =
+    instruction_faults m number procedure 0 procedure.code ++ handler_faults m number procedure procedure.handlers
 
 -- a fault of the flow of a procedure with a number
 pub record IsFaultOf (m : ModuleContents) (number : ℕ) (p : ProcedureContents) (fault : Fault) : Type 0 where
