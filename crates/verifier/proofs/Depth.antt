@@ -115,16 +115,16 @@ row_there : (lists : List (List Kind)) (o : Option ℕ) (kinds : List Kind) → 
 row_there lists None kinds e h = absurd (let no : None ≡ Some kinds = e in cc)
 row_there lists (Some n) kinds e h = let some : Some (list_of lists n) ≡ Some kinds = e in let same : list_of lists n ≡ kinds = cc in (n, (h n refl, omega (arith, ap length same)))
 
-pub run_longest : (m : ModuleContents) (p : ProcedureContents) (s : Search) → IsSearching m p s [] → length s.work.items ≡ 0 → HaveLongest m p s.operands
+pub run_longest : (m : ModuleContents) (p : ProcedureContents) (s : Search) → IsSearching m p s [] → length s.work ≡ 0 → HaveLongest m p s.operands
 run_longest m p s g empty = record { met = g.met; longest = along }
   where
     in_table : (at : ℕ) (kinds : List Kind) → table s at ≡ Some kinds → (k : ℕ) × ((k < length s.operands) × (length kinds ≤ length (list_of s.operands k)))
-    in_table at kinds has = row_there s.operands (get_or s.shapes.items at None) kinds has (g.numbers at)
+    in_table at kinds has = row_there s.operands (get_or s.shapes at None) kinds has (g.numbers at)
 
     along : (kinds : List Kind) → IsMet m p kinds → (k : ℕ) × ((k < length s.operands) × (length kinds ≤ length (list_of s.operands k)))
-    along _ (found flowing at kinds f has) = in_table at kinds (flow_within m p (table s) flowing (going_done m p s g (no_items s.work.items empty)) f at kinds has)
+    along _ (found flowing at kinds f has) = in_table at kinds (flow_within m p (table s) flowing (going_done m p s g (no_items s.work empty)) f at kinds has)
     along _ (left flowing at kinds i after f has is e) =
-        let done = going_done m p s g (no_items s.work.items empty) in
+        let done = going_done m p s g (no_items s.work empty) in
         let here = flow_within m p (table s) flowing done f at kinds has in
         elim (settles m p i) [
           | inl goes ↦ in_table (at + width_of i) after (done.keeps at kinds (at + width_of i) after here (next i (at + width_of i) after is e goes refl))

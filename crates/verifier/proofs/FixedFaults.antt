@@ -10,6 +10,7 @@ use Rattle.bytecode.specs.Contents.{ProcedureContents, ModuleContents}
 use Rattle.bytecode.specs.declared.instruction.Instruction.{Instruction}
 use Rattle.bytecode.specs.declared.declaration.Handler.{Handler}
 use Rattle.verifier.specs.Fixed.{instruction_defect, instruction_faults, handler_defect, handler_faults, procedure_faults, fixed_faults, fault_list, unless, is_start, is_end, has_right_offsets}
+use Rattle.verifier.specs.Verified.{own_faults}
 use Rattle.bytecode.specs.declared.instruction.Instruction.TheVariants.{Jump, JumpIfFalse}
 use Rattle.bytecode.specs.Machine.{program_of}
 use Rattle.bytecode.specs.Targets.{target_of}
@@ -64,18 +65,15 @@ nothing_first (x ∷ xs) e = absurd (let no : Some x ≡ None = e in cc)
 -- ---- the loop over procedures
 
 module _ (m : ModuleContents) (number : ℕ) where
-  abbrev pub own_faults : ProcedureContents → List Fault
-  own_faults p = instruction_faults m number p 0 p.code ++ handler_faults m number p p.handlers
-
-  pub procedures_on : (procedures : List ProcedureContents) (k : ℕ) (d : ProcedureContents) → k < length procedures → slice_get (own_faults (get_or procedures k d)) 0 ≡ None → slice_get (procedure_faults m number (drop k procedures)) 0 ≡ slice_get (procedure_faults m (number + 1) (drop (k + 1) procedures)) 0
+  pub procedures_on : (procedures : List ProcedureContents) (k : ℕ) (d : ProcedureContents) → k < length procedures → slice_get (own_faults m number (get_or procedures k d)) 0 ≡ None → slice_get (procedure_faults m number (drop k procedures)) 0 ≡ slice_get (procedure_faults m (number + 1) (drop (k + 1) procedures)) 0
   procedures_on procedures k d h e =
       ap (λ (ps : List ProcedureContents). slice_get (procedure_faults m number ps) 0) (drop_more procedures k d h)
-      ∙ first_of_both (own_faults (get_or procedures k d)) (procedure_faults m (number + 1) (drop (k + 1) procedures)) e
+      ∙ first_of_both (own_faults m number (get_or procedures k d)) (procedure_faults m (number + 1) (drop (k + 1) procedures)) e
 
-  pub first_procedure : (procedures : List ProcedureContents) (k : ℕ) (d : ProcedureContents) (x : Fault) → k < length procedures → slice_get (own_faults (get_or procedures k d)) 0 ≡ Some x → slice_get (procedure_faults m number (drop k procedures)) 0 ≡ Some x
+  pub first_procedure : (procedures : List ProcedureContents) (k : ℕ) (d : ProcedureContents) (x : Fault) → k < length procedures → slice_get (own_faults m number (get_or procedures k d)) 0 ≡ Some x → slice_get (procedure_faults m number (drop k procedures)) 0 ≡ Some x
   first_procedure procedures k d x h e =
       ap (λ (ps : List ProcedureContents). slice_get (procedure_faults m number ps) 0) (drop_more procedures k d h)
-      ∙ first_of_front (own_faults (get_or procedures k d)) (procedure_faults m (number + 1) (drop (k + 1) procedures)) x e
+      ∙ first_of_front (own_faults m number (get_or procedures k d)) (procedure_faults m (number + 1) (drop (k + 1) procedures)) x e
 
 -- ---- where there is no fault
 
@@ -138,13 +136,19 @@ pub record IsRight (m : ModuleContents) (p : ProcedureContents) : Type 0 where
   pub instructions : (at : ℕ) (i : Instruction) → instruction_at p.code at ≡ Some i → instruction_defect m p i ≡ None
   pub handlers : (h : Handler) → Contains p.handlers h → handler_defect m p h ≡ None
 
+right : (m : ModuleContents) (number : ℕ) (p : ProcedureContents) → instruction_faults m number p 0 p.code ≡ [] → handler_faults m number p p.handlers ≡ [] → IsRight m p
+right m number p instructions handlers = record {
+  instructions = λ at i there. let h = index_of p.code at i there in instructions_right m number p 0 p.code instructions h.0 i h.1;
+  handlers = λ h there. handlers_right m number p p.handlers handlers h there.0 there.1 there.2;
+}
+
 pub all_right : (m : ModuleContents) → fixed_faults m ≡ [] → (k : ℕ) (p : ProcedureContents) → slice_get m.procedures k ≡ Some p → IsRight m p
-all_right m e k p is =
-    let none = procedures_right m 0 m.procedures e k p is in
-    record {
-      instructions = λ at i there. let h = index_of p.code at i there in instructions_right m (0 + k) p 0 p.code none.0 h.0 i h.1;
-      handlers = λ h there. handlers_right m (0 + k) p p.handlers none.1 h there.0 there.1 there.2;
-    }
+all_right m e k p is = let none = procedures_right m 0 m.procedures e k p is in right m (0 + k) p none.0 none.1
+
+pub own_right : (m : ModuleContents) (number : ℕ) (p : ProcedureContents) → None ≡ slice_get (own_faults m number p) 0 → IsRight m p
+own_right m number p e =
+    let both = append_nothing (instruction_faults m number p 0 p.code) (handler_faults m number p p.handlers) (nothing_first (own_faults m number p) (sym e)) in
+    right m number p both.0 both.1
 
 -- ---- so control goes to instructions or to the end
 
@@ -206,3 +210,9 @@ module _ (m q : ModuleContents) (number index : ℕ) (procedures : List Procedur
 
   pub procedure_none : o ≡ None → slice_get (procedure_faults m number (drop index procedures)) 0 ≡ slice_get (procedure_faults m (number + 1) (drop (index + 1) procedures)) 0
   procedure_none e = procedures_on m number procedures index item inside (sym own_are ∙ e)
+
+-- behind the last procedure there is none
+pub none_left : (m : ModuleContents) (number index : ℕ) (procedures : List ProcedureContents) → procedures ≡ m.procedures → length procedures ≤ index → slice_get (procedure_faults m number (drop index procedures)) 0 ≡ slice_get (procedure_faults m 0 procedures) 0 → fixed_faults m ≡ []
+none_left m number index procedures are past same =
+    nothing_first (fixed_faults m)
+    (ap (λ all. slice_get (procedure_faults m 0 all) 0) (sym are) ∙ sym same ∙ ap (λ all. slice_get (procedure_faults m number all) 0) (drop_none procedures index past))

@@ -42,7 +42,7 @@ past_end [] k d h = refl
 past_end (x ∷ xs) zero d h = absurd (omega arith)
 past_end (x ∷ xs) (suc k) d h = past_end xs k d (omega arith)
 
-unset_set : (shapes : List (Option ℕ)) (k list : ℕ) → k < length shapes → get_or shapes k None ≡ None → unset (set shapes k (Some list)) + 1 ≡ unset shapes
+pub unset_set : (shapes : List (Option ℕ)) (k list : ℕ) → k < length shapes → get_or shapes k None ≡ None → unset (set shapes k (Some list)) + 1 ≡ unset shapes
 unset_set [] k list h e = absurd (omega arith)
 unset_set (None ∷ shapes) zero list h e = omega arith
 unset_set (Some other ∷ shapes) zero list h e = absurd (let f : Some other ≡ None = e in cc)
@@ -51,7 +51,7 @@ unset_set (Some other ∷ shapes) (suc k) list h e = unset_set shapes k list (om
 
 -- nothing is at the end
 pub none_at_end : (m : ModuleContents) (p : ProcedureContents) (s : Search) (busy : List ℕ) → IsSearching m p s busy → table s (code_length p.code) ≡ None
-none_at_end m p s busy g = ap (row s.operands) (past_end s.shapes.items (code_length p.code) None (omega (arith, g.sized)))
+none_at_end m p s busy g = ap (row s.operands) (past_end s.shapes (code_length p.code) None (omega (arith, g.sized)))
 
 -- an edge to the end is a fault
 pub falls_at : (m : ModuleContents) (p : ProcedureContents) (s : Search) (busy : List ℕ) (at to : ℕ) (after : List Kind) → IsSearching m p s busy → IsAtEdge m p s at to after → to ≡ code_length p.code → IsFlowDefect m p to FallsOffEnd
@@ -65,18 +65,18 @@ meets_at m p s busy at to after others defect g e inside there ne is =
     subst (IsFlowDefect m p to) (sym is) (meets (table s) at e.kinds to after others g.flow e.has e.edge inside there ne)
 
 -- the search with one more list
-module _ (m : ModuleContents) (p : ProcedureContents) (s new : Search) (at to list : ℕ) (g : IsSearching m p s (at ∷ [])) (e : IsAtEdge m p s at to (list_of s.operands list)) (number : list < length s.operands) (is_boundary : IsBoundary p to) (inside : to < length s.shapes.items) (unset_there : get_or s.shapes.items to None ≡ None) (lists : new.operands ≡ s.operands) (shapes : new.shapes.items ≡ set s.shapes.items to (Some list)) (work : new.work.items ≡ s.work.items ++ to ∷ []) where
-  at_to : get_or new.shapes.items to None ≡ Some list
-  at_to = ap (λ l. get_or l to None) shapes ∙ get_or-set_same s.shapes.items to (Some list) None inside
+module _ (m : ModuleContents) (p : ProcedureContents) (s new : Search) (at to list : ℕ) (g : IsSearching m p s (at ∷ [])) (e : IsAtEdge m p s at to (list_of s.operands list)) (number : list < length s.operands) (is_boundary : IsBoundary p to) (inside : to < length s.shapes) (unset_there : get_or s.shapes to None ≡ None) (lists : new.operands ≡ s.operands) (shapes : new.shapes ≡ set s.shapes to (Some list)) (work : new.work ≡ s.work ++ to ∷ []) where
+  at_to : get_or new.shapes to None ≡ Some list
+  at_to = ap (λ l. get_or l to None) shapes ∙ get_or-set_same s.shapes to (Some list) None inside
 
-  at_other : (offset : ℕ) → offset ≢ to → get_or new.shapes.items offset None ≡ get_or s.shapes.items offset None
-  at_other offset ne = ap (λ l. get_or l offset None) shapes ∙ get_or-set_other s.shapes.items to offset (Some list) None ne
+  at_other : (offset : ℕ) → offset ≢ to → get_or new.shapes offset None ≡ get_or s.shapes offset None
+  at_other offset ne = ap (λ l. get_or l offset None) shapes ∙ get_or-set_other s.shapes to offset (Some list) None ne
 
   arrives : table new to ≡ Some (list_of s.operands list)
   arrives = ap (row new.operands) at_to ∙ ap (λ l. Some (list_of l list)) lists
 
   others : (offset : ℕ) → offset ≢ to → table new offset ≡ table s offset
-  others offset ne = ap (row new.operands) (at_other offset ne) ∙ ap (λ l. row l (get_or s.shapes.items offset None)) lists
+  others offset ne = ap (row new.operands) (at_other offset ne) ∙ ap (λ l. row l (get_or s.shapes offset None)) lists
 
   is_changed : (offset : ℕ) → table new offset ≡ changed (table s) to (Some (list_of s.operands list)) offset
   is_changed offset =
@@ -120,9 +120,9 @@ module _ (m : ModuleContents) (p : ProcedureContents) (s new : Search) (at to li
   flowed = record {
     searching = record {
       root = subst IsFirst (sym lists) g.root;
-      sized = ap length shapes ∙ length-set s.shapes.items to (Some list) ∙ g.sized;
+      sized = ap length shapes ∙ length-set s.shapes to (Some list) ∙ g.sized;
       numbers = λ offset n h. elim (number_cases offset to) [
-        | inl same ↦ let f : Some list ≡ Some n = sym at_to ∙ ap (λ k. get_or new.shapes.items k None) (sym same) ∙ h in let n_is : list ≡ n = cc in omega (arith, ap length lists)
+        | inl same ↦ let f : Some list ≡ Some n = sym at_to ∙ ap (λ k. get_or new.shapes k None) (sym same) ∙ h in let n_is : list ≡ n = cc in omega (arith, ap length lists)
         | inr ne ↦ omega (arith, ap length lists, g.numbers offset n (sym (at_other offset ne) ∙ h))
       ];
       begins = λ offset kinds h. elim (number_cases offset to) [
@@ -133,13 +133,13 @@ module _ (m : ModuleContents) (p : ProcedureContents) (s new : Search) (at to li
       met = subst (AreMet m p) (sym lists) g.met;
       flow = subst (Flow m p) (sym (fun_ext is_changed)) (grows (table s) at e.kinds to (list_of s.operands list) g.flow e.has e.edge was_none);
       pending = λ offset kinds h. elim (number_cases offset to) [
-        | inl same ↦ inl (subst (λ w. Contains w offset) (sym work) (subst (Contains (s.work.items ++ to ∷ [])) (sym same) (Contains-push s.work.items to)))
+        | inl same ↦ inl (subst (λ w. Contains w offset) (sym work) (subst (Contains (s.work ++ to ∷ [])) (sym same) (Contains-push s.work to)))
         | inr ne ↦ elim (g.pending offset kinds (sym (others offset ne) ∙ h)) [
-          | inl w ↦ inl (subst (λ l. Contains l offset) (sym work) (Contains-append_left s.work.items (to ∷ []) offset w))
+          | inl w ↦ inl (subst (λ l. Contains l offset) (sym work) (Contains-append_left s.work (to ∷ []) offset w))
           | inr b ↦ elim b [ inl busy ↦ inr (inl busy) | inr k ↦ inr (inr (kept offset kinds k)) ]
         ]
       ];
-      waits = λ offset w. elim (Contains-push_cases s.work.items to offset (subst (λ l. Contains l offset) work w)) [
+      waits = λ offset w. elim (Contains-push_cases s.work to offset (subst (λ l. Contains l offset) work w)) [
         | inl old ↦ let h = g.waits offset old in (h.0, keeps offset h.0 h.1)
         | inr same ↦ (list_of s.operands list, ap (table new) (sym same) ∙ arrives)
       ];
@@ -147,11 +147,11 @@ module _ (m : ModuleContents) (p : ProcedureContents) (s new : Search) (at to li
     keeps = keeps;
     arrives = arrives;
     same = lists;
-    left = omega (arith, ap unset shapes, unset_set s.shapes.items to list inside unset_there, ap length work, length-append s.work.items (to ∷ []));
+    left = omega (arith, ap unset shapes, unset_set s.shapes to list inside unset_there, ap length work, length-append s.work (to ∷ []));
   }
 
 -- the list was there
-pub flowed_there : (m : ModuleContents) (p : ProcedureContents) (s new : Search) (at to list other : ℕ) → IsSearching m p s (at ∷ []) → get_or s.shapes.items to None ≡ Some other → list_of s.operands list ≡ list_of s.operands other → new ≡ s → Flowed m p s new at to list
+pub flowed_there : (m : ModuleContents) (p : ProcedureContents) (s new : Search) (at to list other : ℕ) → IsSearching m p s (at ∷ []) → get_or s.shapes to None ≡ Some other → list_of s.operands list ≡ list_of s.operands other → new ≡ s → Flowed m p s new at to list
 flowed_there m p s new at to list other g there same is =
     subst (λ n. Flowed m p s n at to list) (sym is) (record {
       searching = g;
@@ -162,7 +162,7 @@ flowed_there m p s new at to list other g there same is =
     })
 
 -- a offset that control may go to, and that is not the end, has an index
-pub boundary_inside : (m : ModuleContents) (p : ProcedureContents) (s : Search) (busy : List ℕ) (to : ℕ) → IsSearching m p s busy → IsBoundary p to → to ≢ length s.shapes.items → to < length s.shapes.items
+pub boundary_inside : (m : ModuleContents) (p : ProcedureContents) (s : Search) (busy : List ℕ) (to : ℕ) → IsSearching m p s busy → IsBoundary p to → to ≢ length s.shapes → to < length s.shapes
 boundary_inside m p s busy to g offset ne =
     elim offset [
       | inl e ↦ absurd (ne (e ∙ sym g.sized))
@@ -172,7 +172,7 @@ boundary_inside m p s busy to g offset ne =
 -- ---- the end of the search
 
 -- with nothing to look at, the table is done
-pub going_done : (m : ModuleContents) (p : ProcedureContents) (s : Search) → IsSearching m p s [] → s.work.items ≡ [] → IsDone m p (table s)
+pub going_done : (m : ModuleContents) (p : ProcedureContents) (s : Search) → IsSearching m p s [] → s.work ≡ [] → IsDone m p (table s)
 going_done m p s g empty = record {
   first = g.first;
   finds = λ at kinds i wrong h is e. let k = every at kinds h in
@@ -202,7 +202,7 @@ going_done m p s g empty = record {
         k.jumps to (ap target_of same ∙ jumps_to) ∙ ap Some after_is
     along at kinds k _ _ (caught i h is c l m) = k.caught h c l m
 
-pub search_done : (m : ModuleContents) (p : ProcedureContents) (s : Search) → IsSearching m p s [] → s.work.items ≡ [] → FlowsWell m p
+pub search_done : (m : ModuleContents) (p : ProcedureContents) (s : Search) → IsSearching m p s [] → s.work ≡ [] → FlowsWell m p
 search_done m p s g empty = no_fault m p (table s) (going_done m p s g empty)
 
 -- ---- a offset is looked at
@@ -247,22 +247,22 @@ longer_row lists more (Some n) h l = ap Some (ap (λ ls. get_or ls n []) l.1 ∙
 
 module _ (m : ModuleContents) (p : ProcedureContents) (s new : Search) (busy : List ℕ) (g : IsSearching m p s busy) (longer : IsLonger s.operands new.operands) (shapes : new.shapes ≡ s.shapes) (work : new.work ≡ s.work) (met : (k : ℕ) → length s.operands ≤ k → k < length new.operands → IsMet m p (list_of new.operands k)) where
   pub same_table : (offset : ℕ) → table new offset ≡ table s offset
-  same_table offset = ap (λ v. row new.operands (get_or v.items offset None)) shapes ∙ longer_row s.operands new.operands (get_or s.shapes.items offset None) (g.numbers offset) longer
+  same_table offset = ap (λ (v : List (Option ℕ)). row new.operands (get_or v offset None)) shapes ∙ longer_row s.operands new.operands (get_or s.shapes offset None) (g.numbers offset) longer
 
   pub going_longer : IsSearching m p new busy
   going_longer = record {
     root = (omega (arith, g.root.0, ap length longer.1, length-append s.operands longer.0), ap (λ ls. get_or ls 0 []) longer.1 ∙ get_or_append_left s.operands longer.0 [] 0 g.root.0 ∙ g.root.1);
-    sized = ap (λ v. length v.items) shapes ∙ g.sized;
-    numbers = λ offset n h. let k = g.numbers offset n (ap (λ v. get_or v.items offset None) (sym shapes) ∙ h) in omega (arith, k, ap length longer.1, length-append s.operands longer.0);
+    sized = ap length shapes ∙ g.sized;
+    numbers = λ offset n h. let k = g.numbers offset n (ap (λ (v : List (Option ℕ)). get_or v offset None) (sym shapes) ∙ h) in omega (arith, k, ap length longer.1, length-append s.operands longer.0);
     begins = λ offset kinds h. g.begins offset kinds (sym (same_table offset) ∙ h);
     first = same_table 0 ∙ g.first;
     flow = subst (Flow m p) (sym (fun_ext same_table)) g.flow;
     met = all_met;
     pending = λ offset kinds h. elim (g.pending offset kinds (sym (same_table offset) ∙ h)) [
-      | inl w ↦ inl (subst (λ v. Contains v.items offset) (sym work) w)
+      | inl w ↦ inl (subst (λ (v : List ℕ). Contains v offset) (sym work) w)
       | inr b ↦ elim b [ inl busy ↦ inr (inl busy) | inr k ↦ inr (inr (kept offset kinds k)) ]
     ];
-    waits = λ offset w. let h = g.waits offset (subst (λ v. Contains v.items offset) work w) in (h.0, same_table offset ∙ h.1);
+    waits = λ offset w. let h = g.waits offset (subst (λ (v : List ℕ). Contains v offset) work w) in (h.0, same_table offset ∙ h.1);
   }
     where
       all_met : AreMet m p new.operands
@@ -284,7 +284,7 @@ module _ (m : ModuleContents) (p : ProcedureContents) (s new : Search) (busy : L
       }
 
   pub same_left : left new ≡ left s
-  same_left = ap (λ v. unset v.items + length new.work.items) shapes ∙ ap (λ v. unset s.shapes.items + length v.items) work
+  same_left = ap (λ v. unset v + length new.work) shapes ∙ ap (λ (v : List ℕ). unset s.shapes + length v) work
 
 -- ---- steps from a offset
 
@@ -341,21 +341,20 @@ has_effect m p s new at kinds rest after i a has is own e is_after = record {
   effect = effect_own m p i kinds own ∙ ap (λ o. and_then o (λ rest. Leaves (pushed (signature m p i).pushes rest))) e ∙ ap Leaves is_after;
 }
 
--- a offset from which each edge was followed is kept
-pub all_followed : (m : ModuleContents) (p : ProcedureContents) (s one two three four : Search) (at : ℕ) (i : Instruction) (after : List Kind) → HasEffect m p one at i after → (goes_on i ≡ true → table two (at + width_of i) ≡ Some after) → ((to : ℕ) → target_of i ≡ Some to → table three to ≡ Some after) → ((h : Handler) → Contains p.handlers h → h.start ≤ at → at < h.end → table four h.target ≡ Some []) → Steps m p one two at → Steps m p two three at → Steps m p three four at → IsSearching m p four []
-all_followed m p s one two three four at i after e a b c f g h =
-    looked_at m p four at h.searching (λ kinds has.
-    let here : table four at ≡ Some e.kinds = h.keeps at e.kinds (g.keeps at e.kinds (f.keeps at e.kinds e.has)) in
-    let some : Some e.kinds ≡ Some kinds = sym here ∙ has in
+-- an offset from which each edge was followed is kept
+pub all_followed : (m : ModuleContents) (p : ProcedureContents) (s new : Search) (at : ℕ) (i : Instruction) (after : List Kind) → HasEffect m p s at i after → ((to : ℕ) → target_of i ≡ Some to → table s to ≡ Some after) → ((h : Handler) → Contains p.handlers h → h.start ≤ at → at < h.end → table s h.target ≡ Some []) → ((offset : ℕ) (kinds : List Kind) → table s offset ≡ Some kinds → table new offset ≡ Some kinds) → (goes_on i ≡ true → table new (at + width_of i) ≡ Some after) → IsSearching m p new (at ∷ []) → IsSearching m p new []
+all_followed m p s new at i after e to_targets to_handlers still to_next g =
+    looked_at m p new at g (λ kinds has.
+    let some : Some e.kinds ≡ Some kinds = sym (still at e.kinds e.has) ∙ has in
     let same : e.kinds ≡ kinds = cc in
     record {
       instruction = i;
       there = e.there;
       after = after;
       finds = ap (effect m p i) (sym same) ∙ e.effect;
-      next = λ goes. h.keeps (at + width_of i) after (g.keeps (at + width_of i) after (a goes));
-      jumps = λ to is. h.keeps to after (b to is);
-      caught = c;
+      next = to_next;
+      jumps = λ to is. still to after (to_targets to is);
+      caught = λ h there low high. still h.target [] (to_handlers h there low high);
     })
 
 pub steps_more : (m : ModuleContents) (p : ProcedureContents) (old between new : Search) (at to list : ℕ) → Steps m p old between at → Flowed m p between new at to list → Steps m p old new at
@@ -413,13 +412,13 @@ pub no_items : {A : Type 0} (xs : List A) → length xs ≡ 0 → xs ≡ []
 no_items [] e = refl
 no_items (x ∷ xs) e = absurd (omega arith)
 
-pub run_done : (m : ModuleContents) (p : ProcedureContents) (s : Search) → IsSearching m p s [] → length s.work.items ≡ 0 → FlowsWell m p
-run_done m p s g e = search_done m p s g (no_items s.work.items e)
+pub run_done : (m : ModuleContents) (p : ProcedureContents) (s : Search) → IsSearching m p s [] → length s.work ≡ 0 → FlowsWell m p
+run_done m p s g e = search_done m p s g (no_items s.work e)
 
 -- a offset is taken from those that wait
-module _ (m : ModuleContents) (p : ProcedureContents) (s new : Search) (at : ℕ) (g : IsSearching m p s []) (operands : new.operands ≡ s.operands) (shapes : new.shapes ≡ s.shapes) (work : s.work.items ≡ new.work.items ++ at ∷ []) where
+module _ (m : ModuleContents) (p : ProcedureContents) (s new : Search) (at : ℕ) (g : IsSearching m p s []) (operands : new.operands ≡ s.operands) (shapes : new.shapes ≡ s.shapes) (work : s.work ≡ new.work ++ at ∷ []) where
   taken_table : (offset : ℕ) → table new offset ≡ table s offset
-  taken_table offset = ap (λ v. row new.operands (get_or v.items offset None)) shapes ∙ ap (λ ls. row ls (get_or s.shapes.items offset None)) operands
+  taken_table offset = ap (λ (v : List (Option ℕ)). row new.operands (get_or v offset None)) shapes ∙ ap (λ ls. row ls (get_or s.shapes offset None)) operands
 
   taken_kept : (offset : ℕ) (kinds : List Kind) → IsKept m p s offset kinds → IsKept m p new offset kinds
   taken_kept offset kinds k = record {
@@ -435,28 +434,28 @@ module _ (m : ModuleContents) (p : ProcedureContents) (s new : Search) (at : ℕ
   pub taken : IsSearching m p new (at ∷ [])
   taken = record {
     root = subst IsFirst (sym operands) g.root;
-    sized = ap (λ v. length v.items) shapes ∙ g.sized;
-    numbers = λ offset n h. let k = g.numbers offset n (ap (λ v. get_or v.items offset None) (sym shapes) ∙ h) in omega (arith, k, ap length operands);
+    sized = ap length shapes ∙ g.sized;
+    numbers = λ offset n h. let k = g.numbers offset n (ap (λ (v : List (Option ℕ)). get_or v offset None) (sym shapes) ∙ h) in omega (arith, k, ap length operands);
     begins = λ offset kinds h. g.begins offset kinds (sym (taken_table offset) ∙ h);
     first = taken_table 0 ∙ g.first;
     flow = subst (Flow m p) (sym (fun_ext taken_table)) g.flow;
     met = subst (AreMet m p) (sym operands) g.met;
     pending = λ offset kinds h. elim (g.pending offset kinds (sym (taken_table offset) ∙ h)) [
-      | inl w ↦ elim (Contains-push_cases new.work.items at offset (subst (λ l. Contains l offset) work w)) [
+      | inl w ↦ elim (Contains-push_cases new.work at offset (subst (λ l. Contains l offset) work w)) [
         | inl rest ↦ inl rest
         | inr same ↦ inr (inl (subst (Contains (at ∷ [])) same (Contains-push [] at)))
       ]
       | inr b ↦ elim b [ inl busy ↦ absurd (omega (arith, busy.1)) | inr k ↦ inr (inr (taken_kept offset kinds k)) ]
     ];
-    waits = λ offset w. let h = g.waits offset (subst (λ l. Contains l offset) (sym work) (Contains-append_left new.work.items (at ∷ []) offset w)) in (h.0, taken_table offset ∙ h.1);
+    waits = λ offset w. let h = g.waits offset (subst (λ l. Contains l offset) (sym work) (Contains-append_left new.work (at ∷ []) offset w)) in (h.0, taken_table offset ∙ h.1);
   }
 
   pub taken_left : left new + 1 ≡ left s
-  taken_left = omega (arith, ap (λ v. unset v.items) shapes, ap length work, length-append new.work.items (at ∷ []))
+  taken_left = omega (arith, ap unset shapes, ap length work, length-append new.work (at ∷ []))
 
   pub taken_instruction : HasInstruction p new at
   taken_instruction =
-      let h = g.waits at (subst (λ l. Contains l at) (sym work) (Contains-push new.work.items at)) in
+      let h = g.waits at (subst (λ l. Contains l at) (sym work) (Contains-push new.work at)) in
       let i = g.begins at h.0 h.1 in
       record { instruction = i.0; there = i.1; kinds = h.0; has = taken_table at ∙ h.1 }
 
@@ -477,7 +476,7 @@ all_unset (suc n) = ap suc (all_unset n)
 pub empty_falls : (m : ModuleContents) (p : ProcedureContents) → code_length p.code ≡ 0 → IsFlowDefect m p 0 FallsOffEnd
 empty_falls m p e = subst (λ t. IsFlowDefect m p t FallsOffEnd) e (falls (changed nowhere 0 (Some [])) [] starts (subst (λ t. changed nowhere 0 (Some []) t ≡ Some []) (sym e) (changed_at nowhere 0 [])))
 
-module _ (m : ModuleContents) (p : ProcedureContents) (s : Search) (n : ℕ) (size : code_length p.code ≡ suc n) (boundaries : KeepsBoundaries p) (operands : s.operands ≡ [] ∷ []) (shapes : s.shapes.items ≡ set (replicate (suc n) None) 0 (Some 0)) (work : s.work.items ≡ 0 ∷ []) where
+module _ (m : ModuleContents) (p : ProcedureContents) (s : Search) (n : ℕ) (size : code_length p.code ≡ suc n) (boundaries : KeepsBoundaries p) (operands : s.operands ≡ [] ∷ []) (shapes : s.shapes ≡ set (replicate (suc n) None) 0 (Some 0)) (work : s.work ≡ 0 ∷ []) where
   start_table : (offset : ℕ) → table s offset ≡ row ([] ∷ []) (get_or (Some 0 ∷ replicate n None) offset None)
   start_table offset = ap (λ v. row s.operands (get_or v offset None)) shapes ∙ ap (λ ls. row ls (get_or (Some 0 ∷ replicate n None) offset None)) operands
 
@@ -509,6 +508,6 @@ module _ (m : ModuleContents) (p : ProcedureContents) (s : Search) (n : ℕ) (si
       first_met zero inside = found (changed nowhere 0 (Some [])) 0 [] starts (changed_at nowhere 0 [])
       first_met (suc k) inside = absurd (omega arith)
 
-      numbers : (offset list : ℕ) → get_or s.shapes.items offset None ≡ Some list → list < length s.operands
+      numbers : (offset list : ℕ) → get_or s.shapes offset None ≡ Some list → list < length s.operands
       numbers zero list h = let f : Some 0 ≡ Some list = sym (ap (λ v. get_or v 0 None) shapes) ∙ h in let g : 0 ≡ list = cc in omega (arith, ap length operands)
       numbers (suc k) list h = absurd (let f : None ≡ Some list = sym (ap (λ v. get_or v (suc k) None) shapes ∙ all_none n k) ∙ h in cc)

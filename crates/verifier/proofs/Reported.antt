@@ -1,22 +1,18 @@
 -- What the verifier reports.
 use Rattle.std.proofs.Common.{◌≡◌, ◌⊎◌, inl, inr, ℕ, zero, suc, ◌+◌, ◌<◌, List, [], ◌∷◌, ◌++◌, length, get_or, slice_get, Some, None, refl, sym, ap, ◌∙◌, subst, arith}
 use Rattle.bytecode.specs.Contents.{ProcedureContents, ModuleContents}
-use Rattle.verifier.specs.Faults.{HasNoFault, IsReported, IsReportedAfter, IsRefusal}
+use Rattle.verifier.specs.Faults.{HasNoFault, IsFlowFault, IsReported, IsReportedAfter}
 use Rattle.verifier.specs.Fixed.{fixed_faults}
-use Rattle.verifier.specs.Flow.{FlowsWell}
-use Rattle.verifier.specs.Search.{IsStop, stop_fault}
-use Rattle.verifier.specs.declared.search.Stop.{Stop}
-use Rattle.verifier.specs.declared.search.Stop.TheVariants as stop
+use Rattle.verifier.specs.Flow.{FlowsWell, IsFlowDefect}
 use Rattle.verifier.specs.declared.fault.Fault.{Fault}
 use Rattle.std.proofs.lemmas.List.{get_or_append_left}
 use Rattle.std.proofs.Math.Seq.{get_or-append_seam}
-use Rattle.verifier.specs.Boundaries.{KeepsBoundaries}
 use Rattle.verifier.specs.Depth.{IsGreatestDepth}
 use Rattle.verifier.specs.Positions.{VerifiedCode}
-use Rattle.verifier.specs.Verified.{IsVerified}
+use Rattle.verifier.specs.Verified.{IsFaultOf, IsVerified}
 use Rattle.verifier.proofs.Bounds.{IsBounded}
 use Rattle.verifier.proofs.NeverStuck.{never_stuck}
-use Rattle.verifier.proofs.FixedFaults.{nothing_first, get_at, boundaries, all_right}
+use Rattle.verifier.proofs.FixedFaults.{get_at}
 
 -- a fault that may be reported is there
 pub excluded : (m : ModuleContents) (fault : Fault) → IsReported m fault → HasNoFault m → ⊥
@@ -30,14 +26,8 @@ reported_first m fault e = split (fixed_faults m) e
     split [] e = absurd (let no : Some fault ≡ None = e in cc)
     split (x ∷ faults) e = cc
 
-pub none_fixed : (m : ModuleContents) → None ≡ slice_get (fixed_faults m) 0 → fixed_faults m ≡ []
-none_fixed m e = nothing_first (fixed_faults m) (sym e)
-
-pub reported_stop : (m : ModuleContents) (k number : ℕ) (p : ProcedureContents) (stop : Stop) → fixed_faults m ≡ [] → slice_get m.procedures k ≡ Some p → number ≡ k → IsStop m p stop → IsRefusal m (stop_fault number stop)
-reported_stop m k number p stop.NoMemory none there is e = tt
-reported_stop m k number p (stop.Wrong offset defect) none there is e =
-    subst (λ (faults : List Fault). IsReportedAfter m faults (record { defect = defect; procedure = number; offset = offset })) (sym none)
-    (record { procedure = p; there = ap (slice_get m.procedures) is ∙ there; defect = e })
+pub reported_flow : (m : ModuleContents) (fault : Fault) → fixed_faults m ≡ [] → IsFlowFault m fault → IsReported m fault
+reported_flow m fault none e = subst (λ (faults : List Fault). IsReportedAfter m faults fault) (sym none) e
 
 pub there_inside : (all : List ProcedureContents) (k : ℕ) (p : ProcedureContents) → slice_get all k ≡ Some p → k < length all
 there_inside [] k p e = absurd (let no : None ≡ Some p = e in cc)
@@ -65,15 +55,16 @@ item_at m procedures are index item is inside = ap (λ all. slice_get all index)
 pub is_verified : (m : ModuleContents) → IsBounded m → HasNoFault m → IsVerified m
 is_verified m bounds free = record { no_fault = free; never_stuck = never_stuck m bounds free }
 
-module _ (m : ModuleContents) (none : fixed_faults m ≡ []) (procedures : List ProcedureContents) (are : procedures ≡ m.procedures) (index : ℕ) (item body : ProcedureContents) (is : item ≡ get_or procedures index item) (same : body ≡ item) (inside : index < length procedures) where
+module _ (m : ModuleContents) (procedures : List ProcedureContents) (are : procedures ≡ m.procedures) (index : ℕ) (item body : ProcedureContents) (is : item ≡ get_or procedures index item) (same : body ≡ item) (inside : index < length procedures) where
   pub item_there : slice_get m.procedures index ≡ Some body
   item_there = ap (λ all. slice_get all index) (sym are) ∙ get_at procedures index item inside ∙ ap Some (sym is ∙ sym same)
 
-  pub item_boundaries : KeepsBoundaries body
-  item_boundaries = boundaries m body (all_right m none index body item_there)
-
-  pub item_reported : (q : ModuleContents) (number : ℕ) (stop : Stop) → q ≡ m → number ≡ index → IsStop q body stop → IsRefusal m (stop_fault number stop)
-  item_reported q number stop same_module number_is e = reported_stop m index number body stop none item_there number_is (subst (λ (x : ModuleContents). IsStop x body stop) same_module e)
+  pub item_fault : (q : ModuleContents) (number : ℕ) (fault : Fault) → q ≡ m → number ≡ index → IsFaultOf q number body fault → IsFlowFault m fault
+  item_fault q number fault same_module number_is e = record {
+    procedure = body;
+    there = ap (slice_get m.procedures) (e.procedure ∙ number_is) ∙ item_there;
+    defect = subst (λ (x : ModuleContents). IsFlowDefect x body fault.offset fault.defect) same_module e.defect;
+  }
 
   pub flow_more : (q : ModuleContents) → q ≡ m → FlowsWell q body → ((k : ℕ) (p : ProcedureContents) → k < index → slice_get procedures k ≡ Some p → FlowsWell m p) → (k : ℕ) (p : ProcedureContents) → k < index + 1 → slice_get procedures k ≡ Some p → FlowsWell m p
   flow_more q same_module flow before k p below there =

@@ -5,6 +5,7 @@ pub mod Faults
 pub mod Fixed
 pub mod Flow
 pub mod Loaded
+pub mod Numbers
 pub mod Operands
 pub mod Safety
 pub mod Search

@@ -12,8 +12,6 @@ use Rattle.verifier.specs.Flow.{Edge, Flow, Leaves, effect, goes_on, IsFlowDefec
 use Rattle.verifier.specs.Coverage.{IsCoverage, Waits}
 use Rattle.verifier.specs.Depth.{IsMet}
 use Rattle.verifier.specs.Operands.{list_of}
-use Rattle.verifier.specs.declared.fault.VerifyFault.{VerifyFault}
-use Rattle.verifier.specs.declared.fault.VerifyFault.TheVariants as verify
 use Rattle.verifier.specs.declared.search.Search.{Search}
 use Rattle.verifier.specs.declared.search.Stop.{Stop}
 use Rattle.verifier.specs.declared.search.Stop.TheVariants.{NoMemory, Wrong}
@@ -35,7 +33,7 @@ numbered code (Some index) = slice_get code index
 
 -- a procedure that the search may look at: its indices are those of its code, which has less than 4 GiB
 pub record IsBody (b : Body) : Type 0 where
-  pub indices : b.indices.items ≡ indices_from 0 b.procedure.now.code
+  pub indices : b.indices ≡ indices_from 0 b.procedure.now.code
   pub short : code_length b.procedure.now.code < 2 ^ 32
 
 -- ---- the table that was found so far
@@ -45,7 +43,7 @@ row lists None = None
 row lists (Some list) = Some (list_of lists list)
 
 abbrev pub table : Search → ℕ → Option (List Kind)
-table s offset = row s.operands (slice_index_or s.shapes.items offset None)
+table s offset = row s.operands (slice_index_or s.shapes offset None)
 
 -- a offset whose instruction finds its operands, and from which each edge was followed
 pub record IsKept (m : ModuleContents) (p : ProcedureContents) (s : Search) (at : ℕ) (kinds : List Kind) : Type 0 where
@@ -65,7 +63,7 @@ unset (Some list ∷ shapes) = unset shapes
 
 -- how many offsets may still be looked at: each without a list, and each that waits
 abbrev pub left : Search → ℕ
-left s = unset s.shapes.items + length s.work.items
+left s = unset s.shapes + length s.work
 
 -- the list 0 is there and empty
 abbrev pub IsFirst : List (List Kind) → Type 0
@@ -83,16 +81,20 @@ pub record HaveLongest (m : ModuleContents) (p : ProcedureContents) (lists : Lis
 -- is kept
 pub record IsSearching (m : ModuleContents) (p : ProcedureContents) (s : Search) (busy : List ℕ) : Type 0 where
   pub root : IsFirst s.operands
-  pub sized : length s.shapes.items ≡ code_length p.code
-  pub numbers : (offset list : ℕ) → slice_index_or s.shapes.items offset None ≡ Some list → list < length s.operands
+  pub sized : length s.shapes ≡ code_length p.code
+  pub numbers : (offset list : ℕ) → slice_index_or s.shapes offset None ≡ Some list → list < length s.operands
   pub begins : (offset : ℕ) (kinds : List Kind) → table s offset ≡ Some kinds → (i : Instruction) × (instruction_at p.code offset ≡ Some i)
   pub first : table s 0 ≡ Some []
   pub flow : Flow m p (table s)
   pub met : AreMet m p s.operands
-  pub pending : (at : ℕ) (kinds : List Kind) → table s at ≡ Some kinds → Contains s.work.items at ⊎ (Contains busy at ⊎ IsKept m p s at kinds)
-  pub waits : (at : ℕ) → Contains s.work.items at → (kinds : List Kind) × (table s at ≡ Some kinds)
+  pub pending : (at : ℕ) (kinds : List Kind) → table s at ≡ Some kinds → Contains s.work at ⊎ (Contains busy at ⊎ IsKept m p s at kinds)
+  pub waits : (at : ℕ) → Contains s.work at → (kinds : List Kind) × (table s at ≡ Some kinds)
 
 -- ---- steps
+
+-- a search in which one more offset waits
+abbrev pub waiting : Search → ℕ → Search
+waiting s at = record { operands = s.operands; shapes = s.shapes; work = s.work ++ at ∷ [] }
 
 -- an edge from a offset that has a list
 pub record IsAtEdge (m : ModuleContents) (p : ProcedureContents) (s : Search) (at to : ℕ) (after : List Kind) : Type 0 where
@@ -136,6 +138,16 @@ pub record HasInstruction (p : ProcedureContents) (s : Search) (at : ℕ) : Type
   pub kinds : List Kind
   pub has : table s at ≡ Some kinds
 
+-- a search at work that goes straight on to an offset, or to none
+abbrev pub IsNext : ModuleContents → ProcedureContents → Search → Option ℕ → Type 0
+IsNext m p s None = IsSearching m p s []
+IsNext m p s (Some at) = (IsSearching m p s (at ∷ [])) × HasInstruction p s at
+
+-- 1 where there is an offset to go straight on to
+abbrev pub count : Option ℕ → ℕ
+count None = 0
+count (Some at) = 1
+
 -- the handlers that wait are the procedure's, and control went to each other one that covers an offset
 pub record IsWaiting (p : ProcedureContents) (c : Coverage) (s : Search) : Type 0 where
   pub coverage : IsCoverage c
@@ -146,9 +158,3 @@ pub record IsWaiting (p : ProcedureContents) (c : Coverage) (s : Search) : Type 
 abbrev pub IsStop : ModuleContents → ProcedureContents → Stop → Type 0
 IsStop m p NoMemory = Unit {0}
 IsStop m p (Wrong offset defect) = IsFlowDefect m p offset defect
-
--- what is reported where the search of a procedure stopped
-abbrev pub stop_fault : ℕ → Stop → VerifyFault
-stop_fault number NoMemory = verify.NoMemory
-stop_fault number (Wrong offset defect) =
-    verify.Wrong (record { defect = defect; procedure = number; offset = offset })

@@ -1,9 +1,10 @@
 //! A procedure as the search for faults looks at it.
 
 ghost use Rattle.bytecode.specs.Code.{code_length, instruction_at};
-ghost use Rattle.std.specs.Prelude.{IfOk, slice_get, slice_index_or, ◌<◌, ◌^◌, ◌≡◌};
+ghost use Rattle.std.specs.Prelude.{IfOk, slice_get, ◌<◌, ◌^◌, ◌≡◌};
 ghost use Rattle.verifier.specs.Search.{IsBody, indices_from};
 
+use crate::numbers::Numbers;
 use crate::parameters::PackedModule;
 use bytecode::{Instruction, Procedure};
 use std::alloc::{AllocError, Global};
@@ -13,7 +14,7 @@ use std::alloc::{AllocError, Global};
 pub(crate) struct Body<'a> {
     pub program: &'a PackedModule,
     pub procedure: &'a Procedure,
-    pub indices: Vec<Option<u32>>,
+    pub indices: Numbers,
 }
 
 impl<'a> Body<'a> {
@@ -41,20 +42,10 @@ impl<'a> Body<'a> {
         requires { IsBody self.now }
         ensures { result ≡ instruction_at self.now.procedure.now.code offset }
     {
-        match index_at(&self.indices, offset) {
+        match self.indices.at(offset) {
             Some(index) => instruction_in(self.procedure.code(), index),
             None => None,
         }
-    }
-}
-
-/// The number of the instruction that begins at an offset, if there is one.
-pub(crate) fn index_at(indices: &[Option<u32>], offset: u32) -> Option<u32>
-    ensures { result ≡ slice_index_or indices.now offset None }
-{
-    match indices.get(offset as usize) {
-        Some(index) => *index,
-        None => None,
     }
 }
 
@@ -80,15 +71,15 @@ fn length(code: &[Instruction]) -> usize
 }
 
 // For each byte of code the number of the instruction that begins there.
-fn indices(alloc: Global, code: &[Instruction]) -> Result<Vec<Option<u32>>, AllocError>
+fn indices(alloc: Global, code: &[Instruction]) -> Result<Numbers, AllocError>
     requires { code_length code.now < 2 ^ 32 }
-    ensures { IfOk result (λ indices. indices.items ≡ indices_from 0 code.now) }
+    ensures { IfOk result (λ indices. indices ≡ indices_from 0 code.now) }
 {
-    let mut indices = vec![in alloc; None; length(code)]?;
+    let mut indices = Numbers::new(alloc, length(code))?;
     let mut offset = 0;
     let mut index = 0;
     for instruction in code {
-        indices[offset] = Some(index);
+        indices.set(offset, index);
         offset += instruction.width();
         index += 1;
     }

@@ -8,12 +8,15 @@ mod ends;
 pub mod fault;
 mod fixed;
 pub mod loading;
+mod looking;
+mod numbers;
 mod operands;
 mod parameters;
 mod positions;
 pub mod safety;
 mod search;
 pub mod verified;
+mod work;
 
 pub use fault::{Defect, Fault, VerifyFault};
 pub use loading::{LoadFault, load};

@@ -3,8 +3,9 @@
 ghost use Rattle.bytecode.specs.Code.{code_length, instruction_at, width_of};
 ghost use Rattle.bytecode.specs.Contents.{ModuleContents, ProcedureContents};
 ghost use Rattle.bytecode.specs.declared.declaration.Handler.{Handler};
+ghost use Rattle.bytecode.specs.declared.value.Kind.{Kind};
 ghost use Rattle.std.specs.List.{Contains};
-ghost use Rattle.std.specs.Prelude.{Some, true, ℕ, [], ◌≡◌, ◌+◌, ◌<◌, ◌≤◌, ◌^◌, ◌∷◌, IfErr, IfOk, OnOk, length};
+ghost use Rattle.std.specs.Prelude.{List, Some, false, true, ℕ, [], ◌≡◌, ◌+◌, ◌<◌, ◌≤◌, ◌^◌, ◌∷◌, IfErr, IfOk, OnOk, length};
 ghost use Rattle.bytecode.specs.Targets as targets;
 ghost use Rattle.verifier.specs.Flow as flow;
 ghost use Rattle.verifier.specs.Flow.{FlowsWell};
@@ -12,13 +13,15 @@ ghost use Rattle.verifier.specs.Depth.{IsGreatestDepth};
 ghost use Rattle.verifier.specs.Operands.{list_of};
 ghost use Rattle.verifier.specs.Boundaries.{IsBoundary, KeepsBoundaries};
 ghost use Rattle.verifier.specs.declared.search.Stop.TheVariants.{NoMemory};
-ghost use Rattle.verifier.specs.Search.{Flowed, HasEffect, HaveLongest, HasInstruction, IsApplied, IsAtEdge, IsBody, IsSearching, IsStop, IsWaiting, Steps, left, table};
+ghost use Rattle.verifier.specs.Search.{Flowed, HasEffect, HaveLongest, HasInstruction, IsApplied, IsAtEdge, IsBody, IsNext, IsSearching, IsStop, IsWaiting, Steps, count, left, table, waiting};
 
 use crate::body::Body;
 use crate::coverage::Coverage;
 use crate::effects::{goes_on, is_own, pops, pushes, target_of};
 use crate::fault::Defect;
+use crate::numbers::Numbers;
 use crate::operands::Operands;
+use crate::work::Work;
 use bytecode::Instruction;
 use std::alloc::{AllocError, AllocFailed, Global};
 
@@ -50,34 +53,53 @@ impl<T: Drop> From<AllocFailed<T>> for Stop {
 pub(crate) struct Search {
     operands: Operands,
     // The number of the list of each offset that has one.
-    shapes: Vec<Option<u32>>,
-    work: Vec<u32>,
+    shapes: Numbers,
+    work: Work,
 }
 
 impl Search {
-    // Control goes from an offset to another one with a list.
-    fn reach(&mut self, body: &Body, at: u32, to: u32, list: u32) -> Result<(), Stop>
+    // Control goes from an offset to another one with a list. Answers whether it is the first there; then that offset is
+    // still to be looked at.
+    fn arrive(&mut self, body: &Body, at: u32, to: u32, list: u32) -> Result<bool, Stop>
         requires searching { IsSearching body.now.program.now body.now.procedure.now self.old (at ∷ []) }
         requires edge { IsAtEdge body.now.program.now body.now.procedure.now self.old at to (list_of self.old.operands list) }
         requires list { list < length self.old.operands }
         requires boundary { IsBoundary body.now.procedure.now to }
-        ensures ok { OnOk result (Flowed body.now.program.now body.now.procedure.now self.old self.new at to list) }
+        requires room { length self.old.operands + left self.old ≤ 2 ^ 32 }
+        ensures first { IfOk result (λ first. first ≡ true → Flowed body.now.program.now body.now.procedure.now self.old (waiting self.new to) at to list) }
+        ensures other { IfOk result (λ first. first ≡ false → Flowed body.now.program.now body.now.procedure.now self.old self.new at to list) }
         ensures err { IfErr result (λ stop. IsStop body.now.program.now body.now.procedure.now stop) }
     {
         if to as usize == self.shapes.len() {
             return Err(Stop::Wrong(to, Defect::FallsOffEnd));
         }
-        match self.shapes[to as usize] {
+        match self.shapes.at(to) {
             None => {
-                self.work.push(to)?;
-                self.shapes[to as usize] = Some(list);
-                Ok(())
+                self.shapes.set(to as usize, list);
+                Ok(true)
             }
             Some(other) => match self.operands.meet(list, other) {
-                Ok(()) => Ok(()),
+                Ok(()) => Ok(false),
                 Err(defect) => Err(Stop::Wrong(to, defect)),
             },
         }
+    }
+
+    // Control goes from an offset to another one with a list, and that one waits if control is the first there.
+    fn reach(&mut self, body: &Body, at: u32, to: u32, list: u32) -> Result<(), Stop>
+        requires searching { IsSearching body.now.program.now body.now.procedure.now self.old (at ∷ []) }
+        requires edge { IsAtEdge body.now.program.now body.now.procedure.now self.old at to (list_of self.old.operands list) }
+        requires list { list < length self.old.operands }
+        requires boundary { IsBoundary body.now.procedure.now to }
+        requires room { length self.old.operands + left self.old ≤ 2 ^ 32 }
+        ensures ok { OnOk result (Flowed body.now.program.now body.now.procedure.now self.old self.new at to list) }
+        ensures err { IfErr result (λ stop. IsStop body.now.program.now body.now.procedure.now stop) }
+    {
+        if !self.arrive(body, at, to, list)? {
+            return Ok(());
+        }
+        self.work.push(to)?;
+        Ok(())
     }
 
     // The list that an instruction at an offset leaves.
@@ -111,30 +133,6 @@ impl Search {
         }
     }
 
-    // Control goes on to the next instruction, where it may.
-    fn go_on(
-        &mut self,
-        body: &Body,
-        at: u32,
-        instruction: Instruction,
-        list: u32,
-    ) -> Result<(), Stop>
-        requires searching { IsSearching body.now.program.now body.now.procedure.now self.old (at ∷ []) }
-        requires effect { HasEffect body.now.program.now body.now.procedure.now self.old at instruction (list_of self.old.operands list) }
-        requires list { list < length self.old.operands }
-        requires boundaries { KeepsBoundaries body.now.procedure.now }
-        requires short { code_length body.now.procedure.now.code < 2 ^ 32 }
-        ensures ok { OnOk result (Steps body.now.program.now body.now.procedure.now self.old self.new at) }
-        ensures there { OnOk result (flow.goes_on instruction ≡ true → table self.new (at + width_of instruction) ≡ Some (list_of self.old.operands list)) }
-        ensures err { IfErr result (λ stop. IsStop body.now.program.now body.now.procedure.now stop) }
-    {
-        if goes_on(instruction) {
-            self.reach(body, at, at + instruction.width() as u32, list)
-        } else {
-            Ok(())
-        }
-    }
-
     // Control jumps, where it may.
     fn jump(
         &mut self,
@@ -147,6 +145,7 @@ impl Search {
         requires effect { HasEffect body.now.program.now body.now.procedure.now self.old at instruction (list_of self.old.operands list) }
         requires list { list < length self.old.operands }
         requires boundaries { KeepsBoundaries body.now.procedure.now }
+        requires room { length self.old.operands + left self.old ≤ 2 ^ 32 }
         ensures ok { OnOk result (Steps body.now.program.now body.now.procedure.now self.old self.new at) }
         ensures there { OnOk result ((to : ℕ) → targets.target_of instruction ≡ Some to → table self.new to ≡ Some (list_of self.old.operands list)) }
         ensures err { IfErr result (λ stop. IsStop body.now.program.now body.now.procedure.now stop) }
@@ -163,6 +162,7 @@ impl Search {
         requires there { HasInstruction body.now.procedure.now self.old at }
         requires boundaries { KeepsBoundaries body.now.procedure.now }
         requires waiting { IsWaiting body.now.procedure.now coverage.old self.old }
+        requires room { length self.old.operands + left self.old ≤ 2 ^ 32 }
         ensures ok { OnOk result (Steps body.now.program.now body.now.procedure.now self.old self.new at) }
         ensures waiting { OnOk result (IsWaiting body.now.procedure.now coverage.new self.new) }
         ensures there { OnOk result ((h : Handler) → Contains body.now.procedure.now.handlers h → h.start ≤ at → at < h.end → table self.new h.target ≡ Some []) }
@@ -174,6 +174,40 @@ impl Search {
         Ok(())
     }
 
+    // Control goes on to the next instruction, where it may. All other edges were followed. Answers the offset of the next
+    // instruction where control is the first there: it is to be looked at next.
+    fn go_on(
+        &mut self,
+        body: &Body,
+        at: u32,
+        instruction: Instruction,
+        list: u32,
+    ) -> Result<Option<u32>, Stop>
+        requires searching { IsSearching body.now.program.now body.now.procedure.now self.old (at ∷ []) }
+        requires effect { HasEffect body.now.program.now body.now.procedure.now self.old at instruction (list_of self.old.operands list) }
+        requires list { list < length self.old.operands }
+        requires jumps { (to : ℕ) → targets.target_of instruction ≡ Some to → table self.old to ≡ Some (list_of self.old.operands list) }
+        requires caught { (h : Handler) → Contains body.now.procedure.now.handlers h → h.start ≤ at → at < h.end → table self.old h.target ≡ Some [] }
+        requires boundaries { KeepsBoundaries body.now.procedure.now }
+        requires short { code_length body.now.procedure.now.code < 2 ^ 32 }
+        requires room { length self.old.operands + left self.old ≤ 2 ^ 32 }
+        ensures next { IfOk result (IsNext body.now.program.now body.now.procedure.now self.new) }
+        ensures keeps { OnOk result ((offset : ℕ) (kinds : List Kind) → table self.old offset ≡ Some kinds → table self.new offset ≡ Some kinds) }
+        ensures same { OnOk result (self.new.operands ≡ self.old.operands) }
+        ensures left { IfOk result (λ next. left self.new + count next ≤ left self.old) }
+        ensures err { IfErr result (λ stop. IsStop body.now.program.now body.now.procedure.now stop) }
+    {
+        if !goes_on(instruction) {
+            return Ok(None);
+        }
+        let to = at + instruction.width() as u32;
+        if self.arrive(body, at, to, list)? {
+            Ok(Some(to))
+        } else {
+            Ok(None)
+        }
+    }
+
     // Looks at an offset: control goes on from it along each edge.
     fn visit(
         &mut self,
@@ -182,49 +216,70 @@ impl Search {
         at: u32,
         instruction: Instruction,
         list: u32,
-    ) -> Result<(), Stop>
+    ) -> Result<Option<u32>, Stop>
         requires searching { IsSearching body.now.program.now body.now.procedure.now self.old (at ∷ []) }
         requires shape { table self.old at ≡ Some (list_of self.old.operands list) }
         requires list { list < length self.old.operands }
         requires instruction { instruction_at body.now.procedure.now.code at ≡ Some instruction }
         requires boundaries { KeepsBoundaries body.now.procedure.now }
         requires waiting { IsWaiting body.now.procedure.now coverage.old self.old }
-        requires room { length self.old.operands < 2 ^ 32 }
+        requires room { length self.old.operands + left self.old < 2 ^ 32 }
         requires short { code_length body.now.procedure.now.code < 2 ^ 32 }
-        ensures ok { OnOk result (IsSearching body.now.program.now body.now.procedure.now self.new []) }
+        ensures next { IfOk result (IsNext body.now.program.now body.now.procedure.now self.new) }
         ensures waiting { OnOk result (IsWaiting body.now.procedure.now coverage.new self.new) }
-        ensures left { OnOk result (left self.new ≤ left self.old) }
+        ensures left { IfOk result (λ next. left self.new + count next ≤ left self.old) }
         ensures few { OnOk result (length self.new.operands ≤ length self.old.operands + 1) }
         ensures err { IfErr result (λ stop. IsStop body.now.program.now body.now.procedure.now stop) }
     {
         let after = self.apply(body, at, instruction, list)?;
-        self.go_on(body, at, instruction, after)?;
         self.jump(body, at, instruction, after)?;
         self.raise(body, coverage, at)?;
-        Ok(())
+        let next = self.go_on(body, at, instruction, after)?;
+        Ok(next)
     }
 
     // Looks at an offset that has a list.
-    fn look(&mut self, body: &Body, coverage: &mut Coverage, at: u32) -> Result<(), Stop>
+    fn look(&mut self, body: &Body, coverage: &mut Coverage, at: u32) -> Result<Option<u32>, Stop>
         requires searching { IsSearching body.now.program.now body.now.procedure.now self.old (at ∷ []) }
         requires there { HasInstruction body.now.procedure.now self.old at }
         requires boundaries { KeepsBoundaries body.now.procedure.now }
         requires waiting { IsWaiting body.now.procedure.now coverage.old self.old }
         requires body { IsBody body.now }
-        requires room { length self.old.operands < 2 ^ 32 }
-        ensures ok { OnOk result (IsSearching body.now.program.now body.now.procedure.now self.new []) }
+        requires room { length self.old.operands + left self.old < 2 ^ 32 }
+        ensures next { IfOk result (IsNext body.now.program.now body.now.procedure.now self.new) }
         ensures waiting { OnOk result (IsWaiting body.now.procedure.now coverage.new self.new) }
-        ensures left { OnOk result (left self.new ≤ left self.old) }
+        ensures left { IfOk result (λ next. left self.new + count next ≤ left self.old) }
         ensures few { OnOk result (length self.new.operands ≤ length self.old.operands + 1) }
         ensures err { IfErr result (λ stop. IsStop body.now.program.now body.now.procedure.now stop) }
     {
-        let Some(list) = self.shapes[at as usize] else {
+        let Some(list) = self.shapes.at(at) else {
             unreachable!()
         };
         let Some(instruction) = body.at(at) else {
             unreachable!()
         };
         self.visit(body, coverage, at, instruction, list)
+    }
+
+    // Looks at an offset that has a list, and at those to which control goes straight on from there.
+    fn follow(&mut self, body: &Body, coverage: &mut Coverage, at: u32) -> Result<(), Stop>
+        requires searching { IsSearching body.now.program.now body.now.procedure.now self.old (at ∷ []) }
+        requires there { HasInstruction body.now.procedure.now self.old at }
+        requires boundaries { KeepsBoundaries body.now.procedure.now }
+        requires waiting { IsWaiting body.now.procedure.now coverage.old self.old }
+        requires body { IsBody body.now }
+        requires room { length self.old.operands + left self.old < 2 ^ 32 }
+        ensures ok { OnOk result (IsSearching body.now.program.now body.now.procedure.now self.new []) }
+        ensures waiting { OnOk result (IsWaiting body.now.procedure.now coverage.new self.new) }
+        ensures left { OnOk result (left self.new ≤ left self.old) }
+        ensures few { OnOk result (length self.new.operands + left self.new ≤ length self.old.operands + left self.old + 1) }
+        ensures err { IfErr result (λ stop. IsStop body.now.program.now body.now.procedure.now stop) }
+    {
+        let mut next = Some(at);
+        while let Some(at) = next {
+            next = self.look(body, coverage, at)?;
+        }
+        Ok(())
     }
 
     // Looks at each offset that waits, until none does.
@@ -239,7 +294,7 @@ impl Search {
         ensures err { IfErr result (λ stop. IsStop body.now.program.now body.now.procedure.now stop) }
     {
         while let Some(at) = self.work.pop() {
-            self.look(body, coverage, at)?;
+            self.follow(body, coverage, at)?;
         }
         Ok(())
     }
@@ -261,9 +316,9 @@ pub(crate) fn find_defect(alloc: Global, body: &Body) -> Result<u32, Stop>
     }
     let mut coverage = Coverage::new(alloc, body.procedure.handlers())?;
     let operands = Operands::new(alloc)?;
-    let mut shapes = vec![in alloc; None; size]?;
-    shapes[0] = Some(0);
-    let work = vec![in alloc; 0]?;
+    let mut shapes = Numbers::new(alloc, size)?;
+    shapes.set(0, 0);
+    let work = Work::new(alloc)?;
     let mut search = Search {
         operands,
         shapes,

@@ -1,20 +1,15 @@
 ghost use Rattle.bytecode.specs.Machine.{code_of};
-ghost use Rattle.std.specs.Prelude.{IfErr, IfOk, OnOk, Some, [], length, slice_get, ◌<◌, ◌≡◌};
+ghost use Rattle.std.specs.Prelude.{IfErr, IfOk, OnOk, Some, length, slice_get, ◌<◌, ◌≡◌};
 ghost use Rattle.bytecode.specs.Contents.{ProcedureContents};
 ghost use Rattle.verifier.specs.Depth.{IsGreatestDepth};
 ghost use Rattle.verifier.specs.Faults.{HasNoFault, IsRefusal};
-ghost use Rattle.verifier.specs.Fixed.{fixed_faults};
 ghost use Rattle.verifier.specs.Safety.{IsNeverStuck};
-ghost use Rattle.verifier.specs.Search.{stop_fault};
 ghost use Rattle.verifier.specs.Positions.{positioned};
-ghost use Rattle.verifier.specs.Verified.{HasCodes};
 
-use crate::body::Body;
-use crate::fault::{Fault, VerifyFault};
-use crate::fixed::fixed_fault;
+use crate::fault::VerifyFault;
+use crate::looking::look_for_faults;
 use crate::parameters::PackedModule;
 use crate::positions::Code;
-use crate::search::{Stop, find_defect};
 use bytecode::{Instruction, Module};
 use std::alloc::Global;
 use std::marker::Model;
@@ -86,49 +81,4 @@ pub fn verify(alloc: Global, program: Module) -> Result<Verified, VerifyFault>
         inner: packed.into_module(),
         codes,
     })
-}
-
-// Looks for a fault of a module, and answers the code of each procedure where there is none.
-fn look_for_faults(alloc: Global, program: &PackedModule) -> Result<Vec<Code>, VerifyFault>
-    ensures ok { IfOk result (λ codes. HasCodes program.now codes.items) }
-    ensures err { IfErr result (λ fault. IsRefusal program.now fault) }
-{
-    match fixed_fault(alloc, program)? {
-        None => look_for_flow_faults(alloc, program),
-        Some(fault) => Err(VerifyFault::Wrong(fault)),
-    }
-}
-
-// Looks for a fault of the flow of a module, where no instruction and no handler has one by itself.
-fn look_for_flow_faults(alloc: Global, program: &PackedModule) -> Result<Vec<Code>, VerifyFault>
-    requires { fixed_faults program.now ≡ [] }
-    ensures ok { IfOk result (λ codes. HasCodes program.now codes.items) }
-    ensures err { IfErr result (λ fault. IsRefusal program.now fault) }
-{
-    let procedures = program.procedures();
-    let mut codes = Vec::new(alloc);
-    let mut number = 0;
-    for procedure in procedures {
-        let body = Body::new(alloc, program, procedure)?;
-        match find_defect(alloc, &body) {
-            Ok(greatest_depth) => codes.push(Code::of(alloc, &body, greatest_depth)?)?,
-            Err(stop) => return Err(fault_at(number, stop)),
-        }
-        number += 1;
-    }
-    Ok(codes)
-}
-
-// The fault for which the search of a procedure stopped.
-fn fault_at(procedure: u32, stop: Stop) -> VerifyFault
-    ensures { result ≡ stop_fault procedure stop }
-{
-    match stop {
-        Stop::NoMemory => VerifyFault::NoMemory,
-        Stop::Wrong(offset, defect) => VerifyFault::Wrong(Fault {
-            defect,
-            procedure,
-            offset,
-        }),
-    }
 }

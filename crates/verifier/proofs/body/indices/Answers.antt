@@ -8,15 +8,18 @@ use Rattle.verifier.proofs.Indices.{indices_step, length-indices}
 use Rattle.verifier.proofs.Reaching.{take_all}
 use Rattle.verifier.proofs.body.indices.Goals as goal
 
-pub index_mut-requires : goal.index_mut-requires
-index_mut-requires c =
+pub set-requires-clause-place : goal.set-requires-clause-place
+set-requires-clause-place c =
     let code = c.args.code.now in
     let k = c.loop-instruction.instruction-index in
-    let size : length c.loop-instruction.indices.items ≡ code_length (take k code) + code_length (drop k code) =
+    let size : length c.loop-instruction.indices ≡ code_length (take k code) + code_length (drop k code) =
     ap length c.loop-instruction.invariant.indices_are ∙ length-append (indices_from 0 (take k code)) (replicate (code_length (drop k code)) None)
     ∙ ap (λ n. n + length {A = Option ℕ} (replicate (code_length (drop k code)) None)) (length-indices 0 (take k code))
     ∙ ap (λ n. code_length (take k code) + n) (length-replicate {A = Option ℕ} (code_length (drop k code)) None) in
     omega (arith, size, code_length_split code k, code_length_within code k (Push (pos 0)) c.loop-instruction-test.true, width_of-pos (get_or code k (Push (pos 0))), c.loop-instruction.invariant.offset_is)
+
+pub set-requires-clause-number : goal.set-requires-clause-number
+set-requires-clause-number c = omega (arith, few_instructions c.args.code.now, c.loop-instruction.invariant.index_is, c.loop-instruction-test.true, c.requires)
 
 pub overflow_add-offset : goal.overflow_add-offset
 overflow_add-offset c = omega (arith, code_length_within c.args.code.now c.loop-instruction.instruction-index (Push (pos 0)) c.loop-instruction-test.true, c.loop-instruction.invariant.offset_is)
@@ -36,7 +39,8 @@ loop-instruction-preserved c =
       offset_is = omega (arith, code_length_more code k (Push (pos 0)) h, v.offset_is);
       index_is = omega (arith, v.index_is);
       indices_are =
-          ap (λ l. set l c.loop-instruction.offset (Some c.loop-instruction.index)) (v.indices_are ∙ ap (λ n. indices_from 0 (take k code) ++ replicate n None) (code_length_drop code k (Push (pos 0)) h))
+          c.set.ensures
+          ∙ ap (λ l. set l c.loop-instruction.offset (Some c.loop-instruction.index)) (v.indices_are ∙ ap (λ n. indices_from 0 (take k code) ++ replicate n None) (code_length_drop code k (Push (pos 0)) h))
           ∙ indices_step (take k code) i (code_length (drop (k + 1) code)) c.loop-instruction.offset c.loop-instruction.index v.offset_is number
           ∙ ap (λ l. indices_from 0 l ++ replicate (code_length (drop (k + 1) code)) None) (sym (take_more code k (Push (pos 0)) h));
     }

@@ -1,32 +1,27 @@
-use Rattle.std.proofs.Common.{rules, ◌≡◌, suc, ◌-◌, ◌∷◌, [], length, set, replicate, Some, None, arith, ap, ◌∙◌}
+use Rattle.std.proofs.Common.{◌≡◌, suc, ◌-◌, length, set, replicate, Some, None, arith, ap, ◌∙◌}
 use Rattle.bytecode.specs.Code.{code_length}
 use Rattle.verifier.proofs.Depth.{is_greatest}
 use Rattle.verifier.proofs.Indices.{length-indices}
 use Rattle.verifier.proofs.Reaching.{empty_falls, started, start_left, waiting_start}
-use Rattle.std.specs.Vec.{with_item}
 use Rattle.verifier.specs.Search.{left}
 use Rattle.verifier.specs.declared.search.Search.{Search}
 use Rattle.verifier.proofs.search.find_defect.Goals as goal
 
 pub returns-then-size-eq0-clause-err : goal.returns-then-size-eq0-clause-err
-returns-then-size-eq0-clause-err c = empty_falls c.args.body.now.program.now c.args.body.now.procedure.now (omega (arith, c.args.body.now.indices.ok.0, ap length c.requires.body.indices, length-indices 0 c.args.body.now.procedure.now.code))
+returns-then-size-eq0-clause-err c = empty_falls c.args.body.now.program.now c.args.body.now.procedure.now (omega (arith, c.len-size.ensures, ap length c.requires.body.indices, length-indices 0 c.args.body.now.procedure.now.code))
 
 pub run-requires-clause-searching : goal.run-requires-clause-searching
 run-requires-clause-searching c =
     let n : c.len-size.result ≡ suc (c.len-size.result - 1) = omega arith in
-    let size : code_length c.args.body.now.procedure.now.code ≡ suc (c.len-size.result - 1) = omega (arith, c.args.body.now.indices.ok.0, ap length c.requires.body.indices, length-indices 0 c.args.body.now.procedure.now.code) in
-    let items : c.in_ok-shapes.shapes.items ≡ replicate c.len-size.result None = search rules in
-    let work : c.in_ok-work.work.items ≡ 0 ∷ [] = search rules in
-    started c.args.body.now.program.now c.args.body.now.procedure.now _ (c.len-size.result - 1) size c.requires.boundaries c.in_ok-operands.ensures (ap (λ l. set l 0 (Some 0)) (items ∙ ap (λ k. replicate k None) n)) work
+    let size : code_length c.args.body.now.procedure.now.code ≡ suc (c.len-size.result - 1) = omega (arith, c.len-size.ensures, ap length c.requires.body.indices, length-indices 0 c.args.body.now.procedure.now.code) in
+    started c.args.body.now.program.now c.args.body.now.procedure.now _ (c.len-size.result - 1) size c.requires.boundaries c.in_ok-operands.ensures (c.set.ensures ∙ ap (λ l. set l 0 (Some 0)) (c.in_ok-shapes.ensures ∙ ap (λ k. replicate k None) n)) c.in_ok-work.ensures
 
 pub run-requires-clause-room : goal.run-requires-clause-room
 run-requires-clause-room c =
     let n : c.len-size.result ≡ suc (c.len-size.result - 1) = omega arith in
-    let size : code_length c.args.body.now.procedure.now.code ≡ suc (c.len-size.result - 1) = omega (arith, c.args.body.now.indices.ok.0, ap length c.requires.body.indices, length-indices 0 c.args.body.now.procedure.now.code) in
-    let items : c.in_ok-shapes.shapes.items ≡ replicate c.len-size.result None = search rules in
-    let work : c.in_ok-work.work.items ≡ 0 ∷ [] = search rules in
-    let s : Search = record { operands = c.in_ok-operands.operands; shapes = with_item c.in_ok-shapes.shapes 0 (Some 0); work = c.in_ok-work.work } in
-    let l : left s ≡ suc (c.len-size.result - 1) = start_left c.args.body.now.program.now c.args.body.now.procedure.now s (c.len-size.result - 1) size c.requires.boundaries c.in_ok-operands.ensures (ap (λ l. set l 0 (Some 0)) (items ∙ ap (λ k. replicate k None) n)) work in
+    let size : code_length c.args.body.now.procedure.now.code ≡ suc (c.len-size.result - 1) = omega (arith, c.len-size.ensures, ap length c.requires.body.indices, length-indices 0 c.args.body.now.procedure.now.code) in
+    let s : Search = record { operands = c.in_ok-operands.operands; shapes = c.set.new.self; work = c.in_ok-work.work } in
+    let l : left s ≡ suc (c.len-size.result - 1) = start_left c.args.body.now.program.now c.args.body.now.procedure.now s (c.len-size.result - 1) size c.requires.boundaries c.in_ok-operands.ensures (c.set.ensures ∙ ap (λ l. set l 0 (Some 0)) (c.in_ok-shapes.ensures ∙ ap (λ k. replicate k None) n)) c.in_ok-work.ensures in
     omega (arith, l, ap length c.in_ok-operands.ensures)
 
 pub run-requires-clause-waiting : goal.run-requires-clause-waiting

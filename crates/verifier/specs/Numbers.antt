@@ -1,0 +1,8 @@
+-- Numbers for places, where a place may have none: how they are kept.
+-- Source: our own.
+use Rattle.std.specs.Prelude.{ℕ, zero, suc, Option, Some, None}
+
+-- the number that a mark stands for, if any
+abbrev pub number_of : ℕ → Option ℕ
+number_of zero = None
+number_of (suc number) = Some number

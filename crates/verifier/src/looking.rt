@@ -1,0 +1,79 @@
+//! Looks for a fault of a module.
+
+ghost use Rattle.std.specs.Prelude.{IfErr, IfNone, IfOk, IfSome, Some, length, ◌<◌, ◌^◌, ◌≡◌, ◌⊎◌};
+ghost use Rattle.verifier.specs.Boundaries.{KeepsBoundaries};
+ghost use Rattle.verifier.specs.Faults.{IsRefusal};
+ghost use Rattle.verifier.specs.Search.{IsBody};
+ghost use Rattle.verifier.specs.Verified.{HasCodes, IsAdded, IsFaultOf};
+
+use crate::body::Body;
+use crate::fault::{Fault, VerifyFault};
+use crate::fixed::body_fault;
+use crate::parameters::PackedModule;
+use crate::positions::Code;
+use crate::search::{Stop, find_defect};
+use std::alloc::Global;
+
+/// Looks for a fault of a module, and answers the code of each procedure where there is none.
+///
+/// A fault that an instruction or a handler has by itself is reported before each fault of the flow. So past one of
+/// the flow the search goes on, for those alone.
+pub(crate) fn look_for_faults(
+    alloc: Global,
+    program: &PackedModule,
+) -> Result<Vec<Code>, VerifyFault>
+    ensures ok { IfOk result (λ codes. HasCodes program.now codes.items) }
+    ensures err { IfErr result (λ fault. IsRefusal program.now fault) }
+{
+    let procedures = program.procedures();
+    let mut codes = Vec::new(alloc);
+    let mut found = None;
+    let mut number = 0;
+    for procedure in procedures {
+        let body = Body::new(alloc, program, procedure)?;
+        if let Some(fault) = body_fault(&body, number) {
+            return Err(VerifyFault::Wrong(fault));
+        }
+        found = look_for_flow_fault(alloc, &body, number, found, &mut codes)?;
+        number += 1;
+    }
+    match found {
+        None => Ok(codes),
+        Some(fault) => Err(VerifyFault::Wrong(fault)),
+    }
+}
+
+// Looks for a fault of the flow of a procedure whose targets are right, unless one was found before. Where there is
+// none, the procedure's code is added.
+fn look_for_flow_fault(
+    alloc: Global,
+    body: &Body,
+    number: u32,
+    found: Option<Fault>,
+    codes: &mut Vec<Code>,
+) -> Result<Option<Fault>, VerifyFault>
+    requires boundaries { KeepsBoundaries body.now.procedure.now }
+    requires body { IsBody body.now }
+    requires few { length body.now.procedure.now.handlers < 2 ^ 32 }
+    ensures none { IfOk result (λ fault. IfNone fault (
+        IsAdded body.now.program.now body.now.procedure.now found codes.old.items codes.new.items)) }
+    ensures some { IfOk result (λ fault. IfSome fault (λ fault.
+        (found ≡ Some fault) ⊎ IsFaultOf body.now.program.now number body.now.procedure.now fault)) }
+    ensures no_memory { IfErr result (λ fault. fault ≡ VerifyFault.NoMemory) }
+{
+    if found.is_some() {
+        return Ok(found);
+    }
+    match find_defect(alloc, body) {
+        Ok(greatest_depth) => {
+            codes.push(Code::of(alloc, body, greatest_depth)?)?;
+            Ok(None)
+        }
+        Err(Stop::NoMemory) => Err(VerifyFault::NoMemory),
+        Err(Stop::Wrong(offset, defect)) => Ok(Some(Fault {
+            defect,
+            procedure: number,
+            offset,
+        })),
+    }
+}

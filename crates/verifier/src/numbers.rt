@@ -1,0 +1,66 @@
+//! Numbers for places, where a place may have none.
+
+ghost use Rattle.std.specs.Prelude.{IfOk, None, Some, length, replicate, slice_index_or, set, ◌+◌, ◌<◌, ◌^◌, ◌≡◌};
+ghost use Rattle.verifier.specs.Numbers as numbers;
+
+use std::alloc::{AllocError, Global};
+use std::marker::Model;
+
+/// For each of so many places a number, or none. A place takes four bytes.
+#[derive(Drop)]
+pub(crate) struct Numbers {
+    // The number of each place and 1, or 0 where it has none.
+    marks: Vec<u32>,
+}
+
+impl Model for Numbers {
+    ghost use Rattle.std.specs.Prelude.{List, Option, map, ℕ};
+    ghost use Rattle.verifier.specs.Numbers.{number_of};
+
+    ghost Value = { List (Option ℕ) };
+
+    ghost view = { λ numbers. map number_of numbers.marks.items };
+}
+
+impl Numbers {
+    /// So many places without numbers.
+    pub(crate) fn new(alloc: Global, places: usize) -> Result<Numbers, AllocError>
+        ensures { IfOk result (λ numbers. numbers ≡ replicate places None) }
+    {
+        let marks = vec![in alloc; 0; places]?;
+        Ok(Numbers { marks })
+    }
+
+    /// How many places there are.
+    pub(crate) fn len(&self) -> usize
+        ensures { result ≡ length self.now }
+    {
+        self.marks.len()
+    }
+
+    /// The number of a place, if there is the place and it has one.
+    pub(crate) fn at(&self, place: u32) -> Option<u32>
+        ensures { result ≡ slice_index_or self.now place None }
+    {
+        match self.marks.get(place as usize) {
+            Some(mark) => number_of(*mark),
+            None => None,
+        }
+    }
+
+    /// Gives a place a number.
+    pub(crate) fn set(&mut self, place: usize, number: u32)
+        requires place { place < length self.old }
+        requires number { number + 1 < 2 ^ 32 }
+        ensures { self.new ≡ set self.old place (Some number) }
+    {
+        self.marks[place] = number + 1;
+    }
+}
+
+// The number that a mark stands for, if any.
+fn number_of(mark: u32) -> Option<u32>
+    ensures { result ≡ numbers.number_of mark }
+{
+    if mark == 0 { None } else { Some(mark - 1) }
+}
