@@ -13,6 +13,7 @@ mod live;
 mod operation;
 pub mod run;
 mod shape;
+mod special;
 pub mod status;
 mod window;
 
