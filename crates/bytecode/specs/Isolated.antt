@@ -2,7 +2,7 @@
 -- Source: our own, for runs that may be stopped anywhere; noninterference after Volpano, Smith and Irvine 1996.
 use Rattle.std.specs.Prelude.{◌≡◌, ℕ, ◌⊎◌, List, [], slice_get, Option, Some, None, IsTrue, ℤ}
 use Rattle.labels.specs.Label.{Label, may_read}
-use Rattle.labels.specs.Sent.{Begins, seen}
+use Rattle.labels.specs.Sent.{IsPrefix, seen}
 use Rattle.labels.specs.declared.sent.Pair.{Pair}
 use Rattle.bytecode.specs.Contents.{ChannelContents, ModuleContents}
 use Rattle.bytecode.specs.Form.{Spells}
@@ -35,7 +35,7 @@ Agree m p first second = (k : ℕ) → ReadsInput m p k → first k ≡ second k
 
 -- one of two lists is a prefix of the other
 abbrev pub OneBegins : {X : Type 0} → List X → List X → Type 0
-OneBegins xs ys = Begins xs ys ⊎ Begins ys xs
+OneBegins xs ys = IsPrefix xs ys ⊎ IsPrefix ys xs
 
 -- an isolated module: for every principal, all worlds that agree for it and any two numbers of steps, one of the lists that it
 -- sees is a prefix of the other

@@ -20,7 +20,11 @@ impl Model for Channel {
 
     ghost Value = { ChannelContents };
 
-    ghost view = { λ c. record { direction = c.direction; name = string_bytes c.name; label = c.label } };
+    ghost view = { λ c. record {
+      direction = c.direction;
+      name = string_bytes c.name;
+      label = c.label;
+    } };
 }
 
 impl Channel {

@@ -7,8 +7,8 @@ use Rattle.std.proofs.lemmas.List.{append-nil, take-append-drop, take_all}
 use Rattle.std.proofs.lemmas.List.Elements.{filter-append}
 use Rattle.std.specs.Io.KnownBytes.{Appends}
 use Rattle.labels.specs.declared.sent.Pair.{Pair}
-use Rattle.labels.specs.Sent.{Begins}
-use Rattle.labels.proofs.Begins.{Begins-through}
+use Rattle.labels.specs.Sent.{IsPrefix}
+use Rattle.labels.proofs.Prefixes.{prefix-through}
 use Rattle.channels.specs.Sink.{AppendsPrefix}
 use Rattle.bytecode.specs.Contents.{ChannelContents, ModuleContents}
 use Rattle.bytecode.specs.Isolated.{channel_label, label_in}
@@ -79,7 +79,7 @@ one_hidden m observer pairs k pair old new small is before =
 
 -- the text of the first pairs begins the text of all
 front-begins : (m : ModuleContents) (observer : Option ℕ) (pairs : List Pair) (k : ℕ)
-    → Begins (view_text m (view_for m observer (take k pairs))) (view_text m (view_for m observer pairs))
+    → IsPrefix (view_text m (view_for m observer (take k pairs))) (view_text m (view_for m observer pairs))
 front-begins m observer pairs k = (
   view_text m (view_for m observer (drop k pairs)),
   sym (view_text-append m (view_for m observer (take k pairs)) (view_for m observer (drop k pairs)))
@@ -102,8 +102,8 @@ cut_within m observer pairs k pair old mid new line small is spelled before part
     let front = view_text m (view_for m observer (take k pairs)) in
     let more = view_text m (view_for m observer (take (k + 1) pairs)) in
     let line_is : front ++ line ≡ more = ap (λ text. front ++ text) (line_text m observer (get_or pairs k pair) line is spelled) ∙ view-suc m observer pairs k pair small in
-    let begins : Begins (front ++ part.0) more = (part.1.0, append_assoc front part.0 part.1.0 ∙ ap (λ text. front ++ text) part.1.1 ∙ line_is) in
-    (front ++ part.0, Begins-through (front ++ part.0) more (view_text m (view_for m observer pairs)) begins (front-begins m observer pairs (k + 1)), Appends-trans old mid new front part.0 before part.2)
+    let begins : IsPrefix (front ++ part.0) more = (part.1.0, append_assoc front part.0 part.1.0 ∙ ap (λ text. front ++ text) part.1.1 ∙ line_is) in
+    (front ++ part.0, prefix-through (front ++ part.0) more (view_text m (view_for m observer pairs)) begins (front-begins m observer pairs (k + 1)), Appends-trans old mid new front part.0 before part.2)
 
 -- nothing written is the text of no pairs, and the text of as many pairs as there are is the text of all
 pub none_shown : (m : ModuleContents) (observer : Option ℕ) (pairs : List Pair) (old : Option (List ℕ))

@@ -2,7 +2,7 @@
 -- Source: our own.
 use Rattle.std.specs.Prelude.{ℕ, List, Bool, true, Option, Result, Ok, Err, length, nat_lt, ◌==◌, ◌&&◌}
 use Rattle.std.specs.Io.KnownBytes.{Appends}
-use Rattle.labels.specs.Sent.{Begins}
+use Rattle.labels.specs.Sent.{IsPrefix}
 
 -- whether a write failed: it answered a fault, or it took none of the bytes that there were
 abbrev pub is_failure : {E : Type 0} → Result ℕ E → List ℕ → Bool
@@ -11,4 +11,4 @@ is_failure (Err fault) bytes = true
 
 -- what a sink holds grew by a prefix of the bytes
 abbrev pub AppendsPrefix : Option (List ℕ) → Option (List ℕ) → List ℕ → Type 0
-AppendsPrefix old new bytes = (front : List ℕ) × Begins front bytes × Appends old new front
+AppendsPrefix old new bytes = (front : List ℕ) × IsPrefix front bytes × Appends old new front

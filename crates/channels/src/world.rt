@@ -22,7 +22,10 @@ impl Model for InputList {
 
     ghost Value = { InputNumbers };
 
-    ghost view = { λ input. record { name = string_bytes input.name; numbers = input.numbers.items } };
+    ghost view = { λ input. record {
+      name = string_bytes input.name;
+      numbers = input.numbers.items;
+    } };
 }
 
 impl InputList {

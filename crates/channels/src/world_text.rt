@@ -16,8 +16,8 @@ pub fn lines_of(alloc: Global, text: &str) -> Result<Vec<&str>, AllocError>
 }
 
 // What stands between the spaces of a line.
-fn parts_of(alloc: Global, line: &str) -> Result<Vec<&str>, AllocError>
-    ensures { IfOk result (λ parts. texts_of parts.items
+fn pieces_of(alloc: Global, line: &str) -> Result<Vec<&str>, AllocError>
+    ensures { IfOk result (λ pieces. texts_of pieces.items
         ≡ slice_split (λ byte. byte == 32) line.now) }
 {
     line.split(' ').collect(alloc)
@@ -27,11 +27,11 @@ fn parts_of(alloc: Global, line: &str) -> Result<Vec<&str>, AllocError>
 pub fn words_of(alloc: Global, line: &str) -> Result<Vec<&str>, AllocError>
     ensures { IfOk result (λ words. texts_of words.items ≡ spec.words_of line.now) }
 {
-    let parts = parts_of(alloc, line)?;
+    let pieces = pieces_of(alloc, line)?;
     let mut words = Vec::new(alloc);
-    for part in &parts {
-        if !part.is_empty() {
-            words.push(*part)?;
+    for piece in &pieces {
+        if !piece.is_empty() {
+            words.push(*piece)?;
         }
     }
     Ok(words)

@@ -26,13 +26,13 @@ use Rattle.command_line.specs.Command.{step_numbers}
 abbrev pub passes : Text → Text → Bool
 passes id word = cond (bytes_eq id (codes "steps")) (accepts false step_numbers word) true
 
-abbrev pub Begins : Text → List Text → Type 0
-Begins id [] = ⊥
-Begins id (word ∷ rest) = passes id word ≡ true
+abbrev pub FirstPasses : Text → List Text → Type 0
+FirstPasses id [] = ⊥
+FirstPasses id (word ∷ rest) = passes id word ≡ true
 
 -- the row has a word, which passes and is read as it is written
 abbrev pub IsSound : Row → Type 0
-IsSound r = Begins r.id r.values × (r.reading ≡ AsWritten)
+IsSound r = FirstPasses r.id r.values × (r.reading ≡ AsWritten)
 
 abbrev pub AllSound : List Row → Type 0
 AllSound [] = Unit {0}
@@ -86,15 +86,15 @@ at_row_sound id change missing (r ∷ rs) changed absent all = go (bytes_eq r.id
     go true later = joined (change r) rs (changed r all.0) all.1
     go false later = (all.0, later)
 
-begins_more : (id : Text) (xs ys : List Text) → Begins id xs → Begins id (xs ++ ys)
-begins_more id [] ys h = absurd h
-begins_more id (x ∷ xs) ys h = h
+first_passes_more : (id : Text) (xs ys : List Text) → FirstPasses id xs → FirstPasses id (xs ++ ys)
+first_passes_more id [] ys h = absurd h
+first_passes_more id (x ∷ xs) ys h = h
 
-set_sound : (id : Text) (words : List Text) (rows : List Row) → Begins id words → AllSound rows
+set_sound : (id : Text) (words : List Text) (rows : List Row) → FirstPasses id words → AllSound rows
     → AllSound (with_values id AsWritten CommandLine words (without id rows))
 set_sound id words rows begins all =
     at_row_sound id (more_values CommandLine words) _ (without id rows)
-    (λ r h. ((begins_more r.id r.values words h.0, h.1), tt))
+    (λ r h. ((first_passes_more r.id r.values words h.0, h.1), tt))
     ((begins, refl), tt)
     (at_row_sound id (λ _. []) [] rows (λ r h. tt) tt all)
 
@@ -321,7 +321,7 @@ found_row id (r ∷ rs) all = go (bytes_eq r.id id) refl (found_row id rs all.1)
 pub given_word : (id : Text) (rows : List Row) → AllSound rows → is_given id rows ≡ true → is_some (first_of id rows) ≡ true
 given_word id rows all given = go (find (λ r. bytes_eq r.id id) rows) (found_row id rows all) given
   where
-    first : (values : List Text) (own : Text) → Begins own values → is_some (slice_get values 0) ≡ true
+    first : (values : List Text) (own : Text) → FirstPasses own values → is_some (slice_get values 0) ≡ true
     first [] own h = absurd h
     first (word ∷ rest) own h = refl
 
@@ -335,7 +335,7 @@ pub steps_word : (rows : List Row) → AllSound rows
     → IfSome (first_of (codes "steps") rows) (λ word. accepts false step_numbers word ≡ true) × (one_of (codes "steps") rows ≡ first_of (codes "steps") rows)
 steps_word rows all = go (find (λ r. bytes_eq r.id (codes "steps")) rows) (found_row (codes "steps") rows all)
   where
-    first : (id : Text) (values : List Text) → bytes_eq id (codes "steps") ≡ true → Begins id values → IfSome (slice_get values 0) (λ word. accepts false step_numbers word ≡ true)
+    first : (id : Text) (values : List Text) → bytes_eq id (codes "steps") ≡ true → FirstPasses id values → IfSome (slice_get values 0) (λ word. accepts false step_numbers word ≡ true)
     first id [] named h = absurd h
     first id (word ∷ rest) named h = sym (ap (λ b. cond b (accepts false step_numbers word) true) named) ∙ h
 

@@ -1,7 +1,7 @@
 -- A module that keeps the meaning of an isolated program is isolated.
 use Rattle.std.proofs.Common.{List, sym, subst}
 use Rattle.labels.specs.declared.sent.Pair.{Pair}
-use Rattle.labels.proofs.Begins.{Begins-of-two, seen-begins}
+use Rattle.labels.proofs.Prefixes.{prefixes-of-two, seen-prefix}
 use Rattle.resolved.specs.Isolated.{Isolated}
 use Rattle.resolved.specs.Meaning.{sent_by}
 use Rattle.resolved.specs.Program.{Program}
@@ -19,6 +19,6 @@ isolated-module program m same kept isolated p first second agree i j =
     let related : OneBegins (seen_of m p xs) (seen_of m p ys) =
     subst (λ seen. OneBegins seen (seen_of m p ys)) (sym (seen-module program m same p xs))
     (subst (OneBegins _) (sym (seen-module program m same p ys)) (isolated p first second (agree-module program m same p first second agree) i j)) in
-    Begins-of-two (seen_of m p (sent_after m first i)) (seen_of m p (sent_after m second j)) (seen_of m p xs) (seen_of m p ys)
-    (seen-begins m.hierarchy (channel_label m) p (sent_after m first i) xs (kept.no_more first i))
-    (seen-begins m.hierarchy (channel_label m) p (sent_after m second j) ys (kept.no_more second j)) related
+    prefixes-of-two (seen_of m p (sent_after m first i)) (seen_of m p (sent_after m second j)) (seen_of m p xs) (seen_of m p ys)
+    (seen-prefix m.hierarchy (channel_label m) p (sent_after m first i) xs (kept.no_more first i))
+    (seen-prefix m.hierarchy (channel_label m) p (sent_after m second j) ys (kept.no_more second j)) related

@@ -15,7 +15,7 @@ ghost use Rattle.resolved.specs.Program.{Program};
 ghost use Rattle.std.specs.Prelude.{IfErr, IfOk, IfSome, IsSome, List, [], ℕ, ◌↔◌, ◌≡◌, ◌⊎◌};
 
 use crate::fault::{Fault, NotAccepted};
-use crate::places::place_of;
+use crate::position::place_of;
 use acceptance::laws::{one_verdict, resolved_programs_have_names};
 use acceptance::{Cause, Text};
 use analysis::text_of;

@@ -3,8 +3,8 @@
 
 mod compilation;
 pub mod fault;
-pub mod places;
+pub mod position;
 
 pub use compilation::{check_texts, compile};
 pub use fault::{Fault, NotAccepted};
-pub use places::{place_of, places_agree};
+pub use position::{place_of, places_agree};

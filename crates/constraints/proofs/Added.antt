@@ -14,7 +14,7 @@ use Rattle.path_map.specs.declared.raises.Raises.{Raises}
 use Rattle.path_map.specs.Joins.{raised_list}
 use Rattle.path_map.specs.Sets.{AreRaised, is_one_of}
 use Rattle.solver.specs.declared.system.Atom.{Atom}
-use Rattle.constraints.specs.Parts.{part, parts}
+use Rattle.constraints.specs.LeftSides.{part, parts}
 use Rattle.constraints.specs.Added.{AreAdded, IsLeft, IsPart, PartConstraint, Stored, flow_if, stand_for, stands_for, wanted_constraint}
 
 pub added-none : (core : Core) (table : List Label) (old : List Stored) → AreAdded core table [] old old

@@ -15,7 +15,7 @@ use Rattle.gathering.specs.Names.{NamedAtom, NamedConstraint}
 use Rattle.gathering.specs.Walk.{block_constraints, flow, handler_count, single}
 use Rattle.solver.specs.declared.system.Atom.{Atom}
 use Rattle.constraints.specs.Added.{IsGathered}
-use Rattle.constraints.specs.Parts.{scope_of}
+use Rattle.constraints.specs.LeftSides.{scope_of}
 use Rattle.constraints.specs.Takers.{AreLevelled, entry_in_try, no_entry, takers_of, undone}
 use Rattle.constraints.specs.Walked.{IsTried, IsWalked}
 use Rattle.constraints.specs.declared.pieces.Tried.{Tried}

@@ -24,7 +24,7 @@ use Rattle.gathering.specs.Names.{NamedAtom, NamedConstraint, Real}
 use Rattle.gathering.specs.Walk.{at_end, constraints_from, end_constraints, end_takers, ends_one_way, inner_atom, inner_block, made_by_block, made_by_procedure, made_from, nowhere, procedure_constraints, program_constraints, rule_constraint, thrown_constraints, thrown_number}
 use Rattle.solver.specs.declared.system.Atom.{Atom}
 use Rattle.constraints.specs.Added.{AreAdded, IsPart, Stored}
-use Rattle.constraints.specs.Parts.{scope_of}
+use Rattle.constraints.specs.LeftSides.{scope_of}
 use Rattle.constraints.specs.Procedures.{AreDeclared, HasPassedProcedure, IsKept, IsOf, IsProcedureWalked, end_takers_of, number_in}
 use Rattle.constraints.specs.Takers.{AreLevelled, AreWithin, no_entry, takers_of}
 use Rattle.constraints.specs.Walked.{HasPassed, IsBlockWalked}

@@ -21,7 +21,7 @@ use Rattle.path_map.specs.Joins.{raised_list}
 use Rattle.path_map.specs.Sets.{AreRaised}
 use Rattle.solver.specs.declared.system.Atom.{Atom}
 use Rattle.constraints.specs.Added.{AreAdded, IsLeftFrom, Stored, flow_if}
-use Rattle.constraints.specs.Parts.{IsJoined, joined, scope_of, wanted_part}
+use Rattle.constraints.specs.LeftSides.{IsJoined, joined, scope_of, wanted_part}
 use Rattle.constraints.specs.declared.rows.ThrownLabel.{ThrownLabel}
 use Rattle.constraints.proofs.Added.{added-then, added-same, raised-once}
 use Rattle.constraints.proofs.Joined.{joined-append}

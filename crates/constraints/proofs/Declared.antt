@@ -15,7 +15,7 @@ use Rattle.resolved.specs.declared.target.Target.TheVariants.{ToThrown}
 use Rattle.gathering.specs.Names.{NamedConstraint}
 use Rattle.gathering.specs.Walk.{at_end, declares, inner_atom, nowhere, rule_constraint, thrown_constraints, thrown_number}
 use Rattle.constraints.specs.Added.{AreAdded, Stored}
-use Rattle.constraints.specs.Parts.{scope_of}
+use Rattle.constraints.specs.LeftSides.{scope_of}
 use Rattle.constraints.specs.Procedures.{AreDeclared, declared_entry, end_takers_of, number_in}
 use Rattle.constraints.specs.Takers.{AreWithin, entry_after, no_entry, taker_of, takers_of}
 use Rattle.constraints.specs.declared.takers.Entry.{Entry}

@@ -23,7 +23,7 @@ use Rattle.gathering.specs.Walk as walk
 use Rattle.gathering.specs.Walk.{block_constraints, flow, handler_count, handler_number, handlers_constraints, in_loop, in_try, inner_atom, inner_block, inner_constraint, made_by_block, made_by_handlers, made_by_statement, raise_atoms, raised_flows, rule_constraint, single, statement_constraints, with_normal, within_single}
 use Rattle.solver.specs.declared.system.Atom.{Atom}
 use Rattle.constraints.specs.Added.{IsGathered, IsPart}
-use Rattle.constraints.specs.Parts.{scope_of}
+use Rattle.constraints.specs.LeftSides.{scope_of}
 use Rattle.constraints.specs.Takers.{AreLevelled, AreWithin, takers_of, undone}
 use Rattle.constraints.specs.Walks.{IsSimple, loop_head_constraints}
 use Rattle.constraints.specs.Walked.{AreHandlersWalked, AreStatementsWalked, HasPassed, IsBlockWalked, IsFormWalked, IsStatementWalked, IsTried, IsWalked, branch_constraints, step_constraints}

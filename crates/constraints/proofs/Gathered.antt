@@ -17,7 +17,7 @@ use Rattle.solver.specs.Links.{AreBelow, InRange, IsBelow}
 use Rattle.solver.specs.System.{atom_of, constraint_of}
 use Rattle.solver.specs.declared.system.Atom.{Atom}
 use Rattle.solver.specs.declared.system.Atom.TheVariants as stored
-use Rattle.constraints.specs.Parts.{part, parts, wanted}
+use Rattle.constraints.specs.LeftSides.{part, parts, wanted}
 use Rattle.constraints.specs.Added.{AreAdded, Stored, stand_for, stands_for, wanted_of}
 use Rattle.constraints.proofs.Tables.{map-map}
 

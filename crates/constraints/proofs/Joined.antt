@@ -16,7 +16,7 @@ use Rattle.solver.specs.declared.system.Atom.{Atom}
 use Rattle.resolved.specs.declared.expression.Expression as E
 use Rattle.resolved.specs.TreeOf.{expression_of}
 use Rattle.constraints.proofs.Tables.{next-of}
-use Rattle.constraints.specs.Parts.{IsJoined, scope_of, joined, parts}
+use Rattle.constraints.specs.LeftSides.{IsJoined, scope_of, joined, parts}
 use Rattle.constraints.specs.Added.{IsLeftFrom}
 
 pub joined-append : (program : Program) (a b : Join) → joined program (a ++ b) ≡ joined program a ++ joined program b

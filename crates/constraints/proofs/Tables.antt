@@ -24,7 +24,7 @@ use Rattle.resolved.specs.Tree.{Empty}
 use Rattle.gathering.specs.Names.{Real, own_unknowns, unknowns_before}
 use Rattle.solver.specs.declared.system.Atom.{Atom}
 use Rattle.solver.specs.declared.system.Atom.TheVariants as stored
-use Rattle.constraints.specs.Parts.{Part, Unknown, Written, part, part_of, parts, wanted_part}
+use Rattle.constraints.specs.LeftSides.{Part, Unknown, Written, part, part_of, parts, wanted_part}
 use Rattle.constraints.specs.Rows.{Grows, Mean, Means, AreRows, IsRow, IsTable, label_among, slot_parts, thrown_parts, written_atom, written_part}
 use Rattle.constraints.specs.declared.rows.Row.{Row}
 use Rattle.constraints.specs.declared.rows.ThrownLabel.{ThrownLabel}

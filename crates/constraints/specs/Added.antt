@@ -13,7 +13,7 @@ use Rattle.gathering.specs.Names.{NamedAtom, NamedConstraint, named_atoms, numbe
 use Rattle.gathering.specs.Walk.{flow}
 use Rattle.solver.specs.declared.system.Atom.{Atom}
 use Rattle.solver.specs.declared.system.Constraint.{Constraint}
-use Rattle.constraints.specs.Parts.{part, parts, wanted, wanted_part}
+use Rattle.constraints.specs.LeftSides.{part, parts, wanted, wanted_part}
 
 abbrev pub Stored : Type 0
 Stored = Constraint (Option Target)

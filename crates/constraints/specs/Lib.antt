@@ -1,4 +1,4 @@
-pub mod Parts
+pub mod LeftSides
 pub mod Rows
 pub mod Added
 pub mod Takers

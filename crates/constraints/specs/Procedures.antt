@@ -13,7 +13,7 @@ use Rattle.path_map.specs.Exits.{exits_of}
 use Rattle.path_map.specs.Paths.{block_paths}
 use Rattle.gathering.specs.Walk.{made_by_procedure, procedure_constraints}
 use Rattle.constraints.specs.Added.{AreAdded}
-use Rattle.constraints.specs.Parts.{scope_of}
+use Rattle.constraints.specs.LeftSides.{scope_of}
 use Rattle.constraints.specs.Takers.{AreWithin, no_entry}
 use Rattle.constraints.specs.declared.progress.Progress.{Progress}
 use Rattle.constraints.specs.declared.takers.Entry.{Entry}

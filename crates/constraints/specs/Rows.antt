@@ -10,7 +10,7 @@ use Rattle.resolved.specs.Labelled.{result_label}
 use Rattle.gathering.specs.Names.{own_unknowns, unknowns_before}
 use Rattle.solver.specs.declared.system.Atom.{Atom}
 use Rattle.solver.specs.declared.system.Atom.TheVariants as stored
-use Rattle.constraints.specs.Parts.{Part, Unknown, Written, part, parts}
+use Rattle.constraints.specs.LeftSides.{Part, Unknown, Written, part, parts}
 use Rattle.constraints.specs.declared.rows.Row.{Row}
 use Rattle.constraints.specs.declared.rows.ThrownLabel.{ThrownLabel}
 

@@ -18,7 +18,7 @@ use Rattle.gathering.specs.Walk as walk
 use Rattle.gathering.specs.Walk.{block_constraints, handler_count, handler_number, handlers_constraints, in_try, inner_block, inner_constraint, made_by_block, made_by_handlers, made_by_statement, raise_atoms, raised_flows, single, statement_constraints, with_normal, within_single}
 use Rattle.solver.specs.declared.system.Atom.{Atom}
 use Rattle.constraints.specs.Added.{IsGathered}
-use Rattle.constraints.specs.Parts.{scope_of}
+use Rattle.constraints.specs.LeftSides.{scope_of}
 use Rattle.constraints.specs.Takers.{AreLevelled, takers_of, undone}
 use Rattle.constraints.specs.declared.pieces.Tried.{Tried}
 use Rattle.constraints.specs.declared.progress.Progress.{Progress}

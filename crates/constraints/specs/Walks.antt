@@ -16,7 +16,7 @@ use Rattle.gathering.specs.Walk as walk
 use Rattle.gathering.specs.Walk.{flow, inner_atom, inner_constraint, raise_atoms, raised_flows, rule_constraint, statement_constraints}
 use Rattle.solver.specs.declared.system.Atom.{Atom}
 use Rattle.constraints.specs.Added.{IsGathered, Stored}
-use Rattle.constraints.specs.Parts.{scope_of}
+use Rattle.constraints.specs.LeftSides.{scope_of}
 
 -- a statement that works a value out and goes on at an end: what the value flows to, and its ends
 abbrev pub valued_constraints : Scope → (pc : NamedAtom) → walk.Takers → (at rule : ℕ) → Expression → Target → Exit → List NamedConstraint

@@ -1,6 +1,6 @@
 //! The pieces of what is gathered of statements with blocks.
 ghost use Rattle.constraints.specs.Added.{AreAdded, IsGathered};
-ghost use Rattle.constraints.specs.Parts.{scope_of};
+ghost use Rattle.constraints.specs.LeftSides.{scope_of};
 ghost use Rattle.constraints.specs.Takers.{takers_of};
 ghost use Rattle.constraints.specs.Walks.{loop_head_constraints};
 ghost use Rattle.gathering.specs.Names.{NamedAtom, named_atoms};

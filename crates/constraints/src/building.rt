@@ -1,7 +1,7 @@
 //! How the table of a program's labels is built.
 ghost use Rattle.constraints.specs.Rows.{AreRows, Grows, IsRow, Mean, Means, slot_parts, thrown_parts, written_part};
 ghost use Rattle.gathering.specs.Names.{own_unknowns};
-ghost use Rattle.constraints.specs.Parts.{Written};
+ghost use Rattle.constraints.specs.LeftSides.{Written};
 ghost use Rattle.labels.specs.Label.{Label};
 ghost use Rattle.resolved.specs.Ends.{declared_by};
 ghost use Rattle.resolved.specs.Labelled.{result_label};

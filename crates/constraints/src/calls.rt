@@ -1,6 +1,6 @@
 //! The constraints of calls.
 ghost use Rattle.constraints.specs.Added.{AreAdded, IsGathered, IsLeftFrom, IsPart, flow_if};
-ghost use Rattle.constraints.specs.Parts.{scope_of};
+ghost use Rattle.constraints.specs.LeftSides.{scope_of};
 ghost use Rattle.constraints.specs.Takers.{takers_of};
 ghost use Rattle.constraints.specs.declared.rows.ThrownLabel.{ThrownLabel};
 ghost use Rattle.gathering.specs.Names.{NamedAtom, named_atoms};

@@ -1,5 +1,5 @@
 //! The left sides that expressions ask for: the labels of their values, and what decides whether they raise an exception.
-ghost use Rattle.constraints.specs.Parts.{IsJoined, scope_of};
+ghost use Rattle.constraints.specs.LeftSides.{IsJoined, scope_of};
 ghost use Rattle.gathering.specs.Walk.{raise_atoms, raise_atoms_all};
 ghost use Rattle.resolved.specs.CoreOf.{program_of};
 ghost use Rattle.resolved.specs.Ends.{divisor_can_raise, is_division, raises};

@@ -1,6 +1,6 @@
 //! Left sides that begin with the program-counter label (pc) of a statement.
 ghost use Rattle.constraints.specs.Added.{IsLeftFrom};
-ghost use Rattle.constraints.specs.Parts.{IsJoined, index_atoms, scope_of};
+ghost use Rattle.constraints.specs.LeftSides.{IsJoined, index_atoms, scope_of};
 ghost use Rattle.gathering.specs.Walk.{raise_atoms, raise_atoms_all, store_atoms};
 ghost use Rattle.resolved.specs.CoreOf.{program_of};
 ghost use Rattle.resolved.specs.Labelled.{label_of, one, value_label};

@@ -1,6 +1,6 @@
 //! The pieces of a walk along blocks, statements and handlers that go into no block.
 ghost use Rattle.constraints.specs.Added.{IsPart};
-ghost use Rattle.constraints.specs.Parts.{scope_of};
+ghost use Rattle.constraints.specs.LeftSides.{scope_of};
 ghost use Rattle.constraints.specs.Takers.{AreLevelled, no_entry, takers_of, undone};
 ghost use Rattle.constraints.specs.Walked.{IsTried, IsWalked, branch_constraints};
 ghost use Rattle.constraints.specs.Walks.{loop_head_constraints};

@@ -1,6 +1,6 @@
 //! The constraints of procedures.
 ghost use Rattle.constraints.specs.Added.{AreAdded};
-ghost use Rattle.constraints.specs.Parts.{scope_of};
+ghost use Rattle.constraints.specs.LeftSides.{scope_of};
 ghost use Rattle.constraints.specs.Procedures.{AreDeclared, IsKept, IsOf, IsProcedureWalked, end_takers_of, number_in};
 ghost use Rattle.constraints.specs.Takers.{AreWithin};
 ghost use Rattle.gathering.specs.Walk.{end_constraints, ends_one_way, made_from, program_constraints, thrown_constraints};

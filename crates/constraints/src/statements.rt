@@ -1,6 +1,6 @@
 //! The constraints of statements without blocks, but for calls.
 ghost use Rattle.constraints.specs.Added.{AreAdded, IsGathered, IsLeft};
-ghost use Rattle.constraints.specs.Parts.{scope_of};
+ghost use Rattle.constraints.specs.LeftSides.{scope_of};
 ghost use Rattle.constraints.specs.Takers.{takers_of};
 ghost use Rattle.constraints.specs.Walks.{IsSimple, valued_constraints};
 ghost use Rattle.gathering.specs.Names.{NamedAtom};

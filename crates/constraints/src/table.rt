@@ -1,5 +1,5 @@
 //! The parts of constraints that stand for the labels of a program.
-ghost use Rattle.constraints.specs.Parts.{Written, part, part_of};
+ghost use Rattle.constraints.specs.LeftSides.{Written, part, part_of};
 ghost use Rattle.constraints.specs.Rows.{IsRow, IsTable, label_among, written_atom};
 ghost use Rattle.gathering.specs.Names.{real_unknowns, unknowns_before};
 ghost use Rattle.resolved.specs.CoreOf.{program_of};

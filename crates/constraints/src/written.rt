@@ -1,6 +1,6 @@
 //! The table of written labels, in which each label stands once.
 ghost use Rattle.constraints.specs.Rows.{Grows, Means};
-ghost use Rattle.constraints.specs.Parts.{Written};
+ghost use Rattle.constraints.specs.LeftSides.{Written};
 ghost use Rattle.labels.specs.Label.{Label};
 ghost use Rattle.std.specs.Prelude.{IfOk, IfSome, OnOk, [], length, slice_index_or, ◌<◌, ◌≡◌, ◌≤◌};
 

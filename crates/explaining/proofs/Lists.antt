@@ -5,7 +5,7 @@ use Rattle.std.proofs.KnownBytes.{Appends-nil, Appends-trans}
 use Rattle.std.proofs.lemmas.List.{append-nil, length-map, length-take-le, map-append, map_more, take-append-drop}
 use Rattle.std.specs.Io.KnownBytes.{Appends}
 use Rattle.labels.specs.Label.{Label}
-use Rattle.labels.proofs.Begins.{Begins-itself}
+use Rattle.labels.proofs.Prefixes.{prefix-itself}
 use Rattle.resolved.specs.CoreOf.{program_of}
 use Rattle.resolved.specs.Labelled.{OfLocal}
 use Rattle.resolved.specs.Program.{ProcedureEntry, SlotEntry}
@@ -217,4 +217,4 @@ module _ (source : List ℕ) (checked : Checked) where
     writes_procedures text same now =
         let there = writes_procedure text same now in
         cut_lines (first_procedures procedures (i + 1)) _ _ (procedures-rest procedures (i + 1)) old new
-        (there.0, there.1, (there.0, Begins-itself there.0, there.2))
+        (there.0, there.1, (there.0, prefix-itself there.0, there.2))

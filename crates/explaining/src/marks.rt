@@ -4,7 +4,7 @@ ghost use Rattle.compiler.specs.Position.{column_of, line_of};
 ghost use Rattle.explaining.specs.Marks.{marks_of};
 ghost use Rattle.std.specs.Prelude.{IfOk, ◌≡◌};
 
-use compiler::places::place_after;
+use compiler::position::place_after;
 use lexer::Place;
 use std::alloc::{AllocError, Global};
 

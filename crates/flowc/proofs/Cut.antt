@@ -4,7 +4,7 @@ use Rattle.std.specs.Str.{IsUtf8}
 use Rattle.std.specs.Io.KnownBytes.{Appends}
 use Rattle.std.specs.String.{string_bytes}
 use Rattle.labels.specs.declared.sent.Pair.{Pair}
-use Rattle.labels.proofs.Begins.{Begins-itself}
+use Rattle.labels.proofs.Prefixes.{prefix-itself}
 use Rattle.principals.specs.ActsFor.{PrincipalHierarchy}
 use Rattle.bytecode.specs.Contents.{ModuleContents}
 use Rattle.bytecode.specs.Form.{Spells}
@@ -29,7 +29,7 @@ on_err (Err y) P holds = holds
 
 -- what was written to its end was written as a prefix
 pub appended_all : (old new : Option (List ℕ)) (text : List ℕ) → Appends old new text → AppendsPrefix old new text
-appended_all old new text program = (text, Begins-itself text, program)
+appended_all old new text program = (text, prefix-itself text, program)
 
 -- what can be run
 pub can_run : (code text : List ℕ) (name : Option (List ℕ)) (m : ModuleContents) (principal : Option ℕ) (h : PrincipalHierarchy)

@@ -6,8 +6,8 @@ use Rattle.std.specs.String.{string_bytes}
 use Rattle.principals.specs.ActsFor.{PrincipalHierarchy, AllDifferent, HasName}
 use Rattle.principals.proofs.Names.{one_number}
 use Rattle.labels.specs.declared.sent.Pair.{Pair}
-use Rattle.labels.specs.Sent.{Begins, seen}
-use Rattle.labels.proofs.Begins.{Begins-itself, Begins-of-two, Begins-through, seen-begins}
+use Rattle.labels.specs.Sent.{IsPrefix, seen}
+use Rattle.labels.proofs.Prefixes.{prefix-itself, prefixes-of-two, prefix-through, seen-prefix}
 use Rattle.resolved.specs.Labelled as labels
 use Rattle.resolved.specs.Meaning.{sent_by}
 use Rattle.resolved.specs.State.{World}
@@ -47,10 +47,10 @@ use Rattle.channels.proofs.Views.{view_text-append}
 -- ---- sessions
 
 -- what was sent stays sent
-sent-grows : (m : ModuleContents) (numbers : World) (i j : ℕ) → i ≤ j → Begins (sent_after m numbers i) (sent_after m numbers j)
+sent-grows : (m : ModuleContents) (numbers : World) (i j : ℕ) → i ≤ j → IsPrefix (sent_after m numbers i) (sent_after m numbers j)
 sent-grows m numbers i j h =
     let program : j ≡ i + (j - i) = omega (arith, h) in
-    subst (λ (x : Machine). Begins (sent_after m numbers i) (sent_of x)) (exec_more (program_of m) i (j - i) j _ program)
+    subst (λ (x : Machine). IsPrefix (sent_after m numbers i) (sent_of x)) (exec_more (program_of m) i (j - i) j _ program)
     (exec-keeps (program_of m) (j - i) (after_steps m numbers i))
 
 pub no_more : sessions.SessionsAreFreshRuns → SessionsShowNoMore
@@ -60,9 +60,9 @@ no_more fresh said source code compiled world p pairs shows =
     let numbers = numbers_of_channel m world in
     let n = sessions.steps_of code world p pairs shows in
     let sees = seen-module program m compiled.code_of.interface p (sent_by program numbers n) in
-    subst (λ (list : List Pair). Begins list (seen_by program p numbers n)) (sym (fresh code world p pairs m compiled.code_of.spelled shows))
-    (subst (λ (list : List Pair). Begins (seen_of m p (sent_after m numbers n)) list) sees
-    (seen-begins m.hierarchy (channel_label m) p (sent_after m numbers n) (sent_by program numbers n) (compiled.code_of.kept.no_more numbers n)))
+    subst (λ (list : List Pair). IsPrefix list (seen_by program p numbers n)) (sym (fresh code world p pairs m compiled.code_of.spelled shows))
+    (subst (λ (list : List Pair). IsPrefix (seen_of m p (sent_after m numbers n)) list) sees
+    (seen-prefix m.hierarchy (channel_label m) p (sent_after m numbers n) (sent_by program numbers n) (compiled.code_of.kept.no_more numbers n)))
 
 -- a run that has ended sends no more
 sent-ended : (m : ModuleContents) (numbers : World) (n j : ℕ) (ending : Ending) → HasEnded ending (after_steps m numbers n)
@@ -73,17 +73,17 @@ sent-ended m numbers n j ending ended h =
 -- what a session shows, where a fresh run has sent all of a list by the steps that the session has taken
 shown-by : sessions.SessionsAreFreshRuns → (hierarchy source code : List ℕ) (compiled : IsCompiled hierarchy source code) (world : List InputNumbers)
     (p : ℕ) (sent pairs : List Pair) (shows : sessions.Shows code world p pairs)
-    → Begins sent (sent_after (module_in compiled) (numbers_of_channel (module_in compiled) world) (sessions.steps_of code world p pairs shows))
-    → Begins (seen (program_in compiled).hierarchy (labels.channel_label (program_in compiled)) p sent) pairs
+    → IsPrefix sent (sent_after (module_in compiled) (numbers_of_channel (module_in compiled) world) (sessions.steps_of code world p pairs shows))
+    → IsPrefix (seen (program_in compiled).hierarchy (labels.channel_label (program_in compiled)) p sent) pairs
 shown-by fresh said source code compiled world p sent pairs shows later =
     let m = module_in compiled in
     let numbers = numbers_of_channel m world in
     let n = sessions.steps_of code world p pairs shows in
-    subst (λ (list : List Pair). Begins (seen (program_in compiled).hierarchy (labels.channel_label (program_in compiled)) p sent) list)
+    subst (λ (list : List Pair). IsPrefix (seen (program_in compiled).hierarchy (labels.channel_label (program_in compiled)) p sent) list)
     (sym (fresh code world p pairs m compiled.code_of.spelled shows))
-    (subst (λ (list : List Pair). Begins list (seen_of m p (sent_after m numbers n)))
+    (subst (λ (list : List Pair). IsPrefix list (seen_of m p (sent_after m numbers n)))
     (seen-module (program_in compiled) m compiled.code_of.interface p sent)
-    (seen-begins m.hierarchy (channel_label m) p sent (sent_after m numbers n) later))
+    (seen-prefix m.hierarchy (channel_label m) p sent (sent_after m numbers n) later))
 
 pub no_less : sessions.SessionsAreFreshRuns → sessions.SessionsEndAsReported → SessionsShowNoLess
 no_less fresh ends said source code compiled world p turns =
@@ -94,12 +94,12 @@ no_less fresh ends said source code compiled world p turns =
       some.0,
       λ pairs shows run.
           let n = sessions.steps_of code world p pairs shows in
-          let long : some.0 ≤ n → Begins sent (sent_after m numbers n) =
-          λ enough. Begins-through sent (sent_after m numbers some.0) (sent_after m numbers n) some.1 (sent-grows m numbers some.0 n enough) in
+          let long : some.0 ≤ n → IsPrefix sent (sent_after m numbers n) =
+          λ enough. prefix-through sent (sent_after m numbers some.0) (sent_after m numbers n) some.1 (sent-grows m numbers some.0 n enough) in
           shown-by fresh said source code compiled world p sent pairs shows
           (⊎_elim long
           (λ over. ⊎_elim
-          (λ past. subst (λ (list : List Pair). Begins sent list)
+          (λ past. subst (λ (list : List Pair). IsPrefix sent list)
           (sent-ended m numbers n some.0 over.0 (ends code world p pairs m compiled.code_of.spelled shows over.0 over.1) (omega (arith, past))) some.1)
           long
           (cases_lt n some.0))
@@ -121,7 +121,7 @@ ends_as_the_source fresh ends said source code compiled world p pairs shows endi
     )
 
 -- a list that is a prefix of nothing is empty
-begins_nothing : (xs : List Pair) → Begins xs [] → xs ≡ []
+begins_nothing : (xs : List Pair) → IsPrefix xs [] → xs ≡ []
 begins_nothing [] b = refl
 begins_nothing (x ∷ xs) b = cc b.1
 
@@ -139,7 +139,7 @@ silent_show_less program m code world p turns can never_stuck there silent some 
     let session = opened_for code world m can never_stuck p there law.0 in
     let nothing : session.pairs ≡ [] = session.sees ∙ ap (λ (list : List Pair). seen_of m p list) (silent session.taken) in
     some (begins_nothing (seen_by program p (numbers_of_channel m world) turns)
-    (subst (λ (list : List Pair). Begins (seen_by program p (numbers_of_channel m world) turns) list) nothing
+    (subst (λ (list : List Pair). IsPrefix (seen_by program p (numbers_of_channel m world) turns) list) nothing
     (law.1 session.pairs session.shows session.has_run)))
 
 pub isolated : sessions.SessionsAreIsolated → SessionsAreIsolated
@@ -149,11 +149,11 @@ isolated law said source code compiled p first second agree pairs others shown o
 -- ---- the program
 
 -- the text of a list begins that of a list that it begins
-view-begins : (m : ModuleContents) (xs ys : List Pair) → Begins xs ys → Begins (view_text m xs) (view_text m ys)
+view-begins : (m : ModuleContents) (xs ys : List Pair) → IsPrefix xs ys → IsPrefix (view_text m xs) (view_text m ys)
 view-begins m xs ys b = (view_text m b.0, sym (view_text-append m xs b.0) ∙ ap (view_text m) b.1)
 
 views-begin : (m : ModuleContents) (xs ys : List Pair) → OneBegins xs ys → OneBegins (view_text m xs) (view_text m ys)
-views-begin m xs ys one = ⊎_elim (λ (b : Begins xs ys). inl (view-begins m xs ys b)) (λ (b : Begins ys xs). inr (view-begins m ys xs b)) one
+views-begin m xs ys one = ⊎_elim (λ (b : IsPrefix xs ys). inl (view-begins m xs ys b)) (λ (b : IsPrefix ys xs). inr (view-begins m ys xs b)) one
 
 -- to an observer with a name no end is reported
 no_end_reported : (h : PrincipalHierarchy) (name : List ℕ) (principal : Option ℕ) (end : Status) → IsObserver h (Some name) principal → reported_status principal end ≡ 0
@@ -201,7 +201,7 @@ shows_itself code world name steps status old new run = (
     taken = run.taken;
     can_run = run.can_run;
     within = run.within;
-    begins = Begins-itself (text_shown run.program world run.principal run.taken);
+    begins = prefix-itself (text_shown run.program world run.principal run.taken);
   },
 )
 
@@ -212,7 +212,7 @@ module _ (one : (m n : ModuleContents) (bytes : List ℕ) → Spells module_file
       let m = module_in compiled in
       let same = one run.program m code run.can_run.spelled compiled.code_of.spelled in
       let same_again = one again.program m code again.can_run.spelled compiled.code_of.spelled in
-      Begins-of-two out other (text_shown run.program first run.principal run.taken) (text_shown again.program second again.principal again.taken)
+      prefixes-of-two out other (text_shown run.program first run.principal run.taken) (text_shown again.program second again.principal again.taken)
       run.begins again.begins
       (texts_begin m compiled.code_of.spelled.0 compiled.code_of.isolated name first second agree run.program again.program same same_again
       run.principal again.principal run.can_run.observed again.can_run.observed run.taken again.taken)

@@ -7,7 +7,7 @@ use Rattle.std.specs.declared.alloc.Global.{Global}
 use Rattle.std.specs.declared.vec.Vec.{Vec}
 use Rattle.principals.specs.ActsFor.{HasName}
 use Rattle.labels.specs.declared.sent.Pair.{Pair}
-use Rattle.labels.specs.Sent.{Begins, seen}
+use Rattle.labels.specs.Sent.{IsPrefix, seen}
 use Rattle.resolved.specs.Labelled.{channel_label}
 use Rattle.resolved.specs.Meaning.{frame_limit, run_within, sent_by}
 use Rattle.resolved.specs.Program.{Program}
@@ -47,7 +47,7 @@ abbrev pub SessionsShowNoMore : Type 0
 SessionsShowNoMore =
     (hierarchy source code : List ℕ) (compiled : IsCompiled hierarchy source code) (world : List InputNumbers) (p : ℕ)
     (pairs : List Pair) (shows : sessions.Shows code world p pairs)
-    → Begins pairs (seen_by (program_in compiled) p (numbers_of_channel (module_in compiled) world) (sessions.steps_of code world p pairs shows))
+    → IsPrefix pairs (seen_by (program_in compiled) p (numbers_of_channel (module_in compiled) world) (sessions.steps_of code world p pairs shows))
 
 -- before its view a session has taken so many steps, or has answered that its run has ended
 abbrev pub HasRun : {code : List ℕ} {world : List InputNumbers} {p : ℕ} {pairs : List Pair}
@@ -61,7 +61,7 @@ abbrev pub ShowNoLess : Program → ModuleContents → (code : List ℕ) → Typ
 ShowNoLess program m code =
     (world : List InputNumbers) (p turns : ℕ)
     → (enough : ℕ) × ((pairs : List Pair) (shows : sessions.Shows code world p pairs) → HasRun shows enough
-    → Begins (seen_by program p (numbers_of_channel m world) turns) pairs)
+    → IsPrefix (seen_by program p (numbers_of_channel m world) turns) pairs)
 
 abbrev pub SessionsShowNoLess : Type 0
 SessionsShowNoLess =
@@ -75,7 +75,7 @@ SomeSessionsShowAll =
     (hierarchy source code : List ℕ) (compiled : IsCompiled hierarchy source code) (world : List InputNumbers) (p turns : ℕ)
     → names_of world ≡ input_names (module_in compiled) → p < length (module_in compiled).hierarchy.names
     → (pairs : List Pair) × sessions.Shows code world p pairs
-    × Begins (seen_by (program_in compiled) p (numbers_of_channel (module_in compiled) world) turns) pairs
+    × IsPrefix (seen_by (program_in compiled) p (numbers_of_channel (module_in compiled) world) turns) pairs
 
 -- a module that never sends anything shows less: it does not meet `ShowNoLess` for a program of which some principal sees something
 -- on a world on which its bytes can be opened

@@ -5,7 +5,7 @@ use Rattle.std.specs.Io.KnownBytes.{Appends}
 use Rattle.std.specs.String.{string_bytes}
 use Rattle.std.specs.declared.alloc.Global.{Global}
 use Rattle.std.specs.declared.vec.Vec.{Vec}
-use Rattle.labels.specs.Sent.{Begins}
+use Rattle.labels.specs.Sent.{IsPrefix}
 use Rattle.bytecode.specs.Contents.{ModuleContents}
 use Rattle.bytecode.specs.Form.{Spells}
 use Rattle.bytecode.specs.Format.{module_file}
@@ -65,7 +65,7 @@ pub record IsShown (code text : List ℕ) (observer : Option (List ℕ)) (steps 
   pub taken : ℕ
   pub can_run : CanRun code text observer program principal
   pub within : taken ≤ steps
-  pub begins : Begins out (text_shown program text principal taken)
+  pub begins : IsPrefix out (text_shown program text principal taken)
 
 -- where a stream failed or memory ran out, nothing was written, or a text that shows nothing else than the run
 abbrev pub ShowsSome : (code text : List ℕ) (observer : Option (List ℕ)) (steps : ℕ) (old new : Option (List ℕ)) → Type 0

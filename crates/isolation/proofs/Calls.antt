@@ -5,7 +5,7 @@ use Rattle.std.specs.List.{list_all}
 use Rattle.std.proofs.lemmas.Bool.{and_parts, or_right, and_from}
 use Rattle.principals.specs.ActsFor.{PrincipalHierarchy}
 use Rattle.labels.specs.declared.sent.Pair.{Pair}
-use Rattle.labels.specs.Sent.{Begins}
+use Rattle.labels.specs.Sent.{IsPrefix}
 use Rattle.resolved.specs.declared.expression.Variable.{Variable}
 use Rattle.resolved.specs.declared.expression.Variable.TheVariants.{Global, Local}
 use Rattle.resolved.specs.declared.expression.Value.{Value}
@@ -34,9 +34,9 @@ pub data RelatedCall (view : View) (value : Bool) (exits : Exit → Bool) : Outc
       RelatedCall view value exits (Ended (Throw x) None s) (Ended (Throw x) None t)
   apart_calls : (o p : Outcome) → HiddenCall value exits o → HiddenCall value exits p →
       AgreeFor view (state_after o) (state_after p) → RelatedCall view value exits o p
-  first_call_stops : (stop : Stop) (s : State) (p : Outcome) → Begins (shown view s.sent) (shown view (state_after p).sent) →
+  first_call_stops : (stop : Stop) (s : State) (p : Outcome) → IsPrefix (shown view s.sent) (shown view (state_after p).sent) →
       RelatedCall view value exits (Stopped stop s) p
-  second_call_stops : (o : Outcome) (stop : Stop) (t : State) → Begins (shown view t.sent) (shown view (state_after o).sent) →
+  second_call_stops : (o : Outcome) (stop : Stop) (t : State) → IsPrefix (shown view t.sent) (shown view (state_after o).sent) →
       RelatedCall view value exits o (Stopped stop t)
 
 grown-returned_to : (target : Option Variable) (o : Outcome) → Grows (state_after o) (returned_to target o)
@@ -304,7 +304,7 @@ after-leaving back (Ended (Throw x) r s) = refl
 after-leaving back (Stopped stop s) = refl
 
 begins-outside : (inner outer : View) (xs ys : List Pair) → ((zs : List Pair) → shown inner zs ≡ shown outer zs) →
-    Begins (shown inner xs) (shown inner ys) → Begins (shown outer xs) (shown outer ys)
+    IsPrefix (shown inner xs) (shown inner ys) → IsPrefix (shown outer xs) (shown outer ys)
 begins-outside inner outer xs ys same h = (h.0, ap (λ l. l ++ h.0) (sym (same xs)) ∙ h.1 ∙ same ys)
 
 -- one run of a body of which nothing is seen, for the caller

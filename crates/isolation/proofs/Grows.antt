@@ -2,8 +2,8 @@
 use Rattle.std.proofs.Common.{◌≡◌, refl, ◌∙◌, ℕ, zero, suc, Bool, true, false, List, [], ◌∷◌}
 use Rattle.std.specs.Prelude.{Option, Some, None, if◌then◌else◌, ◌==◌, ℤ}
 use Rattle.std.proofs.lemmas.List.{append-nil}
-use Rattle.labels.specs.Sent.{Begins}
-use Rattle.labels.proofs.Begins.{Begins-through}
+use Rattle.labels.specs.Sent.{IsPrefix}
+use Rattle.labels.proofs.Prefixes.{prefix-through}
 use Rattle.resolved.specs.declared.expression.Variable.{Variable}
 use Rattle.resolved.specs.declared.expression.Variable.TheVariants.{Global, Local}
 use Rattle.resolved.specs.declared.expression.Value.{Value}
@@ -17,11 +17,11 @@ use Rattle.resolved.specs.Meaning.{Deep, OutOfTurns, Outcome, Ended, Stopped, no
 
 -- from a state on, an outcome has only sent more
 pub record Grows (s : State) (o : Outcome) : Type 0 where
-  pub sent : Begins s.sent (state_after o).sent
+  pub sent : IsPrefix s.sent (state_after o).sent
 
 pub grows-after : (s : State) (o : Outcome) (next : State → Outcome) → Grows s o → ((t : State) → Grows t (next t)) →
     Grows s (after o next)
-grows-after s (Ended Normal r t) next h rest = record { sent = Begins-through s.sent t.sent (state_after (next t)).sent h.sent (rest t).sent }
+grows-after s (Ended Normal r t) next h rest = record { sent = prefix-through s.sent t.sent (state_after (next t)).sent h.sent (rest t).sent }
 grows-after s (Ended Return r t) next h rest = record { sent = h.sent }
 grows-after s (Ended Break r t) next h rest = record { sent = h.sent }
 grows-after s (Ended Continue r t) next h rest = record { sent = h.sent }
@@ -42,10 +42,10 @@ grows-if s false x y h i = i
 
 pub grows-looped : (s : State) (o : Outcome) (again : State → Outcome) → Grows s o → ((t : State) → Grows t (again t)) →
     Grows s (looped o again)
-grows-looped s (Ended Normal r t) again h rest = record { sent = Begins-through s.sent t.sent (state_after (again t)).sent h.sent (rest t).sent }
+grows-looped s (Ended Normal r t) again h rest = record { sent = prefix-through s.sent t.sent (state_after (again t)).sent h.sent (rest t).sent }
 grows-looped s (Ended Return r t) again h rest = record { sent = h.sent }
 grows-looped s (Ended Break r t) again h rest = record { sent = h.sent }
-grows-looped s (Ended Continue r t) again h rest = record { sent = Begins-through s.sent t.sent (state_after (again t)).sent h.sent (rest t).sent }
+grows-looped s (Ended Continue r t) again h rest = record { sent = prefix-through s.sent t.sent (state_after (again t)).sent h.sent (rest t).sent }
 grows-looped s (Ended (Throw x) r t) again h rest = record { sent = h.sent }
 grows-looped s (Stopped stop t) again h rest = record { sent = h.sent }
 
@@ -64,7 +64,7 @@ grows-turns (suc k) condition body h s =
 pub grows-caught : (s : State) (o : Outcome) (handle : ℕ → State → Outcome) → Grows s o →
     ((x : ℕ) (t : State) → Grows t (handle x t)) → Grows s (caught o handle)
 grows-caught s (Ended (Throw x) r t) handle h rest = record {
-  sent = Begins-through s.sent t.sent (state_after (handle x t)).sent h.sent
+  sent = prefix-through s.sent t.sent (state_after (handle x t)).sent h.sent
       (rest x t).sent;
 }
 grows-caught s (Ended Normal r t) handle h rest = record { sent = h.sent }

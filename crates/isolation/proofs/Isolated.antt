@@ -3,7 +3,7 @@ use Rattle.std.proofs.Common.{arith, ◌≡◌, refl, ap, ℕ, zero, suc, ◌+�
 use Rattle.std.specs.Prelude.{Option, Some, None, slice_get, slice_index_or, nat_lt}
 use Rattle.principals.specs.ActsFor.{PrincipalHierarchy}
 use Rattle.labels.specs.Label.{Label}
-use Rattle.labels.specs.Sent.{Begins}
+use Rattle.labels.specs.Sent.{IsPrefix}
 use Rattle.resolved.specs.declared.expression.Variable.{Variable}
 use Rattle.resolved.specs.declared.expression.Variable.TheVariants.{Global, Local}
 use Rattle.resolved.specs.declared.expression.Value.{Value}
@@ -209,7 +209,7 @@ numbers-alike (channel ∷ rest) none (suc n) first second same =
 
 -- what an observer sees of calls of which one is stopped, or which end in the same way, or at labels that it does not read
 related_call-begins : (view : View) (value : Bool) (exits : Exit → Bool) (o p : Outcome) → RelatedCall view value exits o p →
-    Begins (shown view (state_after o).sent) (shown view (state_after p).sent) ⊎ Begins (shown view (state_after p).sent)
+    IsPrefix (shown view (state_after o).sent) (shown view (state_after p).sent) ⊎ IsPrefix (shown view (state_after p).sent)
     (shown view (state_after o).sent)
 related_call-begins view value exits o p (same_call r q s t h i) = inl (agree-begins view s t h)
 related_call-begins view value exits o p (same_thrown x s t h) = inl (agree-begins view s t h)
@@ -240,8 +240,8 @@ module _ (program : Program) (labelling : Labelling) (accepted : Accepted progra
   -- two runs on worlds in which the inputs that the observer reads are the same
   pub runs-begin : (first second : World) → ((n : ℕ) → n < length program.channels → (channel_at program n).direction ≡ Input →
       reader.reads (channel_label program n) ≡ true → first n ≡ second n) → (frames k m : ℕ) →
-      Begins (shown outside (state_after (run_within frames program first k)).sent)
-      (shown outside (state_after (run_within frames program second m)).sent) ⊎ Begins
+      IsPrefix (shown outside (state_after (run_within frames program first k)).sent)
+      (shown outside (state_after (run_within frames program second m)).sent) ⊎ IsPrefix
       (shown outside (state_after (run_within frames program second m)).sent)
       (shown outside (state_after (run_within frames program first k)).sent)
   runs-begin first second same frames k m =

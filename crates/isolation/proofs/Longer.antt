@@ -1,7 +1,7 @@
 -- More turns change no end that was reached, and take nothing back of what was sent.
 use Rattle.std.proofs.Common.{◌≡◌, refl, ℕ, zero, suc, ◌≤◌, Bool, true, false, List, arith}
 use Rattle.std.specs.Prelude.{Option, Some, None, if◌then◌else◌, ◌==◌}
-use Rattle.labels.specs.Sent.{Begins}
+use Rattle.labels.specs.Sent.{IsPrefix}
 use Rattle.resolved.specs.declared.expression.Variable.{Variable}
 use Rattle.resolved.specs.declared.expression.Value.{Value}
 use Rattle.resolved.specs.declared.statement.Exit.TheVariants.{Normal, Return, Break, Continue, Throw}
@@ -11,7 +11,7 @@ use Rattle.resolved.specs.Value.{Evaluated, Gives, Raises, truth_in}
 use Rattle.resolved.specs.State.{State, value_of, values_of}
 use Rattle.resolved.specs.Meaning.{Deep, OutOfTurns, Outcome, Ended, Stopped, normally, thrown, after, evaluated, looped, turns, caught, leaving, returned_to, Calls, statement_meaning, block_meaning, handlers_meaning, frame_of, calls_with, state_after}
 use Rattle.isolation.specs.Runs.{GoesOn}
-use Rattle.labels.proofs.Begins.{Begins-itself}
+use Rattle.labels.proofs.Prefixes.{prefix-itself}
 use Rattle.isolation.proofs.Grows.{Grows, CallsGrow, grows-after, grows-looped, grows-turns, grows-caught, grows-leaving, grows-returned_to, block-grows, handlers-grow, calls-grow}
 
 -- a run and the same run with more turns
@@ -21,7 +21,7 @@ record Longer (o more : Outcome) : Type 0 where
 longer-itself : (o : Outcome) → Longer o o
 longer-itself (Ended exit r s) = record { goes_on = refl }
 longer-itself (Stopped Deep s) = record { goes_on = refl }
-longer-itself (Stopped OutOfTurns s) = record { goes_on = Begins-itself s.sent }
+longer-itself (Stopped OutOfTurns s) = record { goes_on = prefix-itself s.sent }
 
 -- what has sent more goes on after a run that was out of turns in the same state
 longer-grown : (s : State) (more : Outcome) → Grows s more → Longer (Stopped OutOfTurns s) more
@@ -178,7 +178,7 @@ pub calls-go_on : (program : Program) (k m : ℕ) → k ≤ m → (frames f : �
 calls-go_on program k m le frames f vs s = ((calls-longer program k m le frames).longer f vs s).goes_on
 
 -- and has sent what that had, and perhaps more
-pub begins-longer : (o more : Outcome) → GoesOn o more → Begins (state_after o).sent (state_after more).sent
-begins-longer (Ended exit r s) more h = rw h (Begins-itself s.sent)
-begins-longer (Stopped Deep s) more h = rw h (Begins-itself s.sent)
+pub begins-longer : (o more : Outcome) → GoesOn o more → IsPrefix (state_after o).sent (state_after more).sent
+begins-longer (Ended exit r s) more h = rw h (prefix-itself s.sent)
+begins-longer (Stopped Deep s) more h = rw h (prefix-itself s.sent)
 begins-longer (Stopped OutOfTurns s) more h = h

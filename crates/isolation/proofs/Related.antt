@@ -5,7 +5,7 @@ use Rattle.std.specs.Prelude.{Option, None, if◌then◌else◌}
 use Rattle.std.proofs.lemmas.List.{append-nil}
 use Rattle.std.proofs.lemmas.List.Elements.{filter-append}
 use Rattle.labels.specs.declared.sent.Pair.{Pair}
-use Rattle.labels.specs.Sent.{Begins}
+use Rattle.labels.specs.Sent.{IsPrefix}
 use Rattle.resolved.specs.declared.expression.Value.{Value}
 use Rattle.resolved.specs.declared.statement.Exit.{Exit}
 use Rattle.resolved.specs.declared.statement.Exit.TheVariants.{Normal, Return, Break, Continue, Throw}
@@ -14,7 +14,7 @@ use Rattle.resolved.specs.Value.{Evaluated, Gives, Raises, truth_in}
 use Rattle.resolved.specs.State.{State}
 use Rattle.resolved.specs.Meaning.{Stop, OutOfTurns, Outcome, Ended, Stopped, normally, thrown, after, evaluated, looped, turns, caught, state_after}
 use Rattle.resolved.specs.Ends.{same_exit, passes}
-use Rattle.labels.proofs.Begins.{Begins-through}
+use Rattle.labels.proofs.Prefixes.{prefix-through}
 use Rattle.isolation.proofs.Grows.{Grows, grows-itself, grows-after, grows-looped, grows-turns, grows-caught}
 use Rattle.isolation.proofs.Observer.{View, shown, AgreeFor, agree-across, agree-back}
 use Rattle.isolation.proofs.Values.{Alike, both_give, both_raise, SameIf}
@@ -26,29 +26,29 @@ pub data Related (view : View) (value : Bool) (exits : Exit → Bool) : Outcome 
       Related view value exits (Ended Return r s) (Ended Return q t)
   apart : (o p : Outcome) → Hidden value exits o → Hidden value exits p → AgreeFor view (state_after o) (state_after p) →
       Related view value exits o p
-  first_stops : (stop : Stop) (s : State) (p : Outcome) → Begins (shown view s.sent) (shown view (state_after p).sent) →
+  first_stops : (stop : Stop) (s : State) (p : Outcome) → IsPrefix (shown view s.sent) (shown view (state_after p).sent) →
       Related view value exits (Stopped stop s) p
-  second_stops : (o : Outcome) (stop : Stop) (t : State) → Begins (shown view t.sent) (shown view (state_after o).sent) →
+  second_stops : (o : Outcome) (stop : Stop) (t : State) → IsPrefix (shown view t.sent) (shown view (state_after o).sent) →
       Related view value exits o (Stopped stop t)
 
 -- what is seen of what was sent grows with it
-pub shown-begins : (view : View) (xs ys : List Pair) → Begins xs ys → Begins (shown view xs) (shown view ys)
+pub shown-begins : (view : View) (xs ys : List Pair) → IsPrefix xs ys → IsPrefix (shown view xs) (shown view ys)
 shown-begins view xs ys h =
     (shown view h.0, sym (filter-append (λ (pair : Pair). view.channel pair.channel) xs h.0) ∙ ap (λ l. shown view l) h.1)
 
 -- a stop begins what the other run goes on to send
-pub stopped-begins : (view : View) (s : State) (p q : Outcome) → Begins (shown view s.sent) (shown view (state_after p).sent) →
-    Grows (state_after p) q → Begins (shown view s.sent) (shown view (state_after q).sent)
+pub stopped-begins : (view : View) (s : State) (p q : Outcome) → IsPrefix (shown view s.sent) (shown view (state_after p).sent) →
+    Grows (state_after p) q → IsPrefix (shown view s.sent) (shown view (state_after q).sent)
 stopped-begins view s p q h grows =
-    Begins-through (shown view s.sent) (shown view (state_after p).sent) (shown view (state_after q).sent) h
+    prefix-through (shown view s.sent) (shown view (state_after p).sent) (shown view (state_after q).sent) h
     (shown-begins view (state_after p).sent (state_after q).sent grows.sent)
 
-pub agree-begins : (view : View) (s t : State) → AgreeFor view s t → Begins (shown view s.sent) (shown view t.sent)
+pub agree-begins : (view : View) (s t : State) → AgreeFor view s t → IsPrefix (shown view s.sent) (shown view t.sent)
 agree-begins view s t h = ([], append-nil (shown view s.sent) ∙ h.sent)
 
 -- of two related runs the observer sees two lists of which one begins the other
 pub related-begins : (view : View) (value : Bool) (exits : Exit → Bool) (o p : Outcome) → Related view value exits o p →
-    Begins (shown view (state_after o).sent) (shown view (state_after p).sent) ⊎ Begins (shown view (state_after p).sent)
+    IsPrefix (shown view (state_after o).sent) (shown view (state_after p).sent) ⊎ IsPrefix (shown view (state_after p).sent)
     (shown view (state_after o).sent)
 related-begins view value exits o p (same_end exit s t h) = inl (agree-begins view s t h)
 related-begins view value exits o p (same_return r q s t h i) = inl (agree-begins view s t h)

@@ -1,7 +1,7 @@
 -- What the laws of runs say: which ends a statement comes to, and how a run goes on with more turns.
 -- Source: our own.
 use Rattle.std.specs.Prelude.{◌≡◌, ℕ, ◌≤◌, List, [], ◌∷◌, Some, None, IsTrue, slice_get}
-use Rattle.labels.specs.Sent.{Begins}
+use Rattle.labels.specs.Sent.{IsPrefix}
 use Rattle.resolved.specs.declared.expression.Base.{Base}
 use Rattle.resolved.specs.declared.expression.Value.{Value}
 use Rattle.resolved.specs.declared.statement.Exit.{Exit}
@@ -62,12 +62,12 @@ CallsGiveTheirValue program =
 abbrev pub SentStaysSent : Program → Type 0
 SentStaysSent program =
     (frames k : ℕ) (statement : Statement) (s : State)
-    → Begins s.sent (state_after (statement_meaning (calls_with program k frames) k statement s)).sent
+    → IsPrefix s.sent (state_after (statement_meaning (calls_with program k frames) k statement s)).sent
 
 -- the second outcome is that of the first run with more turns: where the first run was out of turns, the second has sent what
 -- the first has, and perhaps more; where it had come to an end, or was too deep, the second is the same
 abbrev pub GoesOn : Outcome → Outcome → Type 0
-GoesOn (Stopped OutOfTurns s) more = Begins s.sent (state_after more).sent
+GoesOn (Stopped OutOfTurns s) more = IsPrefix s.sent (state_after more).sent
 GoesOn (Stopped Deep s) more = more ≡ Stopped Deep s
 GoesOn (Ended exit returned s) more = more ≡ Ended exit returned s
 
@@ -77,4 +77,4 @@ RunsGoOn program =
     (frames : ℕ) (world : World) (k m : ℕ) → k ≤ m → GoesOn (run_within frames program world k) (run_within frames program world m)
 
 abbrev pub SentOnlyGrows : Program → Type 0
-SentOnlyGrows program = (world : World) (k m : ℕ) → k ≤ m → Begins (sent_by program world k) (sent_by program world m)
+SentOnlyGrows program = (world : World) (k m : ℕ) → k ≤ m → IsPrefix (sent_by program world k) (sent_by program world m)

@@ -1,7 +1,7 @@
 -- Two runs of a labelled statement from states that are the same for a principal.
 -- Source: noninterference after Volpano, Smith and Irvine 1996, for statements with several ways out and for runs that are stopped.
 use Rattle.std.specs.Prelude.{◌≡◌, ℕ, [], ◌⊎◌, IsTrue}
-use Rattle.labels.specs.Sent.{Begins}
+use Rattle.labels.specs.Sent.{IsPrefix}
 use Rattle.resolved.specs.Tree.{Statement}
 use Rattle.resolved.specs.State.{State}
 use Rattle.resolved.specs.Meaning.{Outcome, Ended, Stopped, statement_meaning, calls_with}
@@ -11,7 +11,7 @@ use Rattle.isolation.specs.Confinement.{reads, reads_under, sees, SameFor}
 
 -- what the principal sees in one state is a prefix of what it sees in another
 abbrev pub SeesBeginning : Scope → (p : ℕ) → State → State → Type 0
-SeesBeginning scope p s t = Begins (sees scope p s) (sees scope p t)
+SeesBeginning scope p s t = IsPrefix (sees scope p s) (sees scope p t)
 
 -- two outcomes agree for a principal. Where both runs have ended, their states are the same for it, they ended in the same way if
 -- it may read the label of either end, and returned the same if it may read the label of the procedure's value. Where one was

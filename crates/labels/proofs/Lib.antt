@@ -6,7 +6,7 @@ pub mod Joined
 pub mod Meaning
 pub mod Merge
 pub mod Order
-pub mod Begins
+pub mod Prefixes
 pub mod Tests
 mod Readers
 pub mod Written

@@ -6,8 +6,8 @@ use Rattle.principals.specs.ActsFor.{PrincipalHierarchy}
 use Rattle.labels.specs.Label.{Label, may_read}
 
 -- a list is a prefix of another one
-abbrev pub Begins : {X : Type 0} → List X → List X → Type 0
-Begins {X} xs ys = (rest : List X) × (xs ++ rest ≡ ys)
+abbrev pub IsPrefix : {X : Type 0} → List X → List X → Type 0
+IsPrefix {X} xs ys = (rest : List X) × (xs ++ rest ≡ ys)
 
 -- what a principal sees of a list of sent pairs: those on channels whose label it may read, in order
 abbrev pub seen : PrincipalHierarchy → (ℕ → Label) → ℕ → List Pair → List Pair

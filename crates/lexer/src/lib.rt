@@ -8,11 +8,11 @@ pub mod fault;
 pub mod lexing;
 pub mod names;
 mod pieces;
-pub mod places;
+pub mod position;
 pub mod token;
 
 pub use fault::LexFault;
 pub use lexing::{lex, one_reading};
 pub use names::is_name;
-pub use places::place;
+pub use position::place;
 pub use token::{Kind, Place, Span, Token};

@@ -1,8 +1,8 @@
 -- Meaning is kept, in both directions.
 use Rattle.std.proofs.Common.{◌≡◌, ℕ, ◌⊎◌, inl, inr, List, [], Option, Some, None, refl, sym, ap, ◌∙◌, subst, zero, suc, ◌≤◌, arith, true}
 use Rattle.labels.specs.declared.sent.Pair.{Pair}
-use Rattle.labels.specs.Sent.{Begins}
-use Rattle.labels.proofs.Begins.{Begins-itself}
+use Rattle.labels.specs.Sent.{IsPrefix}
+use Rattle.labels.proofs.Prefixes.{prefix-itself}
 use Rattle.resolved.specs.EndFaults.{end_faults}
 use Rattle.resolved.specs.Program.{Program}
 use Rattle.resolved.specs.State as source
@@ -25,7 +25,7 @@ use Rattle.lowering.proofs.Following.{Follows, jump-is, runs-follow}
 use Rattle.lowering.proofs.Programs.{Comes, GoesOn, run-within-limit}
 
 -- what fewer steps have sent begins what more have
-sent-grows : (p : machine.Program) (n m : ℕ) (from : Machine) → n ≤ m → Begins (machine.sent_of (machine.exec p n from)) (machine.sent_of (machine.exec p m from))
+sent-grows : (p : machine.Program) (n m : ℕ) (from : Machine) → n ≤ m → IsPrefix (machine.sent_of (machine.exec p n from)) (machine.sent_of (machine.exec p m from))
 sent-grows p zero m from less = exec-keeps p m from
 sent-grows p (suc n) zero from less = absurd (omega (arith, less))
 sent-grows p (suc n) (suc m) from less = sent-grows p n m (machine.step p from) (omega (arith, less))
@@ -39,7 +39,7 @@ ended-later p (suc n) (suc m) from ending sent less e = ended-later p n m (machi
 
 -- after m steps a machine has not ended and has sent no more than this
 record Still (p : machine.Program) (m : ℕ) (from : Machine) (sent : List Pair) : Type 0 where
-  sends : Begins (machine.sent_of (machine.exec p m from)) sent
+  sends : IsPrefix (machine.sent_of (machine.exec p m from)) sent
   runs : (ending : machine.Ending) (more : List Pair) → machine.exec p m from ≡ machine.Ended ending more → ⊥
 
 running : (state : machine.State) (ending : machine.Ending) (sent : List Pair) → ◌≡◌ {A = Machine} (Running state) (machine.Ended ending sent) → ⊥
@@ -59,12 +59,12 @@ idle-by p m state sent later none e (Some target) jump =
     let left : counts p m (machine.step p (Running state)) ≤ 0 = omega (arith, none) in
     let rest : Still p m (Running on) sent = later on sent (subst (λ x. counts p m x ≤ 0) goes left) e in
     record {
-      sends = subst (λ x. Begins (machine.sent_of (machine.exec p m x)) sent) (sym goes) rest.sends;
+      sends = subst (λ x. IsPrefix (machine.sent_of (machine.exec p m x)) sent) (sym goes) rest.sends;
       runs = λ ending more ended. rest.runs ending more (ap (machine.exec p m) (sym goes) ∙ ended);
     }
 
 idle : (p : machine.Program) (m : ℕ) (state : machine.State) (sent : List Pair) → counts p m (Running state) ≤ 0 → state.sent ≡ sent → Still p m (Running state) sent
-idle p zero state sent none e = record { sends = subst (Begins state.sent) e (Begins-itself state.sent); runs = running state }
+idle p zero state sent none e = record { sends = subst (IsPrefix state.sent) e (prefix-itself state.sent); runs = running state }
 idle p (suc m) state sent none e =
     idle-by p m state sent (idle p m) none e (jump_of (p.fetch state.frame.procedure state.frame.position)) refl
 
@@ -74,7 +74,7 @@ still : (p : machine.Program) (w m : ℕ) (from : Machine) (state : machine.Stat
 still p zero m from state reached few =
     subst (λ x. Still p m x state.sent) (sym reached) (idle p m state state.sent (subst (λ x. counts p m x ≤ 0) reached few) refl)
 still p (suc w) zero from state reached few = record {
-  sends = subst (λ x. Begins (machine.sent_of from) (machine.sent_of x)) reached (exec-keeps p (suc w) from);
+  sends = subst (λ x. IsPrefix (machine.sent_of from) (machine.sent_of x)) reached (exec-keeps p (suc w) from);
   runs = λ ending more ended. running state ending more (sym reached ∙ ap (machine.exec p (suc w)) ended ∙ ended-stays p (suc w) ending more);
 }
 still p (suc w) (suc m) from state reached few =
@@ -111,26 +111,26 @@ module _ (program : Program) (formed : well_formed program ≡ true) (none : end
       still p goes.waits.steps f.steps (start world) goes.waits.state goes.waits.reached (omega (arith, f.few, goes.waits.enough))
 
   no_more : (world : source.World) (n : ℕ) → Comes p (start world) (run world n) ⊎ GoesOn p n (start world) (run world n)
-      → Begins (machine.sent_of (after world n)) (meaning.sent_by program world n)
+      → IsPrefix (machine.sent_of (after world n)) (meaning.sent_by program world n)
   no_more world n (inl comes) =
       let f = follow world n in
-      subst (λ x. Begins (machine.sent_of x) (meaning.sent_by program world n)) f.reached
+      subst (λ x. IsPrefix (machine.sent_of x) (meaning.sent_by program world n)) f.reached
       (sent-before p comes.leads.steps f.steps (start world) comes.ending (meaning.sent_by program world n) comes.leads.reached)
   no_more world n (inr goes) =
-      subst (Begins (machine.sent_of (after world n))) goes.waits.sent_is
-      (subst (λ x. Begins (machine.sent_of x) goes.waits.state.sent) (follow world n).reached (waits-after world n goes).sends)
+      subst (IsPrefix (machine.sent_of (after world n))) goes.waits.sent_is
+      (subst (λ x. IsPrefix (machine.sent_of x) goes.waits.state.sent) (follow world n).reached (waits-after world n goes).sends)
 
   no_less : (world : source.World) (k : ℕ) → Comes p (start world) (run world k) ⊎ GoesOn p k (start world) (run world k)
-      → (n : ℕ) × Begins (meaning.sent_by program world k) (machine.sent_of (after world n))
+      → (n : ℕ) × IsPrefix (meaning.sent_by program world k) (machine.sent_of (after world n))
   no_less world k (inl comes) =
-      (comes.leads.steps, subst (λ (x : Machine). Begins (meaning.sent_by program world k) (machine.sent_of x)) (sym (ends-after world k comes)) (Begins-itself (meaning.sent_by program world k)))
+      (comes.leads.steps, subst (λ (x : Machine). IsPrefix (meaning.sent_by program world k) (machine.sent_of x)) (sym (ends-after world k comes)) (prefix-itself (meaning.sent_by program world k)))
   no_less world k (inr goes) =
       let f = follow world goes.waits.steps in
-      let later : Begins (machine.sent_of (machine.exec p goes.waits.steps (start world))) (machine.sent_of (machine.exec p f.steps (start world))) =
+      let later : IsPrefix (machine.sent_of (machine.exec p goes.waits.steps (start world))) (machine.sent_of (machine.exec p f.steps (start world))) =
       sent-grows p goes.waits.steps f.steps (start world) f.enough in (
         goes.waits.steps,
-        subst (λ sent. Begins sent (machine.sent_of (after world goes.waits.steps))) (ap machine.sent_of goes.waits.reached ∙ goes.waits.sent_is)
-            (subst (λ x. Begins (machine.sent_of (machine.exec p goes.waits.steps (start world))) (machine.sent_of x)) f.reached later),
+        subst (λ sent. IsPrefix sent (machine.sent_of (after world goes.waits.steps))) (ap machine.sent_of goes.waits.reached ∙ goes.waits.sent_is)
+            (subst (λ x. IsPrefix (machine.sent_of (machine.exec p goes.waits.steps (start world))) (machine.sent_of x)) f.reached later),
       )
 
   ends_so : (world : source.World) (n : ℕ) (ending : machine.Ending) (sent : List Pair) → Comes p (start world) (run world n) ⊎ GoesOn p n (start world) (run world n)
@@ -166,10 +166,10 @@ modules-keep program formed none =
     let kept : MeaningKept program (graph_after_steps (graph_of program)) = graphs-keep program formed none in
     let same : SameRuns (graph_of program) (laid_out (graph_of program)) = runs-same (graph_of program) in
     record {
-      no_more = λ world n. subst (λ (sent : List Pair). Begins sent (meaning.sent_by program world n)) (sym (same.sends world n)) (kept.no_more world n);
+      no_more = λ world n. subst (λ (sent : List Pair). IsPrefix sent (meaning.sent_by program world n)) (sym (same.sends world n)) (kept.no_more world n);
       no_less = λ world k.
           let less = kept.no_less world k in
-          (less.0, subst (Begins (meaning.sent_by program world k)) (sym (same.sends world less.0)) less.1);
+          (less.0, subst (IsPrefix (meaning.sent_by program world k)) (sym (same.sends world less.0)) less.1);
       ends_so = λ world n ending sent reached. kept.ends_so world n ending sent ((same.ends world n ending sent).0 reached);
       ends_too = λ world k ending so.
           let end = kept.ends_too world k ending so in

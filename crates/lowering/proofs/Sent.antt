@@ -1,8 +1,8 @@
 -- What a machine has sent stays sent: one step of any instruction adds to it at most.
 use Rattle.std.proofs.Common.{ℕ, zero, suc, Bool, true, false, ℤ, List, [], ◌∷◌, length, nat_lt, ◌+◌, Option, Some, None, refl, slice_get}
 use Rattle.std.specs.Prelude.{if◌then◌else◌, reverse}
-use Rattle.labels.specs.Sent.{Begins}
-use Rattle.labels.proofs.Begins.{Begins-itself, Begins-through}
+use Rattle.labels.specs.Sent.{IsPrefix}
+use Rattle.labels.proofs.Prefixes.{prefix-itself, prefix-through}
 use Rattle.bytecode.specs.declared.instruction.Arithmetic.{Arithmetic}
 use Rattle.bytecode.specs.declared.instruction.Comparison.{Comparison}
 use Rattle.bytecode.specs.declared.instruction.Instruction.{Instruction}
@@ -19,10 +19,10 @@ use Rattle.bytecode.specs.Machine.{element_at, with_element, Frame, Caller, Stat
 
 -- what was sent before a state begins what a machine has sent
 abbrev Kept : State → Machine → Type 0
-Kept s machine = Begins s.sent (sent_of machine)
+Kept s machine = IsPrefix s.sent (sent_of machine)
 
-same : (s : State) → Begins s.sent s.sent
-same s = Begins-itself s.sent
+same : (s : State) → IsPrefix s.sent s.sent
+same s = prefix-itself s.sent
 
 choice-keeps : (s : State) (b : Bool) (x y : Machine) → Kept s x → Kept s y → Kept s (if b then x else y)
 choice-keeps s true x y h i = h
@@ -49,7 +49,7 @@ loads-keeps : (p : Program) (s : State) (o : Option Slot) (cells : List Cell) �
 loads-keeps p s (Some (slot.Scalar kind)) cells = same s
 loads-keeps p s _ cells = same s
 
-stores-keeps : (p : Program) (s : State) (o : Option Slot) (put : List Cell → State) (operands : List Cell) → ((cells : List Cell) → Begins s.sent (put cells).sent) → Kept s (stores p s o put operands)
+stores-keeps : (p : Program) (s : State) (o : Option Slot) (put : List Cell → State) (operands : List Cell) → ((cells : List Cell) → IsPrefix s.sent (put cells).sent) → Kept s (stores p s o put operands)
 stores-keeps p s (Some (slot.Scalar kind)) put (x ∷ operands) h = choice-keeps s (has_kind kind x) _ _ (h (x ∷ [])) (same s)
 stores-keeps p s _ put _ h = same s
 
@@ -61,11 +61,11 @@ loads_element-keeps : (p : Program) (s : State) (o : Option Slot) (cells : List 
 loads_element-keeps p s (Some (slot.Array kind count)) cells (cell.Int i ∷ operands) = found-keeps p s operands (element_at cells i)
 loads_element-keeps p s _ cells _ = same s
 
-changes-keeps : (p : Program) (s : State) (put : List Cell → State) (operands : List Cell) (o : Option (List Cell)) → ((cells : List Cell) → Begins s.sent (put cells).sent) → Kept s (changes p s put operands o)
+changes-keeps : (p : Program) (s : State) (put : List Cell → State) (operands : List Cell) (o : Option (List Cell)) → ((cells : List Cell) → IsPrefix s.sent (put cells).sent) → Kept s (changes p s put operands o)
 changes-keeps p s put operands None h = raised-keeps p s bounds
 changes-keeps p s put operands (Some cells) h = h cells
 
-stores_element-keeps : (p : Program) (s : State) (o : Option Slot) (put : List Cell → State) (cells : List Cell) (operands : List Cell) → ((cells : List Cell) → Begins s.sent (put cells).sent) → Kept s (stores_element p s o put cells operands)
+stores_element-keeps : (p : Program) (s : State) (o : Option Slot) (put : List Cell → State) (cells : List Cell) (operands : List Cell) → ((cells : List Cell) → IsPrefix s.sent (put cells).sent) → Kept s (stores_element p s o put cells operands)
 stores_element-keeps p s (Some (slot.Array kind count)) put cells (x ∷ cell.Int i ∷ operands) h =
     choice-keeps s (has_kind kind x) _ _ (changes-keeps p s put operands (with_element cells i x) h) (same s)
 stores_element-keeps p s _ put cells _ h = same s
@@ -189,12 +189,12 @@ acts-keeps : (p : Program) (s : State) (o : Option Instruction) → Kept s (acts
 acts-keeps p s None = same s
 acts-keeps p s (Some i) = act-keeps p i s
 
-pub step-keeps : (p : Program) (machine : Machine) → Begins (sent_of machine) (sent_of (step p machine))
+pub step-keeps : (p : Program) (machine : Machine) → IsPrefix (sent_of machine) (sent_of (step p machine))
 step-keeps p (Running s) = acts-keeps p s (p.fetch s.frame.procedure s.frame.position)
-step-keeps p (Ended ending sent) = Begins-itself sent
-step-keeps p (Stuck sent) = Begins-itself sent
+step-keeps p (Ended ending sent) = prefix-itself sent
+step-keeps p (Stuck sent) = prefix-itself sent
 
-pub exec-keeps : (p : Program) (n : ℕ) (machine : Machine) → Begins (sent_of machine) (sent_of (exec p n machine))
-exec-keeps p zero machine = Begins-itself (sent_of machine)
+pub exec-keeps : (p : Program) (n : ℕ) (machine : Machine) → IsPrefix (sent_of machine) (sent_of (exec p n machine))
+exec-keeps p zero machine = prefix-itself (sent_of machine)
 exec-keeps p (suc n) machine =
-    Begins-through (sent_of machine) (sent_of (step p machine)) (sent_of (exec p n (step p machine))) (step-keeps p machine) (exec-keeps p n (step p machine))
+    prefix-through (sent_of machine) (sent_of (step p machine)) (sent_of (exec p n (step p machine))) (step-keeps p machine) (exec-keeps p n (step p machine))

@@ -1,9 +1,9 @@
 -- Runs of a machine put together, and what a run that ends has sent on its way.
 use Rattle.std.proofs.Common.{◌≡◌, ℕ, zero, suc, ◌+◌, ◌≤◌, List, Option, Some, None, refl, sym, ap, ◌∙◌, subst, arith}
 use Rattle.labels.specs.declared.sent.Pair.{Pair}
-use Rattle.labels.specs.Sent.{Begins}
+use Rattle.labels.specs.Sent.{IsPrefix}
 use Rattle.bytecode.specs.Machine.{State, Machine, Running, Ended, Stuck, Ending, Program, sent_of, step, exec}
-use Rattle.labels.proofs.Begins.{Begins-itself}
+use Rattle.labels.proofs.Prefixes.{prefix-itself}
 use Rattle.lowering.specs.Threaded.{jump_of}
 use Rattle.lowering.proofs.Sent.{exec-keeps}
 
@@ -117,12 +117,12 @@ ended-stays p zero ending sent = refl
 ended-stays p (suc n) ending sent = ended-stays p n ending sent
 
 -- a run that ends has sent at each time what begins what it has sent in the end
-pub sent-before : (p : Program) (last n : ℕ) (m : Machine) (ending : Ending) (sent : List Pair) → exec p last m ≡ Ended ending sent → Begins (sent_of (exec p n m)) sent
+pub sent-before : (p : Program) (last n : ℕ) (m : Machine) (ending : Ending) (sent : List Pair) → exec p last m ≡ Ended ending sent → IsPrefix (sent_of (exec p n m)) sent
 sent-before p zero n m ending sent e =
     let stays : exec p n m ≡ Ended ending sent = ap (exec p n) e ∙ ended-stays p n ending sent in
-    subst (λ (x : Machine). Begins (sent_of x) sent) (sym stays) (Begins-itself sent)
+    subst (λ (x : Machine). IsPrefix (sent_of x) sent) (sym stays) (prefix-itself sent)
 sent-before p (suc last) zero m ending sent e =
-    subst (λ (x : Machine). Begins (sent_of m) (sent_of x)) e (exec-keeps p (suc last) m)
+    subst (λ (x : Machine). IsPrefix (sent_of m) (sent_of x)) e (exec-keeps p (suc last) m)
 sent-before p (suc last) (suc n) m ending sent e = sent-before p last n (step p m) ending sent e
 
 -- a run ends in one way

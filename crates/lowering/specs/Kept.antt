@@ -2,7 +2,7 @@
 -- Source: our own; the correctness of a compiler by simulation in both directions, as for CompCert (Leroy 2009).
 use Rattle.std.specs.Prelude.{◌≡◌, ℕ, List, [], Option, Some, None, IsTrue}
 use Rattle.labels.specs.declared.sent.Pair.{Pair}
-use Rattle.labels.specs.Sent.{Begins}
+use Rattle.labels.specs.Sent.{IsPrefix}
 use Rattle.resolved.specs.declared.statement.Exit.TheVariants.{Normal, Return, Break, Continue, Throw}
 use Rattle.resolved.specs.EndFaults.{end_faults}
 use Rattle.resolved.specs.Program.{Program}
@@ -29,8 +29,8 @@ ending_of (Stopped OutOfTurns s) = None
 -- and what it sends with k turns is a prefix of what some steps send; a machine that has ended within n steps has sent what the
 -- program sends with n turns, which ends so; and where the program ends with k turns, so does the machine after some steps, and has sent the same
 pub record MeaningKept (program : Program) (after : World → ℕ → machine.Machine) : Type 0 where
-  pub no_more : (world : World) (n : ℕ) → Begins (machine.sent_of (after world n)) (sent_by program world n)
-  pub no_less : (world : World) (k : ℕ) → (n : ℕ) × Begins (sent_by program world k) (machine.sent_of (after world n))
+  pub no_more : (world : World) (n : ℕ) → IsPrefix (machine.sent_of (after world n)) (sent_by program world n)
+  pub no_less : (world : World) (k : ℕ) → (n : ℕ) × IsPrefix (sent_by program world k) (machine.sent_of (after world n))
   pub ends_so : (world : World) (n : ℕ) (ending : machine.Ending) (sent : List Pair)
       → after world n ≡ machine.Ended ending sent
       → (ending_of (run_within frame_limit program world n) ≡ Some ending) × (sent_by program world n ≡ sent)

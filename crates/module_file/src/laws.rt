@@ -18,7 +18,7 @@ pub fn one_spelling()
 {}
 
 /// No spelling begins another one: where bytes that follow make them equal, they are equal already.
-pub fn no_spelling_begins_another()
+pub fn no_spelling_is_a_prefix()
     ensures { (m n : ModuleContents) (a b more others : List ℕ)
         → Spells module_file m a → Spells module_file n b → a ++ more ≡ b ++ others
         → (m ≡ n) × (a ≡ b) }

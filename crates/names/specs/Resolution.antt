@@ -214,7 +214,7 @@ procedure_entry_outcome h top procedure = do
   point ← parameters_outcome h top.names procedure.parameters
   end ← optional_label_outcome h procedure.end
   throws ← throws_outcome h top.names procedure.throws
-  done ← block_outcome (record { hierarchy = h; signatures = top.signatures; result = result_base_of procedure.outcome }) point procedure.body
+  inner ← block_outcome (record { hierarchy = h; signatures = top.signatures; result = result_base_of procedure.outcome }) point procedure.body
   give (record {
     at = procedure.name.at;
     name = procedure.name.text;
@@ -223,9 +223,9 @@ procedure_entry_outcome h top procedure = do
     end_label = end_label_of end (begin_label_of begin) throws;
     throws = throws;
     parameters = length procedure.parameters;
-    slots = done.0.slots;
-    loops = done.0.loops;
-    body = done.1;
+    slots = inner.0.slots;
+    loops = inner.0.loops;
+    body = inner.1;
   })
 
 -- ---- programs

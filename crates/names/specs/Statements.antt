@@ -208,34 +208,34 @@ unfoldable mutual
   statement_outcome setting point (SendTree at channel value) = staying point (send_outcome point.names at channel value)
   statement_outcome setting point (IfTree at condition body) = do
     e ← typed_outcome point.names Boolean condition
-    done ← block_outcome setting point body
-    give (done.0, If at e done.1 Empty)
+    inner ← block_outcome setting point body
+    give (inner.0, If at e inner.1 Empty)
   statement_outcome setting point (IfElseTree at condition body otherwise) = do
     e ← typed_outcome point.names Boolean condition
-    done ← block_outcome setting point body
-    other ← block_outcome setting done.0 otherwise
-    give (other.0, If at e done.1 other.1)
+    inner ← block_outcome setting point body
+    other ← block_outcome setting inner.0 otherwise
+    give (other.0, If at e inner.1 other.1)
   statement_outcome setting point (WhileTree at condition body) = do
     e ← typed_outcome point.names Boolean condition
-    done ← block_outcome setting (in_loop point) body
-    give (done.0, While at point.loops e done.1)
+    inner ← block_outcome setting (in_loop point) body
+    give (inner.0, While at point.loops e inner.1)
   statement_outcome setting point (BreakTree at) = give (point, Leave at exits.Break)
   statement_outcome setting point (ContinueTree at) = give (point, Leave at exits.Continue)
   statement_outcome setting point (ThrowTree at exception) = staying point (throw_outcome point.names at exception)
   statement_outcome setting point (ReturnTree at value) =
       staying point (return_outcome setting.result point.names at value)
   statement_outcome setting point (TryTree at body catches) = do
-    done ← block_outcome setting point body
-    handled ← catches_outcome setting done.0 catches
-    give (handled.0, Try at done.1 handled.1)
+    inner ← block_outcome setting point body
+    handled ← catches_outcome setting inner.0 catches
+    give (handled.0, Try at inner.1 handled.1)
   statement_outcome setting point (NestedTree (BlockOf at statements)) = do
-    done ← block_outcome setting point (BlockOf at statements)
-    give (done.0, Nested at done.1)
+    inner ← block_outcome setting point (BlockOf at statements)
+    give (inner.0, Nested at inner.1)
 
   pub block_outcome : Setting → Point → BlockTree → Outcome (Point × Block)
   block_outcome setting point (BlockOf at statements) = do
-    done ← statements_outcome setting point statements
-    give (behind_block point done.0, done.1)
+    inner ← statements_outcome setting point statements
+    give (behind_block point inner.0, inner.1)
 
   pub statements_outcome : Setting → Point → StatementTrees → Outcome (Point × Block)
   statements_outcome setting point NoStatement = give (point, Empty)
@@ -248,6 +248,6 @@ unfoldable mutual
   catches_outcome setting point NoCatch = give (point, NoMore)
   catches_outcome setting point (CatchThen at exception body rest) = do
     number ← exception_outcome (point.names exception.text) exception.at
-    done ← block_outcome setting point body
-    others ← catches_outcome setting done.0 rest
-    give (others.0, Catch exception.at number done.1 others.1)
+    inner ← block_outcome setting point body
+    others ← catches_outcome setting inner.0 rest
+    give (others.0, Catch exception.at number inner.1 others.1)

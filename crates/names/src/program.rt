@@ -115,14 +115,14 @@ pub fn main_number(found: Option<Meaning>, procedures: &[Procedure]) -> Result<u
 
 /// The tables of a program, and the number of the procedure at which a run begins.
 #[tactic(auto, unfolding(crate::specs::Resolution::resolution))]
-fn parts_of(
+fn tables_of(
     alloc: Global,
     hierarchy: &Hierarchy,
     items: &[Item],
 ) -> Result<(ItemTables, u32), TypeFault>
     requires written { All (IsWrittenItem Anywhere longest_name) (map item_tree items.now) }
     requires room { sum_by item_nodes (map item_tree items.now) < most_nodes }
-    ensures { Gives (λ parts. program_with hierarchy.now (tables_view parts.0) parts.1) result
+    ensures { Gives (λ found. program_with hierarchy.now (tables_view found.0) found.1) result
         (resolution hierarchy.now (program_tree items.now)) }
 {
     let top = TopNames::of(alloc, items)?;
@@ -154,7 +154,7 @@ pub fn resolve(
         Fails fault (resolution hierarchy.now (program_tree program.now))) }
 {
     prove!(hierarchy.count() <= 256);
-    let (tables, main) = parts_of(alloc, hierarchy, program.items())?;
+    let (tables, main) = tables_of(alloc, hierarchy, program.items())?;
     Ok(Core {
         hierarchy: hierarchy.clone()?,
         channels: tables.channels,

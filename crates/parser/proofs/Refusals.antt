@@ -4,7 +4,7 @@ use Rattle.lexer.specs.Terminal.{Terminal, IsTerminated}
 use Rattle.parser.specs.declared.fault.ParseFault.{ParseFault}
 use Rattle.parser.specs.declared.fault.ParseFault.TheVariants as faults
 use Rattle.parser.specs.Reading.{Reason, OutOfPlace, OverLimit, Refusal, read}
-use Rattle.parser.specs.Refusal.{BeginsWithin, Begins, IsUnexpectedAt, IsTooDeepAt, IsRefused}
+use Rattle.parser.specs.Refusal.{BeginsWithin, IsPrefixOfProgram, IsUnexpectedAt, IsTooDeepAt, IsRefused}
 use Rattle.syntax.specs.Grammar.{Spells, SpellsBut, program}
 use Rattle.syntax.specs.Tree.{ProgramTree}
 use Rattle.parser.proofs.Growing.{grows}
@@ -18,7 +18,7 @@ within_front front more b = record {
   spelled = subst (λ list. SpellsBut (length (more ++ b.more)) list b.tree) (append_assoc front more b.more) (grows program 64 (length b.more) (length (more ++ b.more)) (omega (arith, length-append more b.more)) ((front ++ more) ++ b.more) b.tree [] b.spelled);
 }
 
-within_begins : (front : List Terminal) → BeginsWithin front → Begins front
+within_begins : (front : List Terminal) → BeginsWithin front → IsPrefixOfProgram front
 within_begins front b = record {
   more = b.more;
   tree = b.tree;
@@ -97,7 +97,7 @@ same_front a c x y e f = ap (λ list. up_to list x) e ∙ ap (up_to c) f
 not_two : (tokens : List Terminal) (at place : ℕ) → IsUnexpectedAt tokens at → IsTooDeepAt tokens place → ⊥
 not_two tokens at place u d =
     let s = one_stop tokens (of_unexpected tokens at u) (of_too_deep tokens place d) in
-    u.unexpected (subst Begins (sym (same_front u.before d.before u.token d.token s.0 s.1)) d.expected)
+    u.unexpected (subst IsPrefixOfProgram (sym (same_front u.before d.before u.token d.token s.0 s.1)) d.expected)
 
 abbrev place_of : Terminal → ℕ
 place_of token = token.start

@@ -47,6 +47,6 @@ ActsForByName hierarchy first second =
     (a : ℕ) × (b : ℕ) × HasName hierarchy a first × HasName hierarchy b second × ActsFor hierarchy.pairs a b
 
 -- a hierarchy contains another: each principal of the other is here by name, and each acts-for of the other holds here by name
-pub record ContainsHierarchy (whole part : PrincipalHierarchy) : Type 0 where
-  pub principals : (name : List ℕ) → Contains part.names name → Contains whole.names name
-  pub acts : (first second : List ℕ) → ActsForByName part first second → ActsForByName whole first second
+pub record ContainsHierarchy (larger smaller : PrincipalHierarchy) : Type 0 where
+  pub principals : (name : List ℕ) → Contains smaller.names name → Contains larger.names name
+  pub acts : (first second : List ℕ) → ActsForByName smaller first second → ActsForByName larger first second

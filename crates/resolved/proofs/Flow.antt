@@ -150,7 +150,7 @@ labelled-or_refused program =
                 passes true f = refl
                 passes false f = let i : true ≡ false = f in absurd (cc)
 
--- ---- a policy that was told of the first demand that does not hold is that of a chain
+-- ---- a policy that was reported of the first demand that does not hold is that of a chain
 policy-in_all : (l : List Label) (policy : ReaderPolicy) (h : PrincipalHierarchy) → Contains (join_all (label_lattice h) l) policy →
     (label : Label) × Contains l label × Contains label policy
 policy-in_all [] policy h there = absurd (none_in_nil policy there)

@@ -8,7 +8,7 @@ use Rattle.principals.proofs.Closure.{none_in_nil, Contains-cons_cases, Contains
 use Rattle.std.specs.Global.{Global}
 use Rattle.std.specs.declared.vec.Vec.{Vec}
 use Rattle.solver.proofs.Rows.{row_at-slice}
-use Rattle.solver.specs.Reach.{AllMarked, CameFrom, Grows, Has, IsStep, IsTrace, IsTrail, Leads, ReachesBy, StayInside, StaysInside, directly, earlier, edge, itself, more, nothing_found, onward, row_of, same}
+use Rattle.solver.specs.Reach.{AllMarked, CameFrom, Grows, Has, IsStep, IsTrace, IsTrail, Leads, ReachesBy, LeadInside, LeadsInside, directly, earlier, edge, itself, more, nothing_found, onward, row_of, same}
 use Rattle.solver.specs.declared.edges.Edge.{Edge}
 use Rattle.solver.specs.declared.edges.Edges.{Edges}
 use Rattle.solver.specs.declared.search.Found.{Found}
@@ -165,7 +165,7 @@ all_marked-step edges i d marks marks' h before kept last by u in' =
     (Contains-append_cases (take i edges) (get_or edges i d ∷ []) (edge by (Unknown u))
     (subst (λ xs. Contains xs (edge by (Unknown u))) (take_more edges i d h) in'))
 
-pub one-inside : (edges : List Edge) (i : ℕ) (d : Edge) (count count' : ℕ) → i < length edges → StayInside count edges → count' ≡ count → StayInside count' (get_or edges i d ∷ [])
+pub one-inside : (edges : List Edge) (i : ℕ) (d : Edge) (count count' : ℕ) → i < length edges → LeadInside count edges → count' ≡ count → LeadInside count' (get_or edges i d ∷ [])
 one-inside edges i d count count' h inside same_count by u in' =
     subst (λ n. u < n) (sym same_count)
     (inside by u (⊎_elim (λ is. subst (λ x. Contains edges x) is (Contains-get_or edges i d h)) (λ no. absurd (none_in_nil (edge by (Unknown u)) no))
@@ -210,18 +210,18 @@ grows-trail edges n row parent marks found _ _ from (more marks' found' by u bef
     trail-push edges n found' (record { unknown = u; by = by; parent = parent }) from (grows-trail edges n row parent marks found marks' found' from before came leads trail)
     (came-kept (λ k h. grows-at before k h) (omega arith) (grows-longer before) came) (leads by u h)
 
-pub found-inside : (edges : Edges) (n : ℕ) (found : List Found) (k : ℕ) → IsTrail edges n found → StaysInside edges → k < length found →
+pub found-inside : (edges : Edges) (n : ℕ) (found : List Found) (k : ℕ) → IsTrail edges n found → LeadsInside edges → k < length found →
     (get_or found k nothing_found).unknown < length edges.unknown.items
 found-inside edges n found k trail inside h =
     let step = trail k h in inside step.from (get_or found k nothing_found).by (get_or found k nothing_found).unknown step.leads
 
 -- what was read at an index, and the row that was read for it
-pub next-inside : (edges : Edges) (n : ℕ) (found : List Found) (next : ℕ) (x : Found) → IsTrail edges n found → StaysInside edges → next < length found →
+pub next-inside : (edges : Edges) (n : ℕ) (found : List Found) (next : ℕ) (x : Found) → IsTrail edges n found → LeadsInside edges → next < length found →
     x ≡ get_or found next x → x.unknown < length edges.unknown.items
 next-inside edges n found next x trail inside h is =
     subst (λ (f : Found). f.unknown < length edges.unknown.items) (sym (get_or_read found next x h is nothing_found)) (found-inside edges n found next trail inside h)
 
-pub next-row : (edges : Edges) (n : ℕ) (found : List Found) (next : ℕ) (x : Found) (row : Vec Edge Global) (slice : List Edge) → IsTrail edges n found → StaysInside edges → next < length found →
+pub next-row : (edges : Edges) (n : ℕ) (found : List Found) (next : ℕ) (x : Found) (row : Vec Edge Global) (slice : List Edge) → IsTrail edges n found → LeadsInside edges → next < length found →
     x ≡ get_or found next x → row ≡ get_or edges.unknown.items x.unknown row → slice ≡ row.items → slice ≡ row_of edges (Unknown (get_or found next nothing_found).unknown)
 next-row edges n found next x row slice trail inside h is row_is slice_is =
     row_at-slice edges.unknown.items x.unknown row slice (next-inside edges n found next x trail inside h is) row_is slice_is

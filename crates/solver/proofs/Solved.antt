@@ -13,7 +13,7 @@ use Rattle.solver.specs.Breaker.{Arrives, Breaks, BreaksAlong, BreaksFirst, IsBr
 use Rattle.solver.specs.Broken.{AllRightsInside, is_below, written_at}
 use Rattle.solver.specs.Links.{AreBelow, InRange, IsBelow, edges_at, links_of, row_at}
 use Rattle.solver.specs.Reach as reach
-use Rattle.solver.specs.Reach.{CameFrom, IsTrail, Leads, LeadsOn, ReachesBy, StaysInside, nothing_found, row_of}
+use Rattle.solver.specs.Reach.{CameFrom, IsTrail, Leads, LeadsOn, ReachesBy, LeadsInside, nothing_found, row_of}
 use Rattle.solver.specs.Rows.{AreRows, atom_has, has_at, left_has, reached_by, unknowns_with}
 use Rattle.solver.specs.System.{Picks, atom_of, constraint_of, is_among, row_join, rows_with, values_of}
 use Rattle.solver.specs.declared.edges.Edges.{Edges}
@@ -124,7 +124,7 @@ right-below {T} cs edges are written unknowns range from by to leads =
     (All-contains (λ (c : Constraint T). AreBelow written unknowns c.left.items × IsBelow written unknowns c.right) cs part.constraint range (at-contains cs by part.constraint part.at)).1
 
 pub unknowns-inside : {T : Type 0} (cs : List (Constraint T)) (edges : Edges) → AreEdges cs edges → (written unknowns : ℕ) → InRange written unknowns cs →
-    length edges.unknown.items ≡ unknowns → StaysInside edges
+    length edges.unknown.items ≡ unknowns → LeadsInside edges
 unknowns-inside cs edges are written unknowns range count from by u leads =
     subst (λ n. u < n) (sym count) (right-below cs edges are written unknowns range from by (Unknown u) leads)
 

@@ -20,11 +20,11 @@ abbrev pub Leads : Edges → Atom → ℕ → Atom → Type 0
 Leads edges from by to = Contains (row_of edges from) (edge by to)
 
 -- the unknowns to which edges lead lie below a count
-abbrev pub StayInside : ℕ → List Edge → Type 0
-StayInside count edges = (by u : ℕ) → Contains edges (edge by (Unknown u)) → u < count
+abbrev pub LeadInside : ℕ → List Edge → Type 0
+LeadInside count edges = (by u : ℕ) → Contains edges (edge by (Unknown u)) → u < count
 
-abbrev pub StaysInside : Edges → Type 0
-StaysInside edges = (from : Atom) → StayInside (length edges.unknown.items) (row_of edges from)
+abbrev pub LeadsInside : Edges → Type 0
+LeadsInside edges = (from : Atom) → LeadInside (length edges.unknown.items) (row_of edges from)
 
 -- a written element reaches an unknown along edges
 pub data ReachesBy (edges : Edges) (n : ℕ) : ℕ → Type 0 where

@@ -1,5 +1,5 @@
 //! For each unknown which written elements reach it.
-ghost use Rattle.solver.specs.Reach.{StaysInside};
+ghost use Rattle.solver.specs.Reach.{LeadsInside};
 ghost use Rattle.solver.specs.Rows.{AreRows, AreSized, has_at};
 ghost use Rattle.solver.specs.Spread.{mask_at};
 ghost use Rattle.std.specs.Int.{bit_at};
@@ -13,7 +13,7 @@ use std::alloc::{AllocError, Global};
 /// The rows of all unknowns, found for 64 written elements at a time: so each edge is followed again only when a word grew, at most
 /// once for each written element.
 pub fn rows_of(alloc: Global, edges: &Edges) -> Result<Vec<Row>, AllocError>
-    requires { StaysInside edges.now }
+    requires { LeadsInside edges.now }
     ensures { IfOk result (λ rows. AreRows edges.now rows.items) }
 {
     let written = edges.written.len();

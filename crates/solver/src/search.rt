@@ -1,5 +1,5 @@
 //! What one written element reaches: a search along the edges, that looks at the edges from an unknown once, when it is found.
-ghost use Rattle.solver.specs.Reach.{AllMarked, Grows, IsTrace, StaysInside, StayInside, row_of};
+ghost use Rattle.solver.specs.Reach.{AllMarked, Grows, IsTrace, LeadsInside, LeadInside, row_of};
 ghost use Rattle.solver.specs.declared.system.Atom.TheVariants.{Written};
 ghost use Rattle.std.specs.Prelude.{IfOk, OnOk, if◌then◌else◌, length, set, slice_index_or, true, false, ◌++◌, ◌<◌, ◌∷◌, ◌≡◌, []};
 
@@ -44,7 +44,7 @@ impl Search {
 
     // Finds the unknown to which an edge leads, if it leads to one.
     fn follow_one(&mut self, edge: Edge, parent: usize) -> Result<(), AllocError>
-        requires { StayInside (length self.old.marks.items) (edge ∷ []) }
+        requires { LeadInside (length self.old.marks.items) (edge ∷ []) }
         ensures grows { OnOk result (Grows (edge ∷ []) parent
             self.old.marks.items self.old.found.items self.new.marks.items self.new.found.items) }
         ensures marked { OnOk result (AllMarked (edge ∷ []) self.new.marks.items) }
@@ -62,7 +62,7 @@ impl Search {
 
     // Finds the unknowns to which these edges lead.
     fn follow(&mut self, edges: &[Edge], parent: usize) -> Result<(), AllocError>
-        requires { StayInside (length self.old.marks.items) edges.now }
+        requires { LeadInside (length self.old.marks.items) edges.now }
         ensures grows { OnOk result (Grows edges.now parent
             self.old.marks.items self.old.found.items self.new.marks.items self.new.found.items) }
         ensures marked { OnOk result (AllMarked edges.now self.new.marks.items) }
@@ -77,7 +77,7 @@ impl Search {
 /// What the written element of this number reaches, each unknown once, with the way to it.
 pub fn trace(alloc: Global, edges: &Edges, value: usize) -> Result<Vec<Found>, AllocError>
     requires value { value < length edges.now.written.items }
-    requires inside { StaysInside edges.now }
+    requires inside { LeadsInside edges.now }
     ensures { IfOk result (λ found. IsTrace edges.now value found.items) }
 {
     let count = edges.unknown.len();

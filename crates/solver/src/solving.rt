@@ -2,7 +2,7 @@
 ghost use Rattle.solver.specs.Breaker.{BreaksAlong, IsBreakChain};
 ghost use Rattle.solver.specs.Broken.{AllRightsInside, is_below};
 ghost use Rattle.solver.specs.Links.{InRange};
-ghost use Rattle.solver.specs.Reach.{StaysInside};
+ghost use Rattle.solver.specs.Reach.{LeadsInside};
 ghost use Rattle.solver.specs.System.{IsSolution, Refuses};
 ghost use Rattle.std.specs.Prelude.{IfErr, IfOk, length, ℕ, ◌<◌, ◌≡◌};
 
@@ -61,7 +61,7 @@ fn refusal<L: Lattice>(
 ) -> Result<Refusal, AllocError>
     requires value { value < length written.now }
     requires written { length edges.now.written.items ≡ length written.now }
-    requires inside { StaysInside edges.now }
+    requires inside { LeadsInside edges.now }
     requires rights { AllRightsInside (length written.now) edges.now }
     requires breaks { (i : ℕ) × BreaksAlong edges.now
         (is_below (L.order lattice.now) written.now) value i }

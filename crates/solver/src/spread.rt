@@ -1,5 +1,5 @@
 //! Which written elements of a block reach each unknown: a work list along the edges, with a word of bits for each unknown.
-ghost use Rattle.solver.specs.Reach.{StayInside, StaysInside};
+ghost use Rattle.solver.specs.Reach.{LeadInside, LeadsInside};
 ghost use Rattle.solver.specs.Spread.{AllJoined, AreMasks, Spreads};
 ghost use Rattle.std.specs.Prelude.{IfOk, OnOk, [], bit_or, if◌then◌else◌, length, set, slice_index_or, ◌++◌, ◌<◌, ◌==◌, ◌^◌, ◌∷◌, ◌≡◌, ◌≤◌};
 
@@ -38,7 +38,7 @@ impl Spread {
 
     // Joins bits into the word of the unknown to which an edge leads, if it leads to one.
     fn join_along(&mut self, edge: Edge, mask: u64) -> Result<(), AllocError>
-        requires { StayInside (length self.old.masks.items) (edge ∷ []) }
+        requires { LeadInside (length self.old.masks.items) (edge ∷ []) }
         ensures spreads { OnOk result (Spreads (edge ∷ []) mask
             self.old.masks.items self.old.grown.items self.new.masks.items self.new.grown.items) }
         ensures joined { OnOk result (AllJoined (edge ∷ []) mask self.new.masks.items) }
@@ -52,7 +52,7 @@ impl Spread {
 
     // Joins bits into the words of all unknowns to which these edges lead.
     fn join_all(&mut self, edges: &[Edge], mask: u64) -> Result<(), AllocError>
-        requires { StayInside (length self.old.masks.items) edges.now }
+        requires { LeadInside (length self.old.masks.items) edges.now }
         ensures spreads { OnOk result (Spreads edges.now mask
             self.old.masks.items self.old.grown.items self.new.masks.items self.new.grown.items) }
         ensures joined { OnOk result (AllJoined edges.now mask self.new.masks.items) }
@@ -67,7 +67,7 @@ impl Spread {
 /// For each unknown which of the 64 written elements from a number on reach it.
 pub fn masks_of(alloc: Global, edges: &Edges, first: usize) -> Result<Vec<u64>, AllocError>
     requires first { first ≤ length edges.now.written.items }
-    requires inside { StaysInside edges.now }
+    requires inside { LeadsInside edges.now }
     ensures { IfOk result (λ masks. AreMasks edges.now first masks.items) }
 {
     let count = edges.unknown.len();

@@ -44,7 +44,7 @@ const MANY: [u8; 192] = [
 #[test]
 fn the_laws_are_called(_rt: HostRuntime) {
     laws::one_spelling();
-    laws::no_spelling_begins_another();
+    laws::no_spelling_is_a_prefix();
     laws::spellings_are_not_refused();
     laws::refusals_stand_inside();
     bytecode::laws::instructions_are_spelled();

@@ -62,7 +62,7 @@ store_refused : (labelling : Labelling) → fits (secret_program (array_slot 2 [
 unfolding int_wrap
 store_refused labelling = refl
 
--- `try { a[x] = 1; send pub, 1; } catch (Bounds) { }`: that the index was in range would be told
+-- `try { a[x] = 1; send pub, 1; } catch (Bounds) { }`: that the index was in range would be reported
 store_range_refused : (labelling : Labelling) → fits (secret_program (array_slot 2 alice ∷ []) (
     Clear 0 1 ∷ try_to (Store 0 (Local 1) 2 (var 0) (int 1) ∷ send_public (int 1) ∷ []) (on bounds []) ∷ [])) labelling ≡ false
 unfolding int_wrap
@@ -87,12 +87,12 @@ unfolding int_wrap
 target_refused labelling = refl
 
 -- `void main() throws (End{Alice:}) { int x = receive s; send pub, x; }`
-told_refused : (label : Label)
+reported_refused : (label : Label)
     → fits (program (record (procedure (unlabelled_slot ∷ []) (Receive 0 s_channel (Some (Local 0)) ∷ send_public (var 0) ∷ []))
     { throws = thrown end alice; end_label = alice } ∷ [])) (locals_are label) ≡ false
 unfolding int_wrap
-told_refused [] = refl
-told_refused (policy ∷ rest) = and_false _
+reported_refused [] = refl
+reported_refused (policy ∷ rest) = and_false _
 
 -- ---- send
 send_fits : fits (secret_program [] (send_public (int 7) ∷ [])) all_written ≡ true

@@ -1,7 +1,7 @@
 use Rattle.std.proofs.Common.{◌∙◌, ap, map}
 use Rattle.std.proofs.lemmas.List.{take_all}
 use Rattle.resolved.specs.declared.tables.GlobalVariable.{GlobalVariable}
-use Rattle.constraints.specs.Parts.{Written}
+use Rattle.constraints.specs.LeftSides.{Written}
 use Rattle.constraints.proofs.Tables.{grows-then, written-next}
 use Rattle.constraints.proofs.building.global_parts.Goals as goal
 

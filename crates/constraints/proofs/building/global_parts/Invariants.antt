@@ -1,5 +1,5 @@
 use Rattle.std.proofs.Common.{map, take}
-use Rattle.constraints.specs.Parts.{Written}
+use Rattle.constraints.specs.LeftSides.{Written}
 use Rattle.constraints.specs.Rows.{Grows, Mean}
 use Rattle.resolved.specs.declared.tables.GlobalVariable.{GlobalVariable}
 use Rattle.constraints.proofs.building.global_parts.Given as goal

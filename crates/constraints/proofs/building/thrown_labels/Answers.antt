@@ -1,6 +1,6 @@
 use Rattle.std.proofs.Common.{ap, ◌∙◌, map}
 use Rattle.std.proofs.lemmas.List.{take_all}
-use Rattle.constraints.specs.Parts.{Written}
+use Rattle.constraints.specs.LeftSides.{Written}
 use Rattle.resolved.specs.Program.{ThrownEntry}
 use Rattle.resolved.specs.ProgramOf.{thrown_entry}
 use Rattle.constraints.proofs.Tables.{grows-then, exceptions-next, labels-next}

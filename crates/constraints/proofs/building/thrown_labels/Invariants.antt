@@ -1,5 +1,5 @@
 use Rattle.std.proofs.Common.{◌≡◌, List, map, take, ◌++◌}
-use Rattle.constraints.specs.Parts.{Written}
+use Rattle.constraints.specs.LeftSides.{Written}
 use Rattle.labels.specs.Label.{Label}
 use Rattle.resolved.specs.Ends.{declared_by}
 use Rattle.resolved.specs.Program.{ThrownEntry}

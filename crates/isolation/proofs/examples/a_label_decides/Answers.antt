@@ -1,6 +1,6 @@
 use Rattle.std.proofs.Common.{arith, ◌≡◌, refl, ap, ℕ, zero, suc, List, [], ◌∷◌, true, false, ℤ, pos, negsuc, ⊎_elim}
 use Rattle.labels.specs.declared.sent.Pair.{Pair}
-use Rattle.labels.specs.Sent.{Begins}
+use Rattle.labels.specs.Sent.{IsPrefix}
 use Rattle.resolved.specs.Meaning.{frame_limit}
 use Rattle.resolved.specs.Labelled.{channel_label}
 use Rattle.resolved.specs.Isolated.{Agree}
@@ -34,7 +34,7 @@ size : ℤ → ℕ
 size (pos n) = n
 size (negsuc n) = n
 
-apart : (m n : ℕ) → Begins (sends (pos m)) (sends (pos n)) → m ≡ n
+apart : (m n : ℕ) → IsPrefix (sends (pos m)) (sends (pos n)) → m ≡ n
 unfolding first_of_list size
 apart m n begins = ap (λ l. size (first_of_list l)) begins.1
 

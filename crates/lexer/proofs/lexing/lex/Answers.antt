@@ -60,31 +60,31 @@ loop-first-preserved c = (search rules, (passed c).grown)
 
 -- a result that is the one refusal of the text
 at_err : {X : Type 0} (r : Result X LexFault) (fault other : LexFault) → r ≡ Err fault → fault ≡ other
-    → MatchResult r (λ _. ⊥) (λ told. (told ≡ other) ⊎ (told ≡ NoMemory))
+    → MatchResult r (λ _. ⊥) (λ reported. (reported ≡ other) ⊎ (reported ≡ NoMemory))
 at_err (Ok x) fault other e h = absurd cc
-at_err (Err told) fault other e h = let same : told ≡ fault = cc in inl (same ∙ h)
+at_err (Err reported) fault other e h = let same : reported ≡ fault = cc in inl (same ∙ h)
 
 placed : {X : Type 0} (r : Result X LexFault) (fault : LexFault) (P : LexFault → Type 0) → r ≡ Err fault → P fault → IfErr r P
 placed {X} r fault P e h = let Q : Result X LexFault → Type 0 = λ x. IfErr x P in subst Q (sym e) h
 
--- the refusal that is told
-told : (c : goal.After-drop-tokens) → IsRefused c.args.src.now c.in_err-kind.field-0.0
-told c =
+-- the refusal that is reported
+reported : (c : goal.After-drop-tokens) → IsRefused c.args.src.now c.in_err-kind.field-0.0
+reported c =
     refused c.args.src.now c.loop-first.rest.now (terminals_of c.loop-first.tokens.items) c.in_err-kind.field-0.0 c.loop-first.invariant.1 c.in_err-kind.ensures
 
 pub returns-in_err-kind-clause-only : goal.returns-in_err-kind-clause-only
-returns-in_err-kind-clause-only c = λ tokens cut. absurd (not_cut_and_refused c.args.src.now tokens c.in_err-kind.field-0.0 cut (told c))
+returns-in_err-kind-clause-only c = λ tokens cut. absurd (not_cut_and_refused c.args.src.now tokens c.in_err-kind.field-0.0 cut (reported c))
 
 pub returns-in_err-kind-clause-first : goal.returns-in_err-kind-clause-first
 returns-in_err-kind-clause-first c = λ fault refusal.
     let e : c.from_residual.result ≡ Err c.in_err-kind.field-0.0 = search rules in
-    at_err c.from_residual.result c.in_err-kind.field-0.0 fault e (has_one_refusal c.args.src.now c.in_err-kind.field-0.0 fault (told c) refusal)
+    at_err c.from_residual.result c.in_err-kind.field-0.0 fault e (has_one_refusal c.args.src.now c.in_err-kind.field-0.0 fault (reported c) refusal)
 
 pub returns-in_err-kind-clause-fault_at_character : goal.returns-in_err-kind-clause-fault_at_character
 returns-in_err-kind-clause-fault_at_character c =
     let e : c.from_residual.result ≡ Err c.in_err-kind.field-0.0 = search rules in
     placed c.from_residual.result c.in_err-kind.field-0.0 (IsFaultAtCharacter c.args.src.now) e
-    (refused_at c.args.src.now c.in_err-kind.field-0.0 c.utf8.src (told c))
+    (refused_at c.args.src.now c.in_err-kind.field-0.0 c.utf8.src (reported c))
 
 -- the whole cut
 ended : (c : goal.In_ok-push-2) → IsCut c.args.src.now (terminals_of c.push-2.new.self.items)

@@ -3,7 +3,7 @@ use Rattle.resolved.specs.Labelled.{value_label}
 use Rattle.resolved.specs.TreeOf.{expression_of}
 use Rattle.gathering.specs.Names.{named_atoms}
 use Rattle.gathering.specs.Walk.{inner_atom}
-use Rattle.constraints.specs.Parts.{scope_of}
+use Rattle.constraints.specs.LeftSides.{scope_of}
 use Rattle.constraints.proofs.Called.{argument-next}
 use Rattle.constraints.proofs.statements.Walk.add_arguments.Goals as goal
 

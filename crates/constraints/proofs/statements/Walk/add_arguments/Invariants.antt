@@ -3,7 +3,7 @@ use Rattle.std.specs.Prelude.{ℕ}
 use Rattle.resolved.specs.TreeOf.{expression_of}
 use Rattle.gathering.specs.Walk.{argument_constraints, inner_atom}
 use Rattle.constraints.specs.Added.{AreAdded, IsPart}
-use Rattle.constraints.specs.Parts.{scope_of}
+use Rattle.constraints.specs.LeftSides.{scope_of}
 use Rattle.constraints.proofs.statements.Walk.add_arguments.Given as goal
 
 abbrev pub invariant-loop-parameter : goal.invariant-loop-parameter

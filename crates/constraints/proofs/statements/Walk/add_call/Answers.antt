@@ -6,7 +6,7 @@ use Rattle.resolved.specs.declared.statement.Exit.TheVariants.{Normal}
 use Rattle.resolved.specs.declared.target.Target.TheVariants.{ToBegin, ToValue}
 use Rattle.gathering.specs.Names.{NamedAtom, named_atoms}
 use Rattle.gathering.specs.Walk.{argument_constraints, call_atoms, call_ends, call_flows, inner_atom, inner_constraint, raise_atoms_all, rule_constraint, target_constraint}
-use Rattle.constraints.specs.Parts.{scope_of}
+use Rattle.constraints.specs.LeftSides.{scope_of}
 use Rattle.constraints.specs.Takers.{takers_of}
 use Rattle.constraints.proofs.Added.{added-then, alone-left}
 use Rattle.constraints.proofs.statements.Walk.add_call.Goals as goal

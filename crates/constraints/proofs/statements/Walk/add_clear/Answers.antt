@@ -5,7 +5,7 @@ use Rattle.resolved.specs.declared.expression.Variable.TheVariants.{Local}
 use Rattle.gathering.specs.Names.{NamedAtom}
 use Rattle.gathering.specs.Walk.{flow, rule_constraint}
 use Rattle.constraints.specs.Takers.{takers_of}
-use Rattle.constraints.specs.Parts.{scope_of}
+use Rattle.constraints.specs.LeftSides.{scope_of}
 use Rattle.constraints.proofs.Added.{added-then, alone-left, left-same, flow-added}
 use Rattle.constraints.proofs.statements.Walk.add_clear.Goals as goal
 

@@ -3,7 +3,7 @@ use Rattle.resolved.specs.Ends.{raises}
 use Rattle.resolved.specs.TreeOf.{expression_of}
 use Rattle.gathering.specs.Names.{NamedAtom, named_atoms}
 use Rattle.gathering.specs.Walk.{raise_atoms}
-use Rattle.constraints.specs.Parts.{scope_of}
+use Rattle.constraints.specs.LeftSides.{scope_of}
 use Rattle.constraints.proofs.Added.{left-same}
 use Rattle.constraints.proofs.statements.Walk.add_condition.Goals as goal
 

@@ -4,7 +4,7 @@ use Rattle.resolved.specs.ProgramOf.{thrown_entry}
 use Rattle.resolved.specs.declared.tables.Thrown.{Thrown}
 use Rattle.gathering.specs.Walk.{inner_atom, thrown_constraints}
 use Rattle.constraints.specs.Added.{AreAdded, IsPart}
-use Rattle.constraints.specs.Parts.{scope_of}
+use Rattle.constraints.specs.LeftSides.{scope_of}
 use Rattle.constraints.specs.Procedures.{number_in}
 use Rattle.constraints.specs.declared.takers.Entry.{Entry}
 use Rattle.constraints.proofs.Added.{alone-left}

@@ -3,7 +3,7 @@ use Rattle.resolved.specs.Labelled.{here}
 use Rattle.resolved.specs.ProgramOf.{thrown_entry}
 use Rattle.gathering.specs.Walk.{thrown_constraints}
 use Rattle.constraints.specs.Added.{AreAdded}
-use Rattle.constraints.specs.Parts.{scope_of}
+use Rattle.constraints.specs.LeftSides.{scope_of}
 use Rattle.constraints.specs.Procedures.{number_in}
 use Rattle.constraints.proofs.statements.Walk.add_declared_demands.Given as goal
 

@@ -8,7 +8,7 @@ use Rattle.resolved.specs.declared.statement.Exit.TheVariants.{Normal}
 use Rattle.resolved.specs.declared.target.Target.TheVariants.{ToLoop}
 use Rattle.gathering.specs.Names.{NamedAtom, Real, named_atoms}
 use Rattle.gathering.specs.Walk.{flow, inner_atom, inner_constraint, raise_atoms, raised_flows, rule_constraint}
-use Rattle.constraints.specs.Parts.{scope_of}
+use Rattle.constraints.specs.LeftSides.{scope_of}
 use Rattle.constraints.specs.Takers.{takers_of}
 use Rattle.constraints.proofs.Added.{added-then, alone-left, flow-added, left-same}
 use Rattle.constraints.proofs.statements.Walk.add_loop_head.Goals as goal

@@ -4,7 +4,7 @@ use Rattle.resolved.specs.Ends.{block_ends}
 use Rattle.resolved.specs.Labelled.{here}
 use Rattle.path_map.specs.Exits.{exits_of}
 use Rattle.path_map.specs.Paths.{rest_paths}
-use Rattle.constraints.specs.Parts.{scope_of}
+use Rattle.constraints.specs.LeftSides.{scope_of}
 use Rattle.constraints.proofs.Bodies.{procedure-passed}
 use Rattle.constraints.proofs.statements.Walk.add_procedure.Goals as goal
 

@@ -6,7 +6,7 @@ use Rattle.resolved.specs.Labelled.{one, label_of}
 use Rattle.gathering.specs.Names.{NamedAtom, named_atoms}
 use Rattle.gathering.specs.Walk.{flow, rule_constraint, target_constraint}
 use Rattle.constraints.specs.Takers.{takers_of}
-use Rattle.constraints.specs.Parts.{scope_of}
+use Rattle.constraints.specs.LeftSides.{scope_of}
 use Rattle.constraints.proofs.Added.{added-then, alone-left, left-same, flow-added}
 use Rattle.constraints.proofs.statements.Walk.add_receive.Goals as goal
 

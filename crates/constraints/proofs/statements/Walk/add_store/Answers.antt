@@ -7,7 +7,7 @@ use Rattle.resolved.specs.TreeOf.{expression_of}
 use Rattle.gathering.specs.Names.{NamedAtom, named_atoms}
 use Rattle.gathering.specs.Walk.{flow, raised_flows, rule_constraint, store_atoms}
 use Rattle.constraints.specs.Takers.{takers_of}
-use Rattle.constraints.specs.Parts.{scope_of}
+use Rattle.constraints.specs.LeftSides.{scope_of}
 use Rattle.constraints.proofs.Added.{added-then, left-same}
 use Rattle.constraints.proofs.statements.Walk.add_store.Goals as goal
 

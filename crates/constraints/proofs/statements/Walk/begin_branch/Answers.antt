@@ -4,7 +4,7 @@ use Rattle.resolved.specs.Labelled.{value_label}
 use Rattle.resolved.specs.TreeOf.{expression_of}
 use Rattle.gathering.specs.Names.{named_atoms}
 use Rattle.gathering.specs.Walk.{inner_constraint, raise_atoms, raised_flows}
-use Rattle.constraints.specs.Parts.{scope_of}
+use Rattle.constraints.specs.LeftSides.{scope_of}
 use Rattle.constraints.specs.Takers.{takers_of}
 use Rattle.constraints.specs.Walked.{branch_constraints}
 use Rattle.constraints.proofs.Added.{added-then}

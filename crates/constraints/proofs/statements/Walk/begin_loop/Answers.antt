@@ -1,6 +1,6 @@
 use Rattle.std.proofs.Common.{refl, ap, ◌∙◌, ◌+◌}
 use Rattle.resolved.specs.TreeOf.{expression_of}
-use Rattle.constraints.specs.Parts.{scope_of}
+use Rattle.constraints.specs.LeftSides.{scope_of}
 use Rattle.constraints.specs.Takers.{takers_of}
 use Rattle.constraints.specs.Walks.{loop_head_constraints}
 use Rattle.constraints.proofs.Begun.{made-walked}

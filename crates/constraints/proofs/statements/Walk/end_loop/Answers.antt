@@ -1,7 +1,7 @@
 use Rattle.std.proofs.Common.{refl, arith, [], ◌∷◌}
 use Rattle.resolved.specs.declared.target.Target.TheVariants.{ToLoop}
 use Rattle.gathering.specs.Walk.{inner_atom, rule_constraint}
-use Rattle.constraints.specs.Parts.{scope_of}
+use Rattle.constraints.specs.LeftSides.{scope_of}
 use Rattle.constraints.proofs.Passed.{alone-walked}
 use Rattle.constraints.proofs.statements.Walk.end_loop.Goals as goal
 

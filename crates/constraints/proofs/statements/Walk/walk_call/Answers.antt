@@ -1,7 +1,7 @@
 use Rattle.std.proofs.Common.{refl, map}
 use Rattle.resolved.specs.TreeOf.{expression_of}
 use Rattle.gathering.specs.Walk.{call_constraints}
-use Rattle.constraints.specs.Parts.{scope_of}
+use Rattle.constraints.specs.LeftSides.{scope_of}
 use Rattle.constraints.specs.Takers.{takers_of}
 use Rattle.constraints.proofs.Begun.{made-walked}
 use Rattle.constraints.proofs.statements.Walk.walk_call.Goals as goal

@@ -5,7 +5,7 @@ use Rattle.resolved.specs.Ends.{divisor_can_raise, is_division, raises}
 use Rattle.resolved.specs.Labelled.{Join, any_of, value_label}
 use Rattle.resolved.specs.TreeOf.{expression_of}
 use Rattle.gathering.specs.Walk.{raise_atoms}
-use Rattle.constraints.specs.Parts.{scope_of}
+use Rattle.constraints.specs.LeftSides.{scope_of}
 use Rattle.constraints.proofs.Joined.{both, binary-atoms, binary-true, binary-either, short-atoms, short-true}
 use Rattle.constraints.proofs.table.Table.+add_raise.Goals as goal
 

@@ -3,7 +3,7 @@ use Rattle.std.proofs.lemmas.Result.{on_ok_weaker}
 use Rattle.resolved.specs.declared.expression.Expression as E
 use Rattle.resolved.specs.Labelled.{Join, value_label}
 use Rattle.resolved.specs.TreeOf.{expression_of}
-use Rattle.constraints.specs.Parts.{scope_of}
+use Rattle.constraints.specs.LeftSides.{scope_of}
 use Rattle.constraints.proofs.Joined.{both}
 use Rattle.constraints.proofs.table.Table.+add_value.Goals as goal
 

@@ -5,7 +5,7 @@ use Rattle.gathering.specs.Names.{NamedConstraint, numbered_atom, real_unknowns}
 use Rattle.gathering.specs.Walk.{inner_atom}
 use Rattle.solver.specs.declared.system.Atom.TheVariants as stored
 use Rattle.constraints.specs.Added.{Stored, wanted_constraint}
-use Rattle.constraints.specs.Parts.{Unknown, wanted}
+use Rattle.constraints.specs.LeftSides.{Unknown, wanted}
 use Rattle.constraints.proofs.Added.{added-one, stands-made}
 use Rattle.constraints.proofs.Tables.{map-map}
 use Rattle.constraints.proofs.table.Table.add_inner.Goals as goal

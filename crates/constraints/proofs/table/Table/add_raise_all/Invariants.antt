@@ -1,7 +1,7 @@
 use Rattle.std.proofs.Common.{map, take}
 use Rattle.resolved.specs.TreeOf.{expression_of}
 use Rattle.gathering.specs.Walk.{raise_atoms_all}
-use Rattle.constraints.specs.Parts.{IsJoined, scope_of}
+use Rattle.constraints.specs.LeftSides.{IsJoined, scope_of}
 use Rattle.constraints.proofs.table.Table.add_raise_all.Given as goal
 
 abbrev pub invariant-loop-expression : goal.invariant-loop-expression

@@ -5,7 +5,7 @@ use Rattle.resolved.specs.CoreOf.{program_of}
 use Rattle.resolved.specs.Labelled.{label_of}
 use Rattle.gathering.specs.Names.{NamedConstraint, Real, numbered_atom}
 use Rattle.constraints.specs.Added.{Stored, wanted_constraint}
-use Rattle.constraints.specs.Parts.{wanted}
+use Rattle.constraints.specs.LeftSides.{wanted}
 use Rattle.constraints.proofs.Added.{added-one, stands-made}
 use Rattle.constraints.proofs.Tables.{map-map}
 use Rattle.constraints.proofs.table.Table.add_rule.Goals as goal

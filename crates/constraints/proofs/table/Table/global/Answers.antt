@@ -1,7 +1,7 @@
 use Rattle.std.proofs.Common.{ap, ◌∙◌, get_or}
 use Rattle.resolved.specs.CoreOf.{program_of}
 use Rattle.resolved.specs.Program.{GlobalEntry}
-use Rattle.constraints.specs.Parts.{Written, part}
+use Rattle.constraints.specs.LeftSides.{Written, part}
 use Rattle.constraints.proofs.Tables.{looked-up}
 use Rattle.constraints.proofs.table.Table.global.Goals as goal
 

@@ -1,7 +1,7 @@
 use Rattle.std.proofs.Common.{◌++◌}
 use Rattle.gathering.specs.Walk.{raise_atoms}
 use Rattle.resolved.specs.TreeOf.{expression_of}
-use Rattle.constraints.specs.Parts.{scope_of, index_atoms}
+use Rattle.constraints.specs.LeftSides.{scope_of, index_atoms}
 use Rattle.constraints.proofs.Joined.{joined-then, left-from}
 use Rattle.constraints.proofs.table.Table.left_of_store.Goals as goal
 

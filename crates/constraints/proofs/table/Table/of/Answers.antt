@@ -1,6 +1,6 @@
 use Rattle.std.proofs.Common.{refl, ap, subst, ◌∙◌, map}
 use Rattle.std.specs.Prelude.{sum_by}
-use Rattle.constraints.specs.Parts.{Written}
+use Rattle.constraints.specs.LeftSides.{Written}
 use Rattle.resolved.specs.ProgramOf.{procedure_entry}
 use Rattle.gathering.specs.Names.{own_unknowns}
 use Rattle.constraints.specs.Rows.{Means}

@@ -4,7 +4,7 @@ use Rattle.std.proofs.lemmas.Iterator.Consumers.{YieldsList-end}
 use Rattle.std.proofs.lemmas.Str.{IsUtf8-take}
 use Rattle.std.specs.List.{suffix_len, count_by}
 use Rattle.std.specs.Str.{chars, IsUtf8}
-use Rattle.lexer.proofs.places.place.Goals as goal
+use Rattle.lexer.proofs.position.place.Goals as goal
 
 -- all characters before the place were seen
 seen : (c : goal.In-None) → c.loop-character.yielded ≡ chars (take c.args.at c.args.src.now)

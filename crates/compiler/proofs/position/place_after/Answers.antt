@@ -3,7 +3,7 @@ use Rattle.std.proofs.lemmas.List.{length-take, get_or-take, get_or-drop}
 use Rattle.compiler.specs.Position.{place_at}
 use Rattle.compiler.specs.NextPlace.{next_place}
 use Rattle.compiler.proofs.Walking.{next-place_at}
-use Rattle.compiler.proofs.places.place_after.Goals as goal
+use Rattle.compiler.proofs.position.place_after.Goals as goal
 
 pub loop-byte-preserved : goal.loop-byte-preserved
 loop-byte-preserved c =

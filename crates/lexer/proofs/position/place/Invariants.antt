@@ -1,6 +1,6 @@
 use Rattle.std.proofs.Common.{◌≡◌, ◌+◌, ◌≤◌, ◌==◌, ◌<◌, ◌^◌, not}
 use Rattle.std.specs.List.{suffix_len, count_by}
-use Rattle.lexer.proofs.places.place.Given as goal
+use Rattle.lexer.proofs.position.place.Given as goal
 
 abbrev pub invariant-loop-character : goal.invariant-loop-character
 invariant-loop-character l =

@@ -1,5 +1,5 @@
 use Rattle.compiler.proofs.Characters.{columns-agree, lines-agree}
-use Rattle.compiler.proofs.places.places_agree.Goals as goal
+use Rattle.compiler.proofs.position.places_agree.Goals as goal
 
 pub returns-clause-line : goal.returns-clause-line
 returns-clause-line c = lines-agree
