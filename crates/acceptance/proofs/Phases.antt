@@ -22,7 +22,7 @@ use Rattle.principals.specs.HierarchyText.{greatest_text, IsRefusedText}
 use Rattle.principals.specs.declared.fault.HierFault.{HierFault}
 use Rattle.principals.specs.declared.fault.HierFault.TheVariants as hierarchies
 use Rattle.principals.specs.Laws.{HasOneHierarchy, IsReadOrRefused, IsNotReadAndRefused, HasOneRefusal}
-use Rattle.syntax.specs.Grammar.{Spells}
+use Rattle.syntax.specs.Grammar.{SpellsProgram}
 use Rattle.syntax.specs.Tree.{ProgramTree}
 use Rattle.labels.specs.Label.{ReaderPolicy}
 use Rattle.resolved.specs.Program.{Program}
@@ -83,11 +83,11 @@ same_tokens source tree of tokens cut = has_one_cut source of.tokens tokens of.c
 
 tree_refused : (source : List ℕ) (tree : ProgramTree) (tokens : List Terminal) (fault : ParseFault) → IsTreeOf source tree → IsCut source tokens → parser.IsRefused tokens fault → ⊥
 tree_refused source tree tokens fault of cut refused =
-    spelled_not_refused tokens tree fault (subst (λ ts. Spells ts tree) (same_tokens source tree of tokens cut) of.spelled) refused
+    spelled_not_refused tokens tree fault (subst (λ ts. SpellsProgram ts tree) (same_tokens source tree of tokens cut) of.spelled) refused
 
 same_tree : (source : List ℕ) (tree other : ProgramTree) → IsTreeOf source tree → IsTreeOf source other → tree ≡ other
 same_tree source tree other one two =
-    one_tree two.tokens tree other (subst (λ ts. Spells ts tree) (same_tokens source tree one two.tokens two.cut) one.spelled) two.spelled
+    one_tree two.tokens tree other (subst (λ ts. SpellsProgram ts tree) (same_tokens source tree one two.tokens two.cut) one.spelled) two.spelled
 
 module _ (h : PrincipalHierarchy) (source : List ℕ) where
   named_refused : (tree : ProgramTree) (fault : Fault) (program : Program) → IsTreeOf source tree → resolution h tree ≡ Err fault → IsResolvedFrom h source program → ⊥

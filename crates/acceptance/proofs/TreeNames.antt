@@ -6,7 +6,7 @@ use Rattle.lexer.specs.declared.token.Kind.{Kind}
 use Rattle.lexer.specs.declared.token.Kind.TheVariants as kinds
 use Rattle.lexer.specs.Terminal.{Terminal}
 use Rattle.syntax.specs.Form.{Form, many, ◌·◌}
-use Rattle.syntax.specs.Grammar.{Spells, at, ◌◂◌, base, name, label, optional_label, direction, channel, exception, global_value, global, outcome, parameters, procedure, item, program}
+use Rattle.syntax.specs.Grammar.{SpellsProgram, at, ◌◂◌, base, name, label, optional_label, direction, channel, exception, global_value, global, outcome, parameters, procedure, item, program}
 use Rattle.syntax.specs.Tree.{NameTree, ItemTree, ProgramTree}
 use Rattle.parser.proofs.Holds.{Each, Held, Holds, spelled_taken}
 use Rattle.names.specs.Laws.{HasUtf8Names}
@@ -86,7 +86,7 @@ module _ (room : ℕ) where
       let inner = before (many item) kinds.End h.0 k h.1 in
       subst HasUtf8Names (sym h.2) (items_named h.0 inner.0 inner.1)
 
-pub spelled_named : (tokens : List Terminal) (tree : ProgramTree) → Spells tokens tree → All IsText tokens → HasUtf8Names tree
+pub spelled_named : (tokens : List Terminal) (tree : ProgramTree) → SpellsProgram tokens tree → All IsText tokens → HasUtf8Names tree
 spelled_named tokens tree spelled all =
     let taken = spelled_taken IsText Nothing (λ symbol room tree k h. tt) program 64 tokens tree [] spelled all in
     program_named 64 tree taken.count taken.holds

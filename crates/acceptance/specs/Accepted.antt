@@ -7,7 +7,7 @@ use Rattle.lexer.specs.Cut.{IsCut}
 use Rattle.lexer.specs.Terminal.{Terminal}
 use Rattle.principals.specs.ActsFor.{PrincipalHierarchy}
 use Rattle.principals.specs.HierarchyText.{greatest_text, IsHierarchyOf}
-use Rattle.syntax.specs.Grammar.{Spells}
+use Rattle.syntax.specs.Grammar.{SpellsProgram}
 use Rattle.syntax.specs.Tree.{ProgramTree}
 use Rattle.resolved.specs.Program.{Program}
 use Rattle.resolved.specs.EndFaults.{end_faults}
@@ -24,7 +24,7 @@ pub record IsTreeOf (source : List ℕ) (tree : ProgramTree) : Type 0 where
   pub text : IsText source
   pub tokens : List Terminal
   pub cut : IsCut source tokens
-  pub spelled : Spells tokens tree
+  pub spelled : SpellsProgram tokens tree
 
 -- the resolved program of a source: its names, types and sizes have no fault
 pub record IsResolvedFrom (h : PrincipalHierarchy) (source : List ℕ) (program : Program) : Type 0 where

@@ -30,19 +30,19 @@ pub record ReadsInput (m : ModuleContents) (p k : ℕ) : Type 0 where
   pub reads : IsTrue (may_read m.hierarchy p channel.label)
 
 -- two worlds, each a list of numbers for each channel, agree for a principal: each input that it may read has the same numbers
-abbrev pub Agree : ModuleContents → (p : ℕ) → (first second : ℕ → List ℤ) → Type 0
-Agree m p first second = (k : ℕ) → ReadsInput m p k → first k ≡ second k
+abbrev pub AgreeOnInputs : ModuleContents → (p : ℕ) → (first second : ℕ → List ℤ) → Type 0
+AgreeOnInputs m p first second = (k : ℕ) → ReadsInput m p k → first k ≡ second k
 
 -- one of two lists is a prefix of the other
-abbrev pub OneBegins : {X : Type 0} → List X → List X → Type 0
-OneBegins xs ys = IsPrefix xs ys ⊎ IsPrefix ys xs
+abbrev pub OneIsPrefix : {X : Type 0} → List X → List X → Type 0
+OneIsPrefix xs ys = IsPrefix xs ys ⊎ IsPrefix ys xs
 
 -- an isolated module: for every principal, all worlds that agree for it and any two numbers of steps, one of the lists that it
 -- sees is a prefix of the other
 abbrev pub IsIsolated : ModuleContents → Type 0
 IsIsolated m =
-    (p : ℕ) (first second : ℕ → List ℤ) → Agree m p first second → (i j : ℕ)
-    → OneBegins (seen_of m p (sent_after m first i)) (seen_of m p (sent_after m second j))
+    (p : ℕ) (first second : ℕ → List ℤ) → AgreeOnInputs m p first second → (i j : ℕ)
+    → OneIsPrefix (seen_of m p (sent_after m first i)) (seen_of m p (sent_after m second j))
 
 -- isolated bytes: they spell an isolated module
 abbrev pub SpellsIsolated : List ℕ → Type 0

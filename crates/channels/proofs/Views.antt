@@ -77,10 +77,10 @@ one_hidden m observer pairs k pair old new small is before =
     ∙ view-suc m observer pairs k pair small)
     before
 
--- the text of the first pairs begins the text of all
-front-begins : (m : ModuleContents) (observer : Option ℕ) (pairs : List Pair) (k : ℕ)
+-- the text of the first pairs is a prefix of the text of all
+front-prefix : (m : ModuleContents) (observer : Option ℕ) (pairs : List Pair) (k : ℕ)
     → IsPrefix (view_text m (view_for m observer (take k pairs))) (view_text m (view_for m observer pairs))
-front-begins m observer pairs k = (
+front-prefix m observer pairs k = (
   view_text m (view_for m observer (drop k pairs)),
   sym (view_text-append m (view_for m observer (take k pairs)) (view_for m observer (drop k pairs)))
       ∙ ap (view_text m) (sym (view_for-append m observer (take k pairs) (drop k pairs)))
@@ -91,7 +91,7 @@ front-begins m observer pairs k = (
 pub cut_before : (m : ModuleContents) (observer : Option ℕ) (pairs : List Pair) (k : ℕ) (old new : Option (List ℕ))
     → Appends old new (view_text m (view_for m observer (take k pairs)))
     → AppendsPrefix old new (view_text m (view_for m observer pairs))
-cut_before m observer pairs k old new before = (view_text m (view_for m observer (take k pairs)), front-begins m observer pairs k, before)
+cut_before m observer pairs k old new before = (view_text m (view_for m observer (take k pairs)), front-prefix m observer pairs k, before)
 
 -- where the line of the next pair was written in part, that is a prefix too
 pub cut_within : (m : ModuleContents) (observer : Option ℕ) (pairs : List Pair) (k : ℕ) (pair : Pair) (old mid new : Option (List ℕ)) (line : List ℕ)
@@ -102,8 +102,8 @@ cut_within m observer pairs k pair old mid new line small is spelled before part
     let front = view_text m (view_for m observer (take k pairs)) in
     let more = view_text m (view_for m observer (take (k + 1) pairs)) in
     let line_is : front ++ line ≡ more = ap (λ text. front ++ text) (line_text m observer (get_or pairs k pair) line is spelled) ∙ view-suc m observer pairs k pair small in
-    let begins : IsPrefix (front ++ part.0) more = (part.1.0, append_assoc front part.0 part.1.0 ∙ ap (λ text. front ++ text) part.1.1 ∙ line_is) in
-    (front ++ part.0, prefix-through (front ++ part.0) more (view_text m (view_for m observer pairs)) begins (front-begins m observer pairs (k + 1)), Appends-trans old mid new front part.0 before part.2)
+    let prefix : IsPrefix (front ++ part.0) more = (part.1.0, append_assoc front part.0 part.1.0 ∙ ap (λ text. front ++ text) part.1.1 ∙ line_is) in
+    (front ++ part.0, prefix-through (front ++ part.0) more (view_text m (view_for m observer pairs)) prefix (front-prefix m observer pairs (k + 1)), Appends-trans old mid new front part.0 before part.2)
 
 -- nothing written is the text of no pairs, and the text of as many pairs as there are is the text of all
 pub none_shown : (m : ModuleContents) (observer : Option ℕ) (pairs : List Pair) (old : Option (List ℕ))

@@ -6,7 +6,7 @@ use Rattle.resolved.specs.Isolated.{Isolated}
 use Rattle.resolved.specs.Meaning.{sent_by}
 use Rattle.resolved.specs.Program.{Program}
 use Rattle.bytecode.specs.Contents.{ModuleContents}
-use Rattle.bytecode.specs.Isolated.{channel_label, seen_of, OneBegins, IsIsolated}
+use Rattle.bytecode.specs.Isolated.{channel_label, seen_of, OneIsPrefix, IsIsolated}
 use Rattle.bytecode.specs.Machine.{after_steps, sent_after}
 use Rattle.lowering.specs.Kept.{MeaningKept}
 use Rattle.compiler.specs.Compiled.{SameInterface}
@@ -16,9 +16,9 @@ pub isolated-module : (program : Program) (m : ModuleContents) → SameInterface
 isolated-module program m same kept isolated p first second agree i j =
     let xs : List Pair = sent_by program first i in
     let ys : List Pair = sent_by program second j in
-    let related : OneBegins (seen_of m p xs) (seen_of m p ys) =
-    subst (λ seen. OneBegins seen (seen_of m p ys)) (sym (seen-module program m same p xs))
-    (subst (OneBegins _) (sym (seen-module program m same p ys)) (isolated p first second (agree-module program m same p first second agree) i j)) in
+    let related : OneIsPrefix (seen_of m p xs) (seen_of m p ys) =
+    subst (λ seen. OneIsPrefix seen (seen_of m p ys)) (sym (seen-module program m same p xs))
+    (subst (OneIsPrefix _) (sym (seen-module program m same p ys)) (isolated p first second (agree-module program m same p first second agree) i j)) in
     prefixes-of-two (seen_of m p (sent_after m first i)) (seen_of m p (sent_after m second j)) (seen_of m p xs) (seen_of m p ys)
     (seen-prefix m.hierarchy (channel_label m) p (sent_after m first i) xs (kept.no_more first i))
     (seen-prefix m.hierarchy (channel_label m) p (sent_after m second j) ys (kept.no_more second j)) related

@@ -11,9 +11,9 @@ use Rattle.resolved.specs.declared.tables.Direction.TheVariants as channel
 use Rattle.resolved.specs.Isolated.{Agree}
 use Rattle.resolved.specs.Labelled.{channel_label}
 use Rattle.resolved.specs.Program.{Program, ChannelEntry, channel_at}
-use Rattle.resolved.specs.State.{World}
+use Rattle.resolved.specs.SourceState.{World}
 use Rattle.bytecode.specs.Contents.{ChannelContents, ModuleContents}
-use Rattle.bytecode.specs.Isolated.{label_in, channel_label as module_label, seen_of, Agree as AgreeOn}
+use Rattle.bytecode.specs.Isolated.{label_in, channel_label as module_label, seen_of, AgreeOnInputs}
 use Rattle.lowering.specs.Interface.{direction_of, channel_contents}
 use Rattle.compiler.specs.Compiled.{SameInterface}
 
@@ -51,7 +51,7 @@ module _ (program : Program) (m : ModuleContents) (same : SameInterface program 
       ∙ (λ i. filter (λ pair. may_read program.hierarchy p (label-module pair.channel i)) list)
 
   -- worlds that agree for a principal on the module's inputs do so on the program's
-  pub agree-module : (p : ℕ) (first second : World) → AgreeOn m p first second → Agree program.hierarchy (channel_label program) program p first second
+  pub agree-module : (p : ℕ) (first second : World) → AgreeOnInputs m p first second → Agree program.hierarchy (channel_label program) program p first second
   agree-module p first second agree n there input reads =
       agree n (record {
         channel = channel_contents (channel_at program n);

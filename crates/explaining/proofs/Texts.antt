@@ -10,7 +10,7 @@ pub on_err : {X Y : Type 0} (result : Result X Y) (P : Type 0) → P → OnErr r
 on_err (Ok x) P holds = tt
 on_err (Err y) P holds = holds
 
--- what was written begins what was to be written, where nothing or a part of the rest was
+-- what was written is a prefix of what was to be written, where nothing or a part of the rest was
 module _ (old mid new : Option (List ℕ)) (front back : List ℕ) where
   pub cut_before : Appends old mid front → AppendsPrefix old mid (front ++ back)
   cut_before before = (front, (back, refl), before)

@@ -53,7 +53,7 @@ cut_off code text name steps old new m program principal taken pairs before afte
     ap (λ (w : ModuleContents). view_text w (view_for w principal pairs)) is
     ∙ ap (λ (list : List Pair). view_text m (view_for m principal list)) (sent ∙ ap sent_of reached ∙ ap (λ (x : Machine). sent_of (exec (program_of m) taken x)) first) in
     let cut = subst (λ (t : List ℕ). AppendsPrefix old new t) all part in
-    inr (cut.0, record { program = m; principal = principal; taken = taken; can_run = can; within = within; begins = cut.1 }, cut.2)
+    inr (cut.0, record { program = m; principal = principal; taken = taken; can_run = can; within = within; prefix = cut.1 }, cut.2)
 
 -- what is known of a run that has taken some steps from the first state on
 module _ (code text : List ℕ) (name : Option (List ℕ)) (steps : ℕ) (m program : ModuleContents) (principal : Option ℕ) (taken : ℕ)

@@ -10,12 +10,12 @@ use Rattle.labels.specs.Sent.{IsPrefix, seen}
 use Rattle.labels.proofs.Prefixes.{prefix-itself, prefixes-of-two, prefix-through, seen-prefix}
 use Rattle.resolved.specs.Labelled as labels
 use Rattle.resolved.specs.Meaning.{sent_by}
-use Rattle.resolved.specs.State.{World}
+use Rattle.resolved.specs.SourceState.{World}
 use Rattle.bytecode.specs.Contents.{ModuleContents}
 use Rattle.module_file.specs.Decoded.{first_refusal}
 use Rattle.bytecode.specs.Form.{Fits, Spells}
 use Rattle.bytecode.specs.Format.{contents, hierarchy, module_file}
-use Rattle.bytecode.specs.Isolated.{Agree, IsIsolated, OneBegins, channel_label, seen_of}
+use Rattle.bytecode.specs.Isolated.{AgreeOnInputs, IsIsolated, OneIsPrefix, channel_label, seen_of}
 use Rattle.module_file.proofs.Facts.{principals-different}
 use Rattle.bytecode.specs.Machine.{Machine, Ending, after_steps, program_of, sent_after, sent_of}
 use Rattle.channels.specs.World.{InputNumbers, input_names, numbers_of_channel}
@@ -121,9 +121,9 @@ ends_as_the_source fresh ends said source code compiled world p pairs shows endi
     )
 
 -- a list that is a prefix of nothing is empty
-begins_nothing : (xs : List Pair) → IsPrefix xs [] → xs ≡ []
-begins_nothing [] b = refl
-begins_nothing (x ∷ xs) b = cc b.1
+prefix_of_nothing : (xs : List Pair) → IsPrefix xs [] → xs ≡ []
+prefix_of_nothing [] b = refl
+prefix_of_nothing (x ∷ xs) b = cc b.1
 
 pub some_show_all : sessions.SessionsAreFreshRuns → sessions.SessionsEndAsReported → SomeSessionsShowAll
 some_show_all fresh ends said source code compiled world p turns named there =
@@ -138,7 +138,7 @@ silent_show_less program m code world p turns can never_stuck there silent some 
     let law = less world p turns in
     let session = opened_for code world m can never_stuck p there law.0 in
     let nothing : session.pairs ≡ [] = session.sees ∙ ap (λ (list : List Pair). seen_of m p list) (silent session.taken) in
-    some (begins_nothing (seen_by program p (numbers_of_channel m world) turns)
+    some (prefix_of_nothing (seen_by program p (numbers_of_channel m world) turns)
     (subst (λ (list : List Pair). IsPrefix (seen_by program p (numbers_of_channel m world) turns) list) nothing
     (law.1 session.pairs session.shows session.has_run)))
 
@@ -148,12 +148,12 @@ isolated law said source code compiled p first second agree pairs others shown o
 
 -- ---- the program
 
--- the text of a list begins that of a list that it begins
-view-begins : (m : ModuleContents) (xs ys : List Pair) → IsPrefix xs ys → IsPrefix (view_text m xs) (view_text m ys)
-view-begins m xs ys b = (view_text m b.0, sym (view_text-append m xs b.0) ∙ ap (view_text m) b.1)
+-- the text of a prefix is a prefix of the text of the whole
+view-prefix : (m : ModuleContents) (xs ys : List Pair) → IsPrefix xs ys → IsPrefix (view_text m xs) (view_text m ys)
+view-prefix m xs ys b = (view_text m b.0, sym (view_text-append m xs b.0) ∙ ap (view_text m) b.1)
 
-views-begin : (m : ModuleContents) (xs ys : List Pair) → OneBegins xs ys → OneBegins (view_text m xs) (view_text m ys)
-views-begin m xs ys one = ⊎_elim (λ (b : IsPrefix xs ys). inl (view-begins m xs ys b)) (λ (b : IsPrefix ys xs). inr (view-begins m ys xs b)) one
+views-prefix : (m : ModuleContents) (xs ys : List Pair) → OneIsPrefix xs ys → OneIsPrefix (view_text m xs) (view_text m ys)
+views-prefix m xs ys one = ⊎_elim (λ (b : IsPrefix xs ys). inl (view-prefix m xs ys b)) (λ (b : IsPrefix ys xs). inr (view-prefix m ys xs b)) one
 
 -- to an observer with a name no end is reported
 no_end_reported : (h : PrincipalHierarchy) (name : List ℕ) (principal : Option ℕ) (end : Status) → IsObserver h (Some name) principal → reported_status principal end ≡ 0
@@ -176,20 +176,20 @@ unfolding module_file contents hierarchy
 names_differ m fits = principals-different m.hierarchy.names fits.0.0.0.0
 
 -- what an isolated module shows to the principal of a name in two runs
-texts_begin : (m : ModuleContents) → Fits module_file m → IsIsolated m → (name first second : List ℕ)
-    → ((p : ℕ) → HasName m.hierarchy p name → Agree m p (numbers_in m first) (numbers_in m second))
+texts_prefix : (m : ModuleContents) → Fits module_file m → IsIsolated m → (name first second : List ℕ)
+    → ((p : ℕ) → HasName m.hierarchy p name → AgreeOnInputs m p (numbers_in m first) (numbers_in m second))
     → (w v : ModuleContents) → w ≡ m → v ≡ m → (p q : Option ℕ) → IsObserver w.hierarchy (Some name) p → IsObserver v.hierarchy (Some name) q
-    → (i j : ℕ) → OneBegins (text_shown w first p i) (text_shown v second q j)
-texts_begin m fits isolated_module name first second agree w v e f None q is also i j = absurd is
-texts_begin m fits isolated_module name first second agree w v e f (Some p) None is also i j = absurd also
-texts_begin m fits isolated_module name first second agree w v e f (Some p) (Some q) is also i j =
+    → (i j : ℕ) → OneIsPrefix (text_shown w first p i) (text_shown v second q j)
+texts_prefix m fits isolated_module name first second agree w v e f None q is also i j = absurd is
+texts_prefix m fits isolated_module name first second agree w v e f (Some p) None is also i j = absurd also
+texts_prefix m fits isolated_module name first second agree w v e f (Some p) (Some q) is also i j =
     let called = subst (λ (x : ModuleContents). HasName x.hierarchy p name) e is in
     let called_too = subst (λ (x : ModuleContents). HasName x.hierarchy q name) f also in
     let same : p ≡ q = one_number m.hierarchy.names (names_differ m fits) p q name called called_too in
-    subst (λ (x : ModuleContents). OneBegins (text_shown x first (Some p) i) (text_shown v second (Some q) j)) (sym e)
-    (subst (λ (x : ModuleContents). OneBegins (text_shown m first (Some p) i) (text_shown x second (Some q) j)) (sym f)
-    (subst (λ (n : ℕ). OneBegins (text_shown m first (Some p) i) (text_shown m second (Some n) j)) same
-    (views-begin m (seen_of m p (sent_after m (numbers_in m first) i)) (seen_of m p (sent_after m (numbers_in m second) j))
+    subst (λ (x : ModuleContents). OneIsPrefix (text_shown x first (Some p) i) (text_shown v second (Some q) j)) (sym e)
+    (subst (λ (x : ModuleContents). OneIsPrefix (text_shown m first (Some p) i) (text_shown x second (Some q) j)) (sym f)
+    (subst (λ (n : ℕ). OneIsPrefix (text_shown m first (Some p) i) (text_shown m second (Some n) j)) same
+    (views-prefix m (seen_of m p (sent_after m (numbers_in m first) i)) (seen_of m p (sent_after m (numbers_in m second) j))
     (isolated_module p (numbers_in m first) (numbers_in m second) (agree p called) i j))))
 
 pub shows_itself : RunsShowThemselves
@@ -201,7 +201,7 @@ shows_itself code world name steps status old new run = (
     taken = run.taken;
     can_run = run.can_run;
     within = run.within;
-    begins = prefix-itself (text_shown run.program world run.principal run.taken);
+    prefix = prefix-itself (text_shown run.program world run.principal run.taken);
   },
 )
 
@@ -213,8 +213,8 @@ module _ (one : (m n : ModuleContents) (bytes : List ℕ) → Spells module_file
       let same = one run.program m code run.can_run.spelled compiled.code_of.spelled in
       let same_again = one again.program m code again.can_run.spelled compiled.code_of.spelled in
       prefixes-of-two out other (text_shown run.program first run.principal run.taken) (text_shown again.program second again.principal again.taken)
-      run.begins again.begins
-      (texts_begin m compiled.code_of.spelled.0 compiled.code_of.isolated name first second agree run.program again.program same same_again
+      run.prefix again.prefix
+      (texts_prefix m compiled.code_of.spelled.0 compiled.code_of.isolated name first second agree run.program again.program same same_again
       run.principal again.principal run.can_run.observed again.can_run.observed run.taken again.taken)
 
   -- ---- ends

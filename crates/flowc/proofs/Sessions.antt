@@ -4,7 +4,7 @@ use Rattle.labels.specs.declared.sent.Pair.{Pair}
 use Rattle.bytecode.specs.Contents.{ModuleContents}
 use Rattle.bytecode.specs.Isolated.{seen_of}
 use Rattle.bytecode.specs.Machine as machine
-use Rattle.bytecode.specs.Machine.{Machine, Running, Ended, Stuck, Ending, Program, exec, program_of, sent_after, sent_of, step}
+use Rattle.bytecode.specs.Machine.{Machine, Running, Ended, Stuck, Ending, MachineCode, exec, program_of, sent_after, sent_of, step}
 use Rattle.channels.specs.World.{InputNumbers, numbers_of_channel}
 use Rattle.verifier.specs.Safety.{HasRow, IsNeverStuck}
 use Rattle.machine.specs.Run.{IsRunning, ReportsStatus, WasRunning}
@@ -17,7 +17,7 @@ use Rattle.flowc.specs.Promises.{HasRun}
 -- ---- a run for at most so many steps
 
 -- where a run stands after so many steps, or at its end before that
-record Stop (p : Program) (n : ℕ) (from : Machine) : Type 0 where
+record Stop (p : MachineCode) (n : ℕ) (from : Machine) : Type 0 where
   taken : ℕ
   stands : Status
   within : taken ≤ n
@@ -25,7 +25,7 @@ record Stop (p : Program) (n : ℕ) (from : Machine) : Type 0 where
   is : ReportsStatus p n taken stands (exec p taken from)
   far : (taken ≡ n) ⊎ ((ending : Ending) × (ending_of stands ≡ Some ending))
 
-one_more : (p : Program) (n taken : ℕ) (stands : Status) (machine : Machine) → ReportsStatus p n taken stands machine → ReportsStatus p (suc n) (suc taken) stands machine
+one_more : (p : MachineCode) (n taken : ℕ) (stands : Status) (machine : Machine) → ReportsStatus p n taken stands machine → ReportsStatus p (suc n) (suc taken) stands machine
 one_more p n taken status.Running machine is = (ap suc is.0, is.1)
 one_more p n taken status.Finished machine is = is
 one_more p n taken (status.Threw exception) machine is = is
@@ -33,7 +33,7 @@ one_more p n taken status.Deep machine is = is
 one_more p n taken status.NoMemory machine is = (omega (arith, is.0), is.1, is.2)
 
 -- the first step ends the run
-ends_now : (p : Program) (n : ℕ) (from : Machine) (ending : Ending) (sent : List Pair) → IsRunning from → step p from ≡ Ended ending sent → Stop p (suc n) from
+ends_now : (p : MachineCode) (n : ℕ) (from : Machine) (ending : Ending) (sent : List Pair) → IsRunning from → step p from ≡ Ended ending sent → Stop p (suc n) from
 ends_now p n from ending sent running e = by ending e
   where
     first : WasRunning p (suc zero) from
@@ -66,7 +66,7 @@ ends_now p n from ending sent running e = by ending e
       far = inr (machine.Deep, refl);
     }
 
-goes_on : (p : Program) (n : ℕ) (from : Machine) → IsRunning from → Stop p n (step p from) → Stop p (suc n) from
+goes_on : (p : MachineCode) (n : ℕ) (from : Machine) → IsRunning from → Stop p n (step p from) → Stop p (suc n) from
 goes_on p n from running rest = record {
   taken = suc rest.taken;
   stands = rest.stands;
@@ -80,7 +80,7 @@ goes_on p n from running rest = record {
     before zero below = running
     before (suc k) below = rest.running k (omega (arith, below))
 
-stop : (p : Program) (n : ℕ) (from : Machine) → ((k : ℕ) → HasRow (exec p k from)) → IsRunning from → Stop p n from
+stop : (p : MachineCode) (n : ℕ) (from : Machine) → ((k : ℕ) → HasRow (exec p k from)) → IsRunning from → Stop p n from
 stop p zero from rows running = record {
   taken = zero;
   stands = status.Running;

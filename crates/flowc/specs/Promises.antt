@@ -11,9 +11,9 @@ use Rattle.labels.specs.Sent.{IsPrefix, seen}
 use Rattle.resolved.specs.Labelled.{channel_label}
 use Rattle.resolved.specs.Meaning.{frame_limit, run_within, sent_by}
 use Rattle.resolved.specs.Program.{Program}
-use Rattle.resolved.specs.State.{World}
+use Rattle.resolved.specs.SourceState.{World}
 use Rattle.bytecode.specs.Contents.{ModuleContents}
-use Rattle.bytecode.specs.Isolated.{Agree, OneBegins}
+use Rattle.bytecode.specs.Isolated.{AgreeOnInputs, OneIsPrefix}
 use Rattle.bytecode.specs.Machine.{Ending, sent_after}
 use Rattle.channels.specs.World.{InputNumbers, input_names, numbers_of_channel}
 use Rattle.verifier.specs.Safety.{IsNeverStuck}
@@ -102,9 +102,9 @@ SessionsEndAsTheSource =
 abbrev pub SessionsAreIsolated : Type 0
 SessionsAreIsolated =
     (hierarchy source code : List ℕ) (compiled : IsCompiled hierarchy source code) (p : ℕ) (first second : List InputNumbers)
-    → Agree (module_in compiled) p (numbers_of_channel (module_in compiled) first) (numbers_of_channel (module_in compiled) second)
+    → AgreeOnInputs (module_in compiled) p (numbers_of_channel (module_in compiled) first) (numbers_of_channel (module_in compiled) second)
     → (pairs others : List Pair) → sessions.Shows code first p pairs → sessions.Shows code second p others
-    → OneBegins pairs others
+    → OneIsPrefix pairs others
 
 -- ---- the program
 
@@ -126,10 +126,10 @@ abbrev pub RunsAreIsolated : Type 0
 RunsAreIsolated =
     (hierarchy source code : List ℕ) (compiled : IsCompiled hierarchy source code) (name first second : List ℕ)
     → ((p : ℕ) → HasName (module_in compiled).hierarchy p name
-    → Agree (module_in compiled) p (numbers_in (module_in compiled) first) (numbers_in (module_in compiled) second))
+    → AgreeOnInputs (module_in compiled) p (numbers_in (module_in compiled) first) (numbers_in (module_in compiled) second))
     → (steps more : ℕ) (out other : List ℕ)
     → IsShown code first (Some name) steps out → IsShown code second (Some name) more other
-    → OneBegins out other
+    → OneIsPrefix out other
 
 -- the line of a run without an observer says how the source ends, by the source's own names of exceptions: where the run has ended,
 -- the source ends so with as many turns as the run has taken steps

@@ -65,7 +65,7 @@ pub record IsShown (code text : List ℕ) (observer : Option (List ℕ)) (steps 
   pub taken : ℕ
   pub can_run : CanRun code text observer program principal
   pub within : taken ≤ steps
-  pub begins : IsPrefix out (text_shown program text principal taken)
+  pub prefix : IsPrefix out (text_shown program text principal taken)
 
 -- where a stream failed or memory ran out, nothing was written, or a text that shows nothing else than the run
 abbrev pub ShowsSome : (code text : List ℕ) (observer : Option (List ℕ)) (steps : ℕ) (old new : Option (List ℕ)) → Type 0

@@ -9,7 +9,7 @@ use Rattle.bytecode.specs.Form.{Spells}
 use Rattle.bytecode.specs.Format.{module_file}
 use Rattle.bytecode.specs.Machine.{Ending, Finished, Threw, Deep, after_steps, exec, program_of, sent_after}
 use Rattle.channels.specs.World.{InputNumbers, numbers_of_channel}
-use Rattle.bytecode.specs.Isolated.{seen_of, Agree, OneBegins, IsIsolated}
+use Rattle.bytecode.specs.Isolated.{seen_of, AgreeOnInputs, OneIsPrefix, IsIsolated}
 use Rattle.machine.specs.Run.{HasEnded}
 use Rattle.machine.specs.declared.status.Status.{Status}
 use Rattle.machine.specs.declared.status.Status.TheVariants as status
@@ -89,8 +89,8 @@ SessionsEndAsReported =
 abbrev pub SessionsAreIsolated : Type 0
 SessionsAreIsolated =
     (bytes : List ℕ) (m : ModuleContents) → Spells module_file m bytes → IsIsolated m
-    → (p : ℕ) (first second : List InputNumbers) → Agree m p (numbers_of_channel m first) (numbers_of_channel m second)
-    → (pairs others : List Pair) → Shows bytes first p pairs → Shows bytes second p others → OneBegins pairs others
+    → (p : ℕ) (first second : List InputNumbers) → AgreeOnInputs m p (numbers_of_channel m first) (numbers_of_channel m second)
+    → (pairs others : List Pair) → Shows bytes first p pairs → Shows bytes second p others → OneIsPrefix pairs others
 
 -- a session that is opened among any events and is open after them stands where a fresh run of the module that the bytes spell,
 -- alone on the world, stands after the steps that the session's own turns reported

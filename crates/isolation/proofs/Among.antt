@@ -21,7 +21,7 @@ use Rattle.resolved.specs.declared.statement.Exit.TheVariants.{Normal, Return, B
 use Rattle.resolved.specs.Tree.{Expression, Integer, Logical, Read, Element, Unary, Binary, Short, Statement, Assign, Clear, Store, Receive, Send, Call, If, While, Leave, ReturnWith, Try, Nested, Block, Empty, Then, Handlers, NoMore, Catch}
 use Rattle.resolved.specs.Program.{Program, procedure_at}
 use Rattle.resolved.specs.Value.{Evaluated, Gives, Raises, then_with, truth_in, number_in, wrapped, literal_number, is_zero, unless_zero, operator_value, decides, in_range, position_of, checked_index, arith_exception, bounds_exception, end_exception}
-use Rattle.resolved.specs.State.{State, value_of, values_of, cells, cell_at, assigned, stored, cleared}
+use Rattle.resolved.specs.SourceState.{SourceState, value_of, values_of, cells, cell_at, assigned, stored, cleared}
 use Rattle.resolved.specs.Meaning.{OutOfTurns, Outcome, Ended, Stopped, normally, thrown, after, evaluated, looped, turns, caught, leaving, returned_to, received, sending, Calls, statement_meaning, block_meaning, handlers_meaning, frame_of, calls_with}
 use Rattle.resolved.specs.Ends.{same_exit, has_end, index_can_raise, divisor_can_raise, index_raises, operator_raises, raises, raises_all, thrown_ends, declared_by, leaves_loop, handles, passes, then_ends, statement_ends, block_ends, handlers_ends}
 use Rattle.resolved.specs.EndFaults.{may_end}
@@ -87,7 +87,7 @@ raises-last : {A : Type 0} (xs ys : List ℕ) (o : Evaluated A) → RaisesAmong 
 raises-last xs ys o h = record { among = λ x e. any-right (λ y. x == y) xs ys (h.among x e) }
 
 -- an index that cannot raise is in range
-pub index-in_range : (s : State) (index : Expression) (length : ℕ) (v : Value) → index_can_raise index length ≡ false →
+pub index-in_range : (s : SourceState) (index : Expression) (length : ℕ) (v : Value) → index_can_raise index length ≡ false →
     value_of s index ≡ Gives v → in_range (number_in v) length ≡ true
 index-in_range s (Integer n) length v h e = go (in_range (literal_number n) length) refl
   where
@@ -109,7 +109,7 @@ negated-zero z h =
     let right : int_wrap w32 (y +ℤ int_wrap w32 (neg_ℤ y)) ≡ int_wrap w32 (y +ℤ neg_ℤ y) = int_wrap-add_right w32 y (neg_ℤ y) in
     sym fits ∙ sym (ap (λ a. int_wrap w32 a) (ap (λ b. y +ℤ b) h ∙ +ℤ_idr y)) ∙ right ∙ ap (λ a. int_wrap w32 a) (+ℤ_invr y)
 
-pub divisor-not_zero : (s : State) (e : Expression) (w : Value) → divisor_can_raise e ≡ false → value_of s e ≡ Gives w →
+pub divisor-not_zero : (s : SourceState) (e : Expression) (w : Value) → divisor_can_raise e ≡ false → value_of s e ≡ Gives w →
     is_zero (number_in w) ≡ false
 divisor-not_zero s (Integer n) w h e =
     let g : Number (literal_number n) ≡ w = cc in rw (← g) h
@@ -122,7 +122,7 @@ divisor-not_zero s (Unary Negate (Integer n)) w h e = go (is_zero (wrapped (neg_
         let i : true ≡ false = sym (ap is_zero zero) ∙ h in absurd (cc)
 divisor-not_zero s other w h e = let i : true ≡ false = h in absurd (cc)
 
-raises-checked_index : (s : State) (index : Expression) (length : ℕ) (v : Value) → value_of s index ≡ Gives v →
+raises-checked_index : (s : SourceState) (index : Expression) (length : ℕ) (v : Value) → value_of s index ≡ Gives v →
     RaisesAmong (index_raises index length) (checked_index v length)
 raises-checked_index s index length v e = go (index_can_raise index length) refl (in_range (number_in v) length) refl
   where
@@ -132,7 +132,7 @@ raises-checked_index s index length v e = go (index_can_raise index length) refl
     go true f false g = rw (f, g) (raises-this (bounds_exception ∷ []) bounds_exception refl)
     go false f false g = let i : true ≡ false = sym (index-in_range s index length v f e) ∙ g in absurd (cc)
 
-raises-division : (s : State) (e : Expression) (w : Value) (result : ℤ) → value_of s e ≡ Gives w →
+raises-division : (s : SourceState) (e : Expression) (w : Value) (result : ℤ) → value_of s e ≡ Gives w →
     RaisesAmong (if divisor_can_raise e then arith_exception ∷ [] else []) (unless_zero (number_in w) result)
 raises-division s e w result f = go (divisor_can_raise e) refl (is_zero (number_in w)) refl
   where
@@ -142,7 +142,7 @@ raises-division s e w result f = go (divisor_can_raise e) refl (is_zero (number_
     go true g true h = rw (g, h) (raises-this (arith_exception ∷ []) arith_exception refl)
     go false g true h = let i : true ≡ false = sym h ∙ divisor-not_zero s e w g f in absurd (cc)
 
-raises-operator : (s : State) (operator : Operator) (e : Expression) (v w : Value) → value_of s e ≡ Gives w →
+raises-operator : (s : SourceState) (operator : Operator) (e : Expression) (v w : Value) → value_of s e ≡ Gives w →
     RaisesAmong (operator_raises operator e) (operator_value operator v w)
 raises-operator s Divide e v w f = raises-division s e w _ f
 raises-operator s Remainder e v w f = raises-division s e w _ f
@@ -164,7 +164,7 @@ raises-if xs true o p h i = h
 raises-if xs false o p h i = i
 
 -- an expression raises only what it can raise
-pub expression-raises : (s : State) (e : Expression) → RaisesAmong (raises e) (value_of s e)
+pub expression-raises : (s : SourceState) (e : Expression) → RaisesAmong (raises e) (value_of s e)
 expression-raises s (Integer n) = raises-none [] (Number (literal_number n))
 expression-raises s (Logical b) = raises-none [] (Truth b)
 expression-raises s (Read x) = raises-none [] (cell_at (cells s x) 0)
@@ -185,7 +185,7 @@ expression-raises s (Short connective d e) =
     raises-then (raises d) (raises e) (value_of s d) (λ v. if decides connective v then Gives v else value_of s e) (expression-raises s d) (λ v f.
     raises-if (raises e) (decides connective v) (Gives v) (value_of s e) (raises-none (raises e) v) (expression-raises s e))
 
-pub expressions-raise : (s : State) (es : List Expression) → RaisesAmong (raises_all es) (values_of s es)
+pub expressions-raise : (s : SourceState) (es : List Expression) → RaisesAmong (raises_all es) (values_of s es)
 expressions-raise s [] = raises-none [] []
 expressions-raise s (e ∷ rest) =
     raises-then (raises e) (raises_all rest) (value_of s e) (λ v. then_with (values_of s rest) (λ vs. Gives (v ∷ vs))) (expression-raises s e) (λ v f.
@@ -207,16 +207,16 @@ among-left xs ys o h = among-more xs (xs ++ ys) o (λ exit f. any-left (same_exi
 among-right : (xs ys : List Exit) (o : Outcome) → Among ys o → Among (xs ++ ys) o
 among-right xs ys o h = among-more ys (xs ++ ys) o (λ exit f. any-right (same_exit exit) xs ys f) h
 
-among-first : (exit : Exit) (rest : List Exit) (r : Option Value) (s : State) → Among (exit ∷ rest) (Ended exit r s)
+among-first : (exit : Exit) (rest : List Exit) (r : Option Value) (s : SourceState) → Among (exit ∷ rest) (Ended exit r s)
 among-first exit rest r s = record { among = or_left (same_exit exit exit) (has_end rest exit) (same_exit-itself exit) }
 
 among-rest : (exit : Exit) (rest : List Exit) (o : Outcome) → Among rest o → Among (exit ∷ rest) o
 among-rest exit rest o h = among-more rest (exit ∷ rest) o (λ e f. or_right (same_exit e exit) (has_end rest e) f) h
 
-among-thrown : (xs : List ℕ) (x : ℕ) (s : State) → raised_in xs x ≡ true → Among (thrown_ends xs) (thrown x s)
+among-thrown : (xs : List ℕ) (x : ℕ) (s : SourceState) → raised_in xs x ≡ true → Among (thrown_ends xs) (thrown x s)
 among-thrown xs x s h = record { among = thrown-among xs x h }
 
-among-evaluated : {A : Type 0} (xs : List ℕ) (ends : List Exit) (e : Evaluated A) (s : State) (next : A → Outcome) →
+among-evaluated : {A : Type 0} (xs : List ℕ) (ends : List Exit) (e : Evaluated A) (s : SourceState) (next : A → Outcome) →
     RaisesAmong xs e → ((exit : Exit) → has_end (thrown_ends xs) exit ≡ true → has_end ends exit ≡ true) →
     ((v : A) → e ≡ Gives v → Among ends (next v)) → Among ends (evaluated e s next)
 among-evaluated xs ends (Gives v) s next h more rest = rest v refl
@@ -239,8 +239,8 @@ then-other first rest exit other h = go (has_end first Normal) refl
 then-normal : (first rest : List Exit) (o : Outcome) → has_end first Normal ≡ true → Among rest o → Among (then_ends first rest) o
 then-normal first rest o h among = rw h (among-right (filter (λ x. not (same_exit Normal x)) first) rest o among)
 
-among-after : (first rest : List Exit) (o : Outcome) (next : State → Outcome) → Among first o →
-    ((t : State) → Among rest (next t)) → Among (then_ends first rest) (after o next)
+among-after : (first rest : List Exit) (o : Outcome) (next : SourceState → Outcome) → Among first o →
+    ((t : SourceState) → Among rest (next t)) → Among (then_ends first rest) (after o next)
 among-after first rest (Ended Normal r s) next h onward = then-normal first rest (next s) h.among (onward s)
 among-after first rest (Ended Return r s) next h onward = record { among = then-other first rest Return refl h.among }
 among-after first rest (Ended Break r s) next h onward = record { among = then-other first rest Break refl h.among }
@@ -258,8 +258,8 @@ loop-leaving xs body exit leaves h =
     or_right (same_exit exit Normal) (has_end (thrown_ends xs ++ filter leaves_loop body) exit)
     (any-right (same_exit exit) (thrown_ends xs) (filter leaves_loop body) (end-filter leaves_loop body exit ∙ rw (leaves, h) refl))
 
-among-looped : (xs : List ℕ) (body : List Exit) (o : Outcome) (again : State → Outcome) → Among body o →
-    ((t : State) → Among (loop_ends xs body) (again t)) → Among (loop_ends xs body) (looped o again)
+among-looped : (xs : List ℕ) (body : List Exit) (o : Outcome) (again : SourceState → Outcome) → Among body o →
+    ((t : SourceState) → Among (loop_ends xs body) (again t)) → Among (loop_ends xs body) (looped o again)
 among-looped xs body (Ended Normal r s) again h onward = onward s
 among-looped xs body (Ended Return r s) again h onward = record { among = loop-leaving xs body Return refl h.among }
 among-looped xs body (Ended Break r s) again h onward = record { among = refl }
@@ -273,8 +273,8 @@ loop-thrown xs body exit h =
     or_right (same_exit exit Normal) (has_end (thrown_ends xs ++ filter leaves_loop body) exit)
     (any-left (same_exit exit) (thrown_ends xs) (filter leaves_loop body) h)
 
-among-turns : (k : ℕ) (xs : List ℕ) (ends : List Exit) (condition : State → Evaluated Value) (body : State → Outcome) →
-    ((t : State) → RaisesAmong xs (condition t)) → ((t : State) → Among ends (body t)) → (s : State) →
+among-turns : (k : ℕ) (xs : List ℕ) (ends : List Exit) (condition : SourceState → Evaluated Value) (body : SourceState → Outcome) →
+    ((t : SourceState) → RaisesAmong xs (condition t)) → ((t : SourceState) → Among ends (body t)) → (s : SourceState) →
     Among (loop_ends xs ends) (turns k condition body s)
 among-turns zero xs ends condition body raised h s =
     among-evaluated xs (loop_ends xs ends) (condition s) s (λ v. if truth_in v then Stopped OutOfTurns s else normally s) (raised s)
@@ -293,8 +293,8 @@ try-passing : (handlers : Handlers) (block others : List Exit) (exit : Exit) →
 try-passing handlers block others exit passing h =
     any-left (same_exit exit) (filter (passes handlers) block) others (end-filter (passes handlers) block exit ∙ rw (passing, h) refl)
 
-among-caught : (handlers : Handlers) (block others : List Exit) (o : Outcome) (handle : ℕ → State → Outcome) → Among block o →
-    ((x : ℕ) (t : State) → has_end block (Throw x) ≡ true → Among (filter (passes handlers) block ++ others) (handle x t)) →
+among-caught : (handlers : Handlers) (block others : List Exit) (o : Outcome) (handle : ℕ → SourceState → Outcome) → Among block o →
+    ((x : ℕ) (t : SourceState) → has_end block (Throw x) ≡ true → Among (filter (passes handlers) block ++ others) (handle x t)) →
     Among (filter (passes handlers) block ++ others) (caught o handle)
 among-caught handlers block others (Ended (Throw x) r s) handle h onward = onward x s h.among
 among-caught handlers block others (Ended Normal r s) handle h onward = record { among = try-passing handlers block others Normal refl h.among }
@@ -308,7 +308,7 @@ abbrev pub call_ends : Program → ℕ → List Exit
 call_ends program f = Normal ∷ thrown_ends (declared_by (procedure_at program f).throws)
 
 abbrev pub CallsAmong : Program → Calls → Type 0
-CallsAmong program calls = (f : ℕ) (vs : List Value) (s : State) → Among (call_ends program f) (calls f vs s)
+CallsAmong program calls = (f : ℕ) (vs : List Value) (s : SourceState) → Among (call_ends program f) (calls f vs s)
 
 thrown-both : (xs ys : List ℕ) → thrown_ends (xs ++ ys) ≡ thrown_ends xs ++ thrown_ends ys
 thrown-both [] ys = refl
@@ -341,7 +341,7 @@ among-returned_to ends None (Ended Continue r t) h = record { among = h.among }
 among-returned_to ends None (Ended (Throw e) r t) h = record { among = h.among }
 among-returned_to ends None (Stopped stop t) h = record { among = tt }
 
-among-received : (numbers : List ℤ) (channel : ℕ) (target : Option Variable) (s : State) →
+among-received : (numbers : List ℤ) (channel : ℕ) (target : Option Variable) (s : SourceState) →
     Among (Normal ∷ Throw end_exception ∷ []) (received numbers channel target s)
 among-received [] channel target s = record { among = refl }
 among-received (z ∷ rest) channel target s = record { among = refl }
@@ -363,7 +363,7 @@ handler-among ends false later x y P passing h rest = rest passing
 
 mutual
   pub statement-among : (statement : Statement) (program : Program) (calls : Calls) (k : ℕ) → CallsAmong program calls →
-      (s : State) → Among (statement_ends program statement) (statement_meaning calls k statement s)
+      (s : SourceState) → Among (statement_ends program statement) (statement_meaning calls k statement s)
   statement-among (Assign at x e) program calls k h s =
       among-evaluated (raises e) (Normal ∷ thrown_ends (raises e)) (value_of s e) s (λ v. normally (assigned s x v)) (expression-raises s e)
       (behind Normal (thrown_ends (raises e))) (λ v f.
@@ -424,7 +424,7 @@ mutual
       (λ exit g. any-right (same_exit exit) (filter (passes handlers) ends) (handlers_ends program handlers) g))
   statement-among (Nested at block) program calls k h s = block-among block program calls k h s
 
-  pub block-among : (block : Block) (program : Program) (calls : Calls) (k : ℕ) → CallsAmong program calls → (s : State) →
+  pub block-among : (block : Block) (program : Program) (calls : Calls) (k : ℕ) → CallsAmong program calls → (s : SourceState) →
       Among (block_ends program block) (block_meaning calls k block s)
   block-among Empty program calls k h s = among-first Normal [] None s
   block-among (Then statement rest) program calls k h s =
@@ -432,7 +432,7 @@ mutual
       (block_meaning calls k rest) (statement-among statement program calls k h s) (block-among rest program calls k h)
 
   handlers-among : (handlers : Handlers) (program : Program) (calls : Calls) (k : ℕ) → CallsAmong program calls →
-      (ends : List Exit) (x : ℕ) (s : State) → (handles handlers x ≡ false → has_end ends (Throw x) ≡ true) →
+      (ends : List Exit) (x : ℕ) (s : SourceState) → (handles handlers x ≡ false → has_end ends (Throw x) ≡ true) →
       ((exit : Exit) → has_end (handlers_ends program handlers) exit ≡ true → has_end ends exit ≡ true) →
       Among ends (handlers_meaning calls k handlers x s)
   handlers-among NoMore program calls k h ends x s passing more = record { among = passing refl }
@@ -456,7 +456,7 @@ all-has p (first ∷ rest) exit h f =
 abbrev pub EndsAsDeclared : Program → Type 0
 EndsAsDeclared program = (f : ℕ) → list_all (may_end (procedure_at program f)) (block_ends program (procedure_at program f).body) ≡ true
 
-among-leaving : (program : Program) (f : ℕ) (back : State → State) (o : Outcome) → EndsAsDeclared program →
+among-leaving : (program : Program) (f : ℕ) (back : SourceState → SourceState) (o : Outcome) → EndsAsDeclared program →
     Among (block_ends program (procedure_at program f).body) o → Among (call_ends program f) (leaving back o)
 among-leaving program f back (Ended Normal r s) declared h = record { among = refl }
 among-leaving program f back (Ended Return r s) declared h = record { among = refl }
@@ -471,7 +471,7 @@ among-leaving program f back (Stopped stop s) declared h = record { among = tt }
 pub calls-among : (program : Program) (k frames : ℕ) → EndsAsDeclared program → CallsAmong program (calls_with program k frames)
 calls-among program k zero declared f vs s = record { among = tt }
 calls-among program k (suc frames) declared f vs s =
-    let inner : State = record s { locals = frame_of (procedure_at program f).slots vs } in
+    let inner : SourceState = record s { locals = frame_of (procedure_at program f).slots vs } in
     among-leaving program f (λ t. record t { locals = s.locals })
     (block_meaning (calls_with program k frames) k (procedure_at program f).body inner) declared
     (block-among (procedure_at program f).body program (calls_with program k frames) k (calls-among program k frames declared) inner)

@@ -12,7 +12,7 @@ use Rattle.resolved.specs.declared.expression.Value.{Value}
 use Rattle.resolved.specs.declared.statement.Exit.{Exit}
 use Rattle.resolved.specs.declared.statement.Exit.TheVariants.{Normal, Return, Break, Continue, Throw}
 use Rattle.resolved.specs.Program.{Program, ProcedureEntry, ThrownEntry, procedure_at}
-use Rattle.resolved.specs.State.{State, assigned, cells}
+use Rattle.resolved.specs.SourceState.{SourceState, assigned, cells}
 use Rattle.resolved.specs.Meaning.{Stop, Outcome, Ended, Stopped, leaving, returned_to, state_after}
 use Rattle.resolved.specs.Ends.{same_exit, has_end, one_end, thrown_ends, declared_by}
 use Rattle.resolved.specs.EndFaults.{may_end}
@@ -22,21 +22,21 @@ use Rattle.isolation.proofs.Grows.{Grows, grows-itself, grows-returned_to}
 use Rattle.isolation.proofs.Among.{Among, same-exit, same_exit-itself, all-has, raised_in, thrown-is}
 use Rattle.isolation.proofs.Observer.{LabelReader, under, Reader, View, view_of, shown, AgreeFor, agree-back, agree-through, agree-unread, agree-with_cells, unread-left, unread-right}
 use Rattle.isolation.proofs.Kept.{Hidden, hidden_end, hidden_return, hidden_stop, Kept}
-use Rattle.isolation.proofs.Related.{Related, same_end, same_return, apart, first_stops, second_stops, both-kept, stopped-begins, agree-begins}
+use Rattle.isolation.proofs.Related.{Related, same_end, same_return, apart, first_stops, second_stops, both-kept, stopped-prefix, agree-prefix}
 use Rattle.isolation.proofs.Closed.{read_exits, one-same}
 use Rattle.isolation.proofs.Confined.{KeptCall, HiddenCall, call_end, call_thrown, call_stop, unread_exits, kept-returned_to, unread-label_if, fits-left, fits-right, unread-demand}
 
--- two calls: they end in the same way, or the observer reads the label of neither end; and a stopped one begins the other
+-- two calls: they end in the same way, or the observer reads the label of neither end; and what is seen of a stopped one is a prefix
 pub data RelatedCall (view : View) (value : Bool) (exits : Exit → Bool) : Outcome → Outcome → Type 0 where
-  same_call : (r q : Option Value) (s t : State) → AgreeFor view s t → (value ≡ true → r ≡ q) →
+  same_call : (r q : Option Value) (s t : SourceState) → AgreeFor view s t → (value ≡ true → r ≡ q) →
       RelatedCall view value exits (Ended Normal r s) (Ended Normal q t)
-  same_thrown : (x : ℕ) (s t : State) → AgreeFor view s t →
+  same_thrown : (x : ℕ) (s t : SourceState) → AgreeFor view s t →
       RelatedCall view value exits (Ended (Throw x) None s) (Ended (Throw x) None t)
   apart_calls : (o p : Outcome) → HiddenCall value exits o → HiddenCall value exits p →
       AgreeFor view (state_after o) (state_after p) → RelatedCall view value exits o p
-  first_call_stops : (stop : Stop) (s : State) (p : Outcome) → IsPrefix (shown view s.sent) (shown view (state_after p).sent) →
+  first_call_stops : (stop : Stop) (s : SourceState) (p : Outcome) → IsPrefix (shown view s.sent) (shown view (state_after p).sent) →
       RelatedCall view value exits (Stopped stop s) p
-  second_call_stops : (o : Outcome) (stop : Stop) (t : State) → IsPrefix (shown view t.sent) (shown view (state_after o).sent) →
+  second_call_stops : (o : Outcome) (stop : Stop) (t : SourceState) → IsPrefix (shown view t.sent) (shown view (state_after o).sent) →
       RelatedCall view value exits o (Stopped stop t)
 
 grown-returned_to : (target : Option Variable) (o : Outcome) → Grows (state_after o) (returned_to target o)
@@ -51,7 +51,7 @@ target-unread view result x r q read same differ = go (view.variable x) refl
     go true e = absurd (differ (same (read e)))
     go false e = e
 
-returned-same : (view : View) (result value : Bool) (more : Exit → Bool) (x : Variable) (r q : Option Value) (s t : State) →
+returned-same : (view : View) (result value : Bool) (more : Exit → Bool) (x : Variable) (r q : Option Value) (s t : SourceState) →
     AgreeFor view s t → (view.variable x ≡ true → result ≡ true) → (result ≡ true → r ≡ q) →
     Related view value more (returned_to (Some x) (Ended Normal r s)) (returned_to (Some x) (Ended Normal q t))
 returned-same view result value more x None None s t agree read same = same_end Normal s t agree
@@ -83,13 +83,13 @@ related-returned_to view result value exits more target o p (apart_calls _ _ h i
     (kept-returned_to view result value exits more target o h weaker unread)
     (kept-returned_to view result value exits more target p i weaker unread)
 related-returned_to view result value exits more None o p (first_call_stops stop s _ h) weaker unread read =
-    first_stops stop s (returned_to None p) (stopped-begins view s p (returned_to None p) h (grown-returned_to None p))
+    first_stops stop s (returned_to None p) (stopped-prefix view s p (returned_to None p) h (grown-returned_to None p))
 related-returned_to view result value exits more (Some x) o p (first_call_stops stop s _ h) weaker unread read =
-    first_stops stop s (returned_to (Some x) p) (stopped-begins view s p (returned_to (Some x) p) h (grown-returned_to (Some x) p))
+    first_stops stop s (returned_to (Some x) p) (stopped-prefix view s p (returned_to (Some x) p) h (grown-returned_to (Some x) p))
 related-returned_to view result value exits more None o p (second_call_stops _ stop t h) weaker unread read =
-    second_stops (returned_to None o) stop t (stopped-begins view t o (returned_to None o) h (grown-returned_to None o))
+    second_stops (returned_to None o) stop t (stopped-prefix view t o (returned_to None o) h (grown-returned_to None o))
 related-returned_to view result value exits more (Some x) o p (second_call_stops _ stop t h) weaker unread read =
-    second_stops (returned_to (Some x) o) stop t (stopped-begins view t o (returned_to (Some x) o) h (grown-returned_to (Some x) o))
+    second_stops (returned_to (Some x) o) stop t (stopped-prefix view t o (returned_to (Some x) o) h (grown-returned_to (Some x) o))
 
 -- what a procedure declares of its ends, for its callers
 abbrev pub declared_label : Program → (callee : ℕ) → ExitLabels
@@ -129,11 +129,11 @@ related_call-weaker view value exits more o p weaker (first_call_stops stop s _ 
 related_call-weaker view value exits more o p weaker (second_call_stops _ stop t h) = second_call_stops o stop t h
 
 -- the state of a caller that has its frame again
-abbrev pub home : State → State → State
+abbrev pub home : SourceState → SourceState → SourceState
 home s t = record t { locals = s.locals }
 
 -- the same for the observer in the callee is the same in the caller
-pub agree-home : {h : PrincipalHierarchy} (base : LabelReader h) (program : Program) (caller callee : ℕ) (labels inner : Labelling) (s t s' t' : State) → AgreeFor (view_of (under base labels) (record { program = program; number = caller })) s t → AgreeFor (view_of (under base inner) (record { program = program; number = callee })) s' t' → AgreeFor (view_of (under base labels) (record { program = program; number = caller })) (home s s') (home t t')
+pub agree-home : {h : PrincipalHierarchy} (base : LabelReader h) (program : Program) (caller callee : ℕ) (labels inner : Labelling) (s t s' t' : SourceState) → AgreeFor (view_of (under base labels) (record { program = program; number = caller })) s t → AgreeFor (view_of (under base inner) (record { program = program; number = callee })) s' t' → AgreeFor (view_of (under base labels) (record { program = program; number = caller })) (home s s') (home t t')
 agree-home base program caller callee labels inner s t s' t' outer within = record {
   variables = variables;
   inputs = within.inputs;
@@ -150,7 +150,7 @@ never-may : false ≡ true → ⊥
 never-may e = cc
 
 -- a body that ends as it may, of which nothing is seen
-module _ (callee : ProcedureEntry) (ends : List Exit) (declared : list_all (may_end callee) ends ≡ true) (back : State → State) (value : Bool) where
+module _ (callee : ProcedureEntry) (ends : List Exit) (declared : list_all (may_end callee) ends ≡ true) (back : SourceState → SourceState) (value : Bool) where
   pub hidden-shape : (exits : Exit → Bool) (o : Outcome) → Among ends o → Hidden value exits o →
       HiddenCall value unread_exits (leaving back o)
   hidden-shape exits o among (hidden_end Normal t m) = call_end None (back t) refl (λ e. refl)
@@ -172,7 +172,7 @@ as_one-has (first ∷ rest) exit h = go (same_exit exit first) refl (as_one-has 
     go true e later = rw (same-exit exit first e, same_exit-itself (as_one_end first)) refl
     go false e later = or_right (same_exit (as_one_end exit) (as_one_end first)) (has_end (map as_one_end rest) (as_one_end exit)) (later (rw e at h))
 
-among-as_one : (ends : List Exit) (back : State → State) (o : Outcome) → Among ends o → Among (map as_one_end ends) (leaving back o)
+among-as_one : (ends : List Exit) (back : SourceState → SourceState) (o : Outcome) → Among ends o → Among (map as_one_end ends) (leaving back o)
 among-as_one ends back (Ended Normal r s) h = record { among = as_one-has ends Normal h.among }
 among-as_one ends back (Ended Return r s) h = record { among = as_one-has ends Return h.among }
 among-as_one ends back (Ended Break r s) h = record { among = as_one-has ends Break h.among }
@@ -194,9 +194,9 @@ calls-one view value exits more ends o p one among among' (call_thrown x s m) (c
     let e : Throw x ≡ Throw y = one-same ends (Throw x) (Throw y) one among.among among'.among in
     let same : x ≡ y = cc in rw same (same_thrown y s t agree)
 calls-one view value exits more ends o p one among among' (call_stop stop s) h agree =
-    first_call_stops stop s p (agree-begins view s (state_after p) agree)
+    first_call_stops stop s p (agree-prefix view s (state_after p) agree)
 calls-one view value exits more ends o p one among among' h (call_stop stop t) agree =
-    second_call_stops o stop t (agree-begins view t (state_after o) (agree-back view (state_after o) t agree))
+    second_call_stops o stop t (agree-prefix view t (state_after o) (agree-back view (state_after o) t agree))
 
 -- where no exception is declared, a body that ends as it may has one end only
 no_throws-one : (callee : ProcedureEntry) (ends : List Exit) → any_of callee.throws ≡ false →
@@ -270,7 +270,7 @@ several-demands : (h : PrincipalHierarchy) (labelling : Labelling) (scope : Scop
 several-demands h labelling scope ends x more fits = rw more at fits
 
 module _ {h : PrincipalHierarchy} {labelling : Labelling} (reader : Reader h labelling) (scope : Scope) (ends : List Exit)
-    (declared : list_all (may_end (here scope)) ends ≡ true) (x : ExitLabels) (fits : Fits h labelling (end_demands scope ends x)) (back : State → State)
+    (declared : list_all (may_end (here scope)) ends ≡ true) (x : ExitLabels) (fits : Fits h labelling (end_demands scope ends x)) (back : SourceState → SourceState)
     (value : Bool) where
   normal-unread : one_end (map as_one_end ends) ≡ false → (exit : Exit) → has_end ends exit ≡ true →
       reader.reads (x Normal ++ x Return) ≡ false → reader.reads (declared_label scope.program scope.number Normal) ≡ false
@@ -295,7 +295,7 @@ module _ {h : PrincipalHierarchy} {labelling : Labelling} (reader : Reader h lab
       call_end r (back t) (normal-unread more Return among.among (unread-right reader (x Normal) (x Return) m)) none
   hidden-leaving o more among (hidden_stop stop t) = call_stop stop (back t)
 
-after-leaving : (back : State → State) (o : Outcome) → state_after (leaving back o) ≡ back (state_after o)
+after-leaving : (back : SourceState → SourceState) (o : Outcome) → state_after (leaving back o) ≡ back (state_after o)
 after-leaving back (Ended Normal r s) = refl
 after-leaving back (Ended Return r s) = refl
 after-leaving back (Ended Break r s) = refl
@@ -303,14 +303,14 @@ after-leaving back (Ended Continue r s) = refl
 after-leaving back (Ended (Throw x) r s) = refl
 after-leaving back (Stopped stop s) = refl
 
-begins-outside : (inner outer : View) (xs ys : List Pair) → ((zs : List Pair) → shown inner zs ≡ shown outer zs) →
+prefix-outside : (inner outer : View) (xs ys : List Pair) → ((zs : List Pair) → shown inner zs ≡ shown outer zs) →
     IsPrefix (shown inner xs) (shown inner ys) → IsPrefix (shown outer xs) (shown outer ys)
-begins-outside inner outer xs ys same h = (h.0, ap (λ l. l ++ h.0) (sym (same xs)) ∙ h.1 ∙ same ys)
+prefix-outside inner outer xs ys same h = (h.0, ap (λ l. l ++ h.0) (sym (same xs)) ∙ h.1 ∙ same ys)
 
 -- one run of a body of which nothing is seen, for the caller
 pub kept-leaving : (callee : ProcedureEntry) (ends : List Exit) (inner outer : View) (value : Bool) (exits : Exit →
-    Bool) (s u : State) (o : Outcome) → list_all (may_end callee) ends ≡ true →
-    ((t' : State) → AgreeFor inner u t' → AgreeFor outer s (home s t')) → Among ends o → Kept inner value exits u o →
+    Bool) (s u : SourceState) (o : Outcome) → list_all (may_end callee) ends ≡ true →
+    ((t' : SourceState) → AgreeFor inner u t' → AgreeFor outer s (home s t')) → Among ends o → Kept inner value exits u o →
     KeptCall outer value unread_exits s (leaving (home s) o)
 kept-leaving callee ends inner outer value exits s u o declared back among h = record {
   agree = rw (after-leaving (home s) o) (back (state_after o) h.agree);
@@ -318,7 +318,7 @@ kept-leaving callee ends inner outer value exits s u o declared back among h = r
 }
 
 -- two runs of a body, seen by the caller
-pub related-leaving : {h : PrincipalHierarchy} {labelling : Labelling} (reader : Reader h labelling) (scope : Scope) (ends : List Exit) (x : ExitLabels) (inner outer : View) (value : Bool) (s t : State) (o p : Outcome) → list_all (may_end (here scope)) ends ≡ true → Fits h labelling (end_demands scope ends x) → ((s' t' : State) → AgreeFor inner s' t' → AgreeFor outer (home s s') (home t t')) → ((xs : List Pair) → shown inner xs ≡ shown outer xs) → Among ends o → Among ends p → Related inner value (read_exits reader x) o p → RelatedCall outer value (read_exits reader (declared_label scope.program scope.number)) (leaving (home s) o) (leaving (home t) p)
+pub related-leaving : {h : PrincipalHierarchy} {labelling : Labelling} (reader : Reader h labelling) (scope : Scope) (ends : List Exit) (x : ExitLabels) (inner outer : View) (value : Bool) (s t : SourceState) (o p : Outcome) → list_all (may_end (here scope)) ends ≡ true → Fits h labelling (end_demands scope ends x) → ((s' t' : SourceState) → AgreeFor inner s' t' → AgreeFor outer (home s s') (home t t')) → ((xs : List Pair) → shown inner xs ≡ shown outer xs) → Among ends o → Among ends p → Related inner value (read_exits reader x) o p → RelatedCall outer value (read_exits reader (declared_label scope.program scope.number)) (leaving (home s) o) (leaving (home t) p)
 related-leaving reader scope ends x inner outer value s t o p declared fits back same_shown among among' (same_end Normal u w h) =
     same_call None None (home s u) (home t w) (back u w h) (λ e. refl)
 related-leaving reader scope ends x inner outer value s t o p declared fits back same_shown among among' (same_end Return u w h) =
@@ -349,7 +349,7 @@ related-leaving reader scope ends x inner outer value s t o p declared fits back
         (hidden-leaving reader scope ends declared x fits (home t) value p e among' i) agree
 related-leaving reader scope ends x inner outer value s t o p declared fits back same_shown among among' (first_stops stop u _ h) =
     first_call_stops stop (home s u) (leaving (home t) p) (rw (after-leaving (home t) p)
-    (begins-outside inner outer u.sent (state_after p).sent same_shown h))
+    (prefix-outside inner outer u.sent (state_after p).sent same_shown h))
 related-leaving reader scope ends x inner outer value s t o p declared fits back same_shown among among' (second_stops _ stop u h) =
     second_call_stops (leaving (home s) o) stop (home t u) (rw (after-leaving (home s) o)
-    (begins-outside inner outer u.sent (state_after o).sent same_shown h))
+    (prefix-outside inner outer u.sent (state_after o).sent same_shown h))

@@ -5,14 +5,14 @@ use Rattle.std.proofs.lemmas.Bool.{or_cases}
 use Rattle.principals.specs.ActsFor.{PrincipalHierarchy}
 use Rattle.resolved.specs.declared.statement.Exit.{Exit}
 use Rattle.resolved.specs.declared.statement.Exit.TheVariants.{Return}
-use Rattle.resolved.specs.State.{State}
+use Rattle.resolved.specs.SourceState.{SourceState}
 use Rattle.resolved.specs.Meaning.{Outcome, state_after}
 use Rattle.resolved.specs.Ends.{same_exit, has_end, one_end}
 use Rattle.resolved.specs.Labelled.{ExitLabels, at_ends, Labelling, Join, one}
 use Rattle.isolation.proofs.Among.{Among, same-exit, all-has}
 use Rattle.isolation.proofs.Observer.{Reader, View, AgreeFor, agree-back}
 use Rattle.isolation.proofs.Kept.{Hidden, hidden_end, hidden_return, hidden_stop, Kept}
-use Rattle.isolation.proofs.Related.{Related, same_end, same_return, apart, first_stops, second_stops, agree-begins}
+use Rattle.isolation.proofs.Related.{Related, same_end, same_return, apart, first_stops, second_stops, agree-prefix}
 
 -- which labels an observer reads
 abbrev pub read_exits : {h : PrincipalHierarchy} {labelling : Labelling} → Reader h labelling → ExitLabels → Exit → Bool
@@ -45,7 +45,7 @@ hidden-closed reader value ends pc exits o single among (hidden_return r t m non
     hidden_return r t (closed-unread reader ends pc exits Return single among.among m) none
 hidden-closed reader value ends pc exits o single among (hidden_stop stop t) = hidden_stop stop t
 
-pub kept-closed : {h : PrincipalHierarchy} {labelling : Labelling} (reader : Reader h labelling) (view : View) (value : Bool) (ends : List Exit) (pc : Join) (exits : ExitLabels) (s : State) (o : Outcome) → reader.reads pc ≡ false → Among ends o → Kept view value (read_exits reader exits) s o → Kept view value (read_exits reader (at_ends ends pc exits)) s o
+pub kept-closed : {h : PrincipalHierarchy} {labelling : Labelling} (reader : Reader h labelling) (view : View) (value : Bool) (ends : List Exit) (pc : Join) (exits : ExitLabels) (s : SourceState) (o : Outcome) → reader.reads pc ≡ false → Among ends o → Kept view value (read_exits reader exits) s o → Kept view value (read_exits reader (at_ends ends pc exits)) s o
 kept-closed reader view value ends pc exits s o unread among h =
     record { agree = h.agree; hidden = hidden-closed reader value ends pc exits o (λ one. unread) among h.hidden }
 
@@ -62,9 +62,9 @@ related-one view value exits more ends o p one among among' (hidden_return r s m
 related-one view value exits more ends o p one among among' (hidden_return r s m none) (hidden_return q t m' none') agree =
     same_return r q s t agree (λ e. none e ∙ sym (none' e))
 related-one view value exits more ends o p one among among' (hidden_stop stop s) h agree =
-    first_stops stop s p (agree-begins view s (state_after p) agree)
+    first_stops stop s p (agree-prefix view s (state_after p) agree)
 related-one view value exits more ends o p one among among' h (hidden_stop stop t) agree =
-    second_stops o stop t (agree-begins view t (state_after o) (agree-back view (state_after o) t agree))
+    second_stops o stop t (agree-prefix view t (state_after o) (agree-back view (state_after o) t agree))
 
 pub related-closed : {h : PrincipalHierarchy} {labelling : Labelling} (reader : Reader h labelling) (view : View) (value : Bool) (ends : List Exit) (pc : Join) (exits : ExitLabels) (o p : Outcome) → Among ends o → Among ends p → Related view value (read_exits reader exits) o p → Related view value (read_exits reader (at_ends ends pc exits)) o p
 related-closed reader view value ends pc exits o p among among' (same_end exit s t h) = same_end exit s t h

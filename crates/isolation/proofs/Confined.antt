@@ -16,7 +16,7 @@ use Rattle.resolved.specs.declared.statement.Exit.TheVariants.{Normal, Return, B
 use Rattle.resolved.specs.Tree.{Expression, Statement, Assign, Clear, Store, Receive, Send, Call, If, While, Leave, ReturnWith, Try, Nested, Block, Empty, Then, Handlers, NoMore, Catch}
 use Rattle.resolved.specs.Program.{Program, ProcedureEntry, procedure_at}
 use Rattle.resolved.specs.Value.{Raises, truth_in, checked_index, end_exception}
-use Rattle.resolved.specs.State.{State, assigned, stored, cleared, value_of, values_of}
+use Rattle.resolved.specs.SourceState.{SourceState, assigned, stored, cleared, value_of, values_of}
 use Rattle.resolved.specs.Meaning.{Stop, Outcome, Ended, Stopped, normally, after, caught, kept_in, received, sending, returned_to, Calls, statement_meaning, block_meaning, handlers_meaning, state_after}
 use Rattle.resolved.specs.Ends.{same_exit, has_end, raises, thrown_ends, leaves_loop, handles, passes, statement_ends, block_ends, index_can_raise}
 use Rattle.resolved.specs.declared.target.Target.{Target}
@@ -57,7 +57,7 @@ pub unread-label_if : {h : PrincipalHierarchy} {labelling : Labelling} (reader :
 unread-label_if reader test label e unread = rw e unread
 
 -- what is raised is raised at q
-pub unread-raised : {h : PrincipalHierarchy} {labelling : Labelling} (reader : Reader h labelling) (s : State) (e : Expression) (q : Join) (x : ℕ) →
+pub unread-raised : {h : PrincipalHierarchy} {labelling : Labelling} (reader : Reader h labelling) (s : SourceState) (e : Expression) (q : Join) (x : ℕ) →
     value_of s e ≡ Raises x → reader.reads q ≡ false → reader.reads (raised_exits e q (Throw x)) ≡ false
 unread-raised reader s e q x f unread =
     unread-label_if reader (has_end (thrown_ends (raises e)) (Throw x)) q (thrown-among (raises e) x ((expression-raises s e).among x f)) unread
@@ -69,12 +69,12 @@ reads_result reader procedure = reader.label (result_label procedure.result)
 -- A call ends normally, perhaps with a value, or by an exception; of one of which the observer does not read the label of the end,
 -- no value is seen
 pub data HiddenCall (value : Bool) (exits : Exit → Bool) : Outcome → Type 0 where
-  call_end : (r : Option Value) (t : State) → exits Normal ≡ false → (value ≡ true → r ≡ None) →
+  call_end : (r : Option Value) (t : SourceState) → exits Normal ≡ false → (value ≡ true → r ≡ None) →
       HiddenCall value exits (Ended Normal r t)
-  call_thrown : (x : ℕ) (t : State) → exits (Throw x) ≡ false → HiddenCall value exits (Ended (Throw x) None t)
-  call_stop : (stop : Stop) (t : State) → HiddenCall value exits (Stopped stop t)
+  call_thrown : (x : ℕ) (t : SourceState) → exits (Throw x) ≡ false → HiddenCall value exits (Ended (Throw x) None t)
+  call_stop : (stop : Stop) (t : SourceState) → HiddenCall value exits (Stopped stop t)
 
-pub record KeptCall (view : View) (value : Bool) (exits : Exit → Bool) (s : State) (o : Outcome) : Type 0 where
+pub record KeptCall (view : View) (value : Bool) (exits : Exit → Bool) (s : SourceState) (o : Outcome) : Type 0 where
   pub agree : AgreeFor view s (state_after o)
   pub hidden : HiddenCall value exits o
 
@@ -85,7 +85,7 @@ unread_exits exit = false
 -- what the calls of a program do: they end as declared, and at a begin label that the observer does not read nothing is seen
 pub record Confines {h : PrincipalHierarchy} {labelling : Labelling} (reader : Reader h labelling) (scope : Scope) (calls : Calls) : Type 0 where
   pub among : CallsAmong scope.program calls
-  pub kept : (f : ℕ) (vs : List Value) (s : State) → reader.reads (one (label_of scope.program (ToBegin f))) ≡ false →
+  pub kept : (f : ℕ) (vs : List Value) (s : SourceState) → reader.reads (one (label_of scope.program (ToBegin f))) ≡ false →
       KeptCall (view_of reader scope) (reads_result reader (procedure_at scope.program f)) unread_exits s (calls f vs s)
 
 -- the value of such a call goes to a target that the observer does not read
@@ -110,13 +110,13 @@ unread-target reader scope at rule left None fits unread x e = absurd (cc)
 unread-target reader scope at rule left (Some y) fits unread x e =
     let same : y ≡ x = cc in rw (← same) (unread-demand reader scope.program at rule left (ToVariable scope.number y) fits unread)
 
-kept-kept_in : (view : View) (target : Option Variable) (v : Value) (s : State) →
+kept-kept_in : (view : View) (target : Option Variable) (v : Value) (s : SourceState) →
     ((x : Variable) → target ≡ Some x → view.variable x ≡ false) → AgreeFor view s (kept_in target v s)
 kept-kept_in view None v s unread = agree-itself view s
 kept-kept_in view (Some x) v s unread = agree-unread view s x (v ∷ []) (unread x refl)
 
 kept-received : (view : View) (value : Bool) (exits : Exit →
-    Bool) (channel : ℕ) (target : Option Variable) (s : State) (numbers : List ℤ) → ((exit : Exit) → exits exit ≡ false) →
+    Bool) (channel : ℕ) (target : Option Variable) (s : SourceState) (numbers : List ℤ) → ((exit : Exit) → exits exit ≡ false) →
     view.channel channel ≡ false → ((x : Variable) → target ≡ Some x → view.variable x ≡ false) →
     Kept view value exits s (received numbers channel target s)
 kept-received view value exits channel target s [] unread unread_channel unread_target = kept-end view value exits s (Throw end_exception)
@@ -183,7 +183,7 @@ loop-read reader raised b x = record {
     leaving (Throw y) e m = unread-right reader (raised (Throw y)) (x (Throw y)) m
 
 -- one handler and those after it
-kept-handler : (view : View) (value : Bool) (more : Exit → Bool) (exception handled : ℕ) (s : State) (x y : Outcome) →
+kept-handler : (view : View) (value : Bool) (more : Exit → Bool) (exception handled : ℕ) (s : SourceState) (x y : Outcome) →
     (exception ≡ handled → Kept view value more s x) → ((exception == handled) ≡ false → Kept view value more s y) →
     Kept view value more s (if exception == handled then x else y)
 kept-handler view value more exception handled s x y h i = go (exception == handled) refl
@@ -205,7 +205,7 @@ unread-call reader program f q unread (Throw x) = unread-left reader q (one (lab
 module _ (h : PrincipalHierarchy) (labelling : Labelling) (reader : Reader h labelling) (scope : Scope) (calls : Calls) (k : ℕ) (confines : Confines reader scope calls) where
   mutual
     pub statement-kept : (statement : Statement) (pc : Join) → Fits h labelling (statement_demands scope pc statement) →
-        reader.reads (own_label scope pc statement) ≡ false → (s : State) →
+        reader.reads (own_label scope pc statement) ≡ false → (s : SourceState) →
         Kept (view_of reader scope) (reads_result reader (here scope)) (read_exits reader (statement_rule scope pc statement)) s
         (statement_meaning calls k statement s)
     statement-kept (Assign at x e) pc fits unread s =
@@ -359,7 +359,7 @@ module _ (h : PrincipalHierarchy) (labelling : Labelling) (reader : Reader h lab
         (block-among block scope.program calls k confines.among s)
         (block-kept block pc fits unread s)
 
-    pub block-kept : (block : Block) (pc : Join) → Fits h labelling (block_demands scope pc block) → reader.reads pc ≡ false → (s : State) →
+    pub block-kept : (block : Block) (pc : Join) → Fits h labelling (block_demands scope pc block) → reader.reads pc ≡ false → (s : SourceState) →
         Kept (view_of reader scope) (reads_result reader (here scope)) (read_exits reader (block_rule scope pc block)) s
         (block_meaning calls k block s)
     block-kept Empty pc fits unread s = kept-end (view_of reader scope) (reads_result reader (here scope))
@@ -384,7 +384,7 @@ module _ (h : PrincipalHierarchy) (labelling : Labelling) (reader : Reader h lab
         (λ exit n. unread-right reader (label_if (not (same_exit Normal exit)) (x exit)) (block_rule scope (x Normal) rest exit) n)))
 
     pub handlers-kept : (handlers : Handlers) (x : ExitLabels) → Fits h labelling (handlers_demands scope x handlers) →
-        (exception : ℕ) (s : State) → reader.reads (x (Throw exception)) ≡ false → (more : Exit → Bool) →
+        (exception : ℕ) (s : SourceState) → reader.reads (x (Throw exception)) ≡ false → (more : Exit → Bool) →
         ((exit : Exit) → reader.reads (handlers_rule scope x handlers exit) ≡ false → more exit ≡ false) →
         (handles handlers exception ≡ false → more (Throw exception) ≡ false) →
         Kept (view_of reader scope) (reads_result reader (here scope)) more s (handlers_meaning calls k handlers exception s)

@@ -12,14 +12,14 @@ use Rattle.resolved.specs.declared.statement.Exit.TheVariants.{Normal, Return, B
 use Rattle.resolved.specs.Tree.{Statement, Assign, Clear, Store, Receive, Send, Call, If, While, Leave, ReturnWith, Try, Nested, Block, Empty, Then, Handlers, NoMore, Catch}
 use Rattle.resolved.specs.Program.{Program, procedure_at}
 use Rattle.resolved.specs.Value.{Evaluated, Gives, Raises, number_in, truth_in, checked_index}
-use Rattle.resolved.specs.State.{State, with_cells, assigned, stored, cleared, value_of, values_of, updated}
+use Rattle.resolved.specs.SourceState.{SourceState, with_cells, assigned, stored, cleared, value_of, values_of, updated}
 use Rattle.resolved.specs.Meaning.{Deep, OutOfTurns, Outcome, Ended, Stopped, normally, thrown, after, evaluated, looped, turns, caught, kept_in, received, sending, leaving, returned_to, Calls, statement_meaning, block_meaning, handlers_meaning, frame_of, calls_with, state_after}
 
 -- from a state on, an outcome has only sent more
-pub record Grows (s : State) (o : Outcome) : Type 0 where
+pub record Grows (s : SourceState) (o : Outcome) : Type 0 where
   pub sent : IsPrefix s.sent (state_after o).sent
 
-pub grows-after : (s : State) (o : Outcome) (next : State → Outcome) → Grows s o → ((t : State) → Grows t (next t)) →
+pub grows-after : (s : SourceState) (o : Outcome) (next : SourceState → Outcome) → Grows s o → ((t : SourceState) → Grows t (next t)) →
     Grows s (after o next)
 grows-after s (Ended Normal r t) next h rest = record { sent = prefix-through s.sent t.sent (state_after (next t)).sent h.sent (rest t).sent }
 grows-after s (Ended Return r t) next h rest = record { sent = h.sent }
@@ -28,19 +28,19 @@ grows-after s (Ended Continue r t) next h rest = record { sent = h.sent }
 grows-after s (Ended (Throw x) r t) next h rest = record { sent = h.sent }
 grows-after s (Stopped stop t) next h rest = record { sent = h.sent }
 
-pub grows-itself : (s t : State) → s.sent ≡ t.sent → (o : Outcome) → t.sent ≡ (state_after o).sent → Grows s o
+pub grows-itself : (s t : SourceState) → s.sent ≡ t.sent → (o : Outcome) → t.sent ≡ (state_after o).sent → Grows s o
 grows-itself s t e o f = record { sent = ([], append-nil s.sent ∙ e ∙ f) }
 
-pub grows-evaluated : {A : Type 0} (s : State) (e : Evaluated A) (next : A → Outcome) → ((v : A) → Grows s (next v)) →
+pub grows-evaluated : {A : Type 0} (s : SourceState) (e : Evaluated A) (next : A → Outcome) → ((v : A) → Grows s (next v)) →
     Grows s (evaluated e s next)
 grows-evaluated s (Gives v) next h = h v
 grows-evaluated s (Raises x) next h = grows-itself s s refl (thrown x s) refl
 
-pub grows-if : (s : State) (b : Bool) (x y : Outcome) → Grows s x → Grows s y → Grows s (if b then x else y)
+pub grows-if : (s : SourceState) (b : Bool) (x y : Outcome) → Grows s x → Grows s y → Grows s (if b then x else y)
 grows-if s true x y h i = h
 grows-if s false x y h i = i
 
-pub grows-looped : (s : State) (o : Outcome) (again : State → Outcome) → Grows s o → ((t : State) → Grows t (again t)) →
+pub grows-looped : (s : SourceState) (o : Outcome) (again : SourceState → Outcome) → Grows s o → ((t : SourceState) → Grows t (again t)) →
     Grows s (looped o again)
 grows-looped s (Ended Normal r t) again h rest = record { sent = prefix-through s.sent t.sent (state_after (again t)).sent h.sent (rest t).sent }
 grows-looped s (Ended Return r t) again h rest = record { sent = h.sent }
@@ -49,8 +49,8 @@ grows-looped s (Ended Continue r t) again h rest = record { sent = prefix-throug
 grows-looped s (Ended (Throw x) r t) again h rest = record { sent = h.sent }
 grows-looped s (Stopped stop t) again h rest = record { sent = h.sent }
 
-pub grows-turns : (k : ℕ) (condition : State → Evaluated Value) (body : State → Outcome) → ((t : State) → Grows t (body t)) →
-    (s : State) → Grows s (turns k condition body s)
+pub grows-turns : (k : ℕ) (condition : SourceState → Evaluated Value) (body : SourceState → Outcome) → ((t : SourceState) → Grows t (body t)) →
+    (s : SourceState) → Grows s (turns k condition body s)
 grows-turns zero condition body h s =
     grows-evaluated s (condition s) (λ v. if truth_in v then Stopped OutOfTurns s else normally s) (λ v.
     grows-if s (truth_in v) (Stopped OutOfTurns s) (normally s) (grows-itself s s refl (Stopped OutOfTurns s) refl)
@@ -61,8 +61,8 @@ grows-turns (suc k) condition body h s =
     (grows-looped s (body s) (turns k condition body) (h s) (grows-turns k condition body h))
     (grows-itself s s refl (normally s) refl))
 
-pub grows-caught : (s : State) (o : Outcome) (handle : ℕ → State → Outcome) → Grows s o →
-    ((x : ℕ) (t : State) → Grows t (handle x t)) → Grows s (caught o handle)
+pub grows-caught : (s : SourceState) (o : Outcome) (handle : ℕ → SourceState → Outcome) → Grows s o →
+    ((x : ℕ) (t : SourceState) → Grows t (handle x t)) → Grows s (caught o handle)
 grows-caught s (Ended (Throw x) r t) handle h rest = record {
   sent = prefix-through s.sent t.sent (state_after (handle x t)).sent h.sent
       (rest x t).sent;
@@ -73,22 +73,22 @@ grows-caught s (Ended Break r t) handle h rest = record { sent = h.sent }
 grows-caught s (Ended Continue r t) handle h rest = record { sent = h.sent }
 grows-caught s (Stopped stop t) handle h rest = record { sent = h.sent }
 
-sent-with_cells : (s : State) (x : Variable) (values : List Value) → s.sent ≡ (with_cells s x values).sent
+sent-with_cells : (s : SourceState) (x : Variable) (values : List Value) → s.sent ≡ (with_cells s x values).sent
 sent-with_cells s (Global n) values = refl
 sent-with_cells s (Local n) values = refl
 
-sent-kept_in : (target : Option Variable) (v : Value) (s : State) → s.sent ≡ (kept_in target v s).sent
+sent-kept_in : (target : Option Variable) (v : Value) (s : SourceState) → s.sent ≡ (kept_in target v s).sent
 sent-kept_in None v s = refl
 sent-kept_in (Some x) v s = sent-with_cells s x (v ∷ [])
 
-pub grows-received : (numbers : List ℤ) (channel : ℕ) (target : Option Variable) (s : State) →
+pub grows-received : (numbers : List ℤ) (channel : ℕ) (target : Option Variable) (s : SourceState) →
     Grows s (received numbers channel target s)
 grows-received [] channel target s = grows-itself s s refl (received [] channel target s) refl
 grows-received (z ∷ rest) channel target s =
     grows-itself s (record s { inputs = updated s.inputs channel rest }) refl (received (z ∷ rest) channel target s)
     (sent-kept_in target (Number z) (record s { inputs = updated s.inputs channel rest }))
 
-pub grows-leaving : (s : State) (back : State → State) (o : Outcome) → ((t : State) → t.sent ≡ (back t).sent) → Grows s o →
+pub grows-leaving : (s : SourceState) (back : SourceState → SourceState) (o : Outcome) → ((t : SourceState) → t.sent ≡ (back t).sent) → Grows s o →
     Grows s (leaving back o)
 grows-leaving s back (Ended Normal r t) e h = record { sent = (h.sent.0, h.sent.1 ∙ e t) }
 grows-leaving s back (Ended Return r t) e h = record { sent = (h.sent.0, h.sent.1 ∙ e t) }
@@ -97,7 +97,7 @@ grows-leaving s back (Ended Continue r t) e h = record { sent = (h.sent.0, h.sen
 grows-leaving s back (Ended (Throw x) r t) e h = record { sent = (h.sent.0, h.sent.1 ∙ e t) }
 grows-leaving s back (Stopped stop t) e h = record { sent = (h.sent.0, h.sent.1 ∙ e t) }
 
-pub grows-returned_to : (s : State) (target : Option Variable) (o : Outcome) → Grows s o → Grows s (returned_to target o)
+pub grows-returned_to : (s : SourceState) (target : Option Variable) (o : Outcome) → Grows s o → Grows s (returned_to target o)
 grows-returned_to s (Some x) (Ended Normal (Some v) t) h = record { sent = (h.sent.0, h.sent.1 ∙ sent-with_cells t x (v ∷ [])) }
 grows-returned_to s (Some x) (Ended Normal None t) h = record { sent = h.sent }
 grows-returned_to s (Some x) (Ended Return r t) h = record { sent = h.sent }
@@ -114,10 +114,10 @@ grows-returned_to s None (Stopped stop t) h = record { sent = h.sent }
 
 -- calls only send more
 abbrev pub CallsGrow : Calls → Type 0
-CallsGrow calls = (f : ℕ) (vs : List Value) (s : State) → Grows s (calls f vs s)
+CallsGrow calls = (f : ℕ) (vs : List Value) (s : SourceState) → Grows s (calls f vs s)
 
 mutual
-  pub statement-grows : (statement : Statement) (calls : Calls) (k : ℕ) → CallsGrow calls → (s : State) →
+  pub statement-grows : (statement : Statement) (calls : Calls) (k : ℕ) → CallsGrow calls → (s : SourceState) →
       Grows s (statement_meaning calls k statement s)
   statement-grows (Assign at x e) calls k h s =
       grows-evaluated s (value_of s e) (λ v. normally (assigned s x v))
@@ -149,14 +149,14 @@ mutual
       (handlers-grow handlers calls k h)
   statement-grows (Nested at block) calls k h s = block-grows block calls k h s
 
-  pub block-grows : (block : Block) (calls : Calls) (k : ℕ) → CallsGrow calls → (s : State) →
+  pub block-grows : (block : Block) (calls : Calls) (k : ℕ) → CallsGrow calls → (s : SourceState) →
       Grows s (block_meaning calls k block s)
   block-grows Empty calls k h s = grows-itself s s refl (normally s) refl
   block-grows (Then statement rest) calls k h s =
       grows-after s (statement_meaning calls k statement s) (block_meaning calls k rest) (statement-grows statement calls k h s)
       (block-grows rest calls k h)
 
-  pub handlers-grow : (handlers : Handlers) (calls : Calls) (k : ℕ) → CallsGrow calls → (x : ℕ) (s : State) →
+  pub handlers-grow : (handlers : Handlers) (calls : Calls) (k : ℕ) → CallsGrow calls → (x : ℕ) (s : SourceState) →
       Grows s (handlers_meaning calls k handlers x s)
   handlers-grow NoMore calls k h x s = grows-itself s s refl (thrown x s) refl
   handlers-grow (Catch at handled body rest) calls k h x s =
@@ -166,7 +166,7 @@ mutual
 pub calls-grow : (program : Program) (k frames : ℕ) → CallsGrow (calls_with program k frames)
 calls-grow program k zero f vs s = grows-itself s s refl (Stopped Deep s) refl
 calls-grow program k (suc frames) f vs s =
-    let inner : State = record s { locals = frame_of (procedure_at program f).slots vs } in
+    let inner : SourceState = record s { locals = frame_of (procedure_at program f).slots vs } in
     grows-leaving s (λ t. record t { locals = s.locals })
     (block_meaning (calls_with program k frames) k (procedure_at program f).body inner)
     (λ t. refl)

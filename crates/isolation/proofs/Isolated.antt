@@ -12,7 +12,7 @@ use Rattle.resolved.specs.declared.tables.Direction.{Direction}
 use Rattle.resolved.specs.declared.tables.Direction.TheVariants.{Input, Output}
 use Rattle.resolved.specs.Tree.{Empty}
 use Rattle.resolved.specs.Program.{Program, ChannelEntry, ProcedureEntry, procedure_at, channel_at, slot_at}
-use Rattle.resolved.specs.State.{State, World, cells}
+use Rattle.resolved.specs.SourceState.{SourceState, World, cells}
 use Rattle.resolved.specs.Meaning.{Deep, Outcome, leaving, Stopped, entering, slot_cells, block_meaning, calls_with, first_state, channel_numbers, numbers_by, run_within, state_after}
 use Rattle.resolved.specs.Ends.{block_ends}
 use Rattle.resolved.specs.declared.target.Target.TheVariants.{ToBegin}
@@ -21,7 +21,7 @@ use Rattle.labels.specs.Constraints.{Written}
 use Rattle.isolation.proofs.Grows.{calls-grow}
 use Rattle.isolation.proofs.Among.{EndsAsDeclared, calls-among, block-among}
 use Rattle.isolation.proofs.Observer.{LabelReader, under, View, view_of, shown, AgreeFor, agree-itself}
-use Rattle.isolation.proofs.Related.{agree-begins}
+use Rattle.isolation.proofs.Related.{agree-prefix}
 use Rattle.isolation.proofs.Closed.{read_exits, related-closed}
 use Rattle.isolation.proofs.Confined.{Confines, call_stop, reads_result, fits-left, fits-right, block-kept}
 use Rattle.isolation.proofs.Calls.{RelatedCall, same_call, same_thrown, apart_calls, first_call_stops, second_call_stops, declared_label, home, agree-home, declared-under, related_call-weaker, kept-leaving, related-leaving}
@@ -73,7 +73,7 @@ procedure-fits program labelling fits f = go (nat_lt f (length program.procedure
         } = absent program.procedures f _ (grind (arith, e)) in rw none refl
 
 -- the cells of new frames, of which those are the same that the observer reads
-agree-entering : {h : PrincipalHierarchy} (reader : LabelReader h) (program : Program) (caller callee : ℕ) (labels inner : Labelling) (vs ws : List Value) (s t : State) → AgreeFor (view_of (under reader labels) (record { program = program; number = caller })) s t → ParametersAlike (under reader labels) program callee vs ws → AgreeFor (view_of (under reader inner) (record { program = program; number = callee })) (entering (procedure_at program callee) vs s) (entering (procedure_at program callee) ws t)
+agree-entering : {h : PrincipalHierarchy} (reader : LabelReader h) (program : Program) (caller callee : ℕ) (labels inner : Labelling) (vs ws : List Value) (s t : SourceState) → AgreeFor (view_of (under reader labels) (record { program = program; number = caller })) s t → ParametersAlike (under reader labels) program callee vs ws → AgreeFor (view_of (under reader inner) (record { program = program; number = callee })) (entering (procedure_at program callee) vs s) (entering (procedure_at program callee) ws t)
 agree-entering reader program caller callee labels inner vs ws s t agree same = record {
   variables = variables;
   inputs = agree.inputs;
@@ -92,7 +92,7 @@ agree-entering reader program caller callee labels inner vs ws s t agree same = 
         (same n (parameter (slot_at (procedure_at program callee) n).written n e))
 
 -- what is the same for the observer after the body of a procedure is the same for the caller
-agree-kept_home : {h : PrincipalHierarchy} (reader : LabelReader h) (program : Program) (caller callee : ℕ) (labels inner : Labelling) (vs : List Value) (s t : State) → AgreeFor (view_of (under reader inner) (record { program = program; number = callee })) (entering (procedure_at program callee) vs s) t → AgreeFor (view_of (under reader labels) (record { program = program; number = caller })) s (home s t)
+agree-kept_home : {h : PrincipalHierarchy} (reader : LabelReader h) (program : Program) (caller callee : ℕ) (labels inner : Labelling) (vs : List Value) (s t : SourceState) → AgreeFor (view_of (under reader inner) (record { program = program; number = callee })) (entering (procedure_at program callee) vs s) t → AgreeFor (view_of (under reader labels) (record { program = program; number = caller })) s (home s t)
 agree-kept_home reader program caller callee labels inner vs s t within = record {
   variables = variables;
   inputs = within.inputs;
@@ -140,7 +140,7 @@ module _ (program : Program) (labelling : Labelling) (accepted : Accepted progra
     kept = λ f vs s unread.
         let callee : ProcedureEntry = procedure_at program f in
         let calls = calls_with program k frames in
-        let u : State = entering callee vs s in
+        let u : SourceState = entering callee vs s in
         kept-leaving callee (block_ends program callee.body) (view_of (under reader labelling) (inside f))
         (view_of (under reader labels) (record { program = program; number = caller })) (reads_result (under reader labelling) callee)
         (read_exits (under reader labelling) (block_rule (inside f) (begin f) callee.body)) s u (block_meaning calls k callee.body u) (accepted.declared f)
@@ -160,7 +160,7 @@ module _ (program : Program) (labelling : Labelling) (accepted : Accepted progra
     grows_first = calls-grow program k zero;
     grows_second = calls-grow program m zero;
     related = λ f vs ws s t agree same. first_call_stops Deep s (Stopped Deep t)
-        (agree-begins (view_of (under reader labels) (record { program = program; number = caller })) s t agree);
+        (agree-prefix (view_of (under reader labels) (record { program = program; number = caller })) s t agree);
   }
   calls-secure k m (suc frames) caller labels = record {
     first = calls-confine k (suc frames) caller labels;
@@ -175,8 +175,8 @@ module _ (program : Program) (labelling : Labelling) (accepted : Accepted progra
         let inner = view_of (under reader labelling) (inside f) in
         let outer = view_of (under reader labels) (record { program = program; number = caller }) in
         let value = reads_result (under reader labelling) callee in
-        let u : State = entering callee vs s in
-        let w : State = entering callee ws t in
+        let u : SourceState = entering callee vs s in
+        let w : SourceState = entering callee ws t in
         let o : Outcome = block_meaning calls k callee.body u in
         let p : Outcome = block_meaning further m callee.body w in
         let among = block-among callee.body program calls k (calls-among program k frames accepted.declared) u in
@@ -208,14 +208,14 @@ numbers-alike (channel ∷ rest) none (suc n) first second same =
     numbers-alike rest none n first second (λ h e. same (omega (arith, h)) e)
 
 -- what an observer sees of calls of which one is stopped, or which end in the same way, or at labels that it does not read
-related_call-begins : (view : View) (value : Bool) (exits : Exit → Bool) (o p : Outcome) → RelatedCall view value exits o p →
+related_call-prefix : (view : View) (value : Bool) (exits : Exit → Bool) (o p : Outcome) → RelatedCall view value exits o p →
     IsPrefix (shown view (state_after o).sent) (shown view (state_after p).sent) ⊎ IsPrefix (shown view (state_after p).sent)
     (shown view (state_after o).sent)
-related_call-begins view value exits o p (same_call r q s t h i) = inl (agree-begins view s t h)
-related_call-begins view value exits o p (same_thrown x s t h) = inl (agree-begins view s t h)
-related_call-begins view value exits o p (apart_calls _ _ h i j) = inl (agree-begins view (state_after o) (state_after p) j)
-related_call-begins view value exits o p (first_call_stops stop s _ h) = inl h
-related_call-begins view value exits o p (second_call_stops _ stop t h) = inr h
+related_call-prefix view value exits o p (same_call r q s t h i) = inl (agree-prefix view s t h)
+related_call-prefix view value exits o p (same_thrown x s t h) = inl (agree-prefix view s t h)
+related_call-prefix view value exits o p (apart_calls _ _ h i j) = inl (agree-prefix view (state_after o) (state_after p) j)
+related_call-prefix view value exits o p (first_call_stops stop s _ h) = inl h
+related_call-prefix view value exits o p (second_call_stops _ stop t h) = inr h
 
 module _ (program : Program) (labelling : Labelling) (accepted : Accepted program labelling) (reader : LabelReader program.hierarchy) where
   -- what it reads, whatever the procedure
@@ -238,15 +238,15 @@ module _ (program : Program) (labelling : Labelling) (accepted : Accepted progra
       variables (Local n) e = refl
 
   -- two runs on worlds in which the inputs that the observer reads are the same
-  pub runs-begin : (first second : World) → ((n : ℕ) → n < length program.channels → (channel_at program n).direction ≡ Input →
+  pub runs-prefix : (first second : World) → ((n : ℕ) → n < length program.channels → (channel_at program n).direction ≡ Input →
       reader.reads (channel_label program n) ≡ true → first n ≡ second n) → (frames k m : ℕ) →
       IsPrefix (shown outside (state_after (run_within frames program first k)).sent)
       (shown outside (state_after (run_within frames program second m)).sent) ⊎ IsPrefix
       (shown outside (state_after (run_within frames program second m)).sent)
       (shown outside (state_after (run_within frames program first k)).sent)
-  runs-begin first second same frames k m =
+  runs-prefix first second same frames k m =
       let callee : ProcedureEntry = procedure_at program program.main in
-      related_call-begins outside (reads_result (under reader labelling) callee) (read_exits (under reader labelling) (declared_label program program.main))
+      related_call-prefix outside (reads_result (under reader labelling) callee) (read_exits (under reader labelling) (declared_label program program.main))
       (run_within frames program first k) (run_within frames program second m)
       ((calls-secure program labelling accepted reader k m frames program.main labelling).related program.main [] []
       (first_state program first) (first_state program second)

@@ -6,7 +6,7 @@ use Rattle.resolved.specs.declared.statement.Exit.{Exit}
 use Rattle.resolved.specs.declared.statement.Exit.TheVariants.{Normal, Return, Break, Continue, Throw}
 use Rattle.resolved.specs.Tree.{Handlers}
 use Rattle.resolved.specs.Value.{Evaluated, Gives, Raises, truth_in}
-use Rattle.resolved.specs.State.{State}
+use Rattle.resolved.specs.SourceState.{SourceState}
 use Rattle.resolved.specs.Meaning.{Stop, OutOfTurns, Outcome, Ended, Stopped, normally, after, evaluated, looped, turns, caught, state_after}
 use Rattle.resolved.specs.Ends.{same_exit, leaves_loop, passes}
 use Rattle.isolation.proofs.Observer.{View, AgreeFor, agree-itself, agree-through}
@@ -14,13 +14,13 @@ use Rattle.isolation.proofs.Observer.{View, AgreeFor, agree-itself, agree-throug
 -- An outcome of which the observer does not read the label, where `exits` says which labels of ways out it reads, and `value`
 -- whether it reads that of a returned value: then none was returned. Only a return gives a value
 pub data Hidden (value : Bool) (exits : Exit → Bool) : Outcome → Type 0 where
-  hidden_end : (exit : Exit) (t : State) → exits exit ≡ false → Hidden value exits (Ended exit None t)
-  hidden_return : (r : Option Value) (t : State) → exits Return ≡ false → (value ≡ true → r ≡ None) →
+  hidden_end : (exit : Exit) (t : SourceState) → exits exit ≡ false → Hidden value exits (Ended exit None t)
+  hidden_return : (r : Option Value) (t : SourceState) → exits Return ≡ false → (value ≡ true → r ≡ None) →
       Hidden value exits (Ended Return r t)
-  hidden_stop : (stop : Stop) (t : State) → Hidden value exits (Stopped stop t)
+  hidden_stop : (stop : Stop) (t : SourceState) → Hidden value exits (Stopped stop t)
 
 -- such an outcome whose state is the same for the observer as the one before
-pub record Kept (view : View) (value : Bool) (exits : Exit → Bool) (s : State) (o : Outcome) : Type 0 where
+pub record Kept (view : View) (value : Bool) (exits : Exit → Bool) (s : SourceState) (o : Outcome) : Type 0 where
   pub agree : AgreeFor view s (state_after o)
   pub hidden : Hidden value exits o
 
@@ -30,36 +30,36 @@ hidden-weaker value exits more o (hidden_end exit t m) weaker = hidden_end exit 
 hidden-weaker value exits more o (hidden_return r t m none) weaker = hidden_return r t (weaker Return m) none
 hidden-weaker value exits more o (hidden_stop stop t) weaker = hidden_stop stop t
 
-pub kept-weaker : (view : View) (value : Bool) (exits more : Exit → Bool) (s : State) (o : Outcome) → Kept view value exits s o →
+pub kept-weaker : (view : View) (value : Bool) (exits more : Exit → Bool) (s : SourceState) (o : Outcome) → Kept view value exits s o →
     ((exit : Exit) → exits exit ≡ false → more exit ≡ false) → Kept view value more s o
 kept-weaker view value exits more s o h weaker = record { agree = h.agree; hidden = hidden-weaker value exits more o h.hidden weaker }
 
-pub kept-from : (view : View) (value : Bool) (exits : Exit → Bool) (s t : State) (o : Outcome) → AgreeFor view s t →
+pub kept-from : (view : View) (value : Bool) (exits : Exit → Bool) (s t : SourceState) (o : Outcome) → AgreeFor view s t →
     Kept view value exits t o → Kept view value exits s o
 kept-from view value exits s t o h i = record { agree = agree-through view s t (state_after o) h i.agree; hidden = i.hidden }
 
-pub kept-end : (view : View) (value : Bool) (exits : Exit → Bool) (s : State) (exit : Exit) → exits exit ≡ false →
+pub kept-end : (view : View) (value : Bool) (exits : Exit → Bool) (s : SourceState) (exit : Exit) → exits exit ≡ false →
     Kept view value exits s (Ended exit None s)
 kept-end view value exits s exit m = record { agree = agree-itself view s; hidden = hidden_end exit s m }
 
-pub kept-stop : (view : View) (value : Bool) (exits : Exit → Bool) (s : State) (stop : Stop) →
+pub kept-stop : (view : View) (value : Bool) (exits : Exit → Bool) (s : SourceState) (stop : Stop) →
     Kept view value exits s (Stopped stop s)
 kept-stop view value exits s stop = record { agree = agree-itself view s; hidden = hidden_stop stop s }
 
-pub kept-evaluated : {A : Type 0} (view : View) (value : Bool) (exits : Exit → Bool) (s : State) (e : Evaluated A) (next : A →
+pub kept-evaluated : {A : Type 0} (view : View) (value : Bool) (exits : Exit → Bool) (s : SourceState) (e : Evaluated A) (next : A →
     Outcome) → ((x : ℕ) → e ≡ Raises x → exits (Throw x) ≡ false) → ((v : A) → e ≡ Gives v → Kept view value exits s (next v)) →
     Kept view value exits s (evaluated e s next)
 kept-evaluated view value exits s (Gives v) next raised rest = rest v refl
 kept-evaluated view value exits s (Raises x) next raised rest = kept-end view value exits s (Throw x) (raised x refl)
 
-pub kept-if : (view : View) (value : Bool) (exits : Exit → Bool) (s : State) (b : Bool) (x y : Outcome) →
+pub kept-if : (view : View) (value : Bool) (exits : Exit → Bool) (s : SourceState) (b : Bool) (x y : Outcome) →
     Kept view value exits s x → Kept view value exits s y → Kept view value exits s (if b then x else y)
 kept-if view value exits s true x y h i = h
 kept-if view value exits s false x y h i = i
 
-pub kept-after : (view : View) (value : Bool) (exits more : Exit → Bool) (o : Outcome) (next : State → Outcome) →
+pub kept-after : (view : View) (value : Bool) (exits more : Exit → Bool) (o : Outcome) (next : SourceState → Outcome) →
     Hidden value exits o → ((exit : Exit) → same_exit Normal exit ≡ false → exits exit ≡ false → more exit ≡ false) →
-    ((t : State) → exits Normal ≡ false → Kept view value more t (next t)) → Kept view value more (state_after o) (after o next)
+    ((t : SourceState) → exits Normal ≡ false → Kept view value more t (next t)) → Kept view value more (state_after o) (after o next)
 kept-after view value exits more o next (hidden_end Normal t m) others rest = rest t m
 kept-after view value exits more o next (hidden_end Return t m) others rest = kept-end view value more t Return (others Return refl m)
 kept-after view value exits more o next (hidden_end Break t m) others rest = kept-end view value more t Break (others Break refl m)
@@ -74,9 +74,9 @@ pub record LoopExits (body more : Exit → Bool) : Type 0 where
   pub leaving : (exit : Exit) → leaves_loop exit ≡ true → body exit ≡ false → more exit ≡ false
   pub broken : body Break ≡ false → more Normal ≡ false
 
-pub kept-looped : (view : View) (value : Bool) (body more : Exit → Bool) (o : Outcome) (again : State → Outcome) →
-    Hidden value body o → LoopExits body more → ((t : State) → body Normal ≡ false → Kept view value more t (again t)) →
-    ((t : State) → body Continue ≡ false → Kept view value more t (again t)) → Kept view value more (state_after o) (looped o again)
+pub kept-looped : (view : View) (value : Bool) (body more : Exit → Bool) (o : Outcome) (again : SourceState → Outcome) →
+    Hidden value body o → LoopExits body more → ((t : SourceState) → body Normal ≡ false → Kept view value more t (again t)) →
+    ((t : SourceState) → body Continue ≡ false → Kept view value more t (again t)) → Kept view value more (state_after o) (looped o again)
 kept-looped view value body more o again (hidden_end Normal t m) loop normal continued = normal t m
 kept-looped view value body more o again (hidden_end Return t m) loop normal continued = kept-end view value more t Return
     (loop.leaving Return refl m)
@@ -89,19 +89,19 @@ kept-looped view value body more o again (hidden_return r t m none) loop normal 
 kept-looped view value body more o again (hidden_stop stop t) loop normal continued = kept-stop view value more t stop
 
 -- one turn
-pub kept-turn_zero : (view : View) (value : Bool) (more : Exit → Bool) (condition : State → Evaluated Value) (body : State →
-    Outcome) (s : State) → ((x : ℕ) → condition s ≡ Raises x → more (Throw x) ≡ false) → more Normal ≡ false →
+pub kept-turn_zero : (view : View) (value : Bool) (more : Exit → Bool) (condition : SourceState → Evaluated Value) (body : SourceState →
+    Outcome) (s : SourceState) → ((x : ℕ) → condition s ≡ Raises x → more (Throw x) ≡ false) → more Normal ≡ false →
     Kept view value more s (turns zero condition body s)
 kept-turn_zero view value more condition body s raised over =
     kept-evaluated view value more s (condition s) (λ v. if truth_in v then Stopped OutOfTurns s else normally s) raised (λ v e.
     kept-if view value more s (truth_in v) (Stopped OutOfTurns s) (normally s) (kept-stop view value more s OutOfTurns)
     (kept-end view value more s Normal over))
 
-pub kept-turn_suc : (view : View) (value : Bool) (inner more : Exit → Bool) (k : ℕ) (condition : State →
-    Evaluated Value) (body : State → Outcome) (s : State) → ((x : ℕ) → condition s ≡ Raises x → more (Throw x) ≡ false) →
+pub kept-turn_suc : (view : View) (value : Bool) (inner more : Exit → Bool) (k : ℕ) (condition : SourceState →
+    Evaluated Value) (body : SourceState → Outcome) (s : SourceState) → ((x : ℕ) → condition s ≡ Raises x → more (Throw x) ≡ false) →
     more Normal ≡ false → LoopExits inner more → Kept view value inner s (body s) →
-    ((t : State) → inner Normal ≡ false → Kept view value more t (turns k condition body t)) →
-    ((t : State) → inner Continue ≡ false → Kept view value more t (turns k condition body t)) →
+    ((t : SourceState) → inner Normal ≡ false → Kept view value more t (turns k condition body t)) →
+    ((t : SourceState) → inner Continue ≡ false → Kept view value more t (turns k condition body t)) →
     Kept view value more s (turns (suc k) condition body s)
 kept-turn_suc view value inner more k condition body s raised over loop once normal continued =
     kept-evaluated view value more s (condition s) (λ v. if truth_in v then looped (body s) (turns k condition body) else normally s) raised (λ v e.
@@ -111,9 +111,9 @@ kept-turn_suc view value inner more k condition body s raised over loop once nor
     (kept-end view value more s Normal over))
 
 -- a loop of which nothing is seen, its condition included
-pub kept-turns : (view : View) (value : Bool) (inner more : Exit → Bool) (k : ℕ) (condition : State →
-    Evaluated Value) (body : State → Outcome) → ((t : State) (x : ℕ) → condition t ≡ Raises x → more (Throw x) ≡ false) →
-    more Normal ≡ false → LoopExits inner more → ((t : State) → Kept view value inner t (body t)) → (s : State) →
+pub kept-turns : (view : View) (value : Bool) (inner more : Exit → Bool) (k : ℕ) (condition : SourceState →
+    Evaluated Value) (body : SourceState → Outcome) → ((t : SourceState) (x : ℕ) → condition t ≡ Raises x → more (Throw x) ≡ false) →
+    more Normal ≡ false → LoopExits inner more → ((t : SourceState) → Kept view value inner t (body t)) → (s : SourceState) →
     Kept view value more s (turns k condition body s)
 kept-turns view value inner more zero condition body raised over loop each s =
     kept-turn_zero view value more condition body s (raised s) over
@@ -122,9 +122,9 @@ kept-turns view value inner more (suc k) condition body raised over loop each s 
     (λ t m. kept-turns view value inner more k condition body raised over loop each t)
     (λ t m. kept-turns view value inner more k condition body raised over loop each t)
 
-pub kept-caught : (view : View) (value : Bool) (handlers : Handlers) (inner more : Exit → Bool) (o : Outcome) (handle : ℕ → State →
+pub kept-caught : (view : View) (value : Bool) (handlers : Handlers) (inner more : Exit → Bool) (o : Outcome) (handle : ℕ → SourceState →
     Outcome) → Hidden value inner o → ((exit : Exit) → passes handlers exit ≡ true → inner exit ≡ false → more exit ≡ false) →
-    ((x : ℕ) (t : State) → inner (Throw x) ≡ false → Kept view value more t (handle x t)) →
+    ((x : ℕ) (t : SourceState) → inner (Throw x) ≡ false → Kept view value more t (handle x t)) →
     Kept view value more (state_after o) (caught o handle)
 kept-caught view value handlers inner more o handle (hidden_end Normal t m) others rest = kept-end view value more t Normal (others Normal refl m)
 kept-caught view value handlers inner more o handle (hidden_end Return t m) others rest = kept-end view value more t Return (others Return refl m)

@@ -1,7 +1,7 @@
 -- The laws of confinement and isolation for principals.
 use Rattle.std.proofs.Common.{◌≡◌, refl, sym, ◌∙◌, ℕ, Bool, true, false, [], inl, inr}
 use Rattle.labels.specs.Label.{may_read}
-use Rattle.resolved.specs.State.{State}
+use Rattle.resolved.specs.SourceState.{SourceState}
 use Rattle.principals.specs.ActsFor.{PrincipalHierarchy}
 use Rattle.resolved.specs.Program.{Program}
 use Rattle.resolved.specs.Meaning.{Outcome, Ended, Stopped, statement_meaning, calls_with, state_after, frame_limit}
@@ -16,12 +16,12 @@ use Rattle.isolation.proofs.Among.{statement-among}
 use Rattle.isolation.proofs.Declared.{ends-as-declared}
 use Rattle.isolation.proofs.Observer.{under, view_of, AgreeFor, agree-back}
 use Rattle.isolation.proofs.Kept.{Hidden, hidden_end, hidden_return, hidden_stop}
-use Rattle.isolation.proofs.Related.{Related, same_end, same_return, apart, first_stops, second_stops, agree-begins}
+use Rattle.isolation.proofs.Related.{Related, same_end, same_return, apart, first_stops, second_stops, agree-prefix}
 use Rattle.isolation.proofs.Closed.{read_exits, closed-unread, kept-closed, related-closed}
 use Rattle.isolation.proofs.Confined.{reads_result, own-unread, statement-kept}
 use Rattle.isolation.proofs.Unread.{statement-ends-unread}
 use Rattle.isolation.proofs.Secure.{statement-secure}
-use Rattle.isolation.proofs.Isolated.{Accepted, procedure-fits, calls-confine, calls-secure, runs-begin}
+use Rattle.isolation.proofs.Isolated.{Accepted, procedure-fits, calls-confine, calls-secure, runs-prefix}
 use Rattle.isolation.proofs.Readers.{principal-reader, carried-reader}
 
 abbrev labelling_of : (program : Program) → Labelled program → Labelling
@@ -56,12 +56,12 @@ confined scope labelling faults labelled p pc unread statement fits frames k s =
 
 pub isolated : (program : Program) → end_faults program ≡ [] → Labelled program → Isolated program
 isolated program faults labelled p first second agree k m =
-    runs-begin program (labelling_of program labelled) (accepted-from program faults labelled) (principal-reader program.hierarchy p) first second agree frame_limit k m
+    runs-prefix program (labelling_of program labelled) (accepted-from program faults labelled) (principal-reader program.hierarchy p) first second agree frame_limit k m
 
 pub isolated-carried : (program : Program) (whole : PrincipalHierarchy) (carry : ℕ → ℕ) → end_faults program ≡ [] →
     Labelled program → KeepsActsFor program.hierarchy whole carry → IsolatedCarried program whole carry
 isolated-carried program whole carry faults labelled keeps p first second agree k m =
-    runs-begin program (labelling_of program labelled) (accepted-from program faults labelled)
+    runs-prefix program (labelling_of program labelled) (accepted-from program faults labelled)
     (carried-reader program.hierarchy whole carry keeps p) first second agree frame_limit k m
 
 pub ends-unread : (scope : Scope) (labelling : Labelling) → PossibleEndsAreUnread scope labelling
@@ -71,11 +71,11 @@ ends-unread scope labelling p pc unread in_loop statement faults fits exit among
     (statement-ends-unread scope.program.hierarchy labelling reader scope statement pc in_loop faults fits unread exit among)
 
 -- from what is read as a test to the same for a principal, and back
-same-from : (scope : Scope) (labelling : Labelling) (p : ℕ) (s t : State) → AgreeFor (view_of (under (principal-reader scope.program.hierarchy p) labelling) scope) s t →
+same-from : (scope : Scope) (labelling : Labelling) (p : ℕ) (s t : SourceState) → AgreeFor (view_of (under (principal-reader scope.program.hierarchy p) labelling) scope) s t →
     SameFor scope labelling p s t
 same-from scope labelling p s t agree = record { variables = agree.variables; inputs = agree.inputs; sent = agree.sent }
 
-agree-from : (scope : Scope) (labelling : Labelling) (p : ℕ) (s t : State) → SameFor scope labelling p s t →
+agree-from : (scope : Scope) (labelling : Labelling) (p : ℕ) (s t : SourceState) → SameFor scope labelling p s t →
     AgreeFor (view_of (under (principal-reader scope.program.hierarchy p) labelling) scope) s t
 agree-from scope labelling p s t same = record { variables = same.variables; inputs = same.inputs; sent = same.sent }
 
@@ -109,18 +109,18 @@ apart-agree scope labelling p exits value is o q (hidden_return r s m none) (hid
 )
 apart-agree scope labelling p exits value is o q (hidden_return r s m none) (hidden_return r' t n none') agree =
     (same-from scope labelling p s t agree, λ reads. refl, λ reads. refl, λ reads. none (is ∙ reads) ∙ sym (none' (is ∙ reads)))
-apart-agree scope labelling p exits value is o q (hidden_stop stop s) (hidden_end other t n) agree = agree-begins
+apart-agree scope labelling p exits value is o q (hidden_stop stop s) (hidden_end other t n) agree = agree-prefix
     (view_of (under (principal-reader scope.program.hierarchy p) labelling) scope) s t agree
-apart-agree scope labelling p exits value is o q (hidden_stop stop s) (hidden_return r t n none) agree = agree-begins
+apart-agree scope labelling p exits value is o q (hidden_stop stop s) (hidden_return r t n none) agree = agree-prefix
     (view_of (under (principal-reader scope.program.hierarchy p) labelling) scope) s t agree
 apart-agree scope labelling p exits value is o q (hidden_end exit s m) (hidden_stop stop t) agree =
-    agree-begins (view_of (under (principal-reader scope.program.hierarchy p) labelling) scope) t s
+    agree-prefix (view_of (under (principal-reader scope.program.hierarchy p) labelling) scope) t s
     (agree-back (view_of (under (principal-reader scope.program.hierarchy p) labelling) scope) s t agree)
 apart-agree scope labelling p exits value is o q (hidden_return r s m none) (hidden_stop stop t) agree =
-    agree-begins (view_of (under (principal-reader scope.program.hierarchy p) labelling) scope) t s
+    agree-prefix (view_of (under (principal-reader scope.program.hierarchy p) labelling) scope) t s
     (agree-back (view_of (under (principal-reader scope.program.hierarchy p) labelling) scope) s t agree)
 apart-agree scope labelling p exits value is o q (hidden_stop stop s) (hidden_stop other t) agree =
-    inl (agree-begins (view_of (under (principal-reader scope.program.hierarchy p) labelling) scope) s t agree)
+    inl (agree-prefix (view_of (under (principal-reader scope.program.hierarchy p) labelling) scope) s t agree)
 
 outcomes-agree : (scope : Scope) (labelling : Labelling) (p : ℕ) (exits : ExitLabels) (o q : Outcome) →
     Related (view_of (under (principal-reader scope.program.hierarchy p) labelling) scope)
@@ -130,10 +130,10 @@ outcomes-agree scope labelling p exits o q (same_end exit s t agree) = (same-fro
 outcomes-agree scope labelling p exits o q (same_return r r' s t agree same) = (same-from scope labelling p s t agree, λ reads. refl, λ reads. refl, same)
 outcomes-agree scope labelling p exits o q (apart _ _ h i agree) =
     apart-agree scope labelling p exits (reads_result (under (principal-reader scope.program.hierarchy p) labelling) (here scope)) refl o q h i agree
-outcomes-agree scope labelling p exits o (Ended exit r t) (first_stops stop s _ begins) = begins
-outcomes-agree scope labelling p exits o (Stopped other t) (first_stops stop s _ begins) = inl begins
-outcomes-agree scope labelling p exits (Ended exit r s) q (second_stops _ stop t begins) = begins
-outcomes-agree scope labelling p exits (Stopped other s) q (second_stops _ stop t begins) = inr begins
+outcomes-agree scope labelling p exits o (Ended exit r t) (first_stops stop s _ prefix) = prefix
+outcomes-agree scope labelling p exits o (Stopped other t) (first_stops stop s _ prefix) = inl prefix
+outcomes-agree scope labelling p exits (Ended exit r s) q (second_stops _ stop t prefix) = prefix
+outcomes-agree scope labelling p exits (Stopped other s) q (second_stops _ stop t prefix) = inr prefix
 
 pub statements-agree : (scope : Scope) (labelling : Labelling) → StatementsAgree scope labelling
 statements-agree scope labelling faults labelled p pc statement fits frames k m s t same =

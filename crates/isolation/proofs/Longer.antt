@@ -8,7 +8,7 @@ use Rattle.resolved.specs.declared.statement.Exit.TheVariants.{Normal, Return, B
 use Rattle.resolved.specs.Tree.{Statement, Call, If, While, ReturnWith, Try, Nested, Block, Empty, Then, Handlers, NoMore, Catch}
 use Rattle.resolved.specs.Program.{Program, procedure_at}
 use Rattle.resolved.specs.Value.{Evaluated, Gives, Raises, truth_in}
-use Rattle.resolved.specs.State.{State, value_of, values_of}
+use Rattle.resolved.specs.SourceState.{SourceState, value_of, values_of}
 use Rattle.resolved.specs.Meaning.{Deep, OutOfTurns, Outcome, Ended, Stopped, normally, thrown, after, evaluated, looped, turns, caught, leaving, returned_to, Calls, statement_meaning, block_meaning, handlers_meaning, frame_of, calls_with, state_after}
 use Rattle.isolation.specs.Runs.{GoesOn}
 use Rattle.labels.proofs.Prefixes.{prefix-itself}
@@ -24,11 +24,11 @@ longer-itself (Stopped Deep s) = record { goes_on = refl }
 longer-itself (Stopped OutOfTurns s) = record { goes_on = prefix-itself s.sent }
 
 -- what has sent more goes on after a run that was out of turns in the same state
-longer-grown : (s : State) (more : Outcome) → Grows s more → Longer (Stopped OutOfTurns s) more
+longer-grown : (s : SourceState) (more : Outcome) → Grows s more → Longer (Stopped OutOfTurns s) more
 longer-grown s more h = record { goes_on = h.sent }
 
-longer-after : (o more : Outcome) (next further : State → Outcome) → Longer o more → ((t : State) → Longer (next t) (further t)) →
-    ((t : State) → Grows t (further t)) → Longer (after o next) (after more further)
+longer-after : (o more : Outcome) (next further : SourceState → Outcome) → Longer o more → ((t : SourceState) → Longer (next t) (further t)) →
+    ((t : SourceState) → Grows t (further t)) → Longer (after o next) (after more further)
 longer-after (Ended Normal r s) more next further h rest grows = rw h.goes_on (rest s)
 longer-after (Ended Return r s) more next further h rest grows = rw h.goes_on (longer-itself (Ended Return r s))
 longer-after (Ended Break r s) more next further h rest grows = rw h.goes_on (longer-itself (Ended Break r s))
@@ -38,8 +38,8 @@ longer-after (Stopped Deep s) more next further h rest grows = rw h.goes_on (lon
 longer-after (Stopped OutOfTurns s) more next further h rest grows =
     longer-grown s (after more further) (grows-after s more further (record { sent = h.goes_on }) grows)
 
-longer-looped : (o more : Outcome) (next further : State → Outcome) → Longer o more → ((t : State) → Longer (next t) (further t)) →
-    ((t : State) → Grows t (further t)) → Longer (looped o next) (looped more further)
+longer-looped : (o more : Outcome) (next further : SourceState → Outcome) → Longer o more → ((t : SourceState) → Longer (next t) (further t)) →
+    ((t : SourceState) → Grows t (further t)) → Longer (looped o next) (looped more further)
 longer-looped (Ended Normal r s) more next further h rest grows = rw h.goes_on (rest s)
 longer-looped (Ended Return r s) more next further h rest grows = rw h.goes_on (longer-itself (Ended Return r s))
 longer-looped (Ended Break r s) more next further h rest grows = rw h.goes_on (longer-itself (normally s))
@@ -49,8 +49,8 @@ longer-looped (Stopped Deep s) more next further h rest grows = rw h.goes_on (lo
 longer-looped (Stopped OutOfTurns s) more next further h rest grows =
     longer-grown s (looped more further) (grows-looped s more further (record { sent = h.goes_on }) grows)
 
-longer-caught : (o more : Outcome) (next further : ℕ → State → Outcome) → Longer o more →
-    ((x : ℕ) (t : State) → Longer (next x t) (further x t)) → ((x : ℕ) (t : State) → Grows t (further x t)) →
+longer-caught : (o more : Outcome) (next further : ℕ → SourceState → Outcome) → Longer o more →
+    ((x : ℕ) (t : SourceState) → Longer (next x t) (further x t)) → ((x : ℕ) (t : SourceState) → Grows t (further x t)) →
     Longer (caught o next) (caught more further)
 longer-caught (Ended (Throw x) r s) more next further h rest grows = rw h.goes_on (rest x s)
 longer-caught (Ended Normal r s) more next further h rest grows = rw h.goes_on (longer-itself (Ended Normal r s))
@@ -61,7 +61,7 @@ longer-caught (Stopped Deep s) more next further h rest grows = rw h.goes_on (lo
 longer-caught (Stopped OutOfTurns s) more next further h rest grows =
     longer-grown s (caught more further) (grows-caught s more further (record { sent = h.goes_on }) grows)
 
-longer-evaluated : {A : Type 0} (e : Evaluated A) (s : State) (next further : A → Outcome) →
+longer-evaluated : {A : Type 0} (e : Evaluated A) (s : SourceState) (next further : A → Outcome) →
     ((v : A) → Longer (next v) (further v)) → Longer (evaluated e s next) (evaluated e s further)
 longer-evaluated (Gives v) s next further h = h v
 longer-evaluated (Raises x) s next further h = longer-itself (thrown x s)
@@ -70,7 +70,7 @@ longer-if : (b : Bool) (x y x' y' : Outcome) → Longer x x' → Longer y y' →
 longer-if true x y x' y' h i = h
 longer-if false x y x' y' h i = i
 
-longer-leaving : (back : State → State) → ((t : State) → t.sent ≡ (back t).sent) → (o more : Outcome) → Longer o more →
+longer-leaving : (back : SourceState → SourceState) → ((t : SourceState) → t.sent ≡ (back t).sent) → (o more : Outcome) → Longer o more →
     Longer (leaving back o) (leaving back more)
 longer-leaving back e (Ended exit r s) more h = rw h.goes_on (longer-itself (leaving back (Ended exit r s)))
 longer-leaving back e (Stopped Deep s) more h = rw h.goes_on (longer-itself (Stopped Deep (back s)))
@@ -87,8 +87,8 @@ longer-returned_to None (Stopped OutOfTurns s) more h =
 longer-returned_to (Some x) (Stopped OutOfTurns s) more h =
     longer-grown s (returned_to (Some x) more) (grows-returned_to s (Some x) more (record { sent = h.goes_on }))
 
-longer-turns : (k m : ℕ) → k ≤ m → (condition : State → Evaluated Value) (body further : State → Outcome) →
-    ((t : State) → Longer (body t) (further t)) → ((t : State) → Grows t (further t)) → (s : State) →
+longer-turns : (k m : ℕ) → k ≤ m → (condition : SourceState → Evaluated Value) (body further : SourceState → Outcome) →
+    ((t : SourceState) → Longer (body t) (further t)) → ((t : SourceState) → Grows t (further t)) → (s : SourceState) →
     Longer (turns k condition body s) (turns m condition further s)
 longer-turns zero zero le condition body further h grows s =
     longer-itself (turns zero condition body s)
@@ -110,11 +110,11 @@ longer-turns (suc k) (suc m) le condition body further h grows s =
 
 -- calls with fewer turns and with more
 record LongerCalls (calls further : Calls) : Type 0 where
-  longer : (f : ℕ) (vs : List Value) (s : State) → Longer (calls f vs s) (further f vs s)
+  longer : (f : ℕ) (vs : List Value) (s : SourceState) → Longer (calls f vs s) (further f vs s)
   grows : CallsGrow further
 
 mutual
-  statement-longer : (statement : Statement) (calls further : Calls) (k m : ℕ) → k ≤ m → LongerCalls calls further → (s : State) →
+  statement-longer : (statement : Statement) (calls further : Calls) (k m : ℕ) → k ≤ m → LongerCalls calls further → (s : SourceState) →
       Longer (statement_meaning calls k statement s) (statement_meaning further m statement s)
   statement-longer (If at e yes_block no_block) calls further k m le h s =
       longer-evaluated (value_of s e) s (λ v. if truth_in v then block_meaning calls k yes_block s else block_meaning calls k no_block s)
@@ -139,7 +139,7 @@ mutual
       longer-itself (evaluated (value_of s e) s (λ v. Ended Return (Some v) s))
   statement-longer other calls further k m le h s = longer-itself (statement_meaning calls k other s)
 
-  block-longer : (block : Block) (calls further : Calls) (k m : ℕ) → k ≤ m → LongerCalls calls further → (s : State) →
+  block-longer : (block : Block) (calls further : Calls) (k m : ℕ) → k ≤ m → LongerCalls calls further → (s : SourceState) →
       Longer (block_meaning calls k block s) (block_meaning further m block s)
   block-longer Empty calls further k m le h s = longer-itself (normally s)
   block-longer (Then statement rest) calls further k m le h s =
@@ -148,7 +148,7 @@ mutual
       (block-grows rest further m h.grows)
 
   handlers-longer : (handlers : Handlers) (calls further : Calls) (k m : ℕ) → k ≤ m → LongerCalls calls further →
-      (x : ℕ) (s : State) → Longer (handlers_meaning calls k handlers x s) (handlers_meaning further m handlers x s)
+      (x : ℕ) (s : SourceState) → Longer (handlers_meaning calls k handlers x s) (handlers_meaning further m handlers x s)
   handlers-longer NoMore calls further k m le h x s = longer-itself (thrown x s)
   handlers-longer (Catch at handled body rest) calls further k m le h x s =
       longer-if (x == handled) (block_meaning calls k body s) (handlers_meaning calls k rest x s) (block_meaning further m body s)
@@ -163,7 +163,7 @@ calls-longer program k m le zero = record {
 }
 calls-longer program k m le (suc frames) = record {
   longer = λ f vs s.
-      let inner : State = record s { locals = frame_of (procedure_at program f).slots vs } in
+      let inner : SourceState = record s { locals = frame_of (procedure_at program f).slots vs } in
       longer-leaving (λ t. record t { locals = s.locals }) (λ t. refl)
       (block_meaning (calls_with program k frames) k (procedure_at program f).body inner)
       (block_meaning (calls_with program m frames) m (procedure_at program f).body inner)
@@ -173,12 +173,12 @@ calls-longer program k m le (suc frames) = record {
 }
 
 -- a call with more turns goes on after the same call with fewer
-pub calls-go_on : (program : Program) (k m : ℕ) → k ≤ m → (frames f : ℕ) (vs : List Value) (s : State) →
+pub calls-go_on : (program : Program) (k m : ℕ) → k ≤ m → (frames f : ℕ) (vs : List Value) (s : SourceState) →
     GoesOn (calls_with program k frames f vs s) (calls_with program m frames f vs s)
 calls-go_on program k m le frames f vs s = ((calls-longer program k m le frames).longer f vs s).goes_on
 
 -- and has sent what that had, and perhaps more
-pub begins-longer : (o more : Outcome) → GoesOn o more → IsPrefix (state_after o).sent (state_after more).sent
-begins-longer (Ended exit r s) more h = rw h (prefix-itself s.sent)
-begins-longer (Stopped Deep s) more h = rw h (prefix-itself s.sent)
-begins-longer (Stopped OutOfTurns s) more h = h
+pub prefix-longer : (o more : Outcome) → GoesOn o more → IsPrefix (state_after o).sent (state_after more).sent
+prefix-longer (Ended exit r s) more h = rw h (prefix-itself s.sent)
+prefix-longer (Stopped Deep s) more h = rw h (prefix-itself s.sent)
+prefix-longer (Stopped OutOfTurns s) more h = h

@@ -11,7 +11,7 @@ use Rattle.labels.specs.Label.{Label, flows}
 use Rattle.resolved.specs.declared.expression.Variable.{Variable}
 use Rattle.resolved.specs.declared.expression.Variable.TheVariants.{Global, Local}
 use Rattle.resolved.specs.declared.expression.Value.{Value}
-use Rattle.resolved.specs.State.{State, cells, with_cells, updated}
+use Rattle.resolved.specs.SourceState.{SourceState, cells, with_cells, updated}
 use Rattle.resolved.specs.Value.{number_in}
 use Rattle.resolved.specs.Meaning.{sending}
 use Rattle.resolved.specs.Labelled.{chosen, Scope, Join, one, Labelling, label_under, join_under, variable_label, channel_label, LabelAtom}
@@ -104,22 +104,22 @@ abbrev pub shown : View → List Pair → List Pair
 shown view sent = filter (λ (pair : Pair). view.channel pair.channel) sent
 
 -- two states that are the same for it
-pub record AgreeFor (view : View) (s t : State) : Type 0 where
+pub record AgreeFor (view : View) (s t : SourceState) : Type 0 where
   pub variables : (x : Variable) → view.variable x ≡ true → cells s x ≡ cells t x
   pub inputs : (n : ℕ) → view.channel n ≡ true → s.inputs n ≡ t.inputs n
   pub sent : shown view s.sent ≡ shown view t.sent
 
-pub agree-itself : (view : View) (s : State) → AgreeFor view s s
+pub agree-itself : (view : View) (s : SourceState) → AgreeFor view s s
 agree-itself view s = record { variables = λ x e. refl; inputs = λ n e. refl; sent = refl }
 
-pub agree-back : (view : View) (s t : State) → AgreeFor view s t → AgreeFor view t s
+pub agree-back : (view : View) (s t : SourceState) → AgreeFor view s t → AgreeFor view t s
 agree-back view s t h = record {
   variables = λ x e. sym (h.variables x e);
   inputs = λ n e. sym (h.inputs n e);
   sent = sym h.sent;
 }
 
-pub agree-through : (view : View) (s t u : State) → AgreeFor view s t → AgreeFor view t u → AgreeFor view s u
+pub agree-through : (view : View) (s t u : SourceState) → AgreeFor view s t → AgreeFor view t u → AgreeFor view s u
 agree-through view s t u h i = record {
   variables = λ x e. h.variables x e ∙ i.variables x e;
   inputs = λ n e. h.inputs n e ∙ i.inputs n e;
@@ -127,7 +127,7 @@ agree-through view s t u h i = record {
 }
 
 -- two runs that leave states alone
-pub agree-across : (view : View) (s t s' t' : State) → AgreeFor view s t → AgreeFor view s s' → AgreeFor view t t' →
+pub agree-across : (view : View) (s t s' t' : SourceState) → AgreeFor view s t → AgreeFor view s s' → AgreeFor view t t' →
     AgreeFor view s' t'
 agree-across view s t s' t' h i j =
     agree-through view s' s t' (agree-back view s s' i) (agree-through view s t t' h j)
@@ -147,7 +147,7 @@ updated-elsewhere f n a m h = go (m == n) refl
     go true e = let same : m ≡ n = grind (arith, e) in absurd (h same)
     go false e = rw e refl
 
-cells-alike : (view : View) (s t : State) (x : Variable) (vs ws : List Value) → AgreeFor view s t →
+cells-alike : (view : View) (s t : SourceState) (x : Variable) (vs ws : List Value) → AgreeFor view s t →
     (view.variable x ≡ true → vs ≡ ws) → (y : Variable) → view.variable y ≡ true →
     cells (with_cells s x vs) y ≡ cells (with_cells t x ws) y
 cells-alike view s t (Global n) vs ws h same (Global m) e =
@@ -158,7 +158,7 @@ cells-alike view s t (Global n) vs ws h same (Local m) e = h.variables (Local m)
 cells-alike view s t (Local n) vs ws h same (Global m) e = h.variables (Global m) e
 
 -- the same variable has other cells in both, the same ones if the observer reads it
-pub agree-with_cells : (view : View) (s t : State) (x : Variable) (vs ws : List Value) → AgreeFor view s t →
+pub agree-with_cells : (view : View) (s t : SourceState) (x : Variable) (vs ws : List Value) → AgreeFor view s t →
     (view.variable x ≡ true → vs ≡ ws) → AgreeFor view (with_cells s x vs) (with_cells t x ws)
 agree-with_cells view s t (Global n) vs ws h same = record {
   variables = cells-alike view s t (Global n) vs ws h same;
@@ -171,7 +171,7 @@ agree-with_cells view s t (Local n) vs ws h same = record {
   sent = h.sent;
 }
 
-cells-kept : (view : View) (s : State) (x : Variable) (vs : List Value) → view.variable x ≡ false → (y : Variable) →
+cells-kept : (view : View) (s : SourceState) (x : Variable) (vs : List Value) → view.variable x ≡ false → (y : Variable) →
     view.variable y ≡ true → cells s y ≡ cells (with_cells s x vs) y
 cells-kept view s (Global n) vs unread (Global m) e =
     updated-elsewhere s.globals n vs m (λ here. let i : true ≡ false = sym (rw (← here) e) ∙ unread in absurd (cc))
@@ -181,7 +181,7 @@ cells-kept view s (Global n) vs unread (Local m) e = refl
 cells-kept view s (Local n) vs unread (Global m) e = refl
 
 -- a variable that the observer does not read has other cells
-pub agree-unread : (view : View) (s : State) (x : Variable) (vs : List Value) → view.variable x ≡ false →
+pub agree-unread : (view : View) (s : SourceState) (x : Variable) (vs : List Value) → view.variable x ≡ false →
     AgreeFor view s (with_cells s x vs)
 agree-unread view s (Global n) vs unread = record {
   variables = cells-kept view s (Global n) vs unread;
@@ -195,10 +195,10 @@ agree-unread view s (Local n) vs unread = record {
 }
 
 -- the numbers that are left of an input
-abbrev pub with_input : State → ℕ → List ℤ → State
+abbrev pub with_input : SourceState → ℕ → List ℤ → SourceState
 with_input s channel numbers = record s { inputs = updated s.inputs channel numbers }
 
-pub agree-with_input : (view : View) (s t : State) (channel : ℕ) (numbers : List ℤ) → AgreeFor view s t →
+pub agree-with_input : (view : View) (s t : SourceState) (channel : ℕ) (numbers : List ℤ) → AgreeFor view s t →
     AgreeFor view (with_input s channel numbers) (with_input t channel numbers)
 agree-with_input view s t channel numbers h = record {
   variables = λ where_ e. same-variables view s t h channel numbers where_ e;
@@ -206,12 +206,12 @@ agree-with_input view s t channel numbers h = record {
   sent = h.sent;
 }
   where
-    same-variables : (view : View) (s t : State) → AgreeFor view s t → (channel : ℕ) (numbers : List ℤ) (x : Variable) →
+    same-variables : (view : View) (s t : SourceState) → AgreeFor view s t → (channel : ℕ) (numbers : List ℤ) (x : Variable) →
         view.variable x ≡ true → cells (with_input s channel numbers) x ≡ cells (with_input t channel numbers) x
     same-variables view s t h channel numbers (Global n) e = h.variables (Global n) e
     same-variables view s t h channel numbers (Local n) e = h.variables (Local n) e
 
-pub agree-unread_input : (view : View) (s : State) (channel : ℕ) (numbers : List ℤ) → view.channel channel ≡ false →
+pub agree-unread_input : (view : View) (s : SourceState) (channel : ℕ) (numbers : List ℤ) → view.channel channel ≡ false →
     AgreeFor view s (with_input s channel numbers)
 agree-unread_input view s channel numbers unread = record {
   variables = kept s channel numbers;
@@ -219,7 +219,7 @@ agree-unread_input view s channel numbers unread = record {
   sent = refl;
 }
   where
-    kept : (s : State) (channel : ℕ) (numbers : List ℤ) (x : Variable) → view.variable x ≡ true →
+    kept : (s : SourceState) (channel : ℕ) (numbers : List ℤ) (x : Variable) → view.variable x ≡ true →
         cells s x ≡ cells (with_input s channel numbers) x
     kept s channel numbers (Global n) e = refl
     kept s channel numbers (Local n) e = refl
@@ -238,7 +238,7 @@ shown-none : (view : View) (channel : ℕ) (v : Value) → view.channel channel 
 shown-none view channel v unread = rw unread refl
 
 -- a pair is sent in both, the same one if the observer reads its channel
-pub agree-sending : (view : View) (s t : State) (channel : ℕ) (v w : Value) → AgreeFor view s t →
+pub agree-sending : (view : View) (s t : SourceState) (channel : ℕ) (v w : Value) → AgreeFor view s t →
     (view.channel channel ≡ true → v ≡ w) → AgreeFor view (sending channel v s) (sending channel w t)
 agree-sending view s t channel v w h same = record {
   variables = variables-kept (sending channel v s) (sending channel w t);
@@ -250,12 +250,12 @@ agree-sending view s t channel v w h same = record {
       ∙ sym (filter-append (λ (pair : Pair). view.channel pair.channel) t.sent (record { channel = channel; number = number_in w } ∷ []));
 }
   where
-    variables-kept : (s' t' : State) → (x : Variable) → view.variable x ≡ true →
+    variables-kept : (s' t' : SourceState) → (x : Variable) → view.variable x ≡ true →
         cells (sending channel v s) x ≡ cells (sending channel w t) x
     variables-kept s' t' (Global n) e = h.variables (Global n) e
     variables-kept s' t' (Local n) e = h.variables (Local n) e
 
-pub agree-unread_sending : (view : View) (s : State) (channel : ℕ) (v : Value) → view.channel channel ≡ false →
+pub agree-unread_sending : (view : View) (s : SourceState) (channel : ℕ) (v : Value) → view.channel channel ≡ false →
     AgreeFor view s (sending channel v s)
 agree-unread_sending view s channel v unread = record {
   variables = variables-kept;

@@ -1,5 +1,5 @@
 -- Two runs from states that are the same for an observer: they end in the same way in such states, or it reads the label of
--- neither end; and what it sees of a run that was stopped begins what it sees of the other.
+-- neither end; and what it sees of a run that was stopped is a prefix of what it sees of the other.
 use Rattle.std.proofs.Common.{◌≡◌, refl, sym, ap, ◌∙◌, ℕ, zero, suc, Bool, true, false, List, [], ◌⊎◌, inl, inr}
 use Rattle.std.specs.Prelude.{Option, None, if◌then◌else◌}
 use Rattle.std.proofs.lemmas.List.{append-nil}
@@ -11,7 +11,7 @@ use Rattle.resolved.specs.declared.statement.Exit.{Exit}
 use Rattle.resolved.specs.declared.statement.Exit.TheVariants.{Normal, Return, Break, Continue, Throw}
 use Rattle.resolved.specs.Tree.{Handlers}
 use Rattle.resolved.specs.Value.{Evaluated, Gives, Raises, truth_in}
-use Rattle.resolved.specs.State.{State}
+use Rattle.resolved.specs.SourceState.{SourceState}
 use Rattle.resolved.specs.Meaning.{Stop, OutOfTurns, Outcome, Ended, Stopped, normally, thrown, after, evaluated, looped, turns, caught, state_after}
 use Rattle.resolved.specs.Ends.{same_exit, passes}
 use Rattle.labels.proofs.Prefixes.{prefix-through}
@@ -21,49 +21,49 @@ use Rattle.isolation.proofs.Values.{Alike, both_give, both_raise, SameIf}
 use Rattle.isolation.proofs.Kept.{Hidden, hidden-weaker, Kept, LoopExits, kept-after, kept-looped, kept-turn_zero, kept-turn_suc, kept-caught}
 
 pub data Related (view : View) (value : Bool) (exits : Exit → Bool) : Outcome → Outcome → Type 0 where
-  same_end : (exit : Exit) (s t : State) → AgreeFor view s t → Related view value exits (Ended exit None s) (Ended exit None t)
-  same_return : (r q : Option Value) (s t : State) → AgreeFor view s t → (value ≡ true → r ≡ q) →
+  same_end : (exit : Exit) (s t : SourceState) → AgreeFor view s t → Related view value exits (Ended exit None s) (Ended exit None t)
+  same_return : (r q : Option Value) (s t : SourceState) → AgreeFor view s t → (value ≡ true → r ≡ q) →
       Related view value exits (Ended Return r s) (Ended Return q t)
   apart : (o p : Outcome) → Hidden value exits o → Hidden value exits p → AgreeFor view (state_after o) (state_after p) →
       Related view value exits o p
-  first_stops : (stop : Stop) (s : State) (p : Outcome) → IsPrefix (shown view s.sent) (shown view (state_after p).sent) →
+  first_stops : (stop : Stop) (s : SourceState) (p : Outcome) → IsPrefix (shown view s.sent) (shown view (state_after p).sent) →
       Related view value exits (Stopped stop s) p
-  second_stops : (o : Outcome) (stop : Stop) (t : State) → IsPrefix (shown view t.sent) (shown view (state_after o).sent) →
+  second_stops : (o : Outcome) (stop : Stop) (t : SourceState) → IsPrefix (shown view t.sent) (shown view (state_after o).sent) →
       Related view value exits o (Stopped stop t)
 
 -- what is seen of what was sent grows with it
-pub shown-begins : (view : View) (xs ys : List Pair) → IsPrefix xs ys → IsPrefix (shown view xs) (shown view ys)
-shown-begins view xs ys h =
+pub shown-prefix : (view : View) (xs ys : List Pair) → IsPrefix xs ys → IsPrefix (shown view xs) (shown view ys)
+shown-prefix view xs ys h =
     (shown view h.0, sym (filter-append (λ (pair : Pair). view.channel pair.channel) xs h.0) ∙ ap (λ l. shown view l) h.1)
 
--- a stop begins what the other run goes on to send
-pub stopped-begins : (view : View) (s : State) (p q : Outcome) → IsPrefix (shown view s.sent) (shown view (state_after p).sent) →
+-- what was sent up to a stop is a prefix of what the other run goes on to send
+pub stopped-prefix : (view : View) (s : SourceState) (p q : Outcome) → IsPrefix (shown view s.sent) (shown view (state_after p).sent) →
     Grows (state_after p) q → IsPrefix (shown view s.sent) (shown view (state_after q).sent)
-stopped-begins view s p q h grows =
+stopped-prefix view s p q h grows =
     prefix-through (shown view s.sent) (shown view (state_after p).sent) (shown view (state_after q).sent) h
-    (shown-begins view (state_after p).sent (state_after q).sent grows.sent)
+    (shown-prefix view (state_after p).sent (state_after q).sent grows.sent)
 
-pub agree-begins : (view : View) (s t : State) → AgreeFor view s t → IsPrefix (shown view s.sent) (shown view t.sent)
-agree-begins view s t h = ([], append-nil (shown view s.sent) ∙ h.sent)
+pub agree-prefix : (view : View) (s t : SourceState) → AgreeFor view s t → IsPrefix (shown view s.sent) (shown view t.sent)
+agree-prefix view s t h = ([], append-nil (shown view s.sent) ∙ h.sent)
 
--- of two related runs the observer sees two lists of which one begins the other
-pub related-begins : (view : View) (value : Bool) (exits : Exit → Bool) (o p : Outcome) → Related view value exits o p →
+-- of two related runs the observer sees two lists of which one is a prefix of the other
+pub related-prefix : (view : View) (value : Bool) (exits : Exit → Bool) (o p : Outcome) → Related view value exits o p →
     IsPrefix (shown view (state_after o).sent) (shown view (state_after p).sent) ⊎ IsPrefix (shown view (state_after p).sent)
     (shown view (state_after o).sent)
-related-begins view value exits o p (same_end exit s t h) = inl (agree-begins view s t h)
-related-begins view value exits o p (same_return r q s t h i) = inl (agree-begins view s t h)
-related-begins view value exits o p (apart _ _ h i j) = inl (agree-begins view (state_after o) (state_after p) j)
-related-begins view value exits o p (first_stops stop s _ h) = inl h
-related-begins view value exits o p (second_stops _ stop t h) = inr h
+related-prefix view value exits o p (same_end exit s t h) = inl (agree-prefix view s t h)
+related-prefix view value exits o p (same_return r q s t h i) = inl (agree-prefix view s t h)
+related-prefix view value exits o p (apart _ _ h i j) = inl (agree-prefix view (state_after o) (state_after p) j)
+related-prefix view value exits o p (first_stops stop s _ h) = inl h
+related-prefix view value exits o p (second_stops _ stop t h) = inr h
 
 -- two runs of which nothing is seen
-pub both-kept : (view : View) (value : Bool) (exits : Exit → Bool) (s t : State) (o p : Outcome) → AgreeFor view s t →
+pub both-kept : (view : View) (value : Bool) (exits : Exit → Bool) (s t : SourceState) (o p : Outcome) → AgreeFor view s t →
     Kept view value exits s o → Kept view value exits t p → Related view value exits o p
 both-kept view value exits s t o p h i j =
     apart o p i.hidden j.hidden (agree-across view s t (state_after o) (state_after p) h i.agree j.agree)
 
 pub related-evaluated : {A B : Type 0} (P : A → B → Type 0) (view : View) (value : Bool) (exits : Exit →
-    Bool) (s t : State) (e : Evaluated A) (f : Evaluated B) (next : A → Outcome) (further : B → Outcome) → AgreeFor view s t →
+    Bool) (s t : SourceState) (e : Evaluated A) (f : Evaluated B) (next : A → Outcome) (further : B → Outcome) → AgreeFor view s t →
     Alike P e f → ((v : A) (w : B) → e ≡ Gives v → f ≡ Gives w → P v w → Related view value exits (next v) (further w)) →
     Related view value exits (evaluated e s next) (evaluated f t further)
 related-evaluated P view value exits s t e f next further agree (both_give v w h) rest = rest v w refl refl h
@@ -85,18 +85,18 @@ related-weaker view value exits more o p (first_stops stop s _ h) weaker = first
 related-weaker view value exits more o p (second_stops _ stop t h) weaker = second_stops o stop t h
 
 -- ways on from two states that are the same for the observer
-pub record WaysOn (view : View) (value : Bool) (exits : Exit → Bool) (next further : State → Outcome) : Type 0 where
-  pub related : (s t : State) → AgreeFor view s t → Related view value exits (next s) (further t)
-  pub grows_first : (s : State) → Grows s (next s)
-  pub grows_second : (s : State) → Grows s (further s)
+pub record WaysOn (view : View) (value : Bool) (exits : Exit → Bool) (next further : SourceState → Outcome) : Type 0 where
+  pub related : (s t : SourceState) → AgreeFor view s t → Related view value exits (next s) (further t)
+  pub grows_first : (s : SourceState) → Grows s (next s)
+  pub grows_second : (s : SourceState) → Grows s (further s)
 
-grown-after : (o : Outcome) (next : State → Outcome) → ((s : State) → Grows s (next s)) → Grows (state_after o) (after o next)
+grown-after : (o : Outcome) (next : SourceState → Outcome) → ((s : SourceState) → Grows s (next s)) → Grows (state_after o) (after o next)
 grown-after o next h = grows-after (state_after o) o next (grows-itself (state_after o) (state_after o) refl o refl) h
 
-pub related-after : (view : View) (value : Bool) (exits more : Exit → Bool) (o p : Outcome) (next further : State → Outcome) →
+pub related-after : (view : View) (value : Bool) (exits more : Exit → Bool) (o p : Outcome) (next further : SourceState → Outcome) →
     Related view value exits o p → ((exit : Exit) → same_exit Normal exit ≡ false → exits exit ≡ false → more exit ≡ false) →
-    (exits Normal ≡ false → (t : State) → Kept view value more t (next t)) →
-    (exits Normal ≡ false → (t : State) → Kept view value more t (further t)) → WaysOn view value more next further →
+    (exits Normal ≡ false → (t : SourceState) → Kept view value more t (next t)) →
+    (exits Normal ≡ false → (t : SourceState) → Kept view value more t (further t)) → WaysOn view value more next further →
     Related view value more (after o next) (after p further)
 related-after view value exits more o p next further (same_end Normal s t h) others first second ways = ways.related s t h
 related-after view value exits more o p next further (same_end Return s t h) others first second ways = same_end Return s t h
@@ -109,15 +109,15 @@ related-after view value exits more o p next further (apart _ _ h i j) others fi
     (kept-after view value exits more o next h others (λ t m. first m t))
     (kept-after view value exits more p further i others (λ t m. second m t))
 related-after view value exits more o p next further (first_stops stop s _ h) others first second ways =
-    first_stops stop s (after p further) (stopped-begins view s p (after p further) h (grown-after p further ways.grows_second))
+    first_stops stop s (after p further) (stopped-prefix view s p (after p further) h (grown-after p further ways.grows_second))
 related-after view value exits more o p next further (second_stops _ stop t h) others first second ways =
-    second_stops (after o next) stop t (stopped-begins view t o (after o next) h (grown-after o next ways.grows_first))
+    second_stops (after o next) stop t (stopped-prefix view t o (after o next) h (grown-after o next ways.grows_first))
 
-grown-looped : (o : Outcome) (next : State → Outcome) → ((s : State) → Grows s (next s)) → Grows (state_after o) (looped o next)
+grown-looped : (o : Outcome) (next : SourceState → Outcome) → ((s : SourceState) → Grows s (next s)) → Grows (state_after o) (looped o next)
 grown-looped o next h = grows-looped (state_after o) o next (grows-itself (state_after o) (state_after o) refl o refl) h
 
 -- the body of a loop whose label the observer reads, which cannot come back where it does not read how
-pub related-looped : (view : View) (value : Bool) (inner more : Exit → Bool) (o p : Outcome) (again further : State → Outcome) →
+pub related-looped : (view : View) (value : Bool) (inner more : Exit → Bool) (o p : Outcome) (again further : SourceState → Outcome) →
     Related view value inner o p → LoopExits inner more → (inner Normal ≡ false → ⊥) → (inner Continue ≡ false → ⊥) →
     WaysOn view value more again further → Related view value more (looped o again) (looped p further)
 related-looped view value inner more o p again further (same_end Normal s t h) loop normal continued ways = ways.related s t h
@@ -131,33 +131,33 @@ related-looped view value inner more o p again further (apart _ _ h i j) loop no
     (kept-looped view value inner more o again h loop (λ t m. absurd (normal m)) (λ t m. absurd (continued m)))
     (kept-looped view value inner more p further i loop (λ t m. absurd (normal m)) (λ t m. absurd (continued m)))
 related-looped view value inner more o p again further (first_stops stop s _ h) loop normal continued ways =
-    first_stops stop s (looped p further) (stopped-begins view s p (looped p further) h (grown-looped p further ways.grows_second))
+    first_stops stop s (looped p further) (stopped-prefix view s p (looped p further) h (grown-looped p further ways.grows_second))
 related-looped view value inner more o p again further (second_stops _ stop t h) loop normal continued ways =
-    second_stops (looped o again) stop t (stopped-begins view t o (looped o again) h (grown-looped o again ways.grows_first))
+    second_stops (looped o again) stop t (stopped-prefix view t o (looped o again) h (grown-looped o again ways.grows_first))
 
 -- a run that is out of turns
-out-first : (view : View) (value : Bool) (exits : Exit → Bool) (s t : State) (p : Outcome) → AgreeFor view s t → Grows t p →
+out-first : (view : View) (value : Bool) (exits : Exit → Bool) (s t : SourceState) (p : Outcome) → AgreeFor view s t → Grows t p →
     Related view value exits (Stopped OutOfTurns s) p
 out-first view value exits s t p h grows =
-    first_stops OutOfTurns s p (stopped-begins view s (normally t) p (agree-begins view s t h) grows)
+    first_stops OutOfTurns s p (stopped-prefix view s (normally t) p (agree-prefix view s t h) grows)
 
-out-second : (view : View) (value : Bool) (exits : Exit → Bool) (s t : State) (o : Outcome) → AgreeFor view s t → Grows s o →
+out-second : (view : View) (value : Bool) (exits : Exit → Bool) (s t : SourceState) (o : Outcome) → AgreeFor view s t → Grows s o →
     Related view value exits o (Stopped OutOfTurns t)
 out-second view value exits s t o h grows =
-    second_stops o OutOfTurns t (stopped-begins view t (normally s) o (agree-begins view t s (agree-back view s t h)) grows)
+    second_stops o OutOfTurns t (stopped-prefix view t (normally s) o (agree-prefix view t s (agree-back view s t h)) grows)
 
 -- a loop whose condition and label the observer reads
-pub record LoopRead (view : View) (value : Bool) (inner more : Exit → Bool) (condition : State → Evaluated Value)
-    (body further : State → Outcome) : Type 0 where
-  pub condition_alike : (s t : State) → AgreeFor view s t → Alike (SameIf true) (condition s) (condition t)
+pub record LoopRead (view : View) (value : Bool) (inner more : Exit → Bool) (condition : SourceState → Evaluated Value)
+    (body further : SourceState → Outcome) : Type 0 where
+  pub condition_alike : (s t : SourceState) → AgreeFor view s t → Alike (SameIf true) (condition s) (condition t)
   pub loop : LoopExits inner more
   pub normal : inner Normal ≡ false → ⊥
   pub continued : inner Continue ≡ false → ⊥
   pub ways : WaysOn view value inner body further
 
-pub related-turns : (view : View) (value : Bool) (inner more : Exit → Bool) (condition : State →
-    Evaluated Value) (body further : State → Outcome) → LoopRead view value inner more condition body further →
-    (k m : ℕ) (s t : State) → AgreeFor view s t → Related view value more (turns k condition body s) (turns m condition further t)
+pub related-turns : (view : View) (value : Bool) (inner more : Exit → Bool) (condition : SourceState →
+    Evaluated Value) (body further : SourceState → Outcome) → LoopRead view value inner more condition body further →
+    (k m : ℕ) (s t : SourceState) → AgreeFor view s t → Related view value more (turns k condition body s) (turns m condition further t)
 related-turns view value inner more condition body further h zero zero s t agree =
     related-evaluated (SameIf true) view value more s t (condition s) (condition t)
     (λ v. if truth_in v then Stopped OutOfTurns s else normally s) (λ v. if truth_in v then Stopped OutOfTurns t else normally t)
@@ -204,31 +204,31 @@ related-turns view value inner more condition body further h (suc k) (suc m) s t
 
 -- a loop whose condition the observer does not read although it reads the loop's label and whether the condition raises an
 -- exception: its body cannot come back
-pub record LoopUnread (view : View) (value : Bool) (inner more : Exit → Bool) (b : Bool) (condition : State → Evaluated Value)
-    (body : State → Outcome) : Type 0 where
+pub record LoopUnread (view : View) (value : Bool) (inner more : Exit → Bool) (b : Bool) (condition : SourceState → Evaluated Value)
+    (body : SourceState → Outcome) : Type 0 where
   pub loop : LoopExits inner more
   pub over : more Normal ≡ false
   pub normal : inner Normal ≡ false → ⊥
   pub continued : inner Continue ≡ false → ⊥
-  pub each : (t : State) → Kept view value inner t (body t)
+  pub each : (t : SourceState) → Kept view value inner t (body t)
 
-pub kept-once : (view : View) (value : Bool) (inner more : Exit → Bool) (b : Bool) (condition : State →
-    Evaluated Value) (body : State → Outcome) → LoopUnread view value inner more b condition body →
-    (k : ℕ) (s : State) (v : Value) → condition s ≡ Gives v → Kept view value more s (turns k condition body s)
+pub kept-once : (view : View) (value : Bool) (inner more : Exit → Bool) (b : Bool) (condition : SourceState →
+    Evaluated Value) (body : SourceState → Outcome) → LoopUnread view value inner more b condition body →
+    (k : ℕ) (s : SourceState) (v : Value) → condition s ≡ Gives v → Kept view value more s (turns k condition body s)
 kept-once view value inner more b condition body h zero s v e =
     kept-turn_zero view value more condition body s (λ x f. absurd (cc)) h.over
 kept-once view value inner more b condition body h (suc k) s v e =
     kept-turn_suc view value inner more k condition body s (λ x f. absurd (cc)) h.over h.loop (h.each s)
     (λ t m. absurd (h.normal m)) (λ t m. absurd (h.continued m))
 
-turns-raised : (k : ℕ) (condition : State → Evaluated Value) (body : State → Outcome) (s : State) (x : ℕ) → condition s ≡ Raises x →
+turns-raised : (k : ℕ) (condition : SourceState → Evaluated Value) (body : SourceState → Outcome) (s : SourceState) (x : ℕ) → condition s ≡ Raises x →
     turns k condition body s ≡ thrown x s
 turns-raised zero condition body s x e = rw e refl
 turns-raised (suc k) condition body s x e = rw e refl
 
-pub related-once : (view : View) (value : Bool) (inner more : Exit → Bool) (b : Bool) (condition : State →
-    Evaluated Value) (body further : State → Outcome) → LoopUnread view value inner more b condition body →
-    LoopUnread view value inner more b condition further → (k m : ℕ) (s t : State) → AgreeFor view s t →
+pub related-once : (view : View) (value : Bool) (inner more : Exit → Bool) (b : Bool) (condition : SourceState →
+    Evaluated Value) (body further : SourceState → Outcome) → LoopUnread view value inner more b condition body →
+    LoopUnread view value inner more b condition further → (k m : ℕ) (s t : SourceState) → AgreeFor view s t →
     Alike (SameIf b) (condition s) (condition t) → Related view value more (turns k condition body s) (turns m condition further t)
 related-once view value inner more b condition body further h i k m s t agree alike = go (condition s) (condition t) refl refl alike
   where
@@ -240,21 +240,21 @@ related-once view value inner more b condition body further h i k m s t agree al
     go o p e f (both_raise x) =
         rw (turns-raised k condition body s x e, turns-raised m condition further t x f) (same_end (Throw x) s t agree)
 
-grown-caught : (o : Outcome) (handle : ℕ → State → Outcome) → ((x : ℕ) (s : State) → Grows s (handle x s)) →
+grown-caught : (o : Outcome) (handle : ℕ → SourceState → Outcome) → ((x : ℕ) (s : SourceState) → Grows s (handle x s)) →
     Grows (state_after o) (caught o handle)
 grown-caught o handle h = grows-caught (state_after o) o handle (grows-itself (state_after o) (state_after o) refl o refl) h
 
 -- handlers from two states that are the same for the observer
-pub record HandlersOn (view : View) (value : Bool) (exits : Exit → Bool) (handle further : ℕ → State → Outcome) : Type 0 where
-  pub related : (x : ℕ) (s t : State) → AgreeFor view s t → Related view value exits (handle x s) (further x t)
-  pub grows_first : (x : ℕ) (s : State) → Grows s (handle x s)
-  pub grows_second : (x : ℕ) (s : State) → Grows s (further x s)
+pub record HandlersOn (view : View) (value : Bool) (exits : Exit → Bool) (handle further : ℕ → SourceState → Outcome) : Type 0 where
+  pub related : (x : ℕ) (s t : SourceState) → AgreeFor view s t → Related view value exits (handle x s) (further x t)
+  pub grows_first : (x : ℕ) (s : SourceState) → Grows s (handle x s)
+  pub grows_second : (x : ℕ) (s : SourceState) → Grows s (further x s)
 
 pub related-caught : (view : View) (value : Bool) (handlers : Handlers) (inner more : Exit →
-    Bool) (o p : Outcome) (handle further : ℕ → State → Outcome) → Related view value inner o p →
+    Bool) (o p : Outcome) (handle further : ℕ → SourceState → Outcome) → Related view value inner o p →
     ((exit : Exit) → passes handlers exit ≡ true → inner exit ≡ false → more exit ≡ false) →
-    ((x : ℕ) (t : State) → inner (Throw x) ≡ false → Kept view value more t (handle x t)) →
-    ((x : ℕ) (t : State) → inner (Throw x) ≡ false → Kept view value more t (further x t)) →
+    ((x : ℕ) (t : SourceState) → inner (Throw x) ≡ false → Kept view value more t (handle x t)) →
+    ((x : ℕ) (t : SourceState) → inner (Throw x) ≡ false → Kept view value more t (further x t)) →
     HandlersOn view value more handle further → Related view value more (caught o handle) (caught p further)
 related-caught view value handlers inner more o p handle further (same_end Normal s t h) others first second ways = same_end Normal s t h
 related-caught view value handlers inner more o p handle further (same_end Return s t h) others first second ways = same_end Return s t h
@@ -267,6 +267,6 @@ related-caught view value handlers inner more o p handle further (apart _ _ h i 
     (kept-caught view value handlers inner more o handle h others first)
     (kept-caught view value handlers inner more p further i others second)
 related-caught view value handlers inner more o p handle further (first_stops stop s _ h) others first second ways =
-    first_stops stop s (caught p further) (stopped-begins view s p (caught p further) h (grown-caught p further ways.grows_second))
+    first_stops stop s (caught p further) (stopped-prefix view s p (caught p further) h (grown-caught p further ways.grows_second))
 related-caught view value handlers inner more o p handle further (second_stops _ stop t h) others first second ways =
-    second_stops (caught o handle) stop t (stopped-begins view t o (caught o handle) h (grown-caught o handle ways.grows_first))
+    second_stops (caught o handle) stop t (stopped-prefix view t o (caught o handle) h (grown-caught o handle ways.grows_first))

@@ -11,7 +11,7 @@ use Rattle.resolved.specs.declared.statement.Exit.TheVariants.{Normal, Return, B
 use Rattle.resolved.specs.Tree.{Expression, Statement, Assign, Clear, Store, Receive, Send, Call, If, While, Leave, ReturnWith, Try, Nested, Block, Empty, Then, Handlers, NoMore, Catch}
 use Rattle.resolved.specs.Program.{Program, procedure_at}
 use Rattle.resolved.specs.Value.{truth_in, checked_index, end_exception, zero_value, base_of}
-use Rattle.resolved.specs.State.{State, assigned, stored, cleared, cells, value_of, values_of}
+use Rattle.resolved.specs.SourceState.{SourceState, assigned, stored, cleared, cells, value_of, values_of}
 use Rattle.resolved.specs.Meaning.{Ended, normally, kept_in, received, sending, returned_to, Calls, statement_meaning, block_meaning, handlers_meaning}
 use Rattle.resolved.specs.Ends.{same_exit, passes, statement_ends, block_ends, index_can_raise}
 use Rattle.resolved.specs.declared.target.Target.{Target}
@@ -55,7 +55,7 @@ pub record Secures {h : PrincipalHierarchy} {labelling : Labelling} (reader : Re
   pub second : Confines reader scope further
   pub grows_first : CallsGrow calls
   pub grows_second : CallsGrow further
-  pub related : (f : ℕ) (vs ws : List Value) (s t : State) → AgreeFor (view_of reader scope) s t →
+  pub related : (f : ℕ) (vs ws : List Value) (s t : SourceState) → AgreeFor (view_of reader scope) s t →
       ParametersAlike reader scope.program f vs ws →
       RelatedCall (view_of reader scope) (reads_result reader (procedure_at scope.program f))
       (read_exits reader (declared_label scope.program f)) (calls f vs s) (further f ws t)
@@ -81,13 +81,13 @@ target-read reader scope at rule left None fits x e reads = absurd (cc)
 target-read reader scope at rule left (Some y) fits x e reads =
     let same : y ≡ x = cc in read-demand reader scope.program at rule left (ToVariable scope.number y) fits (rw same reads)
 
-agree-kept_in : (view : View) (target : Option Variable) (v : Value) (s t : State) → AgreeFor view s t →
+agree-kept_in : (view : View) (target : Option Variable) (v : Value) (s t : SourceState) → AgreeFor view s t →
     AgreeFor view (kept_in target v s) (kept_in target v t)
 agree-kept_in view None v s t agree = agree
 agree-kept_in view (Some x) v s t agree = agree-with_cells view s t x (v ∷ []) (v ∷ []) agree (λ e. refl)
 
 related-received : (view : View) (value : Bool) (exits : Exit →
-    Bool) (channel : ℕ) (target : Option Variable) (s t : State) (numbers others : List ℤ) → numbers ≡ others → AgreeFor view s t →
+    Bool) (channel : ℕ) (target : Option Variable) (s t : SourceState) (numbers others : List ℤ) → numbers ≡ others → AgreeFor view s t →
     Related view value exits (received numbers channel target s) (received others channel target t)
 related-received view value exits channel target s t numbers [] e agree = rw e (same_end (Throw end_exception) s t agree)
 related-received view value exits channel target s t numbers (z ∷ rest) e agree =
@@ -97,7 +97,7 @@ related-received view value exits channel target s t numbers (z ∷ rest) e agre
 module _ (h : PrincipalHierarchy) (labelling : Labelling) (reader : Reader h labelling) (scope : Scope) (calls further : Calls) (k m : ℕ)
     (secures : Secures reader scope calls further) where
   -- where the own label of a statement is not read nothing is seen of either run
-  both-hidden : (statement : Statement) (pc : Join) → Fits h labelling (statement_demands scope pc statement) → (s t : State) →
+  both-hidden : (statement : Statement) (pc : Join) → Fits h labelling (statement_demands scope pc statement) → (s t : SourceState) →
       AgreeFor (view_of reader scope) s t → reader.reads (own_label scope pc statement) ≡ false →
       Related (view_of reader scope) (reads_result reader (here scope)) (read_exits reader (statement_rule scope pc statement))
       (statement_meaning calls k statement s) (statement_meaning further m statement t)
@@ -108,7 +108,7 @@ module _ (h : PrincipalHierarchy) (labelling : Labelling) (reader : Reader h lab
       (statement-kept h labelling reader scope further m secures.second statement pc fits unread t)
 
   mutual
-    pub statement-secure : (statement : Statement) (pc : Join) → Fits h labelling (statement_demands scope pc statement) → (s t : State) →
+    pub statement-secure : (statement : Statement) (pc : Join) → Fits h labelling (statement_demands scope pc statement) → (s t : SourceState) →
         AgreeFor (view_of reader scope) s t →
         Related (view_of reader scope) (reads_result reader (here scope)) (read_exits reader (statement_rule scope pc statement))
         (statement_meaning calls k statement s) (statement_meaning further m statement t)
@@ -363,7 +363,7 @@ module _ (h : PrincipalHierarchy) (labelling : Labelling) (reader : Reader h lab
         (block-among block scope.program calls k secures.first.among s) (block-among block scope.program further m secures.second.among t)
         (block-secure block pc fits s t agree)
 
-    pub block-secure : (block : Block) (pc : Join) → Fits h labelling (block_demands scope pc block) → (s t : State) →
+    pub block-secure : (block : Block) (pc : Join) → Fits h labelling (block_demands scope pc block) → (s t : SourceState) →
         AgreeFor (view_of reader scope) s t →
         Related (view_of reader scope) (reads_result reader (here scope)) (read_exits reader (block_rule scope pc block))
         (block_meaning calls k block s) (block_meaning further m block t)
@@ -397,7 +397,7 @@ module _ (h : PrincipalHierarchy) (labelling : Labelling) (reader : Reader h lab
         })
 
     pub handlers-secure : (handlers : Handlers) (x : ExitLabels) → Fits h labelling (handlers_demands scope x handlers) →
-        (exception : ℕ) (s t : State) → AgreeFor (view_of reader scope) s t → (exits : Exit → Bool) →
+        (exception : ℕ) (s t : SourceState) → AgreeFor (view_of reader scope) s t → (exits : Exit → Bool) →
         ((exit : Exit) → reader.reads (handlers_rule scope x handlers exit) ≡ false → exits exit ≡ false) →
         Related (view_of reader scope) (reads_result reader (here scope)) exits (handlers_meaning calls k handlers exception s)
         (handlers_meaning further m handlers exception t)

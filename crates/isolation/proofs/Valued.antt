@@ -6,7 +6,7 @@ use Rattle.resolved.specs.declared.statement.Exit.{Exit}
 use Rattle.resolved.specs.declared.statement.Exit.TheVariants.{Normal, Return, Break, Continue, Throw}
 use Rattle.resolved.specs.Program.{Program, ProcedureEntry, ResultEntry}
 use Rattle.resolved.specs.Value.{base_of}
-use Rattle.resolved.specs.State.{State}
+use Rattle.resolved.specs.SourceState.{SourceState}
 use Rattle.resolved.specs.Meaning.{Outcome, Ended, Stopped, leaving, entering, calls_with, block_meaning}
 use Rattle.resolved.specs.Ends.{has_end, block_ends}
 use Rattle.resolved.specs.EndFaults.{NoValueReturned, Undeclared, fault_unless, may_end, block_faults, procedure_faults}
@@ -47,7 +47,7 @@ faultless-there program (first ∷ rest) none zero callee there =
 faultless-there program (first ∷ rest) none (suc f) callee there =
     faultless-there program rest (append-empty (procedure_faults program first) (flat_map (procedure_faults program) rest) none).1 f callee there
 
-leaving-gives : (program : Program) (callee : ProcedureEntry) (value : ResultEntry) (back : State → State) (o : Outcome) → callee.result ≡ Some value →
+leaving-gives : (program : Program) (callee : ProcedureEntry) (value : ResultEntry) (back : SourceState → SourceState) (o : Outcome) → callee.result ≡ Some value →
     has_end (block_ends program callee.body) Normal ≡ false → Among (block_ends program callee.body) o → ReturnsSome o →
     OutcomeFits program callee Return callee.result o → GivesValue value.base (leaving back o)
 leaving-gives program callee value back (Ended Normal r t) is never among some fits = let no : true ≡ false = sym among.among ∙ never in absurd (cc)
@@ -64,8 +64,8 @@ pub calls-give : (program : Program) → CallsGiveTheirValue program
 calls-give program formed none f callee value there is caller s state arguments fit zero k = tt
 calls-give program formed none f callee value there is caller s state arguments fit (suc frames) k =
     let parts : ProcedureParts program callee = procedure_there program formed f callee there in
-    let inner : State = entering callee arguments s in
-    let back : State → State = λ t. record t { locals = s.locals } in
+    let inner : SourceState = entering callee arguments s in
+    let back : SourceState → SourceState = λ t. record t { locals = s.locals } in
     let P : ProcedureEntry → Type 0 = λ p. GivesValue value.base (leaving back (block_meaning (calls_with program k frames) k p.body (entering p arguments s))) in
     subst P (sym (procedure_at_is program f callee there))
     (leaving-gives program callee value back (block_meaning (calls_with program k frames) k callee.body inner) is

@@ -10,7 +10,7 @@ use Rattle.resolved.specs.declared.expression.Operator.TheVariants.{Add, Subtrac
 use Rattle.resolved.specs.declared.expression.Connective.{Connective}
 use Rattle.resolved.specs.Tree.{Expression, Integer, Logical, Read, Element, Unary, Binary, Short}
 use Rattle.resolved.specs.Value.{Evaluated, Gives, Raises, then_with, number_in, literal_number, wrapped, is_zero, unless_zero, prefix_value, operator_value, decides, in_range, position_of, checked_index, arith_exception, bounds_exception}
-use Rattle.resolved.specs.State.{State, cells, cell_at, value_of, values_of}
+use Rattle.resolved.specs.SourceState.{SourceState, cells, cell_at, value_of, values_of}
 use Rattle.resolved.specs.Ends.{index_can_raise, divisor_can_raise, is_division, raises}
 use Rattle.resolved.specs.Labelled.{Scope, variable_label, value_label, raise_label, raise_labels, label_if, any_of, Labelling, Join}
 use Rattle.isolation.proofs.Among.{RaisesAmong, expression-raises, index-in_range, divisor-not_zero}
@@ -40,7 +40,7 @@ pub read-label_if : {h : PrincipalHierarchy} {labelling : Labelling} (reader : R
     reader.reads (label_if test label) ≡ true → test ≡ true → reader.reads label ≡ true
 read-label_if reader test label h e = rw e at h
 
-pub index-alike : (s t : State) (index : Expression) (len : ℕ) (b : Bool) (v w : Value) →
+pub index-alike : (s t : SourceState) (index : Expression) (len : ℕ) (b : Bool) (v w : Value) →
     (index_can_raise index len ≡ true → b ≡ true) → value_of s index ≡ Gives v → value_of t index ≡ Gives w → SameIf b v w →
     Alike (SameIf b) (checked_index v len) (checked_index w len)
 index-alike s t index len b v w covered f g same = go (index_can_raise index len) refl
@@ -87,7 +87,7 @@ operator-alike b Same v w v' w' no_zero left right = both_give _ _ (λ i. rw (le
 operator-alike b Different v w v' w' no_zero left right = both_give _ _ (λ i. rw (left i, right i) refl)
 
 -- whether a divisor is 0 is the same in both, if it can be
-divisor-alike : (s t : State) (e : Expression) (b : Bool) (w w' : Value) → (divisor_can_raise e ≡ true → b ≡ true) →
+divisor-alike : (s t : SourceState) (e : Expression) (b : Bool) (w w' : Value) → (divisor_can_raise e ≡ true → b ≡ true) →
     value_of s e ≡ Gives w → value_of t e ≡ Gives w' → SameIf b w w' → is_zero (number_in w) ≡ is_zero (number_in w')
 divisor-alike s t e b w w' covered f g same = go (divisor_can_raise e) refl
   where
@@ -128,7 +128,7 @@ short-alike connective false c xs v w o p same covered more h i alike =
     none true e = let k : false ≡ true = covered e in absurd (cc)
     none false e = e
 
-pub expression-alike : {h : PrincipalHierarchy} {labelling : Labelling} (reader : Reader h labelling) (scope : Scope) (s t : State) →
+pub expression-alike : {h : PrincipalHierarchy} {labelling : Labelling} (reader : Reader h labelling) (scope : Scope) (s t : SourceState) →
     AgreeFor (view_of reader scope) s t → (e : Expression) → reader.reads (raise_label scope e) ≡ true →
     Alike (SameIf (reader.reads (value_label scope e))) (value_of s e) (value_of t e)
 expression-alike reader scope s t agree (Integer n) reads = both_give (Number (literal_number n)) (Number (literal_number n)) (λ i. refl)
@@ -196,7 +196,7 @@ pub data ArgumentsAlike {h : PrincipalHierarchy} {labelling : Labelling} (reader
       SameIf (reader.reads (value_label scope e)) v w → ArgumentsAlike reader scope rest vs ws →
       ArgumentsAlike reader scope (e ∷ rest) (v ∷ vs) (w ∷ ws)
 
-pub arguments-alike : {h : PrincipalHierarchy} {labelling : Labelling} (reader : Reader h labelling) (scope : Scope) (s t : State) →
+pub arguments-alike : {h : PrincipalHierarchy} {labelling : Labelling} (reader : Reader h labelling) (scope : Scope) (s t : SourceState) →
     AgreeFor (view_of reader scope) s t → (es : List Expression) → reader.reads (raise_labels scope es) ≡ true →
     Alike (ArgumentsAlike reader scope es) (values_of s es) (values_of t es)
 arguments-alike reader scope s t agree [] reads = both_give [] [] no_arguments

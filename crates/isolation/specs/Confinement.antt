@@ -7,7 +7,7 @@ use Rattle.labels.specs.Sent.{seen}
 use Rattle.resolved.specs.declared.expression.Variable.{Variable}
 use Rattle.resolved.specs.declared.statement.Exit.{Exit}
 use Rattle.resolved.specs.Tree.{Statement}
-use Rattle.resolved.specs.State.{State, cells}
+use Rattle.resolved.specs.SourceState.{SourceState, cells}
 use Rattle.resolved.specs.Meaning.{Outcome, Ended, Stopped, state_after, statement_meaning, calls_with}
 use Rattle.resolved.specs.Ends.{has_end, statement_ends}
 use Rattle.resolved.specs.EndFaults.{end_faults, inner_faults}
@@ -17,7 +17,7 @@ use Rattle.resolved.specs.Labelled.{Scope, Labelling, Join, ExitLabels, Fits, La
 abbrev pub reads : Scope → (p : ℕ) → Label → Bool
 reads scope p label = may_read scope.program.hierarchy p label
 
-abbrev pub sees : Scope → (p : ℕ) → State → List Pair
+abbrev pub sees : Scope → (p : ℕ) → SourceState → List Pair
 sees scope p s = seen scope.program.hierarchy (channel_label scope.program) p s.sent
 
 -- the same of a join under a labelling
@@ -25,7 +25,7 @@ abbrev pub reads_under : Scope → Labelling → (p : ℕ) → Join → Bool
 reads_under scope labelling p join = reads scope p (join_under labelling join)
 
 -- two states are the same for a principal: each variable and each input that it may read, and what it sees of what was sent
-pub record SameFor (scope : Scope) (labelling : Labelling) (p : ℕ) (before after : State) : Type 0 where
+pub record SameFor (scope : Scope) (labelling : Labelling) (p : ℕ) (before after : SourceState) : Type 0 where
   pub variables : (x : Variable) → IsTrue (reads_under scope labelling p (variable_label scope x)) → cells before x ≡ cells after x
   pub inputs : (channel : ℕ) → IsTrue (reads scope p (channel_label scope.program channel)) → before.inputs channel ≡ after.inputs channel
   pub sent : sees scope p before ≡ sees scope p after
@@ -42,7 +42,7 @@ StatementsAreConfined scope labelling =
     end_faults scope.program ≡ [] → Labelled scope.program
     → (p : ℕ) (pc : Join) → IsFalse (reads_under scope labelling p pc)
     → (statement : Statement) → Fits scope.program.hierarchy labelling (statement_demands scope pc statement)
-    → (frames k : ℕ) (s : State)
+    → (frames k : ℕ) (s : SourceState)
     → SameFor scope labelling p s (state_after (statement_meaning (calls_with scope.program k frames) k statement s))
     × UnreadEnd scope labelling p (statement_exits scope pc statement)
     (statement_meaning (calls_with scope.program k frames) k statement s)

@@ -13,7 +13,7 @@ use Rattle.resolved.specs.declared.tables.Direction.TheVariants.{Input, Output}
 use Rattle.resolved.specs.Tree.{Integer, Read, Binary, Assign, Receive, Send, While, Try, Block, Empty, Then, NoMore, Catch}
 use Rattle.resolved.specs.Program.{Program, ThrownEntry}
 use Rattle.resolved.specs.Value.{end_exception}
-use Rattle.resolved.specs.State.{World}
+use Rattle.resolved.specs.SourceState.{World}
 use Rattle.resolved.specs.Meaning.{sent_by}
 use Rattle.resolved.specs.Labelled.{channel_label}
 

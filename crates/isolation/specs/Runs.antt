@@ -9,7 +9,7 @@ use Rattle.resolved.specs.declared.statement.Exit.TheVariants.{Normal, Return, B
 use Rattle.resolved.specs.Tree.{Statement, Block}
 use Rattle.resolved.specs.Program.{Program, ProcedureEntry, ResultEntry, procedure_at}
 use Rattle.resolved.specs.Value.{base_of}
-use Rattle.resolved.specs.State.{World, State}
+use Rattle.resolved.specs.SourceState.{World, SourceState}
 use Rattle.resolved.specs.Meaning.{Outcome, Ended, Stopped, OutOfTurns, Deep, state_after, statement_meaning, block_meaning, calls_with, run_within, sent_by}
 use Rattle.resolved.specs.Ends.{has_end, thrown_ends, declared_by, statement_ends, block_ends}
 use Rattle.resolved.specs.EndFaults.{end_faults}
@@ -24,18 +24,18 @@ EndsAmong ends (Stopped stop s) = Unit {0}
 -- in a program without a fault of its ends, each end that a statement or a block comes to is one of its possible ends
 abbrev pub StatementsEndAsTheyMay : Program → Type 0
 StatementsEndAsTheyMay program =
-    end_faults program ≡ [] → (frames k : ℕ) (statement : Statement) (s : State)
+    end_faults program ≡ [] → (frames k : ℕ) (statement : Statement) (s : SourceState)
     → EndsAmong (statement_ends program statement) (statement_meaning (calls_with program k frames) k statement s)
 
 abbrev pub BlocksEndAsTheyMay : Program → Type 0
 BlocksEndAsTheyMay program =
-    end_faults program ≡ [] → (frames k : ℕ) (block : Block) (s : State)
+    end_faults program ≡ [] → (frames k : ℕ) (block : Block) (s : SourceState)
     → EndsAmong (block_ends program block) (block_meaning (calls_with program k frames) k block s)
 
 -- and a call ends normally or by an exception that its procedure declares
 abbrev pub CallsEndAsDeclared : Program → Type 0
 CallsEndAsDeclared program =
-    end_faults program ≡ [] → (frames k f : ℕ) (arguments : List Value) (s : State)
+    end_faults program ≡ [] → (frames k f : ℕ) (arguments : List Value) (s : SourceState)
     → EndsAmong (Normal ∷ thrown_ends (declared_by (procedure_at program f).throws)) (calls_with program k frames f arguments s)
 
 -- a call that ended normally gave a value of this base type
@@ -54,14 +54,14 @@ abbrev pub CallsGiveTheirValue : Program → Type 0
 CallsGiveTheirValue program =
     IsTrue (well_formed program) → end_faults program ≡ []
     → (f : ℕ) (callee : ProcedureEntry) (value : ResultEntry) → slice_get program.procedures f ≡ Some callee → callee.result ≡ Some value
-    → (caller : ProcedureEntry) (s : State) → StateFits program caller s
+    → (caller : ProcedureEntry) (s : SourceState) → StateFits program caller s
     → (arguments : List Value) → ArgumentsFit (parameters_of callee) arguments
     → (frames k : ℕ) → GivesValue value.base (calls_with program k frames f arguments s)
 
 -- what was sent before a statement stays sent, and what it sends comes after it
 abbrev pub SentStaysSent : Program → Type 0
 SentStaysSent program =
-    (frames k : ℕ) (statement : Statement) (s : State)
+    (frames k : ℕ) (statement : Statement) (s : SourceState)
     → IsPrefix s.sent (state_after (statement_meaning (calls_with program k frames) k statement s)).sent
 
 -- the second outcome is that of the first run with more turns: where the first run was out of turns, the second has sent what

@@ -3,15 +3,15 @@
 use Rattle.std.specs.Prelude.{◌≡◌, ℕ, [], ◌⊎◌, IsTrue}
 use Rattle.labels.specs.Sent.{IsPrefix}
 use Rattle.resolved.specs.Tree.{Statement}
-use Rattle.resolved.specs.State.{State}
+use Rattle.resolved.specs.SourceState.{SourceState}
 use Rattle.resolved.specs.Meaning.{Outcome, Ended, Stopped, statement_meaning, calls_with}
 use Rattle.resolved.specs.EndFaults.{end_faults}
 use Rattle.resolved.specs.Labelled.{Scope, here, Labelling, Join, ExitLabels, Fits, Labelled, result_label, statement_demands, statement_exits}
 use Rattle.isolation.specs.Confinement.{reads, reads_under, sees, SameFor}
 
 -- what the principal sees in one state is a prefix of what it sees in another
-abbrev pub SeesBeginning : Scope → (p : ℕ) → State → State → Type 0
-SeesBeginning scope p s t = IsPrefix (sees scope p s) (sees scope p t)
+abbrev pub SeesPrefix : Scope → (p : ℕ) → SourceState → SourceState → Type 0
+SeesPrefix scope p s t = IsPrefix (sees scope p s) (sees scope p t)
 
 -- two outcomes agree for a principal. Where both runs have ended, their states are the same for it, they ended in the same way if
 -- it may read the label of either end, and returned the same if it may read the label of the procedure's value. Where one was
@@ -22,9 +22,9 @@ OutcomesAgree scope labelling p exits (Ended exit returned s) (Ended other given
     × (IsTrue (reads_under scope labelling p (exits exit)) → exit ≡ other)
     × (IsTrue (reads_under scope labelling p (exits other)) → exit ≡ other)
     × (IsTrue (reads scope p (result_label (here scope).result)) → returned ≡ given)
-OutcomesAgree scope labelling p exits (Stopped stop s) (Ended other given t) = SeesBeginning scope p s t
-OutcomesAgree scope labelling p exits (Ended exit returned s) (Stopped stop t) = SeesBeginning scope p t s
-OutcomesAgree scope labelling p exits (Stopped stop s) (Stopped other t) = SeesBeginning scope p s t ⊎ SeesBeginning scope p t s
+OutcomesAgree scope labelling p exits (Stopped stop s) (Ended other given t) = SeesPrefix scope p s t
+OutcomesAgree scope labelling p exits (Ended exit returned s) (Stopped stop t) = SeesPrefix scope p t s
+OutcomesAgree scope labelling p exits (Stopped stop s) (Stopped other t) = SeesPrefix scope p s t ⊎ SeesPrefix scope p t s
 
 -- in a labelled program without a fault of its ends, two runs of a labelled statement from states that are the same for a principal
 -- agree for it, each with any number of turns and both with the same frames left
@@ -32,7 +32,7 @@ abbrev pub StatementsAgree : Scope → Labelling → Type 0
 StatementsAgree scope labelling =
     end_faults scope.program ≡ [] → Labelled scope.program
     → (p : ℕ) (pc : Join) (statement : Statement) → Fits scope.program.hierarchy labelling (statement_demands scope pc statement)
-    → (frames k m : ℕ) (s t : State) → SameFor scope labelling p s t
+    → (frames k m : ℕ) (s t : SourceState) → SameFor scope labelling p s t
     → OutcomesAgree scope labelling p (statement_exits scope pc statement)
     (statement_meaning (calls_with scope.program k frames) k statement s)
     (statement_meaning (calls_with scope.program m frames) m statement t)

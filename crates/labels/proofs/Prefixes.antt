@@ -1,4 +1,4 @@
--- Beginnings of lists, and what a principal sees of them.
+-- Prefixes of lists, and what a principal sees of them.
 use Rattle.std.proofs.Common.{◌≡◌, refl, ◌∙◌, sym, ap, ℕ, List, [], ◌∷◌, ◌++◌, append_assoc, ◌⊎◌, inl, inr, ⊎_elim}
 use Rattle.std.proofs.lemmas.List.{append-nil}
 use Rattle.std.proofs.lemmas.List.Elements.{filter-append}
@@ -14,7 +14,7 @@ pub prefix-through : {X : Type 0} (xs ys zs : List X) → IsPrefix xs ys → IsP
 prefix-through xs ys zs first second =
     (first.0 ++ second.0, sym (append_assoc xs first.0 second.0) ∙ ap (λ l. l ++ second.0) first.1 ∙ second.1)
 
--- two beginnings of one list: one of them begins the other
+-- two prefixes of one list: one of them is a prefix of the other
 pub prefixes-of-one : {X : Type 0} (xs ys whole : List X) → IsPrefix xs whole → IsPrefix ys whole → IsPrefix xs ys ⊎ IsPrefix ys xs
 prefixes-of-one [] ys whole first second = inl (ys, refl)
 prefixes-of-one (x ∷ xs) [] whole first second = inr (x ∷ xs, refl)
@@ -28,7 +28,7 @@ prefixes-of-one {X} (x ∷ xs) (y ∷ ys) (z ∷ whole) first second =
     (λ (b : IsPrefix ys xs). inr (b.0, let e : ys ++ b.0 ≡ xs = b.1 in let whole_is : y ∷ (ys ++ b.0) ≡ x ∷ xs = cc in whole_is))
     (prefixes-of-one xs ys whole (first.0, one) (second.0, two))
 
--- beginnings of two lists of which one begins the other are so too
+-- prefixes of two lists, of which one is a prefix of the other: so are they
 pub prefixes-of-two : {X : Type 0} (xs ys whole more : List X) → IsPrefix xs whole → IsPrefix ys more →
     IsPrefix whole more ⊎ IsPrefix more whole → IsPrefix xs ys ⊎ IsPrefix ys xs
 prefixes-of-two xs ys whole more first second related =
@@ -37,7 +37,7 @@ prefixes-of-two xs ys whole more first second related =
     (λ (b : IsPrefix more whole). prefixes-of-one xs ys whole first (prefix-through ys more whole second b))
     related
 
--- what is seen of a beginning begins what is seen of the whole
+-- what is seen of a prefix is a prefix of what is seen of the whole
 pub seen-prefix : (h : PrincipalHierarchy) (label_of : ℕ → Label) (p : ℕ) (xs ys : List Pair) → IsPrefix xs ys →
     IsPrefix (seen h label_of p xs) (seen h label_of p ys)
 seen-prefix h label_of p xs ys b =

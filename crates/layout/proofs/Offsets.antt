@@ -12,7 +12,7 @@ use Rattle.bytecode.specs.declared.declaration.Handler.{Handler}
 use Rattle.bytecode.specs.declared.declaration.Slot.{Slot}
 use Rattle.bytecode.specs.Code.{width_of, instruction_at}
 use Rattle.bytecode.specs.Contents.{ProcedureContents, ModuleContents}
-use Rattle.bytecode.specs.Machine.{Header, Program, Machine, Running, Ended, Stuck, Ending, header_of, code_of, handlers_of, slots_in, position_after, handler_for, program_of, first_state, new_frame, exec, after_steps, sent_of}
+use Rattle.bytecode.specs.Machine.{Header, MachineCode, Machine, Running, Ended, Stuck, Ending, header_of, code_of, handlers_of, slots_in, position_after, handler_for, program_of, first_state, new_frame, exec, after_steps, sent_of}
 use Rattle.bytecode.specs.Targets.{renamed_instruction, renamed_handler}
 use Rattle.layout.specs.Offsets.{offset, laid_out_procedure, laid_out, offset_in}
 use Rattle.layout.specs.Runs.{graph_program, graph_after_steps}
@@ -169,7 +169,7 @@ first-same g world =
 pub steps-same : (g : ModuleContents) (world : ℕ → List ℤ) (n : ℕ) → after_steps (laid_out g) world n ≡ renamed (offset_in g) (graph_after_steps g world n)
 unfolding relaid_of
 steps-same g world n =
-    ap (λ (p : Program). exec p n (Running (first_state (laid_out g) world))) (program-same g)
+    ap (λ (p : MachineCode). exec p n (Running (first_state (laid_out g) world))) (program-same g)
     ∙ ap (λ (m : Machine). exec (relaid (relaid_of g)) n m) (first-same g world)
     ∙ exec-same (relaid_of g) n (Running (first_state g world))
 

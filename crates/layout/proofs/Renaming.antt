@@ -16,13 +16,13 @@ use Rattle.bytecode.specs.declared.declaration.Slot.{Slot}
 use Rattle.bytecode.specs.declared.declaration.Slot.TheVariants as slot
 use Rattle.bytecode.specs.declared.declaration.Direction.{Direction}
 use Rattle.bytecode.specs.declared.declaration.Direction.TheVariants.{Input, Output}
-use Rattle.bytecode.specs.Machine.{Frame, Caller, State, Machine, Running, Ended, Stuck, Deep, Header, Program, frame_limit, changed, goes_on, goes_to, handled, unwound, raised, slot_at, with_slot, with_global, loads, stores, found, loads_element, changes, stores_element, clears, with_element, element_at, computed, pushes_number, computes, compares, same_truth, matches, drops, negates, inverts, branches, popped, new_frame, enters, calls, leaves, leaves_without, returns_nothing, leaves_value, gives_back, returns_value, takes, receives, sends, throws, act, acts, step, exec}
+use Rattle.bytecode.specs.Machine.{Frame, Caller, State, Machine, Running, Ended, Stuck, Deep, Header, MachineCode, frame_limit, changed, goes_on, goes_to, handled, unwound, raised, slot_at, with_slot, with_global, loads, stores, found, loads_element, changes, stores_element, clears, with_element, element_at, computed, pushes_number, computes, compares, same_truth, matches, drops, negates, inverts, branches, popped, new_frame, enters, calls, leaves, leaves_without, returns_nothing, leaves_value, gives_back, returns_value, takes, receives, sends, throws, act, acts, step, exec}
 use Rattle.bytecode.specs.Targets.{renamed_instruction}
 use Rattle.layout.specs.Kept.{renamed_frame, renamed_caller, renamed_state, renamed}
 
 -- a program; other functions that fetch, go on and find a handler; and a renaming of the program's positions that fits to them
 pub record Relaid : Type 0 where
-  pub program : Program
+  pub program : MachineCode
   pub fetch : ℕ → ℕ → Option Instruction
   pub next : ℕ → ℕ → ℕ
   pub find : ℕ → ℕ → ℕ → Option ℕ
@@ -33,7 +33,7 @@ pub record Relaid : Type 0 where
   pub finds : (procedure position exception : ℕ) → find procedure (rename procedure position) exception ≡ option_map (rename procedure) (program.find procedure position exception)
 
 -- the program with the other functions
-abbrev pub relaid : Relaid → Program
+abbrev pub relaid : Relaid → MachineCode
 relaid l = record l.program { fetch = l.fetch; next = l.next; find = l.find }
 
 abbrev moved : Relaid → State → State

@@ -81,7 +81,7 @@ one_way start text tokens end rest others place left (Between _ _ front l _ _ _ 
 -- where no character is left, nothing begins
 front_nil : (lexeme : Lexeme) (text front left : List ℕ) → IsNext text lexeme front left → text ≡ [] → ⊥
 front_nil lexeme text [] left next e = nonempty lexeme [] next.is refl
-front_nil lexeme text (c ∷ front) left next e = let both : [] ≡ c ∷ (front ++ left) = sym e ∙ next.parts in cc
+front_nil lexeme text (c ∷ front) left next e = let both : [] ≡ c ∷ (front ++ left) = sym e ∙ next.text_is in cc
 
 pub halts_nil : Halts []
 halts_nil = record {
@@ -100,8 +100,8 @@ halts_at text front rest lexeme no_word no_gap next = record {
 pub halts_stuck : (place : ℕ) (text : List ℕ) (fault : LexFault) → IsStuck place text fault → Halts text
 halts_stuck place text NoMemory stuck = absurd stuck
 halts_stuck place text (NoToken at) (e, stuck) = record {
-  no_token = λ kind front left next. stuck.none (Word kind) front left next.is next.parts;
-  no_gap = λ front left next. stuck.none Gap front left next.is next.parts;
+  no_token = λ kind front left next. stuck.none (Word kind) front left next.is next.text_is;
+  no_gap = λ front left next. stuck.none Gap front left next.is next.text_is;
 }
 halts_stuck place text (LiteralTooLarge at) (e, (front, rest, next)) =
     halts_at text front rest LargeLiteral (λ kind h. cc) (λ h. cc) next
@@ -120,19 +120,19 @@ one_stuck place text NoMemory other h k = absurd h
 one_stuck place text (NoToken at) NoMemory h k = absurd k
 one_stuck place text (NoToken at) (NoToken by) h k = ap NoToken (h.0 ∙ sym k.0)
 one_stuck place text (NoToken at) (LiteralTooLarge by) (_, h) (_, (front, rest, next)) =
-    absurd (h.none LargeLiteral front rest next.is next.parts)
+    absurd (h.none LargeLiteral front rest next.is next.text_is)
 one_stuck place text (NoToken at) (UnclosedComment by) (_, h) (_, (front, rest, next)) =
-    absurd (h.none OpenComment front rest next.is next.parts)
+    absurd (h.none OpenComment front rest next.is next.text_is)
 one_stuck place text (LiteralTooLarge at) NoMemory h k = absurd k
 one_stuck place text (LiteralTooLarge at) (NoToken by) (_, (front, rest, next)) (_, k) =
-    absurd (k.none LargeLiteral front rest next.is next.parts)
+    absurd (k.none LargeLiteral front rest next.is next.text_is)
 one_stuck place text (LiteralTooLarge at) (LiteralTooLarge by) h k = ap LiteralTooLarge (h.0 ∙ sym k.0)
 one_stuck place text (LiteralTooLarge at) (UnclosedComment by) (_, (front, rest, next)) (_, (back, left, other)) =
     let e = (one_next text front rest back left LargeLiteral OpenComment next other).0 in
     absurd cc
 one_stuck place text (UnclosedComment at) NoMemory h k = absurd k
 one_stuck place text (UnclosedComment at) (NoToken by) (_, (front, rest, next)) (_, k) =
-    absurd (k.none OpenComment front rest next.is next.parts)
+    absurd (k.none OpenComment front rest next.is next.text_is)
 one_stuck place text (UnclosedComment at) (LiteralTooLarge by) (_, (front, rest, next)) (_, (back, left, other)) =
     let e = (one_next text front rest back left OpenComment LargeLiteral next other).0 in
     absurd cc

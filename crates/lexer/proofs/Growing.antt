@@ -33,7 +33,7 @@ goes : (text rest left : List ℕ) (lexeme : Lexeme) (front : List ℕ) → leng
 goes text rest left lexeme front within ok tail_ok next =
     let n : length rest ≡ size (chars rest) = ap length (sym (encodes-chars rest ok)) in
     let m : length left ≡ size (chars left) = ap length (sym (encodes-chars left tail_ok)) in
-    let parts : size (chars rest) ≡ size front + size (chars left) = ap size next.parts ∙ size-append front (chars left) in
+    let parts : size (chars rest) ≡ size front + size (chars left) = ap size next.text_is ∙ size-append front (chars left) in
     let some = front_some lexeme (chars rest) front (chars left) next in
     record { shorter = omega arith; place = omega arith }
 
@@ -76,7 +76,7 @@ pub token : (text rest left bytes : List ℕ) (tokens : List Terminal) (kind : K
 token text rest left bytes tokens kind ok tail_ok bytes_ok so_far (front, next) parts added e =
     let g = goes text rest left (Word kind) front so_far.within ok tail_ok next in
     let here = length text - length rest in
-    let same : chars bytes ≡ front = same_before (chars bytes) front (chars left) (sym parts ∙ next.parts) in
+    let same : chars bytes ≡ front = same_before (chars bytes) front (chars left) (sym parts ∙ next.text_is) in
     let spelled : encode_utf8_all front ≡ bytes = ap encode_utf8_all (sym same) ∙ encodes-chars bytes bytes_ok in
     let terminal : terminal_at here kind front ≡ added =
     ap (λ t. record { kind = kind; text = t; start = here; end = here + size front }) spelled

@@ -12,7 +12,7 @@ use Rattle.lexer.specs.Terminal.{Terminal, IsTerminated}
 use Rattle.lexer.specs.Words.{is_name, keyword_of, keywords}
 use Rattle.lexer.specs.Lexeme.{Lexeme, Word, Gap, IsLexeme, Keyword, Identifier, Literal, Sign, IsNumeral, sign_of, signs}
 use Rattle.lexer.specs.Cut.{Cuts, Nothing, Token, Between, IsNext, IsCut, IsRefused, IsStuck, terminal_at, size}
-use Rattle.lexer.specs.Listing.{IsInOrder, IsSliceOf, IsSpelled, Spells, IsAtCharacter, IsFaultAtCharacter}
+use Rattle.lexer.specs.Listing.{IsInOrder, IsSliceOf, IsSpelled, SpellsToken, IsAtCharacter, IsFaultAtCharacter}
 use Rattle.lexer.specs.declared.fault.LexFault.{LexFault}
 use Rattle.lexer.specs.declared.fault.LexFault.TheVariants.{NoMemory, NoToken, LiteralTooLarge, UnclosedComment}
 use Rattle.lexer.specs.declared.token.Kind.{Kind}
@@ -37,11 +37,11 @@ pub cut_size : (start : ℕ) (text : List ℕ) (ts : List Terminal) (end : ℕ) 
     → start + size text ≡ end + size rest
 cut_size start text ts end rest (Nothing _ _) = refl
 cut_size start text ts end rest (Token _ _ kind front l us _ _ next cuts) =
-    let n = parts_size text front l next.parts in
+    let n = parts_size text front l next.text_is in
     let m = cut_size (start + size front) l us end rest cuts in
     omega arith
 cut_size start text ts end rest (Between _ _ front l us _ _ next cuts) =
-    let n = parts_size text front l next.parts in
+    let n = parts_size text front l next.text_is in
     let m = cut_size (start + size front) l us end rest cuts in
     omega arith
 
@@ -50,12 +50,12 @@ pub cut_count : (start : ℕ) (text : List ℕ) (ts : List Terminal) (end : ℕ)
     → length ts + size rest ≤ size text
 cut_count start text ts end rest (Nothing _ _) = omega arith
 cut_count start text ts end rest (Token _ _ kind front l us _ _ next cuts) =
-    let n = parts_size text front l next.parts in
+    let n = parts_size text front l next.text_is in
     let m = cut_count (start + size front) l us end rest cuts in
     let some = front_some (Word kind) text front l next in
     omega arith
 cut_count start text ts end rest (Between _ _ front l us _ _ next cuts) =
-    let n = parts_size text front l next.parts in
+    let n = parts_size text front l next.text_is in
     let m = cut_count (start + size front) l us end rest cuts in
     omega arith
 
@@ -106,7 +106,7 @@ fixed_found (row ∷ rows) all cs kind found =
     ]
 
 fixed_spells : (kind : Kind) (text : List ℕ) → is_fixed kind ≡ true
-    → (keyword_of text ≡ Some kind) ⊎ (sign_of text ≡ Some kind) → Spells kind text
+    → (keyword_of text ≡ Some kind) ⊎ (sign_of text ≡ Some kind) → SpellsToken kind text
 unfolding is_fixed
 fixed_spells Name text fixed h = absurd cc
 fixed_spells (Integer value) text fixed h = absurd cc
@@ -116,7 +116,7 @@ fixed_spells _ text fixed h = h
 utf8 : (cs : List ℕ) → all_scalars cs ≡ true → IsUtf8 (encode_utf8_all cs)
 utf8 cs scalars = (cs, (scalars, refl))
 
-spelled : (kind : Kind) (cs : List ℕ) → IsLexeme (Word kind) cs → all_scalars cs ≡ true → Spells kind (encode_utf8_all cs)
+spelled : (kind : Kind) (cs : List ℕ) → IsLexeme (Word kind) cs → all_scalars cs ≡ true → SpellsToken kind (encode_utf8_all cs)
 unfolding is_fixed
 spelled kind cs (Keyword _ _ found) scalars =
     let same = same_lookup keywords refl (encode_utf8_all cs) (utf8 cs scalars) ∙ ap keyword_of (chars-encodes cs scalars) in
@@ -133,17 +133,17 @@ pub cut_spelled : (start : ℕ) (text : List ℕ) (ts : List Terminal) (end : �
     → all_scalars text ≡ true → AllByRecursion IsSpelled ts
 cut_spelled start text ts end rest (Nothing _ _) scalars = tt
 cut_spelled start text ts end rest (Token _ _ kind front l us _ _ next cuts) scalars =
-    let (here, later) = scalars_parts front l (subst (λ t. all_scalars t ≡ true) next.parts scalars) in
+    let (here, later) = scalars_parts front l (subst (λ t. all_scalars t ≡ true) next.text_is scalars) in
     (spelled kind front next.is here, cut_spelled (start + size front) l us end rest cuts later)
 cut_spelled start text ts end rest (Between _ _ front l _ _ _ next cuts) scalars =
-    let (here, later) = scalars_parts front l (subst (λ t. all_scalars t ≡ true) next.parts scalars) in
+    let (here, later) = scalars_parts front l (subst (λ t. all_scalars t ≡ true) next.text_is scalars) in
     cut_spelled (start + size front) l ts end rest cuts later
 
 -- no token that is cut off is an end marker
 no_marker : (kind : Kind) (text front left : List ℕ) → IsNext text (Word kind) front left → all_scalars front ≡ true
     → kind ≢ End
 no_marker kind text front left next scalars e =
-    let none : encode_utf8_all front ≡ [] = subst (λ k. Spells k (encode_utf8_all front)) e (spelled kind front next.is scalars) in
+    let none : encode_utf8_all front ≡ [] = subst (λ k. SpellsToken k (encode_utf8_all front)) e (spelled kind front next.is scalars) in
     let n = ap length none in
     let some = front_some (Word kind) text front left next in
     omega arith
@@ -152,10 +152,10 @@ pub cut_terminated : (start : ℕ) (text : List ℕ) (ts : List Terminal) (end :
     → Cuts start text ts end rest → all_scalars text ≡ true → last.kind ≡ End → IsTerminated (ts ++ last ∷ [])
 cut_terminated start text ts end rest last (Nothing _ _) scalars e = inl (e, refl)
 cut_terminated start text ts end rest last (Token _ _ kind front l us _ _ next cuts) scalars e =
-    let (here, later) = scalars_parts front l (subst (λ t. all_scalars t ≡ true) next.parts scalars) in
+    let (here, later) = scalars_parts front l (subst (λ t. all_scalars t ≡ true) next.text_is scalars) in
     inr (no_marker kind text front l next here, cut_terminated (start + size front) l us end rest last cuts later e)
 cut_terminated start text ts end rest last (Between _ _ front l _ _ _ next cuts) scalars e =
-    let (here, later) = scalars_parts front l (subst (λ t. all_scalars t ≡ true) next.parts scalars) in
+    let (here, later) = scalars_parts front l (subst (λ t. all_scalars t ≡ true) next.text_is scalars) in
     cut_terminated (start + size front) l ts end rest last cuts later e
 
 -- the middle of three lists is the slice between its ends
@@ -173,7 +173,7 @@ pub cut_slices : (source before : List ℕ) (start : ℕ) (text : List ℕ) (ts 
 cut_slices source before start text ts end rest (Nothing _ _) e n = tt
 cut_slices source before start text ts end rest (Token _ _ kind front l us _ _ next cuts) e n =
     let bytes = encode_utf8_all front in
-    let parts : encode_utf8_all text ≡ bytes ++ encode_utf8_all l = ap encode_utf8_all next.parts ∙ encodes-append front l in
+    let parts : encode_utf8_all text ≡ bytes ++ encode_utf8_all l = ap encode_utf8_all next.text_is ∙ encodes-append front l in
     let whole : source ≡ before ++ (bytes ++ encode_utf8_all l) = e ∙ ap (λ t. before ++ t) parts in
     let longer : length (before ++ bytes) ≡ start + size front = length-append before bytes ∙ ap (λ k. k + length bytes) n in (
       slice_between source before bytes (encode_utf8_all l) start whole n,
@@ -181,7 +181,7 @@ cut_slices source before start text ts end rest (Token _ _ kind front l us _ _ n
     )
 cut_slices source before start text ts end rest (Between _ _ front l _ _ _ next cuts) e n =
     let bytes = encode_utf8_all front in
-    let parts : encode_utf8_all text ≡ bytes ++ encode_utf8_all l = ap encode_utf8_all next.parts ∙ encodes-append front l in
+    let parts : encode_utf8_all text ≡ bytes ++ encode_utf8_all l = ap encode_utf8_all next.text_is ∙ encodes-append front l in
     let whole : source ≡ before ++ (bytes ++ encode_utf8_all l) = e ∙ ap (λ t. before ++ t) parts in
     let longer : length (before ++ bytes) ≡ start + size front = length-append before bytes ∙ ap (λ k. k + length bytes) n in
     cut_slices source (before ++ bytes) (start + size front) l ts end rest cuts (whole ∙ sym (append_assoc before bytes (encode_utf8_all l))) longer
@@ -198,12 +198,12 @@ next_part : (source : List ℕ) (lexeme : Lexeme) (start : ℕ) (text front left
     → IsNext text lexeme front left → Parted source (start + size front) left
 next_part source lexeme start text front left parted next =
     let bytes = encode_utf8_all front in
-    let parts : encode_utf8_all text ≡ bytes ++ encode_utf8_all left = ap encode_utf8_all next.parts ∙ encodes-append front left in
+    let parts : encode_utf8_all text ≡ bytes ++ encode_utf8_all left = ap encode_utf8_all next.text_is ∙ encodes-append front left in
     record {
       before = parted.before ++ bytes;
       bytes = parted.bytes ∙ (ap (λ t. parted.before ++ t) parts ∙ sym (append_assoc parted.before bytes (encode_utf8_all left)));
       place = length-append parted.before bytes ∙ ap (λ k. k + length bytes) parted.place;
-      characters = (scalars_parts front left (subst (λ t. all_scalars t ≡ true) next.parts parted.characters)).1;
+      characters = (scalars_parts front left (subst (λ t. all_scalars t ≡ true) next.text_is parted.characters)).1;
     }
 
 boundary : (source : List ℕ) (end : ℕ) (rest : List ℕ) → Parted source end rest → IsCharBoundary source end

@@ -39,7 +39,7 @@ bounded k c cs most class bound other longer more h e =
 
 pub next_white : (c : ℕ) (cs : List ℕ) → is_white_space c ≡ true → IsNext (c ∷ cs) Gap (c ∷ []) cs
 next_white c cs white = record {
-  parts = refl;
+  text_is = refl;
   is = Blank c white;
   longest = bounded White c cs 0 (class-White c white)
       (λ lexeme tail more e front. let n = ap length front.1 in omega arith);
@@ -57,7 +57,7 @@ literal_is cs numeral =
 pub next_literal : (c : ℕ) (cs rest : List ℕ) → is_ascii_digit c ≡ true → list_all is_ascii_digit cs ≡ true
     → Stops is_ascii_digit rest → IsNext (c ∷ (cs ++ rest)) (literal_of (c ∷ cs)) (c ∷ cs) rest
 next_literal c cs rest digit digits stops = record {
-  parts = refl;
+  text_is = refl;
   is = literal_is (c ∷ cs) (record { nonempty = omega arith; digits = and_from _ _ digit digits });
   longest = bounded Digit c (cs ++ rest) (length cs) (class-Digit c digit)
       (λ lexeme tail more e front. run_longest is_ascii_digit cs rest tail more stops front.1 e);
@@ -74,7 +74,7 @@ word_is cs identifier = word_at (keyword_of cs) refl
 pub next_word : (c : ℕ) (cs rest : List ℕ) → may_begin c ≡ true → list_all may_continue cs ≡ true
     → Stops may_continue rest → IsNext (c ∷ (cs ++ rest)) (Word (word_kind (c ∷ cs))) (c ∷ cs) rest
 next_word c cs rest begins continues stops = record {
-  parts = refl;
+  text_is = refl;
   is = word_is (c ∷ cs) (and_from _ _ begins continues);
   longest = bounded Letter c (cs ++ rest) (length cs) (class-Letter c begins)
       (λ lexeme tail more e front. run_longest may_continue cs rest tail more stops front.1 e);
@@ -98,7 +98,7 @@ after_line cs rest stops lexeme tail more e (Unclosed body unclosed) = absurd (p
 pub next_line : (cs rest : List ℕ) → IsInLine cs → Stops (λ c. not (c == 10)) rest
     → IsNext (47 ∷ 47 ∷ (cs ++ rest)) Gap (47 ∷ 47 ∷ cs) rest
 next_line cs rest line stops = record {
-  parts = refl;
+  text_is = refl;
   is = LineComment cs line;
   longest = bounded Solidus 47 (47 ∷ (cs ++ rest)) (suc (length cs)) class-Solidus (after_line cs rest stops);
 }
@@ -133,14 +133,14 @@ after_block cs rest closed lexeme tail more e (Unclosed body unclosed) =
 
 pub next_block : (cs rest : List ℕ) → IsClosed cs → IsNext (47 ∷ 42 ∷ (cs ++ rest)) Gap (47 ∷ 42 ∷ cs) rest
 next_block cs rest closed = record {
-  parts = refl;
+  text_is = refl;
   is = BlockComment cs closed;
   longest = bounded Solidus 47 (42 ∷ (cs ++ rest)) (suc (length cs)) class-Solidus (after_block cs rest closed);
 }
 
 pub next_open : (cs : List ℕ) → IsOpen cs → IsNext (47 ∷ 42 ∷ cs) OpenComment (47 ∷ 42 ∷ cs) []
 next_open cs unclosed = record {
-  parts = sym (append-nil (47 ∷ 42 ∷ cs));
+  text_is = sym (append-nil (47 ∷ 42 ∷ cs));
   is = Unended cs unclosed;
   longest = λ other longer more h e. whole_longest (47 ∷ 42 ∷ cs) longer more e;
 }
@@ -159,7 +159,7 @@ after_alone cs no_line no_block lexeme tail more e (Unclosed body unclosed) = ab
 
 pub next_solidus : (cs : List ℕ) → IsNotFirst 47 cs → IsNotFirst 42 cs → IsNext (47 ∷ cs) (Word Slash) (47 ∷ []) cs
 next_solidus cs no_line no_block = record {
-  parts = refl;
+  text_is = refl;
   is = Sign (47 ∷ []) Slash refl;
   longest = bounded Solidus 47 cs 0 class-Solidus (after_alone cs no_line no_block);
 }
@@ -167,7 +167,7 @@ next_solidus cs no_line no_block = record {
 pub next_double : (c d : ℕ) (cs : List ℕ) (kind : Kind) → class_of c ≡ Other → sign_of (c ∷ d ∷ []) ≡ Some kind
     → IsNext (c ∷ d ∷ cs) (Word kind) (c ∷ d ∷ []) cs
 next_double c d cs kind class found = record {
-  parts = refl;
+  text_is = refl;
   is = Sign (c ∷ d ∷ []) kind found;
   longest = bounded Other c (d ∷ cs) 1 class (λ lexeme tail more e front. front.1.1.1);
 }
@@ -184,7 +184,7 @@ single c cs alone lexeme (d ∷ f ∷ tail) more e front = let short = front.1.1
 pub next_single : (c : ℕ) (cs : List ℕ) (kind : Kind) → class_of c ≡ Other → sign_of (c ∷ []) ≡ Some kind
     → IsNoDouble c cs → IsNext (c ∷ cs) (Word kind) (c ∷ []) cs
 next_single c cs kind class found alone = record {
-  parts = refl;
+  text_is = refl;
   is = Sign (c ∷ []) kind found;
   longest = bounded Other c cs 0 class
       (λ lexeme tail more e front. let n = ap length (single c cs alone lexeme tail more e front) in omega arith);
@@ -240,8 +240,8 @@ one_lexeme (c ∷ cs) l m h k =
 pub one_next : (text front rest other more : List ℕ) (l m : Lexeme) → IsNext text l front rest
     → IsNext text m other more → (l ≡ m) × ((front ≡ other) × (rest ≡ more))
 one_next text front rest other more l m h k =
-    let e : front ++ rest ≡ other ++ more = sym h.parts ∙ k.parts in
-    let below : length other ≤ length front = h.longest m other more k.is k.parts in
-    let above : length front ≤ length other = k.longest l front rest h.is h.parts in
+    let e : front ++ rest ≡ other ++ more = sym h.text_is ∙ k.text_is in
+    let below : length other ≤ length front = h.longest m other more k.is k.text_is in
+    let above : length front ≤ length other = k.longest l front rest h.is h.text_is in
     let same = same_front front rest other more e (omega arith) in
     (one_lexeme front l m h.is (subst (IsLexeme m) (sym same.0) k.is), same)

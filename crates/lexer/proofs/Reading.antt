@@ -33,7 +33,7 @@ moved text other l m front a rest b e k f h next =
 
 -- the front that a run passes
 pub record IsRun (p : ℕ → Bool) (cs front : List ℕ) : Type 0 where
-  pub parts : cs ≡ front ++ after_run p cs
+  pub text_is : cs ≡ front ++ after_run p cs
   pub passes : list_all p front ≡ true
   pub stops : Stops p (after_run p cs)
 
@@ -41,7 +41,7 @@ run_cons : (p : ℕ → Bool) (c : ℕ) (cs front : List ℕ) → p c ≡ true �
 run_cons p c cs front h run =
     let on : after_run p cs ≡ after_run p (c ∷ cs) = sym (cond-true (p c) (after_run p cs) (c ∷ cs) h) in
     record {
-      parts = ap (λ t. c ∷ t) (run.parts ∙ ap (λ r. front ++ r) on);
+      text_is = ap (λ t. c ∷ t) (run.text_is ∙ ap (λ r. front ++ r) on);
       passes = and_from _ _ h run.passes;
       stops = subst (Stops p) on run.stops;
     }
@@ -49,10 +49,10 @@ run_cons p c cs front h run =
 run_nil : (p : ℕ → Bool) (c : ℕ) (cs : List ℕ) → p c ≡ false → IsRun p (c ∷ cs) []
 run_nil p c cs h =
     let off : c ∷ cs ≡ after_run p (c ∷ cs) = sym (cond-false (p c) (after_run p cs) (c ∷ cs) h) in
-    record { parts = off; passes = refl; stops = subst (Stops p) off h }
+    record { text_is = off; passes = refl; stops = subst (Stops p) off h }
 
 pub run_parts : (p : ℕ → Bool) (cs : List ℕ) → (front : List ℕ) × IsRun p cs front
-run_parts p [] = ([], record { parts = refl; passes = refl; stops = tt })
+run_parts p [] = ([], record { text_is = refl; passes = refl; stops = tt })
 run_parts p (c ∷ cs) =
     let (front, run) = run_parts p cs in
     elim (cases_Bool (p c)) [
@@ -73,7 +73,7 @@ run_front p cs c after rest e k =
     let (front, run) = run_parts p after in
     record {
       others = front;
-      whole = e ∙ ap (λ t. c ∷ t) (run.parts ∙ ap (λ r. front ++ r) (sym k));
+      whole = e ∙ ap (λ t. c ∷ t) (run.text_is ∙ ap (λ r. front ++ r) (sym k));
       passes = run.passes;
       stops = subst (Stops p) (sym k) run.stops;
     }

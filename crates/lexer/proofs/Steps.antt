@@ -54,7 +54,7 @@ pub record Parted (text rest : List ℕ) : Type 0 where
   pub shorter : length rest ≤ length text
   pub boundary : IsCharBoundary text (length text - length rest)
   pub bytes : text ≡ take (length text - length rest) text ++ rest
-  pub parts : chars text ≡ chars (take (length text - length rest) text) ++ chars rest
+  pub text_is : chars text ≡ chars (take (length text - length rest) text) ++ chars rest
 
 pub parted : (text rest : List ℕ) → IsUtf8 text → IsUtf8 rest → IsTail (chars text) (chars rest) → Parted text rest
 parted text rest utf8 tail_utf8 (cs, e) =
@@ -73,5 +73,5 @@ parted text rest utf8 tail_utf8 (cs, e) =
       shorter = omega arith;
       boundary = boundary;
       bytes = whole;
-      parts = ap chars whole ∙ chars-append _ rest front_utf8;
+      text_is = ap chars whole ∙ chars-append _ rest front_utf8;
     }

@@ -60,14 +60,14 @@ find_literal : (c : ℕ) (cs : List ℕ) → is_ascii_digit c ≡ true → Found
 find_literal c cs digit =
     let (front, run) = run_parts is_ascii_digit cs in
     Next _ (c ∷ front) (after_run is_ascii_digit cs)
-    (moved _ _ _ _ _ _ _ _ (ap (λ t. c ∷ t) (sym run.parts)) refl refl refl
+    (moved _ _ _ _ _ _ _ _ (ap (λ t. c ∷ t) (sym run.text_is)) refl refl refl
     (next_literal c front (after_run is_ascii_digit cs) digit run.passes run.stops))
 
 find_word : (c : ℕ) (cs : List ℕ) → may_begin c ≡ true → Found (c ∷ cs)
 find_word c cs begins =
     let (front, run) = run_parts may_continue cs in
     Next _ (c ∷ front) (after_run may_continue cs)
-    (moved _ _ _ _ _ _ _ _ (ap (λ t. c ∷ t) (sym run.parts)) refl refl refl
+    (moved _ _ _ _ _ _ _ _ (ap (λ t. c ∷ t) (sym run.text_is)) refl refl refl
     (next_word c front (after_run may_continue cs) begins run.passes run.stops))
 
 found : (c : ℕ) (cs : List ℕ) → Found (c ∷ cs)
@@ -100,7 +100,7 @@ stuck start text fault h = record { words = []; end = start; rest = text; cuts =
 shorter : (lexeme : Lexeme) (text front rest : List ℕ) → IsNext text lexeme front rest → length rest < length text
 shorter lexeme text [] rest next = absurd (nonempty lexeme [] next.is refl)
 shorter lexeme text (c ∷ front) rest next =
-    let n : length text ≡ suc (length (front ++ rest)) = ap length next.parts in
+    let n : length text ≡ suc (length (front ++ rest)) = ap length next.text_is in
     let m = length-append front rest in
     omega arith
 

@@ -11,7 +11,7 @@ use Rattle.lexer.specs.declared.fault.LexFault.TheVariants.{NoMemory, NoToken, L
 
 -- the text begins with the lexeme `front`, and with no longer one; `rest` follows
 pub record IsNext (text : List ℕ) (lexeme : Lexeme) (front rest : List ℕ) : Type 0 where
-  pub parts : text ≡ front ++ rest
+  pub text_is : text ≡ front ++ rest
   pub is : IsLexeme lexeme front
   pub longest : (other : Lexeme) (longer more : List ℕ) → IsLexeme other longer → text ≡ longer ++ more
       → length longer ≤ length front

@@ -21,15 +21,15 @@ abbrev pub IsSliceOf : List ℕ → Terminal → Type 0
 IsSliceOf source t = t.text ≡ slice_range source t.start t.end
 
 -- the bytes spell a terminal of this kind
-abbrev pub Spells : Kind → List ℕ → Type 0
-Spells Name text = IsTrue (is_name_text text)
-Spells (Integer value) text = IsNumeral text × (digits_value 10 text ≡ value) × (value ≤ greatest_literal)
-Spells End text = text ≡ []
-Spells kind text = (keyword_of text ≡ Some kind) ⊎ (sign_of text ≡ Some kind)
+abbrev pub SpellsToken : Kind → List ℕ → Type 0
+SpellsToken Name text = IsTrue (is_name_text text)
+SpellsToken (Integer value) text = IsNumeral text × (digits_value 10 text ≡ value) × (value ≤ greatest_literal)
+SpellsToken End text = text ≡ []
+SpellsToken kind text = (keyword_of text ≡ Some kind) ⊎ (sign_of text ≡ Some kind)
 
 -- the terminal's text spells its kind
 abbrev pub IsSpelled : Terminal → Type 0
-IsSpelled t = Spells t.kind t.text
+IsSpelled t = SpellsToken t.kind t.text
 
 -- the terminal stands where a character of the source begins, or at its end
 abbrev pub IsAtCharacter : List ℕ → Terminal → Type 0

@@ -11,10 +11,10 @@ use Rattle.bytecode.specs.declared.declaration.Slot.{Slot}
 use Rattle.bytecode.specs.declared.declaration.Slot.TheVariants as slot
 use Rattle.bytecode.specs.declared.declaration.Direction.{Direction}
 use Rattle.bytecode.specs.declared.declaration.Direction.TheVariants.{Input, Output}
-use Rattle.bytecode.specs.Machine.{Caller, State, Machine, Header, Program, handled, unwound, raised, slot_at, with_slot, with_global, loads, stores, found, loads_element, changes, stores_element, clears, with_element, element_at, computed, pushes_number, computes, compares, same_truth, matches, drops, negates, inverts, branches, popped, enters, calls, takes, receives, sends, throws, act}
+use Rattle.bytecode.specs.Machine.{Caller, State, Machine, Header, MachineCode, handled, unwound, raised, slot_at, with_slot, with_global, loads, stores, found, loads_element, changes, stores_element, clears, with_element, element_at, computed, pushes_number, computes, compares, same_truth, matches, drops, negates, inverts, branches, popped, enters, calls, takes, receives, sends, throws, act}
 
-module _ (p : Program) (fetch : ℕ → ℕ → Option Instruction) where
-  abbrev q : Program
+module _ (p : MachineCode) (fetch : ℕ → ℕ → Option Instruction) where
+  abbrev q : MachineCode
   q = record p { fetch = fetch }
 
   either : (b : Bool) (x y z : Machine) → x ≡ y → cond b x z ≡ cond b y z

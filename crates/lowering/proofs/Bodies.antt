@@ -6,8 +6,8 @@ use Rattle.resolved.specs.declared.statement.Exit.TheVariants.{Return}
 use Rattle.resolved.specs.declared.tables.Direction.TheVariants.{Input, Output}
 use Rattle.resolved.specs.Tree.{Statement, Assign, Clear, Store, Receive, Send, Call, If, While, Leave, ReturnWith, Try, Nested, Block, Empty, Then, Handlers, NoMore, Catch}
 use Rattle.resolved.specs.Program.{Program, procedure_at}
-use Rattle.resolved.specs.State as source
-use Rattle.resolved.specs.State.{value_of, values_of, assigned}
+use Rattle.resolved.specs.SourceState as source
+use Rattle.resolved.specs.SourceState.{value_of, values_of, assigned}
 use Rattle.resolved.specs.Meaning.{Outcome, Calls, turns, statement_meaning, block_meaning, handlers_meaning}
 use Rattle.resolved.specs.WellFormed.{variable_type, has_base, same_base, array_by, target_by, channel_is, statement_fits, block_fits, handlers_fit, is_exception}
 use Rattle.resolved.specs.Kinds.{StateFits, OutcomeFits}
@@ -60,7 +60,7 @@ plain g at n h under = record { finds = under.finds }
 
 module _ (g : Setting) (calls : Calls) (k : ℕ) (keep : CallsKeep g.program calls) (run : CallsRun g calls k) where
   mutual
-    pub statement-runs : (statement : Statement) (loop : Loop) (h : ℕ → Option ℕ) (at : ℕ) (s : source.State) → statement_fits g.program g.procedure statement ≡ true
+    pub statement-runs : (statement : Statement) (loop : Loop) (h : ℕ → Option ℕ) (at : ℕ) (s : source.SourceState) → statement_fits g.program g.procedure statement ≡ true
         → Stands g.code (statement_code g.program loop at statement) at → Under g (statement_table g.program at statement) at (statement_size g.program statement) h
         → StateFits g.program g.procedure s
         → Runs g loop h k (place g at [] s) (at + statement_size g.program statement) (statement_meaning calls k statement s)
@@ -181,7 +181,7 @@ module _ (g : Setting) (calls : Calls) (k : ℕ) (keep : CallsKeep g.program cal
         (λ x t fit'. handlers-run handlers loop h at (at + m) next end x t parts.1 stands2 under_handlers (omega arith) refl fit'))
     statement-runs (Nested start block) loop h at s fits stands under fit = block-runs block loop h at s fits stands under fit
 
-    pub block-runs : (block : Block) (loop : Loop) (h : ℕ → Option ℕ) (at : ℕ) (s : source.State) → block_fits g.program g.procedure block ≡ true
+    pub block-runs : (block : Block) (loop : Loop) (h : ℕ → Option ℕ) (at : ℕ) (s : source.SourceState) → block_fits g.program g.procedure block ≡ true
         → Stands g.code (block_code g.program loop at block) at → Under g (block_table g.program at block) at (block_size g.program block) h
         → StateFits g.program g.procedure s
         → Runs g loop h k (place g at [] s) (at + block_size g.program block) (block_meaning calls k block s)
@@ -205,7 +205,7 @@ module _ (g : Setting) (calls : Calls) (k : ℕ) (keep : CallsKeep g.program cal
         (statement-runs statement loop h at s parts.0 (stands-front g.code first second at stands) under_first fit) kept.state
         (λ t fit'. block-runs rest loop h mid t parts.1 (stands-back g.code first second at n (statement-sized g.program loop at statement) stands) under_rest fit'))
 
-    pub handlers-run : (handlers : Handlers) (loop : Loop) (h : ℕ → Option ℕ) (start stop at end exception : ℕ) (t : source.State) → handlers_fit g.program g.procedure handlers ≡ true
+    pub handlers-run : (handlers : Handlers) (loop : Loop) (h : ℕ → Option ℕ) (start stop at end exception : ℕ) (t : source.SourceState) → handlers_fit g.program g.procedure handlers ≡ true
         → Stands g.code (handlers_code g.program loop end at handlers) at → Under g (handlers_table g.program start stop at handlers) at (handlers_size g.program handlers) h
         → stop ≤ at → end ≡ at + handlers_size g.program handlers → StateFits g.program g.procedure t
         → Runs g loop h k (thrown_to g (first_found (catch_place g.program at handlers exception) (h exception)) exception t) end (handlers_meaning calls k handlers exception t)

@@ -11,8 +11,8 @@ use Rattle.resolved.specs.declared.expression.Operator.TheVariants as operator
 use Rattle.resolved.specs.declared.expression.Connective.{Connective}
 use Rattle.resolved.specs.declared.expression.Connective.TheVariants.{And, Or}
 use Rattle.resolved.specs.Tree.{Expression, Integer, Logical, Read, Element, Unary, Binary, Short}
-use Rattle.resolved.specs.State as source
-use Rattle.resolved.specs.State.{value_of}
+use Rattle.resolved.specs.SourceState as source
+use Rattle.resolved.specs.SourceState.{value_of}
 use Rattle.resolved.specs.Value.{Evaluated, Gives, Raises, then_with, prefix_value, operator_value, decides, bool_eq, truth_in, number_in}
 use Rattle.resolved.specs.WellFormed.{has_base, result_base}
 use Rattle.resolved.specs.Kinds.{StateFits, GivesBase}
@@ -36,7 +36,7 @@ abbrev pub lead_by : (wanted truth : Bool) → (target end : ℕ) → ℕ
 lead_by wanted truth target end = if bool_eq wanted truth then target else end
 
 -- in at least one step the machine comes to the target or behind the code, or to where the exception goes
-abbrev pub BranchRuns : Setting → (ℕ → Option ℕ) → (wanted : Bool) → (target : ℕ) → Machine → (end : ℕ) → source.State → Evaluated Value → Type 0
+abbrev pub BranchRuns : Setting → (ℕ → Option ℕ) → (wanted : Bool) → (target : ℕ) → Machine → (end : ℕ) → source.SourceState → Evaluated Value → Type 0
 BranchRuns g h wanted target from end s (Gives v) = Strides g.p from (place g (lead_by wanted (truth_in v) target end) [] s)
 BranchRuns g h wanted target from end s (Raises exception) = Leads g.p from (thrown_to g (h exception) exception s)
 
@@ -81,7 +81,7 @@ turned_pair op (Gives v) (Gives w) e = turned-operator op v w e
 turned_pair op (Gives v) (Raises exception) e = refl
 turned_pair op (Raises exception) second e = refl
 
-module _ (g : Setting) (h : ℕ → Option ℕ) (s : source.State) (fit : StateFits g.program g.procedure s) where
+module _ (g : Setting) (h : ℕ → Option ℕ) (s : source.SourceState) (fit : StateFits g.program g.procedure s) where
   turned-value : (e : Expression) → has_base g.program g.procedure base.Boolean e ≡ true
       → value_of s (turned e) ≡ then_with (value_of s e) (λ x. Gives (prefix_value prefix.Not x))
   turned-value (Integer n) typed = refl

@@ -6,7 +6,7 @@ use Rattle.std.proofs.lemmas.Bool.Decides.{nat_tests}
 use Rattle.resolved.specs.declared.expression.Value.{Value}
 use Rattle.resolved.specs.declared.statement.Exit.TheVariants.{Normal, Return, Break, Continue, Throw}
 use Rattle.resolved.specs.Program.{Program, ProcedureEntry, ResultEntry, procedure_at}
-use Rattle.resolved.specs.State as source
+use Rattle.resolved.specs.SourceState as source
 use Rattle.resolved.specs.Value.{base_of}
 use Rattle.resolved.specs.Ends.{has_end, thrown_ends, declared_by}
 use Rattle.resolved.specs.EndFaults.{end_faults}
@@ -57,7 +57,7 @@ no_continue (x ∷ xs) = no_continue xs
 
 module _ (program : Program) (formed : well_formed program ≡ true) (none : end_faults program ≡ []) (world : source.World) (k : ℕ) where
   -- the body of a procedure from its begin on
-  pub body-run : (d f : ℕ) (entry : ProcedureEntry) (there : slice_get program.procedures f ≡ Some entry) (callers : List Caller) (s : source.State)
+  pub body-run : (d f : ℕ) (entry : ProcedureEntry) (there : slice_get program.procedures f ≡ Some entry) (callers : List Caller) (s : source.SourceState)
       → CallsRun (setting_of program formed world f entry there callers) (calls_with program k d) k → StateFits program entry s
       → Runs (setting_of program formed world f entry there callers) no_loop nowhere k (place (setting_of program formed world f entry there callers) 0 [] s)
       (0 + block_size program entry.body) (block_meaning (calls_with program k d) k entry.body s)
@@ -72,7 +72,7 @@ module _ (program : Program) (formed : well_formed program ≡ true) (none : end
       fit
 
   -- a body that ended normally returns
-  pub body-returns : (d f : ℕ) (entry : ProcedureEntry) (there : slice_get program.procedures f ≡ Some entry) (callers : List Caller) (s t : source.State) (returned : Option Value)
+  pub body-returns : (d f : ℕ) (entry : ProcedureEntry) (there : slice_get program.procedures f ≡ Some entry) (callers : List Caller) (s t : source.SourceState) (returned : Option Value)
       → block_meaning (calls_with program k d) k entry.body s ≡ Ended Normal returned t → is_none entry.result ≡ true
       → Leads (setting_of program formed world f entry there callers).p (place (setting_of program formed world f entry there callers) (0 + block_size program entry.body) [] t)
       (returned_to (setting_of program formed world f entry there callers) None t)
@@ -93,15 +93,15 @@ module _ (program : Program) (formed : well_formed program ≡ true) (none : end
           let fits : ProcedureParts program entry = parts.procedure_there program formed f entry there in
           absurd (subst NotNormal is (block-stays program entry (calls_with program k d) k entry.body fits.body_fits e s))
 
-  module _ (f : ℕ) (entry : ProcedureEntry) (there : slice_get program.procedures f ≡ Some entry) (callers : List Caller) (at : ℕ) (s : source.State) where
+  module _ (f : ℕ) (entry : ProcedureEntry) (there : slice_get program.procedures f ≡ Some entry) (callers : List Caller) (at : ℕ) (s : source.SourceState) where
     -- the frame that waits at the call
     abbrev waiting : Caller
     waiting = record { frame = record { procedure = f; slots = λ n. cells_of (s.locals n); operands = []; position = at }; resume = at + 1 }
 
-    abbrev back : source.State → source.State
+    abbrev back : source.SourceState → source.SourceState
     back t = record t { locals = s.locals }
 
-    unwound_back : (q : ℕ) (callee : ProcedureEntry) (found : slice_get program.procedures q ≡ Some callee) (t : source.State) (e : ℕ) (others : List Caller)
+    unwound_back : (q : ℕ) (callee : ProcedureEntry) (found : slice_get program.procedures q ≡ Some callee) (t : source.SourceState) (e : ℕ) (others : List Caller)
         → unwound (setting_of program formed world f entry there callers).p (state_at (setting_of program formed world q callee found (waiting ∷ callers)) 0 [] t) e others
         ≡ unwound (setting_of program formed world f entry there callers).p (state_at (setting_of program formed world f entry there callers) 0 [] (back t)) e others
     unwound_back q callee found t e [] = refl
@@ -118,7 +118,7 @@ module _ (program : Program) (formed : well_formed program ≡ true) (none : end
         go None h = h
         go (Some target) h = refl
 
-    thrown_back : (q : ℕ) (callee : ProcedureEntry) (found : slice_get program.procedures q ≡ Some callee) (t : source.State) (e : ℕ)
+    thrown_back : (q : ℕ) (callee : ProcedureEntry) (found : slice_get program.procedures q ≡ Some callee) (t : source.SourceState) (e : ℕ)
         → thrown_to (setting_of program formed world q callee found (waiting ∷ callers)) None e t
         ≡ thrown_to (setting_of program formed world f entry there callers) ((setting_of program formed world f entry there callers).p.find f at e) e (back t)
     thrown_back q callee found t e = go ((setting_of program formed world f entry there callers).p.find f at e)
@@ -131,7 +131,7 @@ module _ (program : Program) (formed : well_formed program ≡ true) (none : end
         go (Some target) = refl
 
     -- a call that the machine makes comes back, or ends, as the body of the procedure does
-    body-called : (q : ℕ) (callee : ProcedureEntry) (found : slice_get program.procedures q ≡ Some callee) (d : ℕ) (inner : source.State) (result : Option ResultEntry) (o : Outcome)
+    body-called : (q : ℕ) (callee : ProcedureEntry) (found : slice_get program.procedures q ≡ Some callee) (d : ℕ) (inner : source.SourceState) (result : Option ResultEntry) (o : Outcome)
         → callee.result ≡ result → block_meaning (calls_with program k d) k callee.body inner ≡ o
         → OutcomeFits program callee Return callee.result o → EndsAmong (Normal ∷ thrown_ends (declared_by callee.throws)) (leaving back o)
         → ((value : ResultEntry) → result ≡ Some value → GivesValue value.base (leaving back o))
@@ -206,7 +206,7 @@ module _ (program : Program) (formed : well_formed program ≡ true) (none : end
       let g = setting_of program formed world f entry there callers in
       let caller : Caller = waiting f entry there callers at s in
       let g' = setting_of program formed world q callee found (caller ∷ callers) in
-      let inner : source.State = entering callee vs s in
+      let inner : source.SourceState = entering callee vs s in
       let fits : ProcedureParts program callee = parts.procedure_there program formed q callee found in
       let is : procedure_at program q ≡ callee = procedure_at_is program q callee found in
       let inner_fit : StateFits program callee inner = entering_fits program entry callee s vs fit matches fits.parameters_written in

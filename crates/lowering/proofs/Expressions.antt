@@ -14,8 +14,8 @@ use Rattle.resolved.specs.declared.expression.Operator.TheVariants as operator
 use Rattle.resolved.specs.declared.expression.Connective.{Connective}
 use Rattle.resolved.specs.declared.expression.Connective.TheVariants.{And, Or}
 use Rattle.resolved.specs.Tree.{Expression, Integer, Logical, Read, Element, Unary, Binary, Short}
-use Rattle.resolved.specs.State as source
-use Rattle.resolved.specs.State.{value_of, values_of, cells, cell_at}
+use Rattle.resolved.specs.SourceState as source
+use Rattle.resolved.specs.SourceState.{value_of, values_of, cells, cell_at}
 use Rattle.resolved.specs.Value.{Evaluated, Gives, Raises, literal_number, base_of, prefix_value, operator_value, decides, is_zero, bool_eq, wrapped}
 use Rattle.resolved.specs.WellFormed.{variable_type, has_base, same_base, array_by, prefix_base, operand_base, result_base}
 use Rattle.resolved.specs.Kinds.{StateFits}
@@ -62,7 +62,7 @@ same_truths : (a b : Bool) → same_truth a b ≡ bool_eq a b
 same_truths true b = refl
 same_truths false b = refl
 
-module _ (g : Setting) (h : ℕ → Option ℕ) (s : source.State) where
+module _ (g : Setting) (h : ℕ → Option ℕ) (s : source.SourceState) where
   division-runs : (i : Instruction) (a z result : ℤ) (test : Bool) (at : ℕ) (operands : List Cell) (more : List Instruction)
       → is_zero z ≡ test → Stands g.code (i ∷ more) at → ((exception : ℕ) → g.p.find g.number at exception ≡ h exception)
       → act g.p i (state_at g at (cell.Int z ∷ cell.Int a ∷ operands) s)
@@ -190,7 +190,7 @@ module _ (g : Setting) (h : ℕ → Option ℕ) (s : source.State) where
       (branch-off (at + 1 + 1 + 1) at operands (instruction.PushBoolean true ∷ instruction.Jump (at + 1 + 1 + 1 + n) ∷ rest) stands)
       (each (at + 1 + 1 + 1) (omega arith) (omega arith) last))
 
-module _ (g : Setting) (h : ℕ → Option ℕ) (s : source.State) (fit : StateFits g.program g.procedure s) where
+module _ (g : Setting) (h : ℕ → Option ℕ) (s : source.SourceState) (fit : StateFits g.program g.procedure s) where
   pub value-runs : (e : Expression) (b : Base) (at : ℕ) (operands : List Cell) → has_base g.program g.procedure b e ≡ true
       → Stands g.code (value_code at e) at → Finds g at (value_size e) h
       → ValueRuns g h operands (place g at operands s) (at + value_size e) s (value_of s e)

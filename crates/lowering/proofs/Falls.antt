@@ -6,7 +6,7 @@ use Rattle.resolved.specs.declared.statement.Exit.{Exit}
 use Rattle.resolved.specs.declared.statement.Exit.TheVariants.{Normal, Return, Break, Continue, Throw}
 use Rattle.resolved.specs.Tree.{Statement, If, Leave, ReturnWith, Try, Nested, Block, Empty, Then, Handlers, NoMore, Catch}
 use Rattle.resolved.specs.Program.{Program, ProcedureEntry}
-use Rattle.resolved.specs.State.{State, value_of}
+use Rattle.resolved.specs.SourceState.{SourceState, value_of}
 use Rattle.resolved.specs.Value.{Evaluated, Gives, Raises, truth_in}
 use Rattle.resolved.specs.Meaning.{Outcome, Ended, Stopped, Calls, after, evaluated, caught, statement_meaning, block_meaning, handlers_meaning}
 use Rattle.resolved.specs.WellFormed.{has_base, statement_fits, block_fits, handlers_fit, is_exception, may_leave_by}
@@ -22,7 +22,7 @@ not_both : (a b : Bool) → (a && b) ≡ false → (a ≡ false) ⊎ (b ≡ fals
 not_both true b h = inr h
 not_both false b h = inl refl
 
-not-first : (o : Outcome) (next : State → Outcome) → NotNormal o → NotNormal (after o next)
+not-first : (o : Outcome) (next : SourceState → Outcome) → NotNormal o → NotNormal (after o next)
 not-first (Ended Normal returned t) next h = absurd h
 not-first (Ended Return returned t) next h = tt
 not-first (Ended Break returned t) next h = tt
@@ -30,7 +30,7 @@ not-first (Ended Continue returned t) next h = tt
 not-first (Ended (Throw exception) returned t) next h = tt
 not-first (Stopped stop t) next h = tt
 
-not-rest : (o : Outcome) (next : State → Outcome) → ((t : State) → NotNormal (next t)) → NotNormal (after o next)
+not-rest : (o : Outcome) (next : SourceState → Outcome) → ((t : SourceState) → NotNormal (next t)) → NotNormal (after o next)
 not-rest (Ended Normal returned t) next h = h t
 not-rest (Ended Return returned t) next h = tt
 not-rest (Ended Break returned t) next h = tt
@@ -38,7 +38,7 @@ not-rest (Ended Continue returned t) next h = tt
 not-rest (Ended (Throw exception) returned t) next h = tt
 not-rest (Stopped stop t) next h = tt
 
-not-evaluated : {A : Type 0} (o : Evaluated A) (s : State) (next : A → Outcome) → ((v : A) → NotNormal (next v)) → NotNormal (evaluated o s next)
+not-evaluated : {A : Type 0} (o : Evaluated A) (s : SourceState) (next : A → Outcome) → ((v : A) → NotNormal (next v)) → NotNormal (evaluated o s next)
 not-evaluated (Gives v) s next h = h v
 not-evaluated (Raises exception) s next h = tt
 
@@ -46,7 +46,7 @@ not-either : (b : Bool) (one other : Outcome) → NotNormal one → NotNormal ot
 not-either true one other h k = h
 not-either false one other h k = k
 
-not-caught : (o : Outcome) (handle : ℕ → State → Outcome) → NotNormal o → ((exception : ℕ) (t : State) → NotNormal (handle exception t)) → NotNormal (caught o handle)
+not-caught : (o : Outcome) (handle : ℕ → SourceState → Outcome) → NotNormal o → ((exception : ℕ) (t : SourceState) → NotNormal (handle exception t)) → NotNormal (caught o handle)
 not-caught (Ended Normal returned t) handle h each = absurd h
 not-caught (Ended Return returned t) handle h each = tt
 not-caught (Ended Break returned t) handle h each = tt
@@ -54,7 +54,7 @@ not-caught (Ended Continue returned t) handle h each = tt
 not-caught (Ended (Throw exception) returned t) handle h each = each exception t
 not-caught (Stopped stop t) handle h each = tt
 
-not-left : (program : Program) (exit : Exit) (s : State) → may_leave_by program exit ≡ true → NotNormal (Ended exit None s)
+not-left : (program : Program) (exit : Exit) (s : SourceState) → may_leave_by program exit ≡ true → NotNormal (Ended exit None s)
 not-left program Normal s h = absurd (let no : false ≡ true = h in cc)
 not-left program Return s h = tt
 not-left program Break s h = tt
@@ -63,7 +63,7 @@ not-left program (Throw exception) s h = tt
 
 module _ (program : Program) (procedure : ProcedureEntry) (calls : Calls) (k : ℕ) where
   mutual
-    pub statement-stays : (statement : Statement) → statement_fits program procedure statement ≡ true → statement_falls statement ≡ false → (s : State) → NotNormal (statement_meaning calls k statement s)
+    pub statement-stays : (statement : Statement) → statement_fits program procedure statement ≡ true → statement_falls statement ≡ false → (s : SourceState) → NotNormal (statement_meaning calls k statement s)
     statement-stays (If at e yes_block no_block) fits falls s =
         let parts = both (has_base program procedure Boolean e && block_fits program procedure yes_block) (block_fits program procedure no_block) fits in
         let yes_fits : block_fits program procedure yes_block ≡ true = (both (has_base program procedure Boolean e) (block_fits program procedure yes_block) parts.0).1 in
@@ -79,19 +79,19 @@ module _ (program : Program) (procedure : ProcedureEntry) (calls : Calls) (k : �
     statement-stays (Nested at block) fits falls s = block-stays block fits falls s
     statement-stays _ fits falls s = absurd (let no : true ≡ false = falls in cc)
 
-    pub block-stays : (block : Block) → block_fits program procedure block ≡ true → block_falls block ≡ false → (s : State) → NotNormal (block_meaning calls k block s)
+    pub block-stays : (block : Block) → block_fits program procedure block ≡ true → block_falls block ≡ false → (s : SourceState) → NotNormal (block_meaning calls k block s)
     block-stays Empty fits falls s = absurd (let no : true ≡ false = falls in cc)
     block-stays (Then statement rest) fits falls s =
         let parts = both (statement_fits program procedure statement) (block_fits program procedure rest) fits in
         either_stays (not_both (statement_falls statement) (block_falls rest) falls) s (λ h. statement-stays statement parts.0 h s) (λ h t. block-stays rest parts.1 h t)
       where
-        either_stays : (statement_falls statement ≡ false) ⊎ (block_falls rest ≡ false) → (s : State)
+        either_stays : (statement_falls statement ≡ false) ⊎ (block_falls rest ≡ false) → (s : SourceState)
             → (statement_falls statement ≡ false → NotNormal (statement_meaning calls k statement s))
-            → (block_falls rest ≡ false → (t : State) → NotNormal (block_meaning calls k rest t)) → NotNormal (block_meaning calls k (Then statement rest) s)
+            → (block_falls rest ≡ false → (t : SourceState) → NotNormal (block_meaning calls k rest t)) → NotNormal (block_meaning calls k (Then statement rest) s)
         either_stays (inl h) s first second = not-first (statement_meaning calls k statement s) _ (first h)
         either_stays (inr h) s first second = not-rest (statement_meaning calls k statement s) _ (second h)
 
-    pub handlers-stay : (handlers : Handlers) → handlers_fit program procedure handlers ≡ true → handlers_fall handlers ≡ false → (exception : ℕ) (s : State) → NotNormal (handlers_meaning calls k handlers exception s)
+    pub handlers-stay : (handlers : Handlers) → handlers_fit program procedure handlers ≡ true → handlers_fall handlers ≡ false → (exception : ℕ) (s : SourceState) → NotNormal (handlers_meaning calls k handlers exception s)
     handlers-stay NoMore fits falls exception s = tt
     handlers-stay (Catch at handled body rest) fits falls exception s =
         let parts = both (is_exception program handled && block_fits program procedure body) (handlers_fit program procedure rest) fits in

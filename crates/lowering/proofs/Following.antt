@@ -10,7 +10,7 @@ use Rattle.bytecode.specs.declared.instruction.Instruction.TheVariants.{Jump, Ju
 use Rattle.bytecode.specs.declared.value.Cell.{Cell}
 use Rattle.bytecode.specs.declared.value.Cell.TheVariants as cell
 use Rattle.bytecode.specs.Contents.{ProcedureContents, ModuleContents}
-use Rattle.bytecode.specs.Machine.{State, Machine, Running, Ended, Stuck, Program, Header, goes_to, act, acts, step, exec, branches, code_of, handlers_of, handler_for, header_of, slots_in, first_slots, first_state}
+use Rattle.bytecode.specs.Machine.{State, Machine, Running, Ended, Stuck, MachineCode, Header, goes_to, act, acts, step, exec, branches, code_of, handlers_of, handler_for, header_of, slots_in, first_slots, first_state}
 use Rattle.bytecode.specs.Targets.{renamed_instruction}
 use Rattle.layout.specs.Runs.{graph_program}
 use Rattle.lowering.specs.Threaded.{jump_of, onward, followed, final_place}
@@ -20,19 +20,19 @@ use Rattle.lowering.proofs.Steps.{counted, count, counts}
 
 -- ---- runs by how many steps they have at least, and how many of these count at most
 
-pub record Follows (p : Program) (least most : ℕ) (from to : Machine) : Type 0 where
+pub record Follows (p : MachineCode) (least most : ℕ) (from to : Machine) : Type 0 where
   pub steps : ℕ
   pub enough : least ≤ steps
   pub few : counts p steps from ≤ most
   pub reached : exec p steps from ≡ to
 
-follows-nowhere : (p : Program) (m : Machine) → Follows p 0 0 m m
+follows-nowhere : (p : MachineCode) (m : Machine) → Follows p 0 0 m m
 follows-nowhere p m = record { steps = 0; enough = omega arith; few = omega arith; reached = refl }
 
-follows-step : (p : Program) (least most : ℕ) (from to : Machine) → Follows p least most (step p from) to → Follows p (suc least) (count p from + most) from to
+follows-step : (p : MachineCode) (least most : ℕ) (from to : Machine) → Follows p least most (step p from) to → Follows p (suc least) (count p from + most) from to
 follows-step p least most from to h = record { steps = suc h.steps; enough = omega (arith, h.enough); few = omega (arith, h.few); reached = h.reached }
 
-follows-after : (p : Program) (n least most : ℕ) (from mid to : Machine) → exec p n from ≡ mid → Follows p least most mid to
+follows-after : (p : MachineCode) (n least most : ℕ) (from mid to : Machine) → exec p n from ≡ mid → Follows p least most mid to
     → Follows p (n + least) (counts p n from + most) from to
 follows-after p zero least most from mid to e h =
     let same : Follows p least most from to = subst (λ m. Follows p least most m to) (sym e) h in
@@ -41,7 +41,7 @@ follows-after p (suc n) least most from mid to e h =
     let rest : Follows p (n + least) (counts p n (step p from) + most) (step p from) to = follows-after p n least most (step p from) mid to e h in
     record { steps = suc rest.steps; enough = omega (arith, rest.enough); few = omega (arith, rest.few); reached = rest.reached }
 
-follows-through : (p : Program) (least most more_least more_most : ℕ) (from mid to : Machine) → Follows p least most from mid → Follows p more_least more_most mid to
+follows-through : (p : MachineCode) (least most more_least more_most : ℕ) (from mid to : Machine) → Follows p least most from mid → Follows p more_least more_most mid to
     → Follows p (least + more_least) (most + more_most) from to
 follows-through p least most more_least more_most from mid to first second =
     let both = follows-after p first.steps more_least more_most from mid to first.reached second in
@@ -52,11 +52,11 @@ counted-most None = omega arith
 counted-most (Some target) = omega arith
 
 -- a program, and the same one where each jump goes somewhere else
-abbrev pub aimed : Program → (ℕ → ℕ → ℕ) → Program
+abbrev pub aimed : MachineCode → (ℕ → ℕ → ℕ) → MachineCode
 aimed p aim = record p { fetch = λ procedure position. option_map (renamed_instruction (aim procedure)) (p.fetch procedure position) }
 
 -- each jump goes to where unconditional jumps lead from its target
-module _ (p : Program) (aim : ℕ → ℕ → ℕ) (lands : (s : State) (operands : List Cell) (target : ℕ) → Follows p 0 0 (goes_to s operands target) (goes_to s operands (aim s.frame.procedure target))) where
+module _ (p : MachineCode) (aim : ℕ → ℕ → ℕ) (lands : (s : State) (operands : List Cell) (target : ℕ) → Follows p 0 0 (goes_to s operands target) (goes_to s operands (aim s.frame.procedure target))) where
   branch-follows : (s : State) (target : ℕ) (operands : List Cell)
       → Follows p 0 0 (branches p s target operands) (branches p s (aim s.frame.procedure target) operands)
   branch-follows s target [] = follows-nowhere p _
@@ -100,7 +100,7 @@ jump-is None target e = absurd (let no : None ≡ Some target = e in cc)
 jump-is (Some (Jump other)) target e = let same : Some other ≡ Some target = e in cc
 jump-is (Some i) target e = absurd (let no : None ≡ Some target = e in cc)
 
-module _ (p : Program) (s : State) (operands : List Cell) (code : List Instruction) (fetched : (position : ℕ) → p.fetch s.frame.procedure position ≡ slice_get code position) where
+module _ (p : MachineCode) (s : State) (operands : List Cell) (code : List Instruction) (fetched : (position : ℕ) → p.fetch s.frame.procedure position ≡ slice_get code position) where
   abbrev at : ℕ → Machine
   at position = goes_to s operands position
 
@@ -176,5 +176,5 @@ module _ (g : ModuleContents) where
       → Follows (graph_program g) n n (Running (first_state g world)) (exec (graph_program (threaded_graph g)) n (Running (first_state (threaded_graph g) world)))
   runs-follow world n =
       subst (λ m. Follows (graph_program g) n n (Running (first_state g world)) m)
-      (sym (ap (λ (q : Program). exec q n (Running (first_state (threaded_graph g) world))) program-same ∙ ap (exec (aimed (graph_program g) aims) n) (first-same world)))
+      (sym (ap (λ (q : MachineCode). exec q n (Running (first_state (threaded_graph g) world))) program-same ∙ ap (exec (aimed (graph_program g) aims) n) (first-same world)))
       (exec-follows (graph_program g) aims lands n (Running (first_state g world)))

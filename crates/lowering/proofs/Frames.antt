@@ -11,7 +11,7 @@ use Rattle.resolved.specs.declared.expression.Value.TheVariants.{Number, Truth}
 use Rattle.resolved.specs.declared.expression.Base.{Base}
 use Rattle.resolved.specs.declared.expression.Base.TheVariants as base
 use Rattle.resolved.specs.Program.{Program, ProcedureEntry, SlotEntry, GlobalEntry, ChannelEntry}
-use Rattle.resolved.specs.State as source
+use Rattle.resolved.specs.SourceState as source
 use Rattle.resolved.specs.Value.{base_of, zero_value}
 use Rattle.resolved.specs.Meaning.{cells_of as first_cells_of, slot_cells, frame_of}
 use Rattle.resolved.specs.WellFormed.{slot_type, global_type, first_fits, size_fits, label_fits, same_base, well_formed, parameters_of}

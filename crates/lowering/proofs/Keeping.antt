@@ -5,7 +5,7 @@ use Rattle.labels.specs.Sent.{IsPrefix}
 use Rattle.labels.proofs.Prefixes.{prefix-itself}
 use Rattle.resolved.specs.EndFaults.{end_faults}
 use Rattle.resolved.specs.Program.{Program}
-use Rattle.resolved.specs.State as source
+use Rattle.resolved.specs.SourceState as source
 use Rattle.resolved.specs.Meaning as meaning
 use Rattle.resolved.specs.WellFormed.{well_formed}
 use Rattle.bytecode.specs.Contents.{ModuleContents}
@@ -24,21 +24,21 @@ use Rattle.lowering.proofs.Unthreaded.{unthreaded_graph, graph-threaded}
 use Rattle.lowering.proofs.Following.{Follows, jump-is, runs-follow}
 use Rattle.lowering.proofs.Programs.{Comes, GoesOn, run-within-limit}
 
--- what fewer steps have sent begins what more have
-sent-grows : (p : machine.Program) (n m : ℕ) (from : Machine) → n ≤ m → IsPrefix (machine.sent_of (machine.exec p n from)) (machine.sent_of (machine.exec p m from))
+-- what fewer steps have sent is a prefix of what more have
+sent-grows : (p : machine.MachineCode) (n m : ℕ) (from : Machine) → n ≤ m → IsPrefix (machine.sent_of (machine.exec p n from)) (machine.sent_of (machine.exec p m from))
 sent-grows p zero m from less = exec-keeps p m from
 sent-grows p (suc n) zero from less = absurd (omega (arith, less))
 sent-grows p (suc n) (suc m) from less = sent-grows p n m (machine.step p from) (omega (arith, less))
 
 -- a machine that has ended does not run later
-ended-later : (p : machine.Program) (n m : ℕ) (from : Machine) (ending : machine.Ending) (sent : List Pair) → n ≤ m → machine.exec p n from ≡ machine.Ended ending sent
+ended-later : (p : machine.MachineCode) (n m : ℕ) (from : Machine) (ending : machine.Ending) (sent : List Pair) → n ≤ m → machine.exec p n from ≡ machine.Ended ending sent
     → machine.exec p m from ≡ machine.Ended ending sent
 ended-later p zero m from ending sent less e = ap (machine.exec p m) e ∙ ended-stays p m ending sent
 ended-later p (suc n) zero from ending sent less e = absurd (omega (arith, less))
 ended-later p (suc n) (suc m) from ending sent less e = ended-later p n m (machine.step p from) ending sent (omega (arith, less)) e
 
 -- after m steps a machine has not ended and has sent no more than this
-record Still (p : machine.Program) (m : ℕ) (from : Machine) (sent : List Pair) : Type 0 where
+record Still (p : machine.MachineCode) (m : ℕ) (from : Machine) (sent : List Pair) : Type 0 where
   sends : IsPrefix (machine.sent_of (machine.exec p m from)) sent
   runs : (ending : machine.Ending) (more : List Pair) → machine.exec p m from ≡ machine.Ended ending more → ⊥
 
@@ -46,7 +46,7 @@ running : (state : machine.State) (ending : machine.Ending) (sent : List Pair) �
 running state ending sent e = cc
 
 -- steps that do not count are unconditional jumps, so a machine still runs behind them
-idle-by : (p : machine.Program) (m : ℕ) (state : machine.State) (sent : List Pair)
+idle-by : (p : machine.MachineCode) (m : ℕ) (state : machine.State) (sent : List Pair)
     → ((on : machine.State) (sent : List Pair) → counts p m (Running on) ≤ 0 → on.sent ≡ sent → Still p m (Running on) sent)
     → counts p (suc m) (Running state) ≤ 0 → state.sent ≡ sent
     → (jump : Option ℕ) → jump_of (p.fetch state.frame.procedure state.frame.position) ≡ jump → Still p (suc m) (Running state) sent
@@ -63,13 +63,13 @@ idle-by p m state sent later none e (Some target) jump =
       runs = λ ending more ended. rest.runs ending more (ap (machine.exec p m) (sym goes) ∙ ended);
     }
 
-idle : (p : machine.Program) (m : ℕ) (state : machine.State) (sent : List Pair) → counts p m (Running state) ≤ 0 → state.sent ≡ sent → Still p m (Running state) sent
+idle : (p : machine.MachineCode) (m : ℕ) (state : machine.State) (sent : List Pair) → counts p m (Running state) ≤ 0 → state.sent ≡ sent → Still p m (Running state) sent
 idle p zero state sent none e = record { sends = subst (IsPrefix state.sent) e (prefix-itself state.sent); runs = running state }
 idle p (suc m) state sent none e =
     idle-by p m state sent (idle p m) none e (jump_of (p.fetch state.frame.procedure state.frame.position)) refl
 
 -- where no more steps count than up to a time at which a machine runs
-still : (p : machine.Program) (w m : ℕ) (from : Machine) (state : machine.State) → machine.exec p w from ≡ Running state → counts p m from ≤ counts p w from
+still : (p : machine.MachineCode) (w m : ℕ) (from : Machine) (state : machine.State) → machine.exec p w from ≡ Running state → counts p m from ≤ counts p w from
     → Still p m from state.sent
 still p zero m from state reached few =
     subst (λ x. Still p m x state.sent) (sym reached) (idle p m state state.sent (subst (λ x. counts p m x ≤ 0) reached few) refl)
@@ -82,7 +82,7 @@ still p (suc w) (suc m) from state reached few =
     record { sends = rest.sends; runs = rest.runs }
 
 module _ (program : Program) (formed : well_formed program ≡ true) (none : end_faults program ≡ []) where
-  abbrev p : machine.Program
+  abbrev p : machine.MachineCode
   p = graph_program (unthreaded_graph program)
 
   abbrev start : source.World → Machine

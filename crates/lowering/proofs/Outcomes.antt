@@ -3,7 +3,7 @@ use Rattle.std.proofs.Common.{◌≡◌, ℕ, zero, suc, ◌≤◌, ◌⊎◌, i
 use Rattle.std.specs.Prelude.{Option, Some, if◌then◌else◌}
 use Rattle.resolved.specs.declared.expression.Value.{Value}
 use Rattle.resolved.specs.declared.statement.Exit.TheVariants.{Normal, Return, Break, Continue, Throw}
-use Rattle.resolved.specs.State as source
+use Rattle.resolved.specs.SourceState as source
 use Rattle.resolved.specs.Value.{Evaluated, Gives, Raises, truth_in}
 use Rattle.resolved.specs.Meaning.{Outcome, Ended, Stopped, Deep, OutOfTurns, after, evaluated, looped, turns, caught, normally, state_after}
 use Rattle.resolved.specs.Kinds.{StateFits}
@@ -75,7 +75,7 @@ module _ (g : Setting) (loop : Loop) (h : ℕ → Option ℕ) (k : ℕ) where
 
   -- a further way from the normal end
   pub runs-on : (from : Machine) (mid end : ℕ) (o : Outcome) → Runs g loop h k from mid o
-      → ((t : source.State) → Leads g.p (place g mid [] t) (place g end [] t)) → Runs g loop h k from end o
+      → ((t : source.SourceState) → Leads g.p (place g mid [] t) (place g end [] t)) → Runs g loop h k from end o
   runs-on from mid end (Ended Normal returned t) run each = leads-through g.p from _ _ run (each t)
   runs-on from mid end (Ended Return returned t) run each = run
   runs-on from mid end (Ended Break returned t) run each = run
@@ -94,8 +94,8 @@ module _ (g : Setting) (loop : Loop) (h : ℕ → Option ℕ) (k : ℕ) where
       go (inl not) = runs-elsewhere from mid end o not run
       go (inr same) = runs-at from mid end o same run
 
-  pub after-runs : (from : Machine) (mid end : ℕ) (o : Outcome) (next : source.State → Outcome) → Runs g loop h k from mid o → StateFits g.program g.procedure (state_after o)
-      → ((t : source.State) → StateFits g.program g.procedure t → Runs g loop h k (place g mid [] t) end (next t)) → Runs g loop h k from end (after o next)
+  pub after-runs : (from : Machine) (mid end : ℕ) (o : Outcome) (next : source.SourceState → Outcome) → Runs g loop h k from mid o → StateFits g.program g.procedure (state_after o)
+      → ((t : source.SourceState) → StateFits g.program g.procedure t → Runs g loop h k (place g mid [] t) end (next t)) → Runs g loop h k from end (after o next)
   after-runs from mid end (Ended Normal returned t) next run fit each = runs-from from (place g mid [] t) end (next t) run (each t fit)
   after-runs from mid end (Ended Return returned t) next run fit each = run
   after-runs from mid end (Ended Break returned t) next run fit each = run
@@ -104,7 +104,7 @@ module _ (g : Setting) (loop : Loop) (h : ℕ → Option ℕ) (k : ℕ) where
   after-runs from mid end (Stopped Deep t) next run fit each = run
   after-runs from mid end (Stopped OutOfTurns t) next run fit each = run
 
-  pub evaluated-runs : (operands : List Cell) (from : Machine) (mid end : ℕ) (s : source.State) (first : Evaluated Value) (next : Value → Outcome)
+  pub evaluated-runs : (operands : List Cell) (from : Machine) (mid end : ℕ) (s : source.SourceState) (first : Evaluated Value) (next : Value → Outcome)
       → ValueRuns g h operands from mid s first
       → ((v : Value) → first ≡ Gives v → Runs g loop h k (place g mid (cell_of v ∷ operands) s) end (next v))
       → Runs g loop h k from end (evaluated first s next)
@@ -112,7 +112,7 @@ module _ (g : Setting) (loop : Loop) (h : ℕ → Option ℕ) (k : ℕ) where
   evaluated-runs operands from mid end s (Raises exception) next run each = run
 
   -- a condition that goes to its target where it has the wanted truth
-  pub branch-evaluated : (wanted : Bool) (target : ℕ) (from : Machine) (mid end : ℕ) (s : source.State) (first : Evaluated Value) (next : Bool → Outcome)
+  pub branch-evaluated : (wanted : Bool) (target : ℕ) (from : Machine) (mid end : ℕ) (s : source.SourceState) (first : Evaluated Value) (next : Bool → Outcome)
       → BranchRuns g h wanted target from mid s first
       → ((t : Bool) → Runs g loop h k (place g (lead_by wanted t target mid) [] s) end (next t))
       → Runs g loop h k from end (evaluated first s (λ v. next (truth_in v)))
@@ -123,9 +123,9 @@ module _ (g : Setting) (loop : Loop) (h : ℕ → Option ℕ) (k : ℕ) where
 -- ---- loops
 
 -- one turn: at least a step to the body, the body, and what follows
-pub looped-runs : (g : Setting) (loop inner : Loop) (h : ℕ → Option ℕ) (j k : ℕ) (from start : Machine) (o : Outcome) (again : source.State → Outcome)
+pub looped-runs : (g : Setting) (loop inner : Loop) (h : ℕ → Option ℕ) (j k : ℕ) (from start : Machine) (o : Outcome) (again : source.SourceState → Outcome)
     → suc j ≤ k → Strides g.p from start → Runs g inner h k start inner.test o → StateFits g.program g.procedure (state_after o)
-    → ((t : source.State) → StateFits g.program g.procedure t → Runs g loop h j (place g inner.test [] t) inner.behind (again t))
+    → ((t : source.SourceState) → StateFits g.program g.procedure t → Runs g loop h j (place g inner.test [] t) inner.behind (again t))
     → Runs g loop h (suc j) from inner.behind (looped o again)
 looped-runs g loop inner h j k from start (Ended Normal returned t) again less first run fit each =
     runs-stride g loop h j from (place g inner.test [] t) inner.behind (again t) (strides-on g.p _ _ _ first run) (each t fit)
@@ -139,11 +139,11 @@ looped-runs g loop inner h j k from start (Stopped OutOfTurns t) again less firs
     waits-through g.p (suc j) from start t.sent (strides-leads g.p _ _ first) (waits-less g.p (suc j) k start t.sent less run)
 
 -- the turns of a loop from its test on
-pub turns-run : (g : Setting) (loop inner : Loop) (h : ℕ → Option ℕ) (start k : ℕ) (condition : source.State → Evaluated Value) (body : source.State → Outcome)
-    → ((s : source.State) → StateFits g.program g.procedure s → BranchRuns g h true start (place g inner.test [] s) inner.behind s (condition s))
-    → ((s : source.State) → StateFits g.program g.procedure s → Runs g inner h k (place g start [] s) inner.test (body s))
-    → ((s : source.State) → StateFits g.program g.procedure s → StateFits g.program g.procedure (state_after (body s)))
-    → (j : ℕ) → j ≤ k → (s : source.State) → StateFits g.program g.procedure s → Runs g loop h j (place g inner.test [] s) inner.behind (turns j condition body s)
+pub turns-run : (g : Setting) (loop inner : Loop) (h : ℕ → Option ℕ) (start k : ℕ) (condition : source.SourceState → Evaluated Value) (body : source.SourceState → Outcome)
+    → ((s : source.SourceState) → StateFits g.program g.procedure s → BranchRuns g h true start (place g inner.test [] s) inner.behind s (condition s))
+    → ((s : source.SourceState) → StateFits g.program g.procedure s → Runs g inner h k (place g start [] s) inner.test (body s))
+    → ((s : source.SourceState) → StateFits g.program g.procedure s → StateFits g.program g.procedure (state_after (body s)))
+    → (j : ℕ) → j ≤ k → (s : source.SourceState) → StateFits g.program g.procedure s → Runs g loop h j (place g inner.test [] s) inner.behind (turns j condition body s)
 turns-run g loop inner h start k condition body test run keeps zero less s fit = go (condition s) (test s fit)
   where
     last : (v : Bool) → Strides g.p (place g inner.test [] s) (place g (lead_by true v start inner.behind) [] s)
@@ -158,13 +158,13 @@ turns-run g loop inner h start k condition body test run keeps zero less s fit =
 turns-run g loop inner h start k condition body test run keeps (suc j) less s fit =
     go (turns-run g loop inner h start k condition body test run keeps j (omega (arith, less))) (condition s) (test s fit)
   where
-    turn : ((t : source.State) → StateFits g.program g.procedure t → Runs g loop h j (place g inner.test [] t) inner.behind (turns j condition body t))
+    turn : ((t : source.SourceState) → StateFits g.program g.procedure t → Runs g loop h j (place g inner.test [] t) inner.behind (turns j condition body t))
         → (v : Bool) → Strides g.p (place g inner.test [] s) (place g (lead_by true v start inner.behind) [] s)
         → Runs g loop h (suc j) (place g inner.test [] s) inner.behind (if v then looped (body s) (turns j condition body) else normally s)
     turn again true first = looped-runs g loop inner h j k _ (place g start [] s) (body s) (turns j condition body) less first (run s fit) (keeps s fit) again
     turn again false first = strides-leads g.p _ _ first
 
-    go : ((t : source.State) → StateFits g.program g.procedure t → Runs g loop h j (place g inner.test [] t) inner.behind (turns j condition body t))
+    go : ((t : source.SourceState) → StateFits g.program g.procedure t → Runs g loop h j (place g inner.test [] t) inner.behind (turns j condition body t))
         → (o : Evaluated Value) → BranchRuns g h true start (place g inner.test [] s) inner.behind s o
         → Runs g loop h (suc j) (place g inner.test [] s) inner.behind (evaluated o s (λ v. if truth_in v then looped (body s) (turns j condition body) else normally s))
     go again (Gives v) first = turn again (truth_in v) first
@@ -173,9 +173,9 @@ turns-run g loop inner h start k condition body test run keeps (suc j) less s fi
 -- ---- exceptions
 
 -- the handlers go on where an exception of the block goes
-pub caught-runs : (g : Setting) (loop : Loop) (h inside : ℕ → Option ℕ) (k : ℕ) (from : Machine) (end : ℕ) (o : Outcome) (handle : ℕ → source.State → Outcome)
+pub caught-runs : (g : Setting) (loop : Loop) (h inside : ℕ → Option ℕ) (k : ℕ) (from : Machine) (end : ℕ) (o : Outcome) (handle : ℕ → source.SourceState → Outcome)
     → Runs g loop inside k from end o → StateFits g.program g.procedure (state_after o)
-    → ((exception : ℕ) (t : source.State) → StateFits g.program g.procedure t → Runs g loop h k (thrown_to g (inside exception) exception t) end (handle exception t))
+    → ((exception : ℕ) (t : source.SourceState) → StateFits g.program g.procedure t → Runs g loop h k (thrown_to g (inside exception) exception t) end (handle exception t))
     → Runs g loop h k from end (caught o handle)
 caught-runs g loop h inside k from end (Ended Normal returned t) handle run fit each = run
 caught-runs g loop h inside k from end (Ended Return returned t) handle run fit each = run
@@ -187,7 +187,7 @@ caught-runs g loop h inside k from end (Stopped Deep t) handle run fit each = ru
 caught-runs g loop h inside k from end (Stopped OutOfTurns t) handle run fit each = run
 
 -- an exception comes to the first handler or to the next ones
-pub first-handler : (g : Setting) (loop : Loop) (h : ℕ → Option ℕ) (k : ℕ) (here end exception : ℕ) (next : Option ℕ) (t : source.State) (test : Bool) (one others : Outcome)
+pub first-handler : (g : Setting) (loop : Loop) (h : ℕ → Option ℕ) (k : ℕ) (here end exception : ℕ) (next : Option ℕ) (t : source.SourceState) (test : Bool) (one others : Outcome)
     → Runs g loop h k (place g here [] t) end one → Runs g loop h k (thrown_to g (first_found next (h exception)) exception t) end others
     → Runs g loop h k (thrown_to g (first_found (if test then Some here else next) (h exception)) exception t) end (if test then one else others)
 first-handler g loop h k here end exception next t true one others run more = run

@@ -12,8 +12,8 @@ use Rattle.resolved.specs.declared.tables.Direction.{Direction}
 use Rattle.resolved.specs.declared.tables.Direction.TheVariants.{Input, Output}
 use Rattle.resolved.specs.Tree.{Expression}
 use Rattle.resolved.specs.Program as resolved
-use Rattle.resolved.specs.State as source
-use Rattle.resolved.specs.State.{value_of, cells, cell_at, assigned, stored, cleared, updated, with_cells}
+use Rattle.resolved.specs.SourceState as source
+use Rattle.resolved.specs.SourceState.{value_of, cells, cell_at, assigned, stored, cleared, updated, with_cells}
 use Rattle.resolved.specs.Value.{Gives, Raises, base_of, checked_index, zero_value}
 use Rattle.resolved.specs.Meaning.{Ended, normally, evaluated, received, kept_in, sending}
 use Rattle.resolved.specs.WellFormed.{VariableType, variable_type, has_base, same_base, scalar_by, array_by, target_by, channel_is, is_array, may_leave_by, is_exception, has_result, cell_count}
@@ -43,7 +43,7 @@ use Rattle.lowering.proofs.Outcomes.{Runs, runs-at, evaluated-runs}
 use Rattle.bytecode.specs.declared.declaration.Direction.TheVariants as way
 use Rattle.lowering.proofs.Simple.{cleared_cells, stores-scalar, returns-value, taken_state, input_rest, kept-runs}
 
-module _ (g : Setting) (loop : Loop) (h : ℕ → Option ℕ) (k : ℕ) (s : source.State) (fit : StateFits g.program g.procedure s) where
+module _ (g : Setting) (loop : Loop) (h : ℕ → Option ℕ) (k : ℕ) (s : source.SourceState) (fit : StateFits g.program g.procedure s) where
   pub assign-runs : (x : Variable) (e : Expression) (at : ℕ) → scalar_by (variable_type g.program g.procedure x) (λ b. has_base g.program g.procedure b e) ≡ true
       → Stands g.code (value_code at e ++ store_of x ∷ []) at → Finds g at (value_size e + 1) h
       → Runs g loop h k (place g at [] s) (at + (value_size e + 1)) (evaluated (value_of s e) s (λ v. normally (assigned s x v)))
@@ -127,7 +127,7 @@ module _ (g : Setting) (loop : Loop) (h : ℕ → Option ℕ) (k : ℕ) (s : sou
           does g (kept_code target ∷ []) (instruction.Receive channel) at [] s _ stands
           (acts ∙ raised-is g at [] s end_of_input ∙ ap (λ (o : Option ℕ). thrown_to g o end_of_input s) (finds.finds at (omega arith) (omega arith) end_of_input))
       go (z ∷ rest) acts =
-          let t : source.State = record s { inputs = updated s.inputs channel rest } in
+          let t : source.SourceState = record s { inputs = updated s.inputs channel rest } in
           let got : Leads g.p (place g at [] s) (place g (at + 1) (cell.Int z ∷ []) t) =
           does g (kept_code target ∷ []) (instruction.Receive channel) at [] s _ stands
           (acts ∙ ap (λ (q : State). goes_on g.p q (cell.Int z ∷ [])) (taken_state g loop h k s channel rest at [] is_input) ∙ onward g at [] (cell.Int z ∷ []) t) in

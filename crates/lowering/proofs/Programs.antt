@@ -13,7 +13,7 @@ use Rattle.resolved.specs.declared.statement.Exit.TheVariants.{Normal, Return, B
 use Rattle.resolved.specs.declared.tables.Direction.{Direction}
 use Rattle.resolved.specs.declared.tables.Direction.TheVariants.{Input, Output}
 use Rattle.resolved.specs.Program.{Program, ProcedureEntry, ResultEntry, GlobalEntry, ChannelEntry, procedure_at}
-use Rattle.resolved.specs.State as source
+use Rattle.resolved.specs.SourceState as source
 use Rattle.resolved.specs.Value.{base_of}
 use Rattle.resolved.specs.Ends.{thrown_ends, declared_by}
 use Rattle.resolved.specs.EndFaults.{end_faults}
@@ -111,19 +111,19 @@ begins-so program formed world main there none =
 
 -- ---- how a run ends
 
-pub record Comes (p : machine.Program) (from : Machine) (o : Outcome) : Type 0 where
+pub record Comes (p : machine.MachineCode) (from : Machine) (o : Outcome) : Type 0 where
   pub ending : machine.Ending
   pub so : ending_of o ≡ Some ending
   pub leads : Leads p from (machine.Ended ending (state_after o).sent)
 
-pub record GoesOn (p : machine.Program) (k : ℕ) (from : Machine) (o : Outcome) : Type 0 where
+pub record GoesOn (p : machine.MachineCode) (k : ℕ) (from : Machine) (o : Outcome) : Type 0 where
   pub no_end : ending_of o ≡ None
   pub waits : Waits p k from (state_after o).sent
 
 module _ (program : Program) (formed : well_formed program ≡ true) (none : end_faults program ≡ []) (world : source.World) (k : ℕ) where
   module _ (main : ProcedureEntry) (there : slice_get program.procedures program.main ≡ Some main) (nothing : main.result ≡ None) where
-    ends-by : (s : source.State) (back : source.State → source.State) (o : Outcome) → block_meaning (calls_with program k 511) k main.body s ≡ o
-        → ((t : source.State) → (back t).sent ≡ t.sent) → OutcomeFits program main Return main.result o
+    ends-by : (s : source.SourceState) (back : source.SourceState → source.SourceState) (o : Outcome) → block_meaning (calls_with program k 511) k main.body s ≡ o
+        → ((t : source.SourceState) → (back t).sent ≡ t.sent) → OutcomeFits program main Return main.result o
         → EndsAmong (Normal ∷ thrown_ends (declared_by main.throws)) (leaving back o)
         → Runs (setting_of program formed world program.main main there []) no_loop nowhere k (place (setting_of program formed world program.main main there []) 0 [] s) (0 + block_size program main.body) o
         → Comes (setting_of program formed world program.main main there []).p (place (setting_of program formed world program.main main there []) 0 [] s) (leaving back o)
@@ -150,11 +150,11 @@ module _ (program : Program) (formed : well_formed program ≡ true) (none : end
       let no_parameters : main.parameters ≡ 0 = eqb-true main.parameters 0 two.0 in
       let no_arguments : ArgumentsFit (parameters_of main) [] = subst (λ n. ArgumentsFit (take n main.slots) []) (sym no_parameters) tt in
       let is : procedure_at program program.main ≡ main = procedure_at_is program program.main main there in
-      let first : source.State = meaning.first_state program world in
-      let s : source.State = entering main [] first in
+      let first : source.SourceState = meaning.first_state program world in
+      let s : source.SourceState = entering main [] first in
       let fit : StateFits program main s = subst (λ (p : ProcedureEntry). StateFits program p (entering p [] first)) is (runs_begin_typed program formed world) in
       let body : ProcedureParts program main = parts.procedure_there program formed program.main main there in
-      let back : source.State → source.State = λ t. record t { locals = first.locals } in
+      let back : source.SourceState → source.SourceState = λ t. record t { locals = first.locals } in
       let o : Outcome = block_meaning (calls_with program k 511) k main.body s in
       let whole : calls_with program k 512 program.main [] first ≡ leaving back o =
       ap (λ (p : ProcedureEntry). leaving back (block_meaning (calls_with program k 511) k p.body (entering p [] first))) is in

@@ -4,7 +4,7 @@ use Rattle.std.specs.Prelude.{Option, Some, None}
 use Rattle.resolved.specs.declared.expression.Value.{Value}
 use Rattle.resolved.specs.declared.expression.Variable.{Variable}
 use Rattle.resolved.specs.declared.expression.Variable.TheVariants.{Global, Local}
-use Rattle.resolved.specs.State as source
+use Rattle.resolved.specs.SourceState as source
 use Rattle.resolved.specs.WellFormed.{variable_type}
 use Rattle.bytecode.specs.declared.value.Cell.{Cell}
 use Rattle.bytecode.specs.declared.value.Kind.{Kind}
@@ -21,22 +21,22 @@ use Rattle.lowering.proofs.Steps.{Leads, Strides, counted, leads-step}
 use Rattle.lowering.proofs.States.{Setting, state_at, place, cell_of, cells_of, slot_of_type, with_slot-is, with_global-is, thrown_to, raised-is}
 
 -- the instruction that stands at the place acts
-pub stepped : (g : Setting) (more : List Instruction) (i : Instruction) (at : ℕ) (operands : List Cell) (s : source.State)
+pub stepped : (g : Setting) (more : List Instruction) (i : Instruction) (at : ℕ) (operands : List Cell) (s : source.SourceState)
     → Stands g.code (i ∷ more) at → step g.p (place g at operands s) ≡ act g.p i (state_at g at operands s)
 stepped g more i at operands s h =
     ap (acts g.p (state_at g at operands s)) (g.fetched at ∙ stands-here g.code more i at h)
 
 -- the machine at the next place
-pub onward : (g : Setting) (at : ℕ) (before operands : List Cell) (s : source.State)
+pub onward : (g : Setting) (at : ℕ) (before operands : List Cell) (s : source.SourceState)
     → goes_on g.p (state_at g at before s) operands ≡ place g (at + 1) operands s
 onward g at before operands s = ap (λ (next : ℕ). place g next operands s) (g.goes_next at)
 
-pub does : (g : Setting) (more : List Instruction) (i : Instruction) (at : ℕ) (operands : List Cell) (s : source.State) (to : Machine)
+pub does : (g : Setting) (more : List Instruction) (i : Instruction) (at : ℕ) (operands : List Cell) (s : source.SourceState) (to : Machine)
     → Stands g.code (i ∷ more) at → act g.p i (state_at g at operands s) ≡ to → Leads g.p (place g at operands s) to
 does g more i at operands s to h e = leads-step g.p _ _ (stepped g more i at operands s h ∙ e)
 
 -- an instruction that is no unconditional jump
-pub does_stride : (g : Setting) (more : List Instruction) (i : Instruction) (at : ℕ) (operands : List Cell) (s : source.State) (to : Machine)
+pub does_stride : (g : Setting) (more : List Instruction) (i : Instruction) (at : ℕ) (operands : List Cell) (s : source.SourceState) (to : Machine)
     → Stands g.code (i ∷ more) at → jump_of (Some i) ≡ None → act g.p i (state_at g at operands s) ≡ to → Strides g.p (place g at operands s) to
 does_stride g more i at operands s to h none e =
     let one : counted (jump_of (g.p.fetch g.number at)) ≡ 1 =
@@ -49,12 +49,12 @@ does_stride g more i at operands s to h none e =
 abbrev pub slot_for : Setting → Variable → Option Slot
 slot_for g x = slot_of_type (variable_type g.program g.procedure x)
 
-pub loads-is : (g : Setting) (x : Variable) (at : ℕ) (operands : List Cell) (s : source.State)
+pub loads-is : (g : Setting) (x : Variable) (at : ℕ) (operands : List Cell) (s : source.SourceState)
     → act g.p (load_of x) (state_at g at operands s) ≡ loads g.p (state_at g at operands s) (slot_for g x) (cells_of (source.cells s x))
 loads-is g (Global n) at operands s = ap (λ (o : Option Slot). loads g.p (state_at g at operands s) o (cells_of (s.globals n))) (g.globals_there n)
 loads-is g (Local n) at operands s = ap (λ (o : Option Slot). loads g.p (state_at g at operands s) o (cells_of (s.locals n))) (g.locals_there n)
 
-pub loads_element-is : (g : Setting) (x : Variable) (at : ℕ) (operands : List Cell) (s : source.State)
+pub loads_element-is : (g : Setting) (x : Variable) (at : ℕ) (operands : List Cell) (s : source.SourceState)
     → act g.p (load_element_of x) (state_at g at operands s) ≡ loads_element g.p (state_at g at operands s) (slot_for g x) (cells_of (source.cells s x)) operands
 loads_element-is g (Global n) at operands s = ap (λ (o : Option Slot). loads_element g.p (state_at g at operands s) o (cells_of (s.globals n)) operands) (g.globals_there n)
 loads_element-is g (Local n) at operands s = ap (λ (o : Option Slot). loads_element g.p (state_at g at operands s) o (cells_of (s.locals n)) operands) (g.locals_there n)
@@ -64,7 +64,7 @@ stores_scalar : (g : Setting) (S : State) (kind : Kind) (put : List Cell → Sta
     → stores g.p S (Some (slot.Scalar kind)) put (x ∷ operands) ≡ goes_on g.p (put (x ∷ [])) operands
 stores_scalar g S kind put x operands h = rw h refl
 
-pub stores-is : (g : Setting) (x : Variable) (kind : Kind) (v : Value) (at : ℕ) (operands : List Cell) (s : source.State)
+pub stores-is : (g : Setting) (x : Variable) (kind : Kind) (v : Value) (at : ℕ) (operands : List Cell) (s : source.SourceState)
     → slot_for g x ≡ Some (slot.Scalar kind) → has_kind kind (cell_of v) ≡ true
     → act g.p (store_of x) (state_at g at (cell_of v ∷ operands) s) ≡ place g (at + 1) operands (source.assigned s x v)
 stores-is g (Global n) kind v at operands s e h =
@@ -85,7 +85,7 @@ stores_in_array : (g : Setting) (S : State) (kind : Kind) (count : ℕ) (put : L
     → stores_element g.p S (Some (slot.Array kind count)) put cells (x ∷ cell.Int z ∷ operands) ≡ changes g.p S put operands (with_element cells z x)
 stores_in_array g S kind count put cells x z operands h = rw h refl
 
-pub stores_element-is : (g : Setting) (x : Variable) (kind : Kind) (count : ℕ) (v : Value) (z : ℤ) (values : List Value) (at : ℕ) (operands : List Cell) (s : source.State)
+pub stores_element-is : (g : Setting) (x : Variable) (kind : Kind) (count : ℕ) (v : Value) (z : ℤ) (values : List Value) (at : ℕ) (operands : List Cell) (s : source.SourceState)
     → slot_for g x ≡ Some (slot.Array kind count) → has_kind kind (cell_of v) ≡ true
     → with_element (cells_of (source.cells s x)) z (cell_of v) ≡ Some (cells_of values)
     → act g.p (store_element_of x) (state_at g at (cell_of v ∷ cell.Int z ∷ operands) s) ≡ place g (at + 1) operands (source.with_cells s x values)
@@ -105,7 +105,7 @@ stores_element-is g (Local n) kind count v z values at operands s e h c =
     ∙ onward g at (cell_of v ∷ cell.Int z ∷ operands) operands (source.with_cells s (Local n) values)
 
 -- an element that is not there
-pub stores_nowhere : (g : Setting) (x : Variable) (kind : Kind) (count : ℕ) (v : Value) (z : ℤ) (at : ℕ) (operands : List Cell) (s : source.State)
+pub stores_nowhere : (g : Setting) (x : Variable) (kind : Kind) (count : ℕ) (v : Value) (z : ℤ) (at : ℕ) (operands : List Cell) (s : source.SourceState)
     → slot_for g x ≡ Some (slot.Array kind count) → has_kind kind (cell_of v) ≡ true
     → with_element (cells_of (source.cells s x)) z (cell_of v) ≡ None
     → act g.p (store_element_of x) (state_at g at (cell_of v ∷ cell.Int z ∷ operands) s) ≡ thrown_to g (g.p.find g.number at bounds) bounds s

@@ -15,9 +15,9 @@ use Rattle.bytecode.specs.declared.declaration.Direction.TheVariants.{Input, Out
 use Rattle.bytecode.specs.declared.value.Cell.{Cell}
 use Rattle.bytecode.specs.declared.value.Cell.TheVariants as cell
 use Rattle.bytecode.specs.Values.{has_kind}
-use Rattle.bytecode.specs.Machine.{element_at, with_element, Frame, Caller, State, Machine, Running, Ended, Stuck, sent_of, Header, Program, arith, bounds, end_of_input, frame_limit, handled, unwound, raised, slot_at, with_slot, with_global, loads, stores, found, loads_element, changes, stores_element, clears, computed, pushes_number, computes, compares, same_truth, matches, drops, negates, inverts, branches, popped, enters, calls, leaves, leaves_without, returns_nothing, leaves_value, gives_back, returns_value, takes, receives, sends, throws, act, acts, step, exec}
+use Rattle.bytecode.specs.Machine.{element_at, with_element, Frame, Caller, State, Machine, Running, Ended, Stuck, sent_of, Header, MachineCode, arith, bounds, end_of_input, frame_limit, handled, unwound, raised, slot_at, with_slot, with_global, loads, stores, found, loads_element, changes, stores_element, clears, computed, pushes_number, computes, compares, same_truth, matches, drops, negates, inverts, branches, popped, enters, calls, leaves, leaves_without, returns_nothing, leaves_value, gives_back, returns_value, takes, receives, sends, throws, act, acts, step, exec}
 
--- what was sent before a state begins what a machine has sent
+-- what was sent before a state is a prefix of what a machine has sent
 abbrev Kept : State → Machine → Type 0
 Kept s machine = IsPrefix s.sent (sent_of machine)
 
@@ -34,84 +34,84 @@ handled-keeps : (s : State) (frame : Frame) (callers : List Caller) (position : 
 handled-keeps s frame callers None otherwise h = h
 handled-keeps s frame callers (Some target) otherwise h = same s
 
-unwound-keeps : (p : Program) (s : State) (exception : ℕ) (callers : List Caller) → Kept s (unwound p s exception callers)
+unwound-keeps : (p : MachineCode) (s : State) (exception : ℕ) (callers : List Caller) → Kept s (unwound p s exception callers)
 unwound-keeps p s exception [] = same s
 unwound-keeps p s exception (caller ∷ callers) =
     handled-keeps s caller.frame callers (p.find caller.frame.procedure caller.frame.position exception) (unwound p s exception callers) (unwound-keeps p s exception callers)
 
-raised-keeps : (p : Program) (s : State) (exception : ℕ) → Kept s (raised p s exception)
+raised-keeps : (p : MachineCode) (s : State) (exception : ℕ) → Kept s (raised p s exception)
 raised-keeps p s exception =
     handled-keeps s s.frame s.callers (p.find s.frame.procedure s.frame.position exception) (unwound p s exception s.callers) (unwound-keeps p s exception s.callers)
 
 -- ---- rows
 
-loads-keeps : (p : Program) (s : State) (o : Option Slot) (cells : List Cell) → Kept s (loads p s o cells)
+loads-keeps : (p : MachineCode) (s : State) (o : Option Slot) (cells : List Cell) → Kept s (loads p s o cells)
 loads-keeps p s (Some (slot.Scalar kind)) cells = same s
 loads-keeps p s _ cells = same s
 
-stores-keeps : (p : Program) (s : State) (o : Option Slot) (put : List Cell → State) (operands : List Cell) → ((cells : List Cell) → IsPrefix s.sent (put cells).sent) → Kept s (stores p s o put operands)
+stores-keeps : (p : MachineCode) (s : State) (o : Option Slot) (put : List Cell → State) (operands : List Cell) → ((cells : List Cell) → IsPrefix s.sent (put cells).sent) → Kept s (stores p s o put operands)
 stores-keeps p s (Some (slot.Scalar kind)) put (x ∷ operands) h = choice-keeps s (has_kind kind x) _ _ (h (x ∷ [])) (same s)
 stores-keeps p s _ put _ h = same s
 
-found-keeps : (p : Program) (s : State) (operands : List Cell) (o : Option Cell) → Kept s (found p s operands o)
+found-keeps : (p : MachineCode) (s : State) (operands : List Cell) (o : Option Cell) → Kept s (found p s operands o)
 found-keeps p s operands None = raised-keeps p s bounds
 found-keeps p s operands (Some value) = same s
 
-loads_element-keeps : (p : Program) (s : State) (o : Option Slot) (cells : List Cell) (operands : List Cell) → Kept s (loads_element p s o cells operands)
+loads_element-keeps : (p : MachineCode) (s : State) (o : Option Slot) (cells : List Cell) (operands : List Cell) → Kept s (loads_element p s o cells operands)
 loads_element-keeps p s (Some (slot.Array kind count)) cells (cell.Int i ∷ operands) = found-keeps p s operands (element_at cells i)
 loads_element-keeps p s _ cells _ = same s
 
-changes-keeps : (p : Program) (s : State) (put : List Cell → State) (operands : List Cell) (o : Option (List Cell)) → ((cells : List Cell) → IsPrefix s.sent (put cells).sent) → Kept s (changes p s put operands o)
+changes-keeps : (p : MachineCode) (s : State) (put : List Cell → State) (operands : List Cell) (o : Option (List Cell)) → ((cells : List Cell) → IsPrefix s.sent (put cells).sent) → Kept s (changes p s put operands o)
 changes-keeps p s put operands None h = raised-keeps p s bounds
 changes-keeps p s put operands (Some cells) h = h cells
 
-stores_element-keeps : (p : Program) (s : State) (o : Option Slot) (put : List Cell → State) (cells : List Cell) (operands : List Cell) → ((cells : List Cell) → IsPrefix s.sent (put cells).sent) → Kept s (stores_element p s o put cells operands)
+stores_element-keeps : (p : MachineCode) (s : State) (o : Option Slot) (put : List Cell → State) (cells : List Cell) (operands : List Cell) → ((cells : List Cell) → IsPrefix s.sent (put cells).sent) → Kept s (stores_element p s o put cells operands)
 stores_element-keeps p s (Some (slot.Array kind count)) put cells (x ∷ cell.Int i ∷ operands) h =
     choice-keeps s (has_kind kind x) _ _ (changes-keeps p s put operands (with_element cells i x) h) (same s)
 stores_element-keeps p s _ put cells _ h = same s
 
-clears-keeps : (p : Program) (s : State) (k : ℕ) (o : Option Slot) → Kept s (clears p s k o)
+clears-keeps : (p : MachineCode) (s : State) (k : ℕ) (o : Option Slot) → Kept s (clears p s k o)
 clears-keeps p s k (Some (slot.Array kind count)) = same s
 clears-keeps p s k _ = same s
 
-pushes_number-keeps : (p : Program) (s : State) (operands : List Cell) (o : Option ℤ) → Kept s (pushes_number p s operands o)
+pushes_number-keeps : (p : MachineCode) (s : State) (operands : List Cell) (o : Option ℤ) → Kept s (pushes_number p s operands o)
 pushes_number-keeps p s operands None = raised-keeps p s arith
 pushes_number-keeps p s operands (Some n) = same s
 
-computes-keeps : (p : Program) (s : State) (operator : Arithmetic) (operands : List Cell) → Kept s (computes p s operator operands)
+computes-keeps : (p : MachineCode) (s : State) (operator : Arithmetic) (operands : List Cell) → Kept s (computes p s operator operands)
 computes-keeps p s operator (cell.Int b ∷ cell.Int a ∷ operands) = pushes_number-keeps p s operands (computed operator a b)
 computes-keeps p s operator _ = same s
 
-compares-keeps : (p : Program) (s : State) (comparison : Comparison) (operands : List Cell) → Kept s (compares p s comparison operands)
+compares-keeps : (p : MachineCode) (s : State) (comparison : Comparison) (operands : List Cell) → Kept s (compares p s comparison operands)
 compares-keeps p s comparison (cell.Int b ∷ cell.Int a ∷ operands) = same s
 compares-keeps p s comparison _ = same s
 
-matches-keeps : (p : Program) (s : State) (test : Bool → Bool → Bool) (operands : List Cell) → Kept s (matches p s test operands)
+matches-keeps : (p : MachineCode) (s : State) (test : Bool → Bool → Bool) (operands : List Cell) → Kept s (matches p s test operands)
 matches-keeps p s test (cell.Bool b ∷ cell.Bool a ∷ operands) = same s
 matches-keeps p s test _ = same s
 
-drops-keeps : (p : Program) (s : State) (operands : List Cell) → Kept s (drops p s operands)
+drops-keeps : (p : MachineCode) (s : State) (operands : List Cell) → Kept s (drops p s operands)
 drops-keeps p s (x ∷ operands) = same s
 drops-keeps p s [] = same s
 
-negates-keeps : (p : Program) (s : State) (operands : List Cell) → Kept s (negates p s operands)
+negates-keeps : (p : MachineCode) (s : State) (operands : List Cell) → Kept s (negates p s operands)
 negates-keeps p s (cell.Int n ∷ operands) = same s
 negates-keeps p s _ = same s
 
-inverts-keeps : (p : Program) (s : State) (operands : List Cell) → Kept s (inverts p s operands)
+inverts-keeps : (p : MachineCode) (s : State) (operands : List Cell) → Kept s (inverts p s operands)
 inverts-keeps p s (cell.Bool b ∷ operands) = same s
 inverts-keeps p s _ = same s
 
-branches-keeps : (p : Program) (s : State) (target : ℕ) (operands : List Cell) → Kept s (branches p s target operands)
+branches-keeps : (p : MachineCode) (s : State) (target : ℕ) (operands : List Cell) → Kept s (branches p s target operands)
 branches-keeps p s target (cell.Bool true ∷ operands) = same s
 branches-keeps p s target (cell.Bool false ∷ operands) = same s
 branches-keeps p s target _ = same s
 
-enters-keeps : (p : Program) (s : State) (procedure : ℕ) (slots : List Slot) (o : Option (List Cell × List Cell)) → Kept s (enters p s procedure slots o)
+enters-keeps : (p : MachineCode) (s : State) (procedure : ℕ) (slots : List Slot) (o : Option (List Cell × List Cell)) → Kept s (enters p s procedure slots o)
 enters-keeps p s procedure slots None = same s
 enters-keeps p s procedure slots (Some (arguments, operands)) = choice-keeps s (nat_lt (length s.callers + 1) frame_limit) _ _ (same s) (same s)
 
-calls-keeps : (p : Program) (s : State) (procedure : ℕ) (o : Option Header) → Kept s (calls p s procedure o)
+calls-keeps : (p : MachineCode) (s : State) (procedure : ℕ) (o : Option Header) → Kept s (calls p s procedure o)
 calls-keeps p s procedure None = same s
 calls-keeps p s procedure (Some header) = enters-keeps p s procedure header.slots (popped (reverse header.parameters) [] s.frame.operands)
 
@@ -139,24 +139,24 @@ returns_value-keeps : (s : State) (o : Option Header) → Kept s (returns_value 
 returns_value-keeps s None = same s
 returns_value-keeps s (Some header) = gives_back-keeps s header.returned s.frame.operands
 
-takes-keeps : (p : Program) (s : State) (channel : ℕ) (numbers : List ℤ) → Kept s (takes p s channel numbers)
+takes-keeps : (p : MachineCode) (s : State) (channel : ℕ) (numbers : List ℤ) → Kept s (takes p s channel numbers)
 takes-keeps p s channel [] = raised-keeps p s end_of_input
 takes-keeps p s channel (n ∷ numbers) = same s
 
-receives-keeps : (p : Program) (s : State) (channel : ℕ) (o : Option Direction) → Kept s (receives p s channel o)
+receives-keeps : (p : MachineCode) (s : State) (channel : ℕ) (o : Option Direction) → Kept s (receives p s channel o)
 receives-keeps p s channel (Some Input) = takes-keeps p s channel (s.rest channel)
 receives-keeps p s channel _ = same s
 
-sends-keeps : (p : Program) (s : State) (channel : ℕ) (o : Option Direction) (operands : List Cell) → Kept s (sends p s channel o operands)
+sends-keeps : (p : MachineCode) (s : State) (channel : ℕ) (o : Option Direction) (operands : List Cell) → Kept s (sends p s channel o operands)
 sends-keeps p s channel (Some Output) (cell.Int n ∷ operands) = (record { channel = channel; number = n } ∷ [], refl)
 sends-keeps p s channel _ _ = same s
 
-throws-keeps : (p : Program) (s : State) (exception : ℕ) → Kept s (throws p s exception)
+throws-keeps : (p : MachineCode) (s : State) (exception : ℕ) → Kept s (throws p s exception)
 throws-keeps p s exception = choice-keeps s (nat_lt exception p.exceptions) _ _ (raised-keeps p s exception) (same s)
 
 -- ---- steps
 
-act-keeps : (p : Program) (i : Instruction) (s : State) → Kept s (act p i s)
+act-keeps : (p : MachineCode) (i : Instruction) (s : State) → Kept s (act p i s)
 act-keeps p (Push n) s = same s
 act-keeps p (PushBoolean b) s = same s
 act-keeps p Pop s = drops-keeps p s s.frame.operands
@@ -185,16 +185,16 @@ act-keeps p (Receive channel) s = receives-keeps p s channel (slice_get p.direct
 act-keeps p (Send channel) s = sends-keeps p s channel (slice_get p.directions channel) s.frame.operands
 act-keeps p (Throw exception) s = throws-keeps p s exception
 
-acts-keeps : (p : Program) (s : State) (o : Option Instruction) → Kept s (acts p s o)
+acts-keeps : (p : MachineCode) (s : State) (o : Option Instruction) → Kept s (acts p s o)
 acts-keeps p s None = same s
 acts-keeps p s (Some i) = act-keeps p i s
 
-pub step-keeps : (p : Program) (machine : Machine) → IsPrefix (sent_of machine) (sent_of (step p machine))
+pub step-keeps : (p : MachineCode) (machine : Machine) → IsPrefix (sent_of machine) (sent_of (step p machine))
 step-keeps p (Running s) = acts-keeps p s (p.fetch s.frame.procedure s.frame.position)
 step-keeps p (Ended ending sent) = prefix-itself sent
 step-keeps p (Stuck sent) = prefix-itself sent
 
-pub exec-keeps : (p : Program) (n : ℕ) (machine : Machine) → IsPrefix (sent_of machine) (sent_of (exec p n machine))
+pub exec-keeps : (p : MachineCode) (n : ℕ) (machine : Machine) → IsPrefix (sent_of machine) (sent_of (exec p n machine))
 exec-keeps p zero machine = prefix-itself (sent_of machine)
 exec-keeps p (suc n) machine =
     prefix-through (sent_of machine) (sent_of (step p machine)) (sent_of (exec p n (step p machine))) (step-keeps p machine) (exec-keeps p n (step p machine))

@@ -12,8 +12,8 @@ use Rattle.resolved.specs.declared.statement.Exit.TheVariants as exit
 use Rattle.resolved.specs.declared.tables.Direction.{Direction}
 use Rattle.resolved.specs.declared.tables.Direction.TheVariants.{Input, Output}
 use Rattle.resolved.specs.Program as resolved
-use Rattle.resolved.specs.State as source
-use Rattle.resolved.specs.State.{value_of, cells, cell_at, assigned, stored, cleared, updated, with_cells}
+use Rattle.resolved.specs.SourceState as source
+use Rattle.resolved.specs.SourceState.{value_of, cells, cell_at, assigned, stored, cleared, updated, with_cells}
 use Rattle.resolved.specs.Value.{base_of, zero_value}
 use Rattle.resolved.specs.Meaning.{Ended, kept_in}
 use Rattle.resolved.specs.WellFormed.{VariableType, variable_type, has_base, same_base, scalar_by, array_by, target_by, channel_is, is_array, may_leave_by, is_exception, has_result, cell_count}
@@ -57,7 +57,7 @@ cleared_cells b values count size same kinds = subst (λ n. replicate n (zero_of
         ap (λ (c : Cell). c ∷ replicate (length rest) (zero_of (kind_of_base b))) (one b (base_of v) (all 0 v (omega arith)))
         ∙ ap (λ (l : List Cell). cell_of (zero_value (base_of v)) ∷ l) (go rest (λ i d below. all (suc i) d (omega (arith, below))))
 
-module _ (g : Setting) (loop : Loop) (h : ℕ → Option ℕ) (k : ℕ) (s : source.State) where
+module _ (g : Setting) (loop : Loop) (h : ℕ → Option ℕ) (k : ℕ) (s : source.SourceState) where
   -- a value goes into a scalar of its base type
   pub stores-scalar : (x : Variable) (v : Value) (at : ℕ) (operands : List Cell) (more : List Instruction) (test : Base → Bool)
       → scalar_by (variable_type g.program g.procedure x) test ≡ true → ((b : Base) → test b ≡ true → base_of v ≡ b)

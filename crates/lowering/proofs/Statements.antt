@@ -6,8 +6,8 @@ use Rattle.resolved.specs.declared.expression.Variable.{Variable}
 use Rattle.resolved.specs.declared.statement.Exit.TheVariants.{Normal, Return, Break, Continue, Throw}
 use Rattle.resolved.specs.Tree.{Expression}
 use Rattle.resolved.specs.Program.{ProcedureEntry, SlotEntry, ResultEntry, procedure_at}
-use Rattle.resolved.specs.State as source
-use Rattle.resolved.specs.State.{value_of, values_of, assigned}
+use Rattle.resolved.specs.SourceState as source
+use Rattle.resolved.specs.SourceState.{value_of, values_of, assigned}
 use Rattle.resolved.specs.Value.{Evaluated, Gives, Raises, then_with, base_of}
 use Rattle.resolved.specs.Meaning.{Outcome, Ended, Stopped, Deep, OutOfTurns, Calls, evaluated, returned_to}
 use Rattle.resolved.specs.WellFormed.{has_base, has_result, same_base, target_by, call_matches, arguments_match, parameters_of}
@@ -38,18 +38,18 @@ abbrev pub pushed : List Value → List Cell → List Cell
 pushed [] operands = operands
 pushed (v ∷ rest) operands = pushed rest (cell_of v ∷ operands)
 
-abbrev pub ArgumentsRun : Setting → (ℕ → Option ℕ) → List Cell → Machine → (end : ℕ) → source.State → Evaluated (List Value) → Type 0
+abbrev pub ArgumentsRun : Setting → (ℕ → Option ℕ) → List Cell → Machine → (end : ℕ) → source.SourceState → Evaluated (List Value) → Type 0
 ArgumentsRun g h operands from end s (Gives vs) = Leads g.p from (place g end (pushed vs operands) s)
 ArgumentsRun g h operands from end s (Raises exception) = Leads g.p from (thrown_to g (h exception) exception s)
 
-more-run : (g : Setting) (h : ℕ → Option ℕ) (operands : List Cell) (from : Machine) (mid end : ℕ) (s : source.State) (first : Evaluated Value) (rest : Evaluated (List Value))
+more-run : (g : Setting) (h : ℕ → Option ℕ) (operands : List Cell) (from : Machine) (mid end : ℕ) (s : source.SourceState) (first : Evaluated Value) (rest : Evaluated (List Value))
     → ValueRuns g h operands from mid s first → ((v : Value) → ArgumentsRun g h (cell_of v ∷ operands) (place g mid (cell_of v ∷ operands) s) end s rest)
     → ArgumentsRun g h operands from end s (then_with first (λ v. then_with rest (λ vs. Gives (v ∷ vs))))
 more-run g h operands from mid end s (Gives v) (Gives vs) run each = leads-through g.p from _ _ run (each v)
 more-run g h operands from mid end s (Gives v) (Raises exception) run each = leads-through g.p from _ _ run (each v)
 more-run g h operands from mid end s (Raises exception) rest run each = run
 
-module _ (g : Setting) (h : ℕ → Option ℕ) (s : source.State) (fit : StateFits g.program g.procedure s) where
+module _ (g : Setting) (h : ℕ → Option ℕ) (s : source.SourceState) (fit : StateFits g.program g.procedure s) where
   pub arguments-run : (parameters : List SlotEntry) (es : List Expression) (at : ℕ) (operands : List Cell) → arguments_match g.program g.procedure parameters es ≡ true
       → Stands g.code (arguments_code at es) at → Finds g at (arguments_size es) h
       → ArgumentsRun g h operands (place g at operands s) (at + arguments_size es) s (values_of s es)
@@ -87,7 +87,7 @@ Called g k from at result (Stopped OutOfTurns t) = Waits g.p k from t.sent
 
 -- each call in a setting does what calls do
 abbrev pub CallsRun : Setting → Calls → (k : ℕ) → Type 0
-CallsRun g calls k = (f at : ℕ) (callee : ProcedureEntry) (more : List Instruction) (vs : List Value) (s : source.State)
+CallsRun g calls k = (f at : ℕ) (callee : ProcedureEntry) (more : List Instruction) (vs : List Value) (s : source.SourceState)
     → slice_get g.program.procedures f ≡ Some callee → ArgumentsFit (parameters_of callee) vs → StateFits g.program g.procedure s
     → Stands g.code (instruction.Call f ∷ more) at → Called g k (place g at (pushed vs []) s) at callee.result (calls f vs s)
 
@@ -132,7 +132,7 @@ module _ (g : Setting) (loop : Loop) (h : ℕ → Option ℕ) (k : ℕ) where
   called-from from mid at result (Stopped Deep t) first run = leads-through g.p from mid _ first run
   called-from from mid at result (Stopped OutOfTurns t) first run = waits-through g.p k from mid t.sent first run
 
-  pub call-runs : (calls : Calls) → CallsRun g calls k → (f at : ℕ) (callee : Option ProcedureEntry) (arguments : List Expression) (target : Option Variable) (s : source.State)
+  pub call-runs : (calls : Calls) → CallsRun g calls k → (f at : ℕ) (callee : Option ProcedureEntry) (arguments : List Expression) (target : Option Variable) (s : source.SourceState)
       → StateFits g.program g.procedure s → slice_get g.program.procedures f ≡ callee → call_matches g.program g.procedure callee arguments target ≡ true
       → Stands g.code (arguments_code at arguments ++ instruction.Call f ∷ result_code (procedure_at g.program f).result target) at
       → Finds g at (arguments_size arguments + (1 + result_size (procedure_at g.program f).result)) h

@@ -10,7 +10,7 @@ use Rattle.resolved.specs.declared.expression.Variable.TheVariants.{Global, Loca
 use Rattle.resolved.specs.declared.tables.Direction.{Direction}
 use Rattle.resolved.specs.declared.tables.Direction.TheVariants.{Input, Output}
 use Rattle.resolved.specs.Program as resolved
-use Rattle.resolved.specs.State as source
+use Rattle.resolved.specs.SourceState as source
 use Rattle.resolved.specs.Value.{base_of}
 use Rattle.resolved.specs.WellFormed.{VariableType, variable_type}
 use Rattle.bytecode.specs.declared.value.Cell.{Cell}
@@ -19,7 +19,7 @@ use Rattle.bytecode.specs.declared.declaration.Slot.{Slot}
 use Rattle.bytecode.specs.declared.declaration.Direction.{Direction as MachineDirection}
 use Rattle.bytecode.specs.declared.instruction.Instruction.{Instruction}
 use Rattle.bytecode.specs.Values.{has_kind}
-use Rattle.bytecode.specs.Machine.{Machine, Running, State, Frame, Caller, Program, Header, slots_of, with_slot, with_global, handled, raised, unwound, leaves, leaves_value}
+use Rattle.bytecode.specs.Machine.{Machine, Running, State, Frame, Caller, MachineCode, Header, slots_of, with_slot, with_global, handled, raised, unwound, leaves, leaves_value}
 use Rattle.lowering.specs.Interface.{kind_of_base, declared_slot, direction_of, returned_kind}
 
 abbrev pub cell_of : Value → Cell
@@ -51,7 +51,7 @@ left_of (Some entry) left whole = left_by entry.direction left whole
 pub record Setting : Type 0 where
   pub program : resolved.Program
   pub procedure : resolved.ProcedureEntry
-  pub p : Program
+  pub p : MachineCode
   pub number : ℕ
   pub world : source.World
   pub callers : List Caller
@@ -66,7 +66,7 @@ pub record Setting : Type 0 where
   pub channels_there : (k : ℕ) → slice_get p.directions k ≡ direction_in (slice_get program.channels k)
   pub exceptions_there : p.exceptions ≡ 3 + length program.exceptions
 
-abbrev pub state_at : Setting → (at : ℕ) → List Cell → source.State → State
+abbrev pub state_at : Setting → (at : ℕ) → List Cell → source.SourceState → State
 state_at g at operands s = record {
   globals = λ n. cells_of (s.globals n);
   frame = record { procedure = g.number; slots = λ n. cells_of (s.locals n); operands = operands; position = at };
@@ -76,13 +76,13 @@ state_at g at operands s = record {
 }
 
 -- the machine at a place
-abbrev pub place : Setting → (at : ℕ) → List Cell → source.State → Machine
+abbrev pub place : Setting → (at : ℕ) → List Cell → source.SourceState → Machine
 place g at operands s = Running (state_at g at operands s)
 
 -- ---- exceptions
 
 -- where an exception goes that the procedure's table sends to a handler, or out of it
-abbrev pub thrown_to : Setting → Option ℕ → (exception : ℕ) → source.State → Machine
+abbrev pub thrown_to : Setting → Option ℕ → (exception : ℕ) → source.SourceState → Machine
 thrown_to g None exception s = unwound g.p (state_at g 0 [] s) exception g.callers
 thrown_to g (Some target) exception s = place g target [] s
 
@@ -92,14 +92,14 @@ handled_same : (S T : State) (frame : Frame) (callers : List Caller) (o : Option
 handled_same S T frame callers None m n e each = e
 handled_same S T frame callers (Some target) m n e each = each target
 
-unwound_same : (g : Setting) (at : ℕ) (operands : List Cell) (s : source.State) (exception : ℕ) (callers : List Caller)
+unwound_same : (g : Setting) (at : ℕ) (operands : List Cell) (s : source.SourceState) (exception : ℕ) (callers : List Caller)
     → unwound g.p (state_at g at operands s) exception callers ≡ unwound g.p (state_at g 0 [] s) exception callers
 unwound_same g at operands s exception [] = refl
 unwound_same g at operands s exception (caller ∷ callers) =
     handled_same (state_at g at operands s) (state_at g 0 [] s) caller.frame callers
     (g.p.find caller.frame.procedure caller.frame.position exception) _ _ (unwound_same g at operands s exception callers) (λ target. refl)
 
-pub raised-is : (g : Setting) (at : ℕ) (operands : List Cell) (s : source.State) (exception : ℕ)
+pub raised-is : (g : Setting) (at : ℕ) (operands : List Cell) (s : source.SourceState) (exception : ℕ)
     → raised g.p (state_at g at operands s) exception ≡ thrown_to g (g.p.find g.number at exception) exception s
 raised-is g at operands s exception = go (g.p.find g.number at exception)
   where
@@ -110,18 +110,18 @@ raised-is g at operands s exception = go (g.p.find g.number at exception)
 
 -- ---- returns
 
-abbrev pub returned_to : Setting → Option Value → source.State → Machine
+abbrev pub returned_to : Setting → Option Value → source.SourceState → Machine
 returned_to g None s = leaves (state_at g 0 [] s) g.callers
 returned_to g (Some v) s = leaves_value (state_at g 0 [] s) (cell_of v) g.callers
 
-pub leaves-is : (g : Setting) (at : ℕ) (operands : List Cell) (s : source.State) → leaves (state_at g at operands s) g.callers ≡ returned_to g None s
+pub leaves-is : (g : Setting) (at : ℕ) (operands : List Cell) (s : source.SourceState) → leaves (state_at g at operands s) g.callers ≡ returned_to g None s
 leaves-is g at operands s = go g.callers
   where
     go : (callers : List Caller) → leaves (state_at g at operands s) callers ≡ leaves (state_at g 0 [] s) callers
     go [] = refl
     go (caller ∷ callers) = refl
 
-pub leaves_value-is : (g : Setting) (at : ℕ) (operands : List Cell) (v : Value) (s : source.State) → leaves_value (state_at g at operands s) (cell_of v) g.callers ≡ returned_to g (Some v) s
+pub leaves_value-is : (g : Setting) (at : ℕ) (operands : List Cell) (v : Value) (s : source.SourceState) → leaves_value (state_at g at operands s) (cell_of v) g.callers ≡ returned_to g (Some v) s
 leaves_value-is g at operands v s = go g.callers
   where
     go : (callers : List Caller) → leaves_value (state_at g at operands s) (cell_of v) callers ≡ leaves_value (state_at g 0 [] s) (cell_of v) callers
@@ -142,13 +142,13 @@ choice_of : (b : Bool) (values others : List Value) → cond b (cells_of values)
 choice_of true values others = refl
 choice_of false values others = refl
 
-pub with_slot-is : (g : Setting) (at : ℕ) (operands : List Cell) (s : source.State) (n : ℕ) (values : List Value)
+pub with_slot-is : (g : Setting) (at : ℕ) (operands : List Cell) (s : source.SourceState) (n : ℕ) (values : List Value)
     → with_slot (state_at g at operands s) n (cells_of values) ≡ state_at g at operands (source.with_cells s (Local n) values)
 with_slot-is g at operands s n values =
     ap (λ (slots : ℕ → List Cell). record (state_at g at operands s) { frame = record (state_at g at operands s).frame { slots = slots } })
     (fun_ext (λ m. choice_of (eqb m n) values (s.locals m)))
 
-pub with_global-is : (g : Setting) (at : ℕ) (operands : List Cell) (s : source.State) (n : ℕ) (values : List Value)
+pub with_global-is : (g : Setting) (at : ℕ) (operands : List Cell) (s : source.SourceState) (n : ℕ) (values : List Value)
     → with_global (state_at g at operands s) n (cells_of values) ≡ state_at g at operands (source.with_cells s (Global n) values)
 with_global-is g at operands s n values =
     ap (λ (globals : ℕ → List Cell). record (state_at g at operands s) { globals = globals })

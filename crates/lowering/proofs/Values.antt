@@ -10,8 +10,8 @@ use Rattle.resolved.specs.declared.expression.Value.TheVariants.{Number, Truth}
 use Rattle.resolved.specs.declared.expression.Base.{Base}
 use Rattle.resolved.specs.declared.expression.Base.TheVariants as base
 use Rattle.resolved.specs.declared.expression.Variable.{Variable}
-use Rattle.resolved.specs.State as source
-use Rattle.resolved.specs.State.{value_of, cells, cell_at}
+use Rattle.resolved.specs.SourceState as source
+use Rattle.resolved.specs.SourceState.{value_of, cells, cell_at}
 use Rattle.resolved.specs.Value.{Evaluated, Gives, Raises, then_with, base_of, checked_index}
 use Rattle.resolved.specs.WellFormed.{VariableType, variable_type, same_base, scalar_by, array_by, has_length, cell_count}
 use Rattle.resolved.specs.Kinds.{StateFits, CellsFit, GivesBase}
@@ -38,28 +38,28 @@ pub finds-part : (g : Setting) (at n : ℕ) (h : ℕ → Option ℕ) (from m : �
 finds-part g at n h from m low high f = record { finds = λ i least most exception. f.finds i (omega (arith, low, least)) (omega (arith, high, most)) exception }
 
 -- the machine comes from one machine to the end of code with the value on the operands, or to where the exception goes
-abbrev pub ValueRuns : Setting → (ℕ → Option ℕ) → List Cell → Machine → (end : ℕ) → source.State → Evaluated Value → Type 0
+abbrev pub ValueRuns : Setting → (ℕ → Option ℕ) → List Cell → Machine → (end : ℕ) → source.SourceState → Evaluated Value → Type 0
 ValueRuns g h operands from end s (Gives v) = Leads g.p from (place g end (cell_of v ∷ operands) s)
 ValueRuns g h operands from end s (Raises exception) = Leads g.p from (thrown_to g (h exception) exception s)
 
 -- ---- putting pieces together
 
-pub value-from : (g : Setting) (h : ℕ → Option ℕ) (operands : List Cell) (from mid : Machine) (end : ℕ) (s : source.State) (o : Evaluated Value)
+pub value-from : (g : Setting) (h : ℕ → Option ℕ) (operands : List Cell) (from mid : Machine) (end : ℕ) (s : source.SourceState) (o : Evaluated Value)
     → Leads g.p from mid → ValueRuns g h operands mid end s o → ValueRuns g h operands from end s o
 value-from g h operands from mid end s (Gives v) first second = leads-through g.p from mid _ first second
 value-from g h operands from mid end s (Raises exception) first second = leads-through g.p from mid _ first second
 
-pub value-to : (g : Setting) (h : ℕ → Option ℕ) (operands : List Cell) (from : Machine) (mid end : ℕ) (s : source.State) (o : Evaluated Value)
+pub value-to : (g : Setting) (h : ℕ → Option ℕ) (operands : List Cell) (from : Machine) (mid end : ℕ) (s : source.SourceState) (o : Evaluated Value)
     → ValueRuns g h operands from mid s o → ((v : Value) → Leads g.p (place g mid (cell_of v ∷ operands) s) (place g end (cell_of v ∷ operands) s))
     → ValueRuns g h operands from end s o
 value-to g h operands from mid end s (Gives v) first each = leads-through g.p from _ _ first (each v)
 value-to g h operands from mid end s (Raises exception) first each = first
 
-pub value-at : (g : Setting) (h : ℕ → Option ℕ) (operands : List Cell) (from : Machine) (mid end : ℕ) (s : source.State) (o : Evaluated Value)
+pub value-at : (g : Setting) (h : ℕ → Option ℕ) (operands : List Cell) (from : Machine) (mid end : ℕ) (s : source.SourceState) (o : Evaluated Value)
     → mid ≡ end → ValueRuns g h operands from mid s o → ValueRuns g h operands from end s o
 value-at g h operands from mid end s o e first = subst (λ (q : ℕ). ValueRuns g h operands from q s o) e first
 
-pub then-runs : (g : Setting) (h : ℕ → Option ℕ) (before behind : List Cell) (from : Machine) (mid end : ℕ) (s : source.State) (first : Evaluated Value) (next : Value → Evaluated Value)
+pub then-runs : (g : Setting) (h : ℕ → Option ℕ) (before behind : List Cell) (from : Machine) (mid end : ℕ) (s : source.SourceState) (first : Evaluated Value) (next : Value → Evaluated Value)
     → ValueRuns g h before from mid s first
     → ((v : Value) → first ≡ Gives v → ValueRuns g h behind (place g mid (cell_of v ∷ before) s) end s (next v))
     → ValueRuns g h behind from end s (then_with first next)
@@ -107,7 +107,7 @@ element-there values i below =
 pub element-missing : (values : List Value) (i : ℕ) → length values ≤ i → slice_get (cells_of values) i ≡ None
 element-missing values i most = slice_get_past (cells_of values) i (omega (arith, length-map values cell_of, most))
 
-module _ (g : Setting) (h : ℕ → Option ℕ) (s : source.State) (fit : StateFits g.program g.procedure s) where
+module _ (g : Setting) (h : ℕ → Option ℕ) (s : source.SourceState) (fit : StateFits g.program g.procedure s) where
   pub read-runs : (x : Variable) (b : Base) (at : ℕ) (operands : List Cell) (more : List Instruction)
       → scalar_by (variable_type g.program g.procedure x) (same_base b) ≡ true → Stands g.code (load_of x ∷ more) at
       → Leads g.p (place g at operands s) (place g (at + 1) (cell_of (cell_at (cells s x) 0) ∷ operands) s)

@@ -6,7 +6,7 @@ use Rattle.labels.specs.Sent.{IsPrefix}
 use Rattle.resolved.specs.declared.statement.Exit.TheVariants.{Normal, Return, Break, Continue, Throw}
 use Rattle.resolved.specs.EndFaults.{end_faults}
 use Rattle.resolved.specs.Program.{Program}
-use Rattle.resolved.specs.State.{World}
+use Rattle.resolved.specs.SourceState.{World}
 use Rattle.resolved.specs.Meaning.{Outcome, Ended, Stopped, Deep, OutOfTurns, run_within, frame_limit, sent_by}
 use Rattle.resolved.specs.WellFormed.{well_formed}
 use Rattle.bytecode.specs.Machine as machine

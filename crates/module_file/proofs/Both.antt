@@ -33,7 +33,7 @@ module_taken bytes m fits e = all_taken module_file module_file-coherent bytes m
 pub module_again : (bytes : List ℕ) (m : ModuleContents) → Spells module_file m bytes → read_all module_file bytes ≡ Ok m
 module_again bytes m h = all_again module_file module_file-coherent bytes m h
 
--- the spellings of two values, of which one begins the other, are one, and so are the values
+-- the spellings of two values, of which one is a prefix of the other, are one, and so are the values
 pub one_spelling : {A : Type 0} (form : Form A) → Coherent form → (x y : A) (a b more others : List ℕ) → Spells form x a → Spells form y b → a ++ more ≡ b ++ others → (x ≡ y) × (a ≡ b)
 one_spelling {A} form coherent x y a b more others h k e =
     let left : read form (a ++ more) ≡ Ok (x, more) = ap (λ (bytes : List ℕ). read form (bytes ++ more)) h.1 ∙ again form coherent x more h.0 in

@@ -14,9 +14,9 @@ Fails errors.NoMemory read = Unit {0}
 Fails (errors.Stop stop) read = read ≡ Err stop
 
 -- what a function returned, seen by the view, is what reading gives, unless memory ran out
-abbrev pub Gives : {A B : Type 0} → (A → B) → Result A ReadError → Result B Stop → Type 0
-Gives view (Ok x) read = read ≡ Ok (view x)
-Gives view (Err e) read = Fails e read
+abbrev pub Decodes : {A B : Type 0} → (A → B) → Result A ReadError → Result B Stop → Type 0
+Decodes view (Ok x) read = read ≡ Ok (view x)
+Decodes view (Err e) read = Fails e read
 
 -- texts by their bytes
 abbrev pub texts : List (String Global) → List (List ℕ)

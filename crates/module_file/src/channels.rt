@@ -2,7 +2,7 @@
 
 ghost use Rattle.bytecode.specs.Form.{Counted, each_at, read};
 ghost use Rattle.bytecode.specs.Format.{any, channel_after, declared, direction};
-ghost use Rattle.module_file.specs.Reading.{Gives, texts};
+ghost use Rattle.module_file.specs.Reading.{Decodes, texts};
 ghost use Rattle.std.specs.BTreeSet.{contains_text};
 ghost use Rattle.std.specs.Prelude.{[], length};
 
@@ -19,7 +19,7 @@ use std::collections::BTreeSet;
 /// The direction of a channel.
 #[tactic(auto, unfolding(bytecode::specs::Format::direction))]
 fn direction(bytes: &[u8]) -> Result<(Direction, &[u8]), ReadError>
-    ensures { Gives (λ x. (x.0, x.1.now)) result (read direction bytes.now) }
+    ensures { Decodes (λ x. (x.0, x.1.now)) result (read direction bytes.now) }
 {
     let (direction, rest) = byte(bytes)?;
     match direction {
@@ -37,7 +37,7 @@ fn channel<'a>(
     taken: &BTreeSet<String>,
     bytes: &'a [u8],
 ) -> Result<(Channel, &'a [u8]), ReadError>
-    ensures { Gives (λ x. (x.0, x.1.now)) result (read (channel_after principals (contains_text taken.now) []) bytes.now) }
+    ensures { Decodes (λ x. (x.0, x.1.now)) result (read (channel_after principals (contains_text taken.now) []) bytes.now) }
 {
     let (direction, rest) = direction(bytes)?;
     let (name, rest) = name(alloc, taken, rest)?;
@@ -53,7 +53,7 @@ fn channels(
     count: u32,
     bytes: &[u8],
 ) -> Result<(Vec<Channel>, &[u8]), ReadError>
-    ensures { Gives (λ x. (x.0.items, x.1.now)) result (each_at (λ before rest. read (channel_after principals (contains_text taken) before) rest) count [] bytes.now) }
+    ensures { Decodes (λ x. (x.0.items, x.1.now)) result (each_at (λ before rest. read (channel_after principals (contains_text taken) before) rest) count [] bytes.now) }
 {
     let mut channels = Vec::new(alloc);
     let mut rest = bytes;
@@ -73,7 +73,7 @@ fn counted(
     taken: BTreeSet<String>,
     bytes: &[u8],
 ) -> Result<(Vec<Channel>, &[u8]), ReadError>
-    ensures { Gives (λ x. (x.0.items, x.1.now)) result (read (Counted any (channel_after principals (contains_text taken))) bytes.now) }
+    ensures { Decodes (λ x. (x.0.items, x.1.now)) result (read (Counted any (channel_after principals (contains_text taken))) bytes.now) }
 {
     let (count, rest) = number(bytes)?;
     channels(alloc, principals, taken, count, rest)
@@ -86,7 +86,7 @@ pub(crate) fn declared<'a>(
     hierarchy: &Hierarchy,
     bytes: &'a [u8],
 ) -> Result<(Vec<String>, Vec<Channel>, &'a [u8]), ReadError>
-    ensures { Gives (λ x. ((texts x.0.items, x.1.items), x.2.now)) result (read (declared (length hierarchy.now.names)) bytes.now) }
+    ensures { Decodes (λ x. ((texts x.0.items, x.1.items), x.2.now)) result (read (declared (length hierarchy.now.names)) bytes.now) }
 {
     let mut taken = built_in(alloc)?;
     let (exceptions, rest) = exceptions(alloc, &mut taken, bytes)?;

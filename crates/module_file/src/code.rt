@@ -3,7 +3,7 @@
 ghost use Rattle.bytecode.specs.Code.{width_of};
 ghost use Rattle.bytecode.specs.Form.{Code, code_at, instruction_in, read};
 ghost use Rattle.bytecode.specs.Opcodes.{instructions};
-ghost use Rattle.module_file.specs.Reading.{Gives};
+ghost use Rattle.module_file.specs.Reading.{Decodes};
 ghost use Rattle.std.specs.Prelude.{[], IfOk, ◌≤◌};
 
 use crate::reading::{ReadError, byte, number, refused, text};
@@ -18,7 +18,7 @@ const USUAL_WIDTH: usize = 3;
 /// The instruction at the front, which ends within the room that is left in its code.
 #[tactic(auto, unfolding(bytecode::specs::Opcodes::instructions))]
 fn instruction(room: u32, bytes: &[u8]) -> Result<(Instruction, &[u8]), ReadError>
-    ensures gives { Gives (λ x. (x.0, x.1.now)) result (instruction_in instructions room bytes.now) }
+    ensures gives { Decodes (λ x. (x.0, x.1.now)) result (instruction_in instructions room bytes.now) }
     ensures inside { IfOk result (λ x. width_of x.0 ≤ room) }
 {
     let (opcode, rest) = byte(bytes)?;
@@ -41,7 +41,7 @@ fn instructions(
     size: u32,
     bytes: &[u8],
 ) -> Result<(Vec<Instruction>, &[u8]), ReadError>
-    ensures { Gives (λ x. (x.0.items, x.1.now)) result (code_at instructions size size [] bytes.now) }
+    ensures { Decodes (λ x. (x.0.items, x.1.now)) result (code_at instructions size size [] bytes.now) }
 {
     // Room for the bytes that are there, whatever the size claims.
     let mut code = Vec::with_capacity(alloc, bytes.len().min(size as usize) / USUAL_WIDTH)?;
@@ -58,7 +58,7 @@ fn instructions(
 
 /// The code behind its length.
 pub(crate) fn code(alloc: Global, bytes: &[u8]) -> Result<(Vec<Instruction>, &[u8]), ReadError>
-    ensures { Gives (λ x. (x.0.items, x.1.now)) result (read (Code instructions) bytes.now) }
+    ensures { Decodes (λ x. (x.0.items, x.1.now)) result (read (Code instructions) bytes.now) }
 {
     let (size, rest) = number(bytes)?;
     instructions(alloc, size, rest)

@@ -4,7 +4,7 @@ ghost use Rattle.bytecode.specs.Contents.{ModuleContents};
 ghost use Rattle.module_file.specs.Decoded.{first_refusal, IsReadAs, Reports};
 ghost use Rattle.bytecode.specs.Form.{Fits, read, read_all, Spells};
 ghost use Rattle.bytecode.specs.Format.{contents, main, module_file, program};
-ghost use Rattle.module_file.specs.Reading.{contents_of, Gives};
+ghost use Rattle.module_file.specs.Reading.{contents_of, Decodes};
 ghost use Rattle.std.specs.Prelude.{IfErr, IfOk, ◌≡◌};
 
 use crate::channels::declared;
@@ -50,7 +50,7 @@ fn main_procedure<'a>(
     procedures: &[Procedure],
     bytes: &'a [u8],
 ) -> Result<(u32, &'a [u8]), ReadError>
-    ensures { Gives (λ x. (x.0, x.1.now)) result (read (main procedures.now) bytes.now) }
+    ensures { Decodes (λ x. (x.0, x.1.now)) result (read (main procedures.now) bytes.now) }
 {
     let (number, rest) = number(bytes)?;
     match procedures.get(number as usize) {
@@ -64,7 +64,7 @@ fn main_procedure<'a>(
 /// The globals, the procedures, and the number of the one where a run starts.
 #[tactic(auto, unfolding(bytecode::specs::Format::program))]
 fn program_at(alloc: Global, bytes: &[u8]) -> Result<(Program, &[u8]), ReadError>
-    ensures { Gives (λ x. ((x.0.globals.items, (x.0.procedures.items, x.0.main)), x.1.now)) result (read program bytes.now) }
+    ensures { Decodes (λ x. ((x.0.globals.items, (x.0.procedures.items, x.0.main)), x.1.now)) result (read program bytes.now) }
 {
     let (globals, rest) = globals(alloc, bytes)?;
     let (procedures, rest) = procedures(alloc, rest)?;
@@ -80,7 +80,7 @@ fn program_at(alloc: Global, bytes: &[u8]) -> Result<(Program, &[u8]), ReadError
 /// The fields of a module behind magic and version.
 #[tactic(auto, unfolding(bytecode::specs::Format::contents))]
 fn contents(alloc: Global, bytes: &[u8]) -> Result<(Fields, &[u8]), ReadError>
-    ensures { Gives (λ x. (contents_of x.0, x.1.now)) result (read contents bytes.now) }
+    ensures { Decodes (λ x. (contents_of x.0, x.1.now)) result (read contents bytes.now) }
 {
     let (hierarchy, rest) = hierarchy(alloc, bytes)?;
     let (exceptions, channels, rest) = declared(alloc, &hierarchy, rest)?;
@@ -97,7 +97,7 @@ fn contents(alloc: Global, bytes: &[u8]) -> Result<(Fields, &[u8]), ReadError>
 /// The fields of a module behind magic and version, which are tested.
 #[tactic(auto, unfolding(bytecode::specs::Format::module_file))]
 fn file(alloc: Global, bytes: &[u8]) -> Result<(Fields, &[u8]), ReadError>
-    ensures { Gives (λ x. (contents_of x.0, x.1.now)) result (read module_file bytes.now) }
+    ensures { Decodes (λ x. (contents_of x.0, x.1.now)) result (read module_file bytes.now) }
 {
     let (magic, rest) = number(bytes)?;
     if magic != MAGIC {
@@ -112,7 +112,7 @@ fn file(alloc: Global, bytes: &[u8]) -> Result<(Fields, &[u8]), ReadError>
 
 /// The fields of a module that all of the bytes are.
 fn all_of_file(alloc: Global, bytes: &[u8]) -> Result<Fields, ReadError>
-    ensures { Gives contents_of result (read_all module_file bytes.now) }
+    ensures { Decodes contents_of result (read_all module_file bytes.now) }
 {
     let (fields, rest) = file(alloc, bytes)?;
     if !rest.is_empty() {

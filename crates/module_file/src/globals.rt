@@ -2,7 +2,7 @@
 
 ghost use Rattle.bytecode.specs.Form.{read};
 ghost use Rattle.bytecode.specs.Format.{first_value, global_after, global_cells, global_of, globals, max_cells, variable_kind};
-ghost use Rattle.module_file.specs.Reading.{Gives};
+ghost use Rattle.module_file.specs.Reading.{Decodes};
 ghost use Rattle.std.specs.Prelude.{◌<◌, ◌≡◌, ◌≤◌};
 
 use crate::limit::{cells_of_size, is_size};
@@ -15,7 +15,7 @@ use std::alloc::Global;
 /// The kind of a global or of a slot.
 #[tactic(auto, unfolding(bytecode::specs::Format::variable_kind))]
 pub(crate) fn kind(bytes: &[u8]) -> Result<(Kind, &[u8]), ReadError>
-    ensures { Gives (λ x. (x.0, x.1.now)) result (read variable_kind bytes.now) }
+    ensures { Decodes (λ x. (x.0, x.1.now)) result (read variable_kind bytes.now) }
 {
     let (kind, rest) = byte(bytes)?;
     match kind {
@@ -27,7 +27,7 @@ pub(crate) fn kind(bytes: &[u8]) -> Result<(Kind, &[u8]), ReadError>
 
 /// The first value of a scalar, and 0 for an array, which has none.
 fn first_value(kind: Kind, size: u32, bytes: &[u8]) -> Result<(u32, &[u8]), ReadError>
-    ensures { Gives (λ x. (x.0, x.1.now)) result (read (first_value kind size) bytes.now) }
+    ensures { Decodes (λ x. (x.0, x.1.now)) result (read (first_value kind size) bytes.now) }
 {
     if size != 0 {
         return Ok((0, bytes));
@@ -90,7 +90,7 @@ impl Element for GlobalField {
 /// The globals behind their count.
 #[tactic(auto, unfolding(bytecode::specs::Format::globals))]
 pub(crate) fn globals(alloc: Global, bytes: &[u8]) -> Result<(Vec<Variable>, &[u8]), ReadError>
-    ensures { Gives (λ x. (x.0.items, x.1.now)) result (read globals bytes.now) }
+    ensures { Decodes (λ x. (x.0.items, x.1.now)) result (read globals bytes.now) }
 {
     let (count, rest) = number(bytes)?;
     each(alloc, &GlobalField, 0, count, rest)

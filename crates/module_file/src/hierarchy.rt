@@ -2,7 +2,7 @@
 
 ghost use Rattle.bytecode.specs.Form.{Counted, read};
 ghost use Rattle.bytecode.specs.Format.{any, hierarchy, label, number_below, pair_after, policy_after, principals, reader_after};
-ghost use Rattle.module_file.specs.Reading.{Gives, texts};
+ghost use Rattle.module_file.specs.Reading.{Decodes, texts};
 
 use crate::names::first_names;
 use crate::reading::{Element, ReadError, each, number, refused};
@@ -17,7 +17,7 @@ const MAX_PRINCIPALS: u32 = 256;
 /// The number of one of so many things.
 #[tactic(auto, unfolding(bytecode::specs::Format::number_below))]
 fn number_below(count: u32, bytes: &[u8]) -> Result<(u32, &[u8]), ReadError>
-    ensures { Gives (λ x. (x.0, x.1.now)) result (read (number_below count) bytes.now) }
+    ensures { Decodes (λ x. (x.0, x.1.now)) result (read (number_below count) bytes.now) }
 {
     let (number, rest) = number(bytes)?;
     if number >= count {
@@ -29,7 +29,7 @@ fn number_below(count: u32, bytes: &[u8]) -> Result<(u32, &[u8]), ReadError>
 /// The names of the principals behind their count.
 #[tactic(auto, unfolding(bytecode::specs::Format::principals))]
 fn principals(alloc: Global, bytes: &[u8]) -> Result<(Vec<String>, &[u8]), ReadError>
-    ensures { Gives (λ x. (texts x.0.items, x.1.now)) result (read principals bytes.now) }
+    ensures { Decodes (λ x. (texts x.0.items, x.1.now)) result (read principals bytes.now) }
 {
     let (count, rest) = number(bytes)?;
     if count > MAX_PRINCIPALS {
@@ -153,7 +153,7 @@ fn readers(
     owner: u32,
     bytes: &[u8],
 ) -> Result<(Vec<u32>, &[u8]), ReadError>
-    ensures { Gives (λ x. (x.0.items, x.1.now)) result (read (Counted any (reader_after principals owner)) bytes.now) }
+    ensures { Decodes (λ x. (x.0.items, x.1.now)) result (read (Counted any (reader_after principals owner)) bytes.now) }
 {
     let (count, rest) = number(bytes)?;
     each(alloc, &ReaderField { principals, owner }, (), count, rest)
@@ -162,7 +162,7 @@ fn readers(
 /// The policies of a label behind their count.
 #[tactic(auto, unfolding(bytecode::specs::Format::label))]
 fn policies(alloc: Global, principals: u32, bytes: &[u8]) -> Result<(Vec<Policy>, &[u8]), ReadError>
-    ensures { Gives (λ x. (x.0.items, x.1.now)) result (read (label principals) bytes.now) }
+    ensures { Decodes (λ x. (x.0.items, x.1.now)) result (read (label principals) bytes.now) }
 {
     let (count, rest) = number(bytes)?;
     each(alloc, &PolicyField { principals }, (), count, rest)
@@ -174,7 +174,7 @@ pub(crate) fn label(
     principals: u32,
     bytes: &[u8],
 ) -> Result<(Label, &[u8]), ReadError>
-    ensures { Gives (λ x. (x.0, x.1.now)) result (read (label principals) bytes.now) }
+    ensures { Decodes (λ x. (x.0, x.1.now)) result (read (label principals) bytes.now) }
 {
     let (policies, rest) = policies(alloc, principals, bytes)?;
     Ok((Label::of(policies), rest))
@@ -186,7 +186,7 @@ fn pairs(
     principals: u32,
     bytes: &[u8],
 ) -> Result<(Vec<(u32, u32)>, &[u8]), ReadError>
-    ensures { Gives (λ x. (x.0.items, x.1.now)) result (read (Counted any (pair_after principals)) bytes.now) }
+    ensures { Decodes (λ x. (x.0.items, x.1.now)) result (read (Counted any (pair_after principals)) bytes.now) }
 {
     let (count, rest) = number(bytes)?;
     each(alloc, &PairField { principals }, (), count, rest)
@@ -195,7 +195,7 @@ fn pairs(
 /// The hierarchy.
 #[tactic(auto, unfolding(bytecode::specs::Format::hierarchy))]
 pub(crate) fn hierarchy(alloc: Global, bytes: &[u8]) -> Result<(Hierarchy, &[u8]), ReadError>
-    ensures { Gives (λ x. (x.0, x.1.now)) result (read hierarchy bytes.now) }
+    ensures { Decodes (λ x. (x.0, x.1.now)) result (read hierarchy bytes.now) }
 {
     let (names, rest) = principals(alloc, bytes)?;
     let (pairs, rest) = pairs(alloc, names.len() as u32, rest)?;

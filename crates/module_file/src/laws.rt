@@ -17,7 +17,7 @@ pub fn one_spelling()
         Spells module_file m (spelled module_file m) }
 {}
 
-/// No spelling begins another one: where bytes that follow make them equal, they are equal already.
+/// No spelling is a prefix of another: where bytes that follow make them equal, they are equal.
 pub fn no_spelling_is_a_prefix()
     ensures { (m n : ModuleContents) (a b more others : List ℕ)
         → Spells module_file m a → Spells module_file n b → a ++ more ≡ b ++ others

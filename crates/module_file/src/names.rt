@@ -2,7 +2,7 @@
 
 ghost use Rattle.bytecode.specs.Form.{each_at, read};
 ghost use Rattle.bytecode.specs.Format.{exceptions, is_among, is_built_in, is_new_name, name_after};
-ghost use Rattle.module_file.specs.Reading.{Gives, texts};
+ghost use Rattle.module_file.specs.Reading.{Decodes, texts};
 ghost use Rattle.std.specs.BTreeSet.{contains_text};
 ghost use Rattle.std.specs.Prelude.{[], bytes_eq, false, IfOk, List, MatchOption, OnOk, true, ℕ, ◌||◌, ◌≡◌};
 ghost use Rattle.std.specs.String.{string_bytes};
@@ -35,7 +35,7 @@ pub(crate) fn name<'a>(
     taken: &BTreeSet<String>,
     bytes: &'a [u8],
 ) -> Result<(String, &'a [u8]), ReadError>
-    ensures { Gives (λ x. (string_bytes x.0, x.1.now)) result (read (name_after (contains_text taken.now) []) bytes.now) }
+    ensures { Decodes (λ x. (string_bytes x.0, x.1.now)) result (read (name_after (contains_text taken.now) []) bytes.now) }
 {
     let (size, rest) = number(bytes)?;
     let (name, rest) = text(size as usize, rest)?;
@@ -64,7 +64,7 @@ pub(crate) fn names<'a>(
     count: u32,
     bytes: &'a [u8],
 ) -> Result<(Vec<String>, &'a [u8]), ReadError>
-    ensures gives { Gives (λ x. (texts x.0.items, x.1.now)) result (each_at (λ before rest. read (name_after (contains_text taken.old) before) rest) count [] bytes.now) }
+    ensures gives { Decodes (λ x. (texts x.0.items, x.1.now)) result (each_at (λ before rest. read (name_after (contains_text taken.old) before) rest) count [] bytes.now) }
     ensures taken { IfOk result (λ x. (q : List ℕ) → contains_text taken.new q ≡ (contains_text taken.old q || is_among (texts x.0.items) q)) }
 {
     let mut names = Vec::new(alloc);
@@ -84,7 +84,7 @@ pub(crate) fn first_names(
     count: u32,
     bytes: &[u8],
 ) -> Result<(Vec<String>, &[u8]), ReadError>
-    ensures { Gives (λ x. (texts x.0.items, x.1.now)) result (each_at (λ before rest. read (name_after (λ _. false) before) rest) count [] bytes.now) }
+    ensures { Decodes (λ x. (texts x.0.items, x.1.now)) result (each_at (λ before rest. read (name_after (λ _. false) before) rest) count [] bytes.now) }
 {
     let mut taken = BTreeSet::new(alloc);
     names(alloc, &mut taken, count, bytes)
@@ -109,7 +109,7 @@ pub(crate) fn exceptions<'a>(
     bytes: &'a [u8],
 ) -> Result<(Vec<String>, &'a [u8]), ReadError>
     requires { (q : List ℕ) → contains_text taken.old q ≡ is_built_in q }
-    ensures gives { Gives (λ x. (texts x.0.items, x.1.now)) result (read exceptions bytes.now) }
+    ensures gives { Decodes (λ x. (texts x.0.items, x.1.now)) result (read exceptions bytes.now) }
     ensures taken { IfOk result (λ x. (q : List ℕ) → contains_text taken.new q ≡ (is_built_in q || is_among (texts x.0.items) q)) }
 {
     let (count, rest) = number(bytes)?;

@@ -2,7 +2,7 @@
 
 ghost use Rattle.bytecode.specs.Form.{read};
 ghost use Rattle.bytecode.specs.Format.{handler, handlers, max_cells, procedure, procedures, returned, slot_after, slot_cells, slot_of, slots};
-ghost use Rattle.module_file.specs.Reading.{Gives};
+ghost use Rattle.module_file.specs.Reading.{Decodes};
 ghost use Rattle.std.specs.Prelude.{◌≡◌, ◌≤◌};
 
 use crate::code::code;
@@ -52,7 +52,7 @@ impl Element for HandlerField {
 /// The handlers behind their count.
 #[tactic(auto, unfolding(bytecode::specs::Format::handlers))]
 fn handlers(alloc: Global, bytes: &[u8]) -> Result<(Vec<Handler>, &[u8]), ReadError>
-    ensures { Gives (λ x. (x.0.items, x.1.now)) result (read handlers bytes.now) }
+    ensures { Decodes (λ x. (x.0.items, x.1.now)) result (read handlers bytes.now) }
 {
     let (count, rest) = number(bytes)?;
     each(alloc, &HandlerField, (), count, rest)
@@ -105,7 +105,7 @@ impl Element for SlotField {
 /// The slots behind their count, the first of which are parameters.
 #[tactic(auto, unfolding(bytecode::specs::Format::slots))]
 fn slots(alloc: Global, parameters: u32, bytes: &[u8]) -> Result<(Vec<Slot>, &[u8]), ReadError>
-    ensures { Gives (λ x. (x.0.items, x.1.now)) result (read (slots parameters) bytes.now) }
+    ensures { Decodes (λ x. (x.0.items, x.1.now)) result (read (slots parameters) bytes.now) }
 {
     let (count, rest) = number(bytes)?;
     if count < parameters {
@@ -117,7 +117,7 @@ fn slots(alloc: Global, parameters: u32, bytes: &[u8]) -> Result<(Vec<Slot>, &[u
 /// The kind of value that a procedure returns, if any.
 #[tactic(auto, unfolding(bytecode::specs::Format::returned))]
 fn returned(bytes: &[u8]) -> Result<(Option<Kind>, &[u8]), ReadError>
-    ensures { Gives (λ x. (x.0, x.1.now)) result (read returned bytes.now) }
+    ensures { Decodes (λ x. (x.0, x.1.now)) result (read returned bytes.now) }
 {
     let (kind, rest) = byte(bytes)?;
     match kind {
@@ -161,7 +161,7 @@ impl Element for ProcedureField {
 /// The procedures behind their count.
 #[tactic(auto, unfolding(bytecode::specs::Format::procedures))]
 pub(crate) fn procedures(alloc: Global, bytes: &[u8]) -> Result<(Vec<Procedure>, &[u8]), ReadError>
-    ensures { Gives (λ x. (x.0.items, x.1.now)) result (read procedures bytes.now) }
+    ensures { Decodes (λ x. (x.0.items, x.1.now)) result (read procedures bytes.now) }
 {
     let (count, rest) = number(bytes)?;
     each(alloc, &ProcedureField, (), count, rest)

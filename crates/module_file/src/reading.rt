@@ -1,7 +1,7 @@
 //! Reading of fields, each at the front of the bytes that are left.
 
 ghost use Rattle.bytecode.specs.Form.{byte_at, bytes_at, each_at, number_at, Read, stop_at};
-ghost use Rattle.module_file.specs.Reading.{Gives};
+ghost use Rattle.module_file.specs.Reading.{Decodes};
 ghost use Rattle.module_file.specs.declared.reading.ReadError.TheVariants.{NoMemory};
 ghost use Rattle.std.specs.Prelude.{[], IfOk, List, ℕ, ◌++◌, ◌∷◌, ◌≡◌};
 
@@ -50,7 +50,7 @@ pub(crate) const SHORT: Stop = Stop {
 
 /// One byte.
 pub(crate) fn byte(bytes: &[u8]) -> Result<(u8, &[u8]), ReadError>
-    ensures { Gives (λ x. (x.0, x.1.now)) result (byte_at bytes.now) }
+    ensures { Decodes (λ x. (x.0, x.1.now)) result (byte_at bytes.now) }
 {
     match bytes {
         [] => Err(ReadError::Stop(SHORT)),
@@ -60,7 +60,7 @@ pub(crate) fn byte(bytes: &[u8]) -> Result<(u8, &[u8]), ReadError>
 
 /// A number in four bytes.
 pub(crate) fn number(bytes: &[u8]) -> Result<(u32, &[u8]), ReadError>
-    ensures { Gives (λ x. (x.0, x.1.now)) result (number_at bytes.now) }
+    ensures { Decodes (λ x. (x.0, x.1.now)) result (number_at bytes.now) }
 {
     if bytes.len() < 4 {
         return Err(ReadError::Stop(SHORT));
@@ -71,7 +71,7 @@ pub(crate) fn number(bytes: &[u8]) -> Result<(u32, &[u8]), ReadError>
 
 /// So many bytes.
 pub(crate) fn text(count: usize, bytes: &[u8]) -> Result<(&[u8], &[u8]), ReadError>
-    ensures { Gives (λ x. (x.0.now, x.1.now)) result (bytes_at count bytes.now) }
+    ensures { Decodes (λ x. (x.0.now, x.1.now)) result (bytes_at count bytes.now) }
 {
     if bytes.len() < count {
         return Err(ReadError::Stop(SHORT));
@@ -97,7 +97,7 @@ pub(crate) trait Element {
         bytes: &'a [u8],
     ) -> Result<(Self::Item, &'a [u8]), ReadError>
         requires { holds self.now state.old before.now }
-        ensures gives { Gives (λ x. (x.0, x.1.now)) result (reads self.now before.now bytes.now) }
+        ensures gives { Decodes (λ x. (x.0, x.1.now)) result (reads self.now before.now bytes.now) }
         ensures holds { IfOk result (λ x. holds self.now state.new (before.now ++ x.0 ∷ [])) };
 }
 
@@ -113,7 +113,7 @@ where
     E::Item: Drop,
     E::State: Drop,
     requires { E.holds element.now state [] }
-    ensures { Gives (λ x. (x.0.items, x.1.now)) result (each_at (E.reads element.now) count [] bytes.now) }
+    ensures { Decodes (λ x. (x.0.items, x.1.now)) result (each_at (E.reads element.now) count [] bytes.now) }
 {
     let mut items = Vec::new(alloc);
     let mut rest = bytes;

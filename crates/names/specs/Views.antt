@@ -37,9 +37,9 @@ Fails faults.NoMemory outcome = Unit {0}
 Fails (faults.Refused refusal at) outcome = outcome ≡ Err (record { refusal = refusal; at = at })
 
 -- what a function gave is what the outcome finds, unless memory ran out
-abbrev pub Gives : {X A : Type 0} → (X → A) → Result X TypeFault → Outcome A → Type 0
-Gives view (Ok x) outcome = outcome ≡ Ok (view x)
-Gives view (Err fault) outcome = Fails fault outcome
+abbrev pub Resolves : {X A : Type 0} → (X → A) → Result X TypeFault → Outcome A → Type 0
+Resolves view (Ok x) outcome = outcome ≡ Ok (view x)
+Resolves view (Err fault) outcome = Fails fault outcome
 
 abbrev pub itself : {A : Type 0} → A → A
 itself x = x

@@ -1,7 +1,7 @@
 //! Statements, and the blocks and handlers that they hold.
 
 ghost use Rattle.names.specs.Statements.{block_outcome, catches_outcome, statement_outcome, statements_outcome};
-ghost use Rattle.names.specs.Views.{Gives, IsLater, at_point, block_view, handlers_view, point_of, setting_of, taken};
+ghost use Rattle.names.specs.Views.{Resolves, IsLater, at_point, block_view, handlers_view, point_of, setting_of, taken};
 ghost use Rattle.resolved.specs.TreeOf.{statement_of};
 ghost use Rattle.std.specs.Prelude.{OnOk, map, ◌+◌, ◌<◌, ◌≡◌, ◌≤◌};
 ghost use Rattle.syntax.specs.Limits.{most_nodes};
@@ -22,7 +22,7 @@ impl<'a> Body<'a> {
     #[tactic(auto, unfolding(crate::specs::Statements::block_outcome))]
     pub fn block(&mut self, written: &Block) -> Result<Vec<Statement>, TypeFault>
         requires room { taken self.old + block_nodes (block_tree written.now) < most_nodes }
-        ensures made { Gives (at_point self.new block_view) result
+        ensures made { Resolves (at_point self.new block_view) result
             (block_outcome (setting_of self.old) (point_of self.old) (block_tree written.now)) }
         ensures later { OnOk result (IsLater self.old self.new) }
         ensures grows { OnOk result (taken self.new ≤
@@ -39,7 +39,7 @@ impl<'a> Body<'a> {
     fn statements(&mut self, written: &[syntax::Statement]) -> Result<Vec<Statement>, TypeFault>
         requires room { taken self.old +
             statements_nodes (statements_of (map statement_tree written.now)) < most_nodes }
-        ensures made { Gives (at_point self.new block_view) result
+        ensures made { Resolves (at_point self.new block_view) result
             (statements_outcome (setting_of self.old) (point_of self.old)
             (statements_of (map statement_tree written.now))) }
         ensures later { OnOk result (IsLater self.old self.new) }
@@ -58,7 +58,7 @@ impl<'a> Body<'a> {
     fn catches(&mut self, written: &[Catch]) -> Result<Vec<Handler>, TypeFault>
         requires room { taken self.old + catches_nodes (catches_of (map catch_tree written.now)) <
             most_nodes }
-        ensures made { Gives (at_point self.new handlers_view) result
+        ensures made { Resolves (at_point self.new handlers_view) result
             (catches_outcome (setting_of self.old) (point_of self.old)
             (catches_of (map catch_tree written.now))) }
         ensures later { OnOk result (IsLater self.old self.new) }
@@ -84,7 +84,7 @@ impl<'a> Body<'a> {
     #[tactic(auto, unfolding(crate::specs::Statements::statement_outcome))]
     fn statement(&mut self, written: &syntax::Statement) -> Result<Statement, TypeFault>
         requires room { taken self.old + statement_nodes (statement_tree written.now) < most_nodes }
-        ensures made { Gives (at_point self.new statement_of) result
+        ensures made { Resolves (at_point self.new statement_of) result
             (statement_outcome (setting_of self.old) (point_of self.old)
             (statement_tree written.now)) }
         ensures later { OnOk result (IsLater self.old self.new) }
@@ -147,7 +147,7 @@ impl<'a> Body<'a> {
         requires room { taken self.old + statement_nodes (if_tree at
             (expression_tree condition.now) (block_tree accepted.now)
             (optional_block_tree otherwise.now)) < most_nodes }
-        ensures made { Gives (at_point self.new statement_of) result
+        ensures made { Resolves (at_point self.new statement_of) result
             (statement_outcome (setting_of self.old) (point_of self.old)
             (if_tree at (expression_tree condition.now) (block_tree accepted.now)
             (optional_block_tree otherwise.now))) }
@@ -178,7 +178,7 @@ impl<'a> Body<'a> {
     ) -> Result<Statement, TypeFault>
         requires room { taken self.old + statement_nodes (WhileTree at
             (expression_tree condition.now) (block_tree body.now)) < most_nodes }
-        ensures made { Gives (at_point self.new statement_of) result
+        ensures made { Resolves (at_point self.new statement_of) result
             (statement_outcome (setting_of self.old) (point_of self.old)
             (WhileTree at (expression_tree condition.now) (block_tree body.now))) }
         ensures later { OnOk result (IsLater self.old self.new) }
@@ -203,7 +203,7 @@ impl<'a> Body<'a> {
     ) -> Result<Statement, TypeFault>
         requires room { taken self.old + statement_nodes (TryTree at (block_tree body.now)
             (catches_of (map catch_tree catches.now))) < most_nodes }
-        ensures made { Gives (at_point self.new statement_of) result
+        ensures made { Resolves (at_point self.new statement_of) result
             (statement_outcome (setting_of self.old) (point_of self.old)
             (TryTree at (block_tree body.now) (catches_of (map catch_tree catches.now)))) }
         ensures later { OnOk result (IsLater self.old self.new) }
@@ -221,7 +221,7 @@ impl<'a> Body<'a> {
     fn nest(&mut self, block: &Block) -> Result<Statement, TypeFault>
         requires room { taken self.old + statement_nodes (NestedTree (block_tree block.now)) <
             most_nodes }
-        ensures made { Gives (at_point self.new statement_of) result
+        ensures made { Resolves (at_point self.new statement_of) result
             (statement_outcome (setting_of self.old) (point_of self.old)
             (NestedTree (block_tree block.now))) }
         ensures later { OnOk result (IsLater self.old self.new) }

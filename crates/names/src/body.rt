@@ -2,7 +2,7 @@
 
 ghost use Rattle.names.specs.Outcome.{give};
 ghost use Rattle.names.specs.Statements.{with_local};
-ghost use Rattle.names.specs.Views.{Gives, IsLater, found_in, names_of, point_of, setting_of, signature_view, taken};
+ghost use Rattle.names.specs.Views.{Resolves, IsLater, found_in, names_of, point_of, setting_of, signature_view, taken};
 ghost use Rattle.resolved.specs.ProgramOf.{slot_entry};
 ghost use Rattle.std.specs.Prelude.{[], None, OnOk, map, ◌+◌, ◌≡◌};
 ghost use Rattle.syntax.specs.Tree.{name_tree};
@@ -72,7 +72,7 @@ impl<'a> Body<'a> {
     /// Declares a parameter or local, which takes the next slot.
     pub fn declare(&mut self, slot: Slot, meaning: Meaning) -> Result<(), TypeFault>
         requires fresh { names_of self.old (slot_entry slot).name ≡ None }
-        ensures made { Gives (λ _. point_of self.new) result
+        ensures made { Resolves (λ _. point_of self.new) result
             (give (with_local (point_of self.old) (slot_entry slot) meaning)) }
         ensures later { OnOk result (IsLater self.old self.new) }
         ensures grows { OnOk result (taken self.new ≡ taken self.old + 1) }

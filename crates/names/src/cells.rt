@@ -2,7 +2,7 @@
 
 ghost use Rattle.names.specs.Outcome.{demand};
 ghost use Rattle.names.specs.Resolution.{frame_cells, frames_outcome, global_cells, global_cells_outcome, next_global_cells};
-ghost use Rattle.names.specs.Views.{Gives, itself};
+ghost use Rattle.names.specs.Views.{Resolves, itself};
 ghost use Rattle.resolved.specs.ProgramOf.{procedure_entry, slot_entry};
 ghost use Rattle.resolved.specs.WellFormed.{cell_count, cell_limit};
 ghost use Rattle.std.specs.Prelude.{IfOk, map, nat_le, ◌≡◌, ◌≤◌};
@@ -27,7 +27,7 @@ fn cells_of_global(value: &GlobalValue) -> u32
 /// The cells of the globals so far, with those of the next item.
 fn add_global(cells: u32, item: &Item) -> Result<u32, TypeFault>
     requires { cells ≤ cell_limit }
-    ensures made { Gives itself result (next_global_cells cells (item_tree item.now)) }
+    ensures made { Resolves itself result (next_global_cells cells (item_tree item.now)) }
     ensures few { IfOk result (λ all. all ≤ cell_limit) }
 {
     match item {
@@ -46,7 +46,7 @@ fn add_global(cells: u32, item: &Item) -> Result<u32, TypeFault>
 /// How many cells the globals of these items have, which are refused where they are too many.
 #[tactic(auto, unfolding(crate::specs::Resolution::global_cells_outcome))]
 pub fn cells_of_globals(items: &[Item]) -> Result<u32, TypeFault>
-    ensures { Gives itself result (global_cells_outcome (map item_tree items.now)) }
+    ensures { Resolves itself result (global_cells_outcome (map item_tree items.now)) }
 {
     let mut cells = 0;
     for item in items {
@@ -82,7 +82,7 @@ fn fits(slots: &[Slot]) -> bool
 /// Refuses the first procedure whose frame has too many cells.
 #[tactic(auto, unfolding(crate::specs::Resolution::frames_outcome))]
 pub fn limit_frames(procedures: &[Procedure]) -> Result<(), TypeFault>
-    ensures { Gives (λ _. tt) result (frames_outcome (map procedure_entry procedures.now)) }
+    ensures { Resolves (λ _. tt) result (frames_outcome (map procedure_entry procedures.now)) }
 {
     for procedure in procedures {
         if !fits(procedure.slots.as_slice()) {

@@ -1,7 +1,7 @@
 //! Expressions and the types of their values.
 
 ghost use Rattle.names.specs.Expressions.{expression_outcome, of_base, typed_outcome};
-ghost use Rattle.names.specs.Views.{Gives, names_of, typed_view};
+ghost use Rattle.names.specs.Views.{Resolves, names_of, typed_view};
 ghost use Rattle.resolved.specs.TreeOf.{expression_of};
 ghost use Rattle.std.specs.Prelude.{ℕ, ◌≡◌};
 ghost use Rattle.syntax.specs.Tree.{BinaryTree, ElementTree, UnaryTree, expression_tree, name_tree};
@@ -33,7 +33,7 @@ impl TypedExpression {
     /// The expression, whose values have to have a type.
     #[tactic(auto, unfolding(crate::specs::Expressions::of_base))]
     pub fn of_base(self, base: Base, at: usize) -> Result<Expression, TypeFault>
-        ensures { Gives expression_of result (of_base base at (typed_view self)) }
+        ensures { Resolves expression_of result (of_base base at (typed_view self)) }
     {
         if is_same(self.base, base) {
             Ok(self.expression)
@@ -48,7 +48,7 @@ impl<'a> Body<'a> {
     #[cycle(expression)]
     #[tactic(auto, unfolding(crate::specs::Expressions::expression_outcome))]
     pub fn expression(&self, written: &syntax::Expression) -> Result<TypedExpression, TypeFault>
-        ensures { Gives typed_view result
+        ensures { Resolves typed_view result
             (expression_outcome (names_of self.now) (expression_tree written.now)) }
     {
         match written {
@@ -81,7 +81,7 @@ impl<'a> Body<'a> {
     #[cycle(expression)]
     #[tactic(auto, unfolding(crate::specs::Expressions::expression_outcome))]
     fn element(&self, name: &Name, index: &syntax::Expression) -> Result<TypedExpression, TypeFault>
-        ensures { Gives typed_view result (expression_outcome (names_of self.now)
+        ensures { Resolves typed_view result (expression_outcome (names_of self.now)
             (ElementTree (name_tree name.now) (expression_tree index.now))) }
     {
         let found = array(self.meaning(name), name.at)?;
@@ -99,7 +99,7 @@ impl<'a> Body<'a> {
         operator: UnaryOperator,
         operand: &syntax::Expression,
     ) -> Result<TypedExpression, TypeFault>
-        ensures { (at : ℕ) → Gives typed_view result (expression_outcome (names_of self.now)
+        ensures { (at : ℕ) → Resolves typed_view result (expression_outcome (names_of self.now)
             (UnaryTree at operator (expression_tree operand.now))) }
     {
         let prefix = prefix_of(operator);
@@ -118,7 +118,7 @@ impl<'a> Body<'a> {
         left: &syntax::Expression,
         right: &syntax::Expression,
     ) -> Result<TypedExpression, TypeFault>
-        ensures { (at : ℕ) → Gives typed_view result (expression_outcome (names_of self.now)
+        ensures { (at : ℕ) → Resolves typed_view result (expression_outcome (names_of self.now)
             (BinaryTree at operator (expression_tree left.now) (expression_tree right.now))) }
     {
         let used = use_of(operator);
@@ -134,7 +134,7 @@ impl<'a> Body<'a> {
     /// An expression at a place that wants a type.
     #[tactic(auto, unfolding(crate::specs::Expressions::typed_outcome))]
     pub fn typed(&self, base: Base, written: &syntax::Expression) -> Result<Expression, TypeFault>
-        ensures { Gives expression_of result
+        ensures { Resolves expression_of result
             (typed_outcome (names_of self.now) base (expression_tree written.now)) }
     {
         self.expression(written)?.of_base(base, written.place())

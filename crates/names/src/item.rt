@@ -2,7 +2,7 @@
 
 ghost use Rattle.names.specs.Resolution as spec;
 ghost use Rattle.names.specs.Resolution.{channel_outcome, first_outcome, global_outcome};
-ghost use Rattle.names.specs.Views.{Gives, first_view};
+ghost use Rattle.names.specs.Views.{Resolves, first_view};
 ghost use Rattle.resolved.specs.ProgramOf.{channel_entry, global_entry};
 ghost use Rattle.std.specs.Prelude.{◌≡◌};
 ghost use Rattle.syntax.specs.Tree.{channel_tree, constant_tree, global_tree, global_value_tree};
@@ -26,7 +26,7 @@ pub fn channel(
     hierarchy: &Hierarchy,
     written: &syntax::Channel,
 ) -> Result<Channel, TypeFault>
-    ensures { Gives channel_entry result
+    ensures { Resolves channel_entry result
         (channel_outcome hierarchy.now (channel_tree written.now)) }
 {
     let label = label(alloc, hierarchy, &written.label)?;
@@ -84,7 +84,7 @@ fn zero_of(base: Base) -> Value
 #[tactic(auto, unfolding(crate::specs::Resolution::first_outcome))]
 fn first(base: Base, value: &GlobalValue) -> Result<(Option<u32>, Value), TypeFault>
     requires small { IsWrittenGlobalValue Anywhere longest_name (global_value_tree value.now) }
-    ensures { Gives first_view result (first_outcome base (global_value_tree value.now)) }
+    ensures { Resolves first_view result (first_outcome base (global_value_tree value.now)) }
 {
     match value {
         GlobalValue::Scalar(constant) => {
@@ -108,7 +108,8 @@ pub fn global(
 ) -> Result<GlobalVariable, TypeFault>
     requires small { IsWrittenGlobalValue Anywhere longest_name
         (global_value_tree written.now.value) }
-    ensures { Gives global_entry result (global_outcome hierarchy.now (global_tree written.now)) }
+    ensures { Resolves global_entry result
+        (global_outcome hierarchy.now (global_tree written.now)) }
 {
     let label = label(alloc, hierarchy, &written.label)?;
     let base = base_of(written.base);

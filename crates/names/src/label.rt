@@ -4,7 +4,7 @@ ghost use Rattle.std.specs.Prelude.{All, IfOk, map};
 ghost use Rattle.labels.specs.Canonical.{IsCanonicalPolicy};
 ghost use Rattle.syntax.specs.Tree.{label_tree, name_tree, optional_label_tree, policy_tree};
 ghost use Rattle.names.specs.Labels.{label_outcome, policies_outcome, policy_outcome, principal_outcome, readers_outcome, optional_label_outcome};
-ghost use Rattle.names.specs.Views.{Gives, itself};
+ghost use Rattle.names.specs.Views.{Resolves, itself};
 
 use crate::fault::{Refusal, TypeFault};
 use labels::{Label, Policy};
@@ -15,7 +15,7 @@ use syntax::{Name, WrittenLabel, WrittenPolicy};
 /// The number of a principal.
 #[tactic(auto, unfolding(crate::specs::Labels::principal_outcome))]
 fn principal(hierarchy: &Hierarchy, name: &Name) -> Result<u32, TypeFault>
-    ensures { Gives itself result (principal_outcome hierarchy.now (name_tree name.now)) }
+    ensures { Resolves itself result (principal_outcome hierarchy.now (name_tree name.now)) }
 {
     match hierarchy.find(name.text.as_str()) {
         Some(number) => Ok(number),
@@ -25,7 +25,7 @@ fn principal(hierarchy: &Hierarchy, name: &Name) -> Result<u32, TypeFault>
 
 /// The numbers of readers.
 fn readers(alloc: Global, hierarchy: &Hierarchy, names: &[Name]) -> Result<Vec<u32>, TypeFault>
-    ensures { Gives (λ numbers. numbers.items) result
+    ensures { Resolves (λ numbers. numbers.items) result
         (readers_outcome hierarchy.now (map name_tree names.now)) }
 {
     let mut numbers = Vec::new(alloc);
@@ -42,7 +42,7 @@ fn policy(
     hierarchy: &Hierarchy,
     written: &WrittenPolicy,
 ) -> Result<Policy, TypeFault>
-    ensures made { Gives itself result (policy_outcome hierarchy.now (policy_tree written.now)) }
+    ensures made { Resolves itself result (policy_outcome hierarchy.now (policy_tree written.now)) }
     ensures canonical { IfOk result IsCanonicalPolicy }
 {
     let owner = principal(hierarchy, &written.owner)?;
@@ -56,7 +56,7 @@ fn policies(
     hierarchy: &Hierarchy,
     written: &[WrittenPolicy],
 ) -> Result<Vec<Policy>, TypeFault>
-    ensures made { Gives (λ policies. policies.items) result
+    ensures made { Resolves (λ policies. policies.items) result
         (policies_outcome hierarchy.now (map policy_tree written.now)) }
     ensures canonical { IfOk result (λ policies. All IsCanonicalPolicy policies.items) }
 {
@@ -74,7 +74,7 @@ pub fn label(
     hierarchy: &Hierarchy,
     written: &WrittenLabel,
 ) -> Result<Label, TypeFault>
-    ensures { Gives itself result (label_outcome hierarchy.now (label_tree written.now)) }
+    ensures { Resolves itself result (label_outcome hierarchy.now (label_tree written.now)) }
 {
     let policies = policies(alloc, hierarchy, written.policies.as_slice())?;
     Ok(Label::written(policies))
@@ -87,7 +87,7 @@ pub fn optional_label(
     hierarchy: &Hierarchy,
     written: &Option<WrittenLabel>,
 ) -> Result<Option<Label>, TypeFault>
-    ensures { Gives itself result
+    ensures { Resolves itself result
         (optional_label_outcome hierarchy.now (optional_label_tree written.now)) }
 {
     match written {

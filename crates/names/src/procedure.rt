@@ -4,7 +4,7 @@ ghost use Rattle.indexmap.specs.IndexSet.{contains};
 ghost use Rattle.labels.specs.Canonical.{IsCanonicalLabel, IsCanonicalPolicy};
 ghost use Rattle.names.specs.Outcome.{along};
 ghost use Rattle.names.specs.Resolution.{begin_label_of, end_label_of, is_thrown, joined_all, next_parameter, next_thrown, procedure_entry_outcome, result_outcome, throws_outcome};
-ghost use Rattle.names.specs.Views.{Gives, IsLater, found_in, point_of, taken, throws_view, top_view};
+ghost use Rattle.names.specs.Views.{Resolves, IsLater, found_in, point_of, taken, throws_view, top_view};
 ghost use Rattle.resolved.specs.ProgramOf.{procedure_entry, result_entry, thrown_entry};
 ghost use Rattle.std.specs.Prelude.{All, IfOk, OnOk, length, map, nat_eq, ◌++◌, ◌+◌, ◌<◌, ◌≡◌, ℕ};
 ghost use Rattle.syntax.specs.Limits.{most_nodes};
@@ -32,7 +32,8 @@ fn result_type(
     hierarchy: &Hierarchy,
     written: &Outcome,
 ) -> Result<Option<ResultType>, TypeFault>
-    ensures { Gives result_entry result (result_outcome hierarchy.now (outcome_tree written.now)) }
+    ensures { Resolves result_entry result
+        (result_outcome hierarchy.now (outcome_tree written.now)) }
 {
     match written {
         Outcome::Nothing => Ok(None),
@@ -53,7 +54,7 @@ impl<'a> Body<'a> {
     /// Declares the next parameter.
     fn parameter(&mut self, written: &Parameter) -> Result<(), TypeFault>
         requires room { taken self.old < most_nodes }
-        ensures made { Gives (λ _. point_of self.new) result
+        ensures made { Resolves (λ _. point_of self.new) result
             (next_parameter self.old.hierarchy.now (point_of self.old)
             (parameter_tree written.now)) }
         ensures later { OnOk result (IsLater self.old self.new) }
@@ -71,7 +72,7 @@ impl<'a> Body<'a> {
     /// Declares parameters.
     fn parameters(&mut self, written: &[Parameter]) -> Result<(), TypeFault>
         requires room { taken self.old + length written.now < most_nodes }
-        ensures made { Gives (λ _. point_of self.new) result
+        ensures made { Resolves (λ _. point_of self.new) result
             (along (next_parameter self.old.hierarchy.now) (point_of self.old)
             (map parameter_tree written.now)) }
         ensures later { OnOk result (IsLater self.old self.new) }
@@ -95,7 +96,7 @@ fn add_thrown(
 ) -> Result<(), TypeFault>
     requires same { (number : ℕ) → contains nat_eq seen.old number ≡
         is_thrown (throws_view throws.old) number }
-    ensures made { Gives (λ _. throws_view throws.new) result
+    ensures made { Resolves (λ _. throws_view throws.new) result
         (next_thrown hierarchy.now (found_in top.now.names) (throws_view throws.old)
         (thrown_tree written.now)) }
     ensures same { OnOk result ((number : ℕ) → contains nat_eq seen.new number ≡
@@ -122,7 +123,7 @@ fn throws(
     top: &TopNames,
     written: &[syntax::Thrown],
 ) -> Result<Vec<Thrown>, TypeFault>
-    ensures { Gives throws_view result
+    ensures { Resolves throws_view result
         (throws_outcome hierarchy.now (found_in top.now.names) (map thrown_tree written.now)) }
 {
     let mut seen = IndexSet::new(alloc);
@@ -194,7 +195,7 @@ pub fn resolve_procedure<'a>(
     written: &syntax::Procedure,
 ) -> Result<Procedure, TypeFault>
     requires room { procedure_nodes (procedure_tree written.now) < most_nodes }
-    ensures { Gives procedure_entry result (procedure_entry_outcome hierarchy.now
+    ensures { Resolves procedure_entry result (procedure_entry_outcome hierarchy.now
         (top_view top.now) (procedure_tree written.now)) }
 {
     let value = result_type(alloc, hierarchy, &written.outcome)?;

@@ -2,7 +2,7 @@
 
 ghost use Rattle.names.specs.Outcome.{give};
 ghost use Rattle.names.specs.Resolution.{items_outcome, main_outcome, next_item, no_tables, program_with, resolution};
-ghost use Rattle.names.specs.Views.{Fails, Gives, itself, tables_view, top_view};
+ghost use Rattle.names.specs.Views.{Fails, Resolves, itself, tables_view, top_view};
 ghost use Rattle.resolved.specs.CoreOf.{program_of};
 ghost use Rattle.resolved.specs.ProgramOf.{procedure_entry};
 ghost use Rattle.std.specs.Prelude.{All, IfErr, IfOk, map, sum_by, ◌<◌, ◌≡◌};
@@ -55,7 +55,7 @@ impl ItemTables {
     ) -> Result<(), TypeFault>
         requires written { IsWrittenItem Anywhere longest_name (item_tree item.now) }
         requires room { item_nodes (item_tree item.now) < most_nodes }
-        ensures { Gives (λ _. tables_view self.new) result
+        ensures { Resolves (λ _. tables_view self.new) result
             (next_item hierarchy.now (top_view top.now) (tables_view self.old)
             (item_tree item.now)) }
     {
@@ -84,7 +84,7 @@ impl ItemTables {
     ) -> Result<ItemTables, TypeFault>
         requires written { All (IsWrittenItem Anywhere longest_name) (map item_tree items.now) }
         requires room { sum_by item_nodes (map item_tree items.now) < most_nodes }
-        ensures { Gives tables_view result
+        ensures { Resolves tables_view result
             (items_outcome hierarchy.now (top_view top.now) (map item_tree items.now)) }
     {
         let mut tables = ItemTables::empty(alloc);
@@ -98,7 +98,7 @@ impl ItemTables {
 /// The number of the procedure at which a run begins.
 #[tactic(auto, unfolding(crate::specs::Resolution::main_outcome))]
 pub fn main_number(found: Option<Meaning>, procedures: &[Procedure]) -> Result<u32, TypeFault>
-    ensures { Gives itself result (main_outcome found (map procedure_entry procedures.now)) }
+    ensures { Resolves itself result (main_outcome found (map procedure_entry procedures.now)) }
 {
     let Some(Meaning::Procedure(number)) = found else {
         return Err(TypeFault::Refused(Refusal::NoProperMain, 0));
@@ -122,7 +122,7 @@ fn tables_of(
 ) -> Result<(ItemTables, u32), TypeFault>
     requires written { All (IsWrittenItem Anywhere longest_name) (map item_tree items.now) }
     requires room { sum_by item_nodes (map item_tree items.now) < most_nodes }
-    ensures { Gives (λ found. program_with hierarchy.now (tables_view found.0) found.1) result
+    ensures { Resolves (λ found. program_with hierarchy.now (tables_view found.0) found.1) result
         (resolution hierarchy.now (program_tree items.now)) }
 {
     let top = TopNames::of(alloc, items)?;

@@ -2,7 +2,7 @@
 
 ghost use Rattle.names.specs.Environment.{array_outcome, declaring, exception_outcome, fresh_outcome, input_outcome, output_outcome, procedure_outcome, scalar_outcome};
 ghost use Rattle.names.specs.Outcome.{give};
-ghost use Rattle.names.specs.Views.{Gives, array_use, found_in, itself, scalar_use};
+ghost use Rattle.names.specs.Views.{Resolves, array_use, found_in, itself, scalar_use};
 ghost use Rattle.std.specs.Prelude.{OnOk, List, length, take, ◌≡◌, None, ℕ};
 
 use crate::fault::{Refusal, TypeFault};
@@ -54,7 +54,7 @@ pub fn insert(
     meaning: Meaning,
 ) -> Result<(), TypeFault>
     requires fresh { found_in table.old name.now ≡ None }
-    ensures made { Gives (λ _. λ (other : List ℕ). found_in table.new other) result
+    ensures made { Resolves (λ _. λ (other : List ℕ). found_in table.new other) result
         (give (declaring name.now meaning (found_in table.old))) }
     ensures behind { OnOk result (take (length table.old.entries) table.new.entries ≡
         table.old.entries) }
@@ -66,7 +66,7 @@ pub fn insert(
 /// Refuses the declaration of a name that stands for something already.
 #[tactic(auto, unfolding(crate::specs::Environment::fresh_outcome))]
 pub fn fresh(found: Option<Meaning>, at: usize) -> Result<(), TypeFault>
-    ensures made { Gives (λ _. tt) result (fresh_outcome found at) }
+    ensures made { Resolves (λ _. tt) result (fresh_outcome found at) }
     ensures none { OnOk result (found ≡ None) }
 {
     match found {
@@ -78,7 +78,7 @@ pub fn fresh(found: Option<Meaning>, at: usize) -> Result<(), TypeFault>
 /// A scalar variable.
 #[tactic(auto, unfolding(crate::specs::Environment::scalar_outcome))]
 pub fn scalar(found: Option<Meaning>, at: usize) -> Result<FoundScalar, TypeFault>
-    ensures { Gives scalar_use result (scalar_outcome found at) }
+    ensures { Resolves scalar_use result (scalar_outcome found at) }
 {
     match found {
         None => Err(TypeFault::Refused(Refusal::UnknownName, at)),
@@ -90,7 +90,7 @@ pub fn scalar(found: Option<Meaning>, at: usize) -> Result<FoundScalar, TypeFaul
 /// An array.
 #[tactic(auto, unfolding(crate::specs::Environment::array_outcome))]
 pub fn array(found: Option<Meaning>, at: usize) -> Result<FoundArray, TypeFault>
-    ensures { Gives array_use result (array_outcome found at) }
+    ensures { Resolves array_use result (array_outcome found at) }
 {
     match found {
         None => Err(TypeFault::Refused(Refusal::UnknownName, at)),
@@ -106,7 +106,7 @@ pub fn array(found: Option<Meaning>, at: usize) -> Result<FoundArray, TypeFault>
 /// The number of an input.
 #[tactic(auto, unfolding(crate::specs::Environment::input_outcome))]
 pub fn input(found: Option<Meaning>, at: usize) -> Result<u32, TypeFault>
-    ensures { Gives itself result (input_outcome found at) }
+    ensures { Resolves itself result (input_outcome found at) }
 {
     match found {
         None => Err(TypeFault::Refused(Refusal::UnknownName, at)),
@@ -118,7 +118,7 @@ pub fn input(found: Option<Meaning>, at: usize) -> Result<u32, TypeFault>
 /// The number of an output.
 #[tactic(auto, unfolding(crate::specs::Environment::output_outcome))]
 pub fn output(found: Option<Meaning>, at: usize) -> Result<u32, TypeFault>
-    ensures { Gives itself result (output_outcome found at) }
+    ensures { Resolves itself result (output_outcome found at) }
 {
     match found {
         None => Err(TypeFault::Refused(Refusal::UnknownName, at)),
@@ -130,7 +130,7 @@ pub fn output(found: Option<Meaning>, at: usize) -> Result<u32, TypeFault>
 /// The number of an exception.
 #[tactic(auto, unfolding(crate::specs::Environment::exception_outcome))]
 pub fn exception(found: Option<Meaning>, at: usize) -> Result<u32, TypeFault>
-    ensures { Gives itself result (exception_outcome found at) }
+    ensures { Resolves itself result (exception_outcome found at) }
 {
     match found {
         None => Err(TypeFault::Refused(Refusal::UnknownName, at)),
@@ -142,7 +142,7 @@ pub fn exception(found: Option<Meaning>, at: usize) -> Result<u32, TypeFault>
 /// The number of a procedure.
 #[tactic(auto, unfolding(crate::specs::Environment::procedure_outcome))]
 pub fn procedure(found: Option<Meaning>, at: usize) -> Result<u32, TypeFault>
-    ensures { Gives itself result (procedure_outcome found at) }
+    ensures { Resolves itself result (procedure_outcome found at) }
 {
     match found {
         None => Err(TypeFault::Refused(Refusal::UnknownName, at)),

@@ -2,7 +2,7 @@
 
 ghost use Rattle.names.specs.Statements as spec;
 ghost use Rattle.names.specs.Statements.{arguments_outcome, assign_outcome, assigned_outcome, call_outcome, call_statement_outcome, declare_array_outcome, declare_outcome, receive_outcome, return_outcome, send_outcome, size_outcome, store_outcome, throw_outcome};
-ghost use Rattle.names.specs.Views.{Gives, IsLater, at_point, call_use, expressions_of, itself, names_of, point_of, setting_of, signatures_of, taken};
+ghost use Rattle.names.specs.Views.{Resolves, IsLater, at_point, call_use, expressions_of, itself, names_of, point_of, setting_of, signatures_of, taken};
 ghost use Rattle.resolved.specs.ProgramOf.{slot_entry};
 ghost use Rattle.resolved.specs.TreeOf.{statement_of};
 ghost use Rattle.std.specs.Prelude.{IfOk, OnOk, map, ◌+◌, ◌<◌, ◌≡◌};
@@ -35,7 +35,7 @@ pub struct UsedCall {
 /// The length of an array.
 #[tactic(auto, unfolding(crate::specs::Statements::size_outcome))]
 pub fn length_of(size: Size) -> Result<u32, TypeFault>
-    ensures { Gives itself result (size_outcome (size_tree size)) }
+    ensures { Resolves itself result (size_outcome (size_tree size)) }
 {
     if 0 < size.size && size.size <= MAX_LENGTH {
         Ok(size.size)
@@ -52,7 +52,7 @@ impl<'a> Body<'a> {
         parameters: &[Base],
         written: &[syntax::Expression],
     ) -> Result<Vec<Expression>, TypeFault>
-        ensures { Gives expressions_of result
+        ensures { Resolves expressions_of result
             (arguments_outcome (names_of self.now) parameters.now
             (map expression_tree written.now)) }
     {
@@ -70,7 +70,7 @@ impl<'a> Body<'a> {
     /// A call.
     #[tactic(auto, unfolding(crate::specs::Statements::call_outcome, crate::specs::Statements::applied_outcome))]
     fn call(&self, written: &Call) -> Result<UsedCall, TypeFault>
-        ensures { Gives call_use result
+        ensures { Resolves call_use result
             (call_outcome (signatures_of self.now) (names_of self.now) (call_tree written.now)) }
     {
         let name = &written.procedure;
@@ -96,7 +96,7 @@ impl<'a> Body<'a> {
         base: Base,
         value: &RightSide,
     ) -> Result<Statement, TypeFault>
-        ensures { Gives statement_of result
+        ensures { Resolves statement_of result
             (assigned_outcome (signatures_of self.now) (names_of self.now) at target base
             (right_tree value.now)) }
     {
@@ -160,7 +160,7 @@ impl<'a> Body<'a> {
         value: &RightSide,
     ) -> Result<Statement, TypeFault>
         requires room { taken self.old < most_nodes }
-        ensures made { Gives (at_point self.new statement_of) result
+        ensures made { Resolves (at_point self.new statement_of) result
             (declare_outcome (setting_of self.old) (point_of self.old) at base
             (optional_label_tree label.now) (name_tree name.now) (right_tree value.now)) }
         ensures later { OnOk result (IsLater self.old self.new) }
@@ -186,7 +186,7 @@ impl<'a> Body<'a> {
         size: Size,
     ) -> Result<Statement, TypeFault>
         requires room { taken self.old < most_nodes }
-        ensures made { Gives (at_point self.new statement_of) result
+        ensures made { Resolves (at_point self.new statement_of) result
             (declare_array_outcome (setting_of self.old) (point_of self.old) at base
             (optional_label_tree written.now) (name_tree name.now) (size_tree size)) }
         ensures later { OnOk result (IsLater self.old self.new) }
@@ -203,7 +203,7 @@ impl<'a> Body<'a> {
 
     #[tactic(auto, unfolding(crate::specs::Statements::assign_outcome))]
     pub fn assign(&self, target: &Name, value: &RightSide) -> Result<Statement, TypeFault>
-        ensures { Gives statement_of result
+        ensures { Resolves statement_of result
             (assign_outcome (signatures_of self.now) (names_of self.now) (name_tree target.now)
             (right_tree value.now)) }
     {
@@ -218,7 +218,7 @@ impl<'a> Body<'a> {
         index: &syntax::Expression,
         value: &syntax::Expression,
     ) -> Result<Statement, TypeFault>
-        ensures { Gives statement_of result
+        ensures { Resolves statement_of result
             (store_outcome (names_of self.now) (name_tree name.now) (expression_tree index.now)
             (expression_tree value.now)) }
     {
@@ -230,7 +230,7 @@ impl<'a> Body<'a> {
 
     #[tactic(auto, unfolding(crate::specs::Statements::call_statement_outcome))]
     pub fn call_statement(&self, call: &Call) -> Result<Statement, TypeFault>
-        ensures { Gives statement_of result
+        ensures { Resolves statement_of result
             (call_statement_outcome (signatures_of self.now) (names_of self.now)
             (call_tree call.now)) }
     {
@@ -240,7 +240,7 @@ impl<'a> Body<'a> {
 
     #[tactic(auto, unfolding(crate::specs::Statements::receive_outcome))]
     pub fn receive(&self, at: usize, channel: &Name) -> Result<Statement, TypeFault>
-        ensures { Gives statement_of result
+        ensures { Resolves statement_of result
             (receive_outcome (names_of self.now) at (name_tree channel.now)) }
     {
         let number = input(self.meaning(channel), channel.at)?;
@@ -254,7 +254,7 @@ impl<'a> Body<'a> {
         channel: &Name,
         value: &syntax::Expression,
     ) -> Result<Statement, TypeFault>
-        ensures { Gives statement_of result
+        ensures { Resolves statement_of result
             (send_outcome (names_of self.now) at (name_tree channel.now)
             (expression_tree value.now)) }
     {
@@ -264,7 +264,7 @@ impl<'a> Body<'a> {
 
     #[tactic(auto, unfolding(crate::specs::Statements::throw_outcome))]
     pub fn throw(&self, at: usize, name: &Name) -> Result<Statement, TypeFault>
-        ensures { Gives statement_of result
+        ensures { Resolves statement_of result
             (throw_outcome (names_of self.now) at (name_tree name.now)) }
     {
         let number = exception(self.meaning(name), name.at)?;
@@ -277,7 +277,7 @@ impl<'a> Body<'a> {
         at: usize,
         value: &Option<syntax::Expression>,
     ) -> Result<Statement, TypeFault>
-        ensures { Gives statement_of result
+        ensures { Resolves statement_of result
             (return_outcome self.now.result (names_of self.now) at
             (optional_expression_tree value.now)) }
     {

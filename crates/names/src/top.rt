@@ -3,7 +3,7 @@
 ghost use Rattle.names.specs.Outcome.{give};
 ghost use Rattle.names.specs.Resolution.{built_in, channel_meaning, global_meaning, item_meaning, item_name, next_name, result_base_of, signature_of, top_outcome};
 ghost use Rattle.names.specs.Statements as spec;
-ghost use Rattle.names.specs.Views.{Gives, signature_view, top_view};
+ghost use Rattle.names.specs.Views.{Resolves, signature_view, top_view};
 ghost use Rattle.std.specs.Prelude.{IfOk, OnOk, length, map, ◌+◌, ◌<◌, ◌≡◌};
 ghost use Rattle.syntax.specs.Limits.{most_nodes};
 ghost use Rattle.syntax.specs.Tree.{global_value_tree, item_tree, name_tree, outcome_tree, procedure_tree};
@@ -105,7 +105,7 @@ impl TopNames {
 
     /// The top level before the first item.
     fn built_in(alloc: Global) -> Result<TopNames, TypeFault>
-        ensures { Gives top_view result (give built_in) }
+        ensures { Resolves top_view result (give built_in) }
     {
         let mut names = IndexMap::new(alloc);
         insert(alloc, &mut names, "Arith", Meaning::Exception(0))?;
@@ -140,7 +140,7 @@ impl TopNames {
     fn add(&mut self, alloc: Global, item: &Item) -> Result<(), TypeFault>
         requires room { self.old.channels + self.old.exceptions + self.old.globals +
             length self.old.signatures.items < most_nodes + 3 }
-        ensures made { Gives (λ _. top_view self.new) result
+        ensures made { Resolves (λ _. top_view self.new) result
             (next_name (top_view self.old) (item_tree item.now)) }
         ensures grows { OnOk result
             (self.new.channels + self.new.exceptions + self.new.globals +
@@ -165,7 +165,7 @@ impl TopNames {
     #[tactic(auto, unfolding(crate::specs::Resolution::top_outcome))]
     pub fn of(alloc: Global, items: &[Item]) -> Result<TopNames, TypeFault>
         requires { length items.now < most_nodes }
-        ensures { Gives top_view result (top_outcome (map item_tree items.now)) }
+        ensures { Resolves top_view result (top_outcome (map item_tree items.now)) }
     {
         let mut top = TopNames::built_in(alloc)?;
         for item in items {

@@ -32,7 +32,7 @@ shape_name _ e = e
 name_is : (kind : Kind) (value : Unit {0}) → only kinds.Name (shape kind) ≡ Some value → kind ≡ kinds.Name
 name_is kind value e = shape_name kind (same_kind-equal (shape kind) kinds.Name (only_same kinds.Name (shape kind) _ refl value e))
 
-value_small : (kind : Kind) (text : List ℕ) → listing.Spells kind text → value_of kind ≤ greatest_literal
+value_small : (kind : Kind) (text : List ℕ) → listing.SpellsToken kind text → value_of kind ≤ greatest_literal
 value_small (kinds.Integer value) text h = h.2
 value_small kinds.Name text h = omega arith
 value_small _ text h = omega arith
@@ -51,7 +51,7 @@ module _ (fits : ℕ → Type 0) (longest room : ℕ) where
       let token = h.1.0 in
       let kind_is = name_is h.0.0.kind h.0.1 h.1.1 in
       subst (λ t. Fit (IsWrittenName fits longest t) 1 (Nothing t) k) (sym h.2) (record {
-        written = (token.place, subst (λ kind. listing.Spells kind h.0.0.text) kind_is token.spelled, token.short);
+        written = (token.place, subst (λ kind. listing.SpellsToken kind h.0.0.text) kind_is token.spelled, token.short);
         few = omega (arith, h.1.2);
         nested = tt;
       })

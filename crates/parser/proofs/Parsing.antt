@@ -9,7 +9,7 @@ use Rattle.parser.specs.OfText.{IsOfText}
 use Rattle.parser.specs.Reading.{IsRead, read}
 use Rattle.parser.specs.Refusal.{IsUnexpectedAt, IsTooDeepAt, IsTreeOrNoMemory, IsRefused}
 use Rattle.syntax.specs.declared.tree.Item.{Item}
-use Rattle.syntax.specs.Grammar.{Spells, program}
+use Rattle.syntax.specs.Grammar.{SpellsProgram, program}
 use Rattle.syntax.specs.Limits.{IsProgram}
 use Rattle.syntax.specs.Nodes.{program_nodes}
 use Rattle.syntax.specs.Tree.{ProgramTree, program_tree}
@@ -22,10 +22,10 @@ module _ (tokens : List Token) (terminated : IsTerminated (terminals_of tokens))
   abbrev WasRead : Result (List Item) ParseFault → List Token → Type 0
   WasRead result left = IsRead program_tree result left (read 64 program (terminals_of tokens))
 
-  pub items_spelled : (items : List Item) (left : List Token) → WasRead (Ok items) left → Spells (terminals_of tokens) (program_tree items)
+  pub items_spelled : (items : List Item) (left : List Token) → WasRead (Ok items) left → SpellsProgram (terminals_of tokens) (program_tree items)
   items_spelled items left e = (subst (Verdict (terminals_of tokens)) e (verdict (terminals_of tokens) terminated)).0
 
-  pub items_only : (items : List Item) (left : List Token) → WasRead (Ok items) left → (tree : ProgramTree) → Spells (terminals_of tokens) tree → program_tree items ≡ tree
+  pub items_only : (items : List Item) (left : List Token) → WasRead (Ok items) left → (tree : ProgramTree) → SpellsProgram (terminals_of tokens) tree → program_tree items ≡ tree
   items_only items left e tree spelled =
       sym ((subst (Verdict (terminals_of tokens)) e (verdict (terminals_of tokens) terminated)).2 0 tree spelled)
 
@@ -41,7 +41,7 @@ module _ (tokens : List Token) (terminated : IsTerminated (terminals_of tokens))
   items_not_refused items left e fault refused =
       spelled_not_refused (terminals_of tokens) (program_tree items) fault (items_spelled items left e) refused
 
-  pub fault_only : (fault : ParseFault) (left : List Token) → WasRead (Err fault) left → (tree : ProgramTree) → Spells (terminals_of tokens) tree → IsTreeOrNoMemory (Err fault) tree
+  pub fault_only : (fault : ParseFault) (left : List Token) → WasRead (Err fault) left → (tree : ProgramTree) → SpellsProgram (terminals_of tokens) tree → IsTreeOrNoMemory (Err fault) tree
   fault_only faults.NoMemory left e tree spelled = tt
   fault_only (faults.Unexpected at) left e tree spelled =
       (subst (Verdict (terminals_of tokens)) e (verdict (terminals_of tokens) terminated)).1 tree spelled

@@ -4,28 +4,28 @@ use Rattle.lexer.specs.Terminal.{Terminal, IsTerminated}
 use Rattle.parser.specs.declared.fault.ParseFault.{ParseFault}
 use Rattle.parser.specs.declared.fault.ParseFault.TheVariants as faults
 use Rattle.parser.specs.Reading.{Reason, OutOfPlace, OverLimit, Refusal, read}
-use Rattle.parser.specs.Refusal.{BeginsWithin, IsPrefixOfProgram, IsUnexpectedAt, IsTooDeepAt, IsRefused}
-use Rattle.syntax.specs.Grammar.{Spells, SpellsBut, program}
+use Rattle.parser.specs.Refusal.{IsPrefixWithin, IsPrefixOfProgram, IsUnexpectedAt, IsTooDeepAt, IsRefused}
+use Rattle.syntax.specs.Grammar.{SpellsProgram, SpellsBut, program}
 use Rattle.syntax.specs.Tree.{ProgramTree}
 use Rattle.parser.proofs.Growing.{grows}
 use Rattle.parser.proofs.Programs.{Refuses, Verdict, verdict}
 
 -- tokens in front of others that begin a program, or are one, begin one
-within_front : (front more : List Terminal) → BeginsWithin (front ++ more) → BeginsWithin front
+within_front : (front more : List Terminal) → IsPrefixWithin (front ++ more) → IsPrefixWithin front
 within_front front more b = record {
   more = more ++ b.more;
   tree = b.tree;
   spelled = subst (λ list. SpellsBut (length (more ++ b.more)) list b.tree) (append_assoc front more b.more) (grows program 64 (length b.more) (length (more ++ b.more)) (omega (arith, length-append more b.more)) ((front ++ more) ++ b.more) b.tree [] b.spelled);
 }
 
-within_begins : (front : List Terminal) → BeginsWithin front → IsPrefixOfProgram front
-within_begins front b = record {
+within_prefix : (front : List Terminal) → IsPrefixWithin front → IsPrefixOfProgram front
+within_prefix front b = record {
   more = b.more;
   tree = b.tree;
   spelled = grows program 64 (length b.more) (length (front ++ b.more)) (omega (arith, length-append front b.more)) (front ++ b.more) b.tree [] b.spelled;
 }
 
-spelled_front : (front more : List Terminal) (tree : ProgramTree) → Spells (front ++ more) tree → BeginsWithin front
+spelled_front : (front more : List Terminal) (tree : ProgramTree) → SpellsProgram (front ++ more) tree → IsPrefixWithin front
 spelled_front front more tree spelled =
     record { more = more; tree = tree; spelled = grows program 64 0 (length more) (omega arith) (front ++ more) tree [] spelled }
 
@@ -59,8 +59,8 @@ record Stop (tokens : List Terminal) : Type 0 where
   token : Terminal
   after : List Terminal
   split : tokens ≡ front ++ token ∷ after
-  begun : BeginsWithin front
-  stopped : BeginsWithin (front ++ token ∷ []) → ⊥
+  begun : IsPrefixWithin front
+  stopped : IsPrefixWithin (front ++ token ∷ []) → ⊥
 
 abbrev of_unexpected : (tokens : List Terminal) (at : ℕ) → IsUnexpectedAt tokens at → Stop tokens
 of_unexpected tokens at u = record {
@@ -69,7 +69,7 @@ of_unexpected tokens at u = record {
   after = u.after;
   split = u.split;
   begun = u.begun;
-  stopped = λ b. u.unexpected (within_begins (u.before ++ u.token ∷ []) b);
+  stopped = λ b. u.unexpected (within_prefix (u.before ++ u.token ∷ []) b);
 }
 
 abbrev of_too_deep : (tokens : List Terminal) (at : ℕ) → IsTooDeepAt tokens at → Stop tokens
@@ -79,9 +79,9 @@ of_too_deep tokens at u =
 by_order : (tokens : List Terminal) (one other : Stop tokens) → Order one.front one.token other.front other.token → (one.front ≡ other.front) × (one.token ≡ other.token)
 by_order tokens one other (same e f) = (e, f)
 by_order tokens one other (before between e) =
-    absurd (one.stopped (within_front (one.front ++ one.token ∷ []) between (subst BeginsWithin e other.begun)))
+    absurd (one.stopped (within_front (one.front ++ one.token ∷ []) between (subst IsPrefixWithin e other.begun)))
 by_order tokens one other (behind between e) =
-    absurd (other.stopped (within_front (other.front ++ other.token ∷ []) between (subst BeginsWithin e one.begun)))
+    absurd (other.stopped (within_front (other.front ++ other.token ∷ []) between (subst IsPrefixWithin e one.begun)))
 
 one_stop : (tokens : List Terminal) (one other : Stop tokens) → (one.front ≡ other.front) × (one.token ≡ other.token)
 one_stop tokens one other =
@@ -115,11 +115,11 @@ one_refusal tokens (faults.TooDeep at) (faults.TooDeep place) r s =
     let stop = one_stop tokens (of_too_deep tokens at r) (of_too_deep tokens place s) in
     ap faults.TooDeep (sym r.place ∙ (ap place_of stop.1 ∙ s.place))
 
-spelled_stop : (tokens : List Terminal) (tree : ProgramTree) → Spells tokens tree → Stop tokens → ⊥
+spelled_stop : (tokens : List Terminal) (tree : ProgramTree) → SpellsProgram tokens tree → Stop tokens → ⊥
 spelled_stop tokens tree spelled stop =
-    stop.stopped (spelled_front (stop.front ++ stop.token ∷ []) stop.after tree (subst (λ list. Spells list tree) (stop.split ∙ sym (append_assoc stop.front (stop.token ∷ []) stop.after)) spelled))
+    stop.stopped (spelled_front (stop.front ++ stop.token ∷ []) stop.after tree (subst (λ list. SpellsProgram list tree) (stop.split ∙ sym (append_assoc stop.front (stop.token ∷ []) stop.after)) spelled))
 
-pub spelled_not_refused : (tokens : List Terminal) (tree : ProgramTree) (fault : ParseFault) → Spells tokens tree → IsRefused tokens fault → ⊥
+pub spelled_not_refused : (tokens : List Terminal) (tree : ProgramTree) (fault : ParseFault) → SpellsProgram tokens tree → IsRefused tokens fault → ⊥
 spelled_not_refused tokens tree faults.NoMemory spelled r = r
 spelled_not_refused tokens tree (faults.Unexpected at) spelled r = spelled_stop tokens tree spelled (of_unexpected tokens at r)
 spelled_not_refused tokens tree (faults.TooDeep at) spelled r = spelled_stop tokens tree spelled (of_too_deep tokens at r)
@@ -128,9 +128,9 @@ refused_by : (tokens : List Terminal) (why : Reason) (at : ℕ) → Refuses why 
 refused_by tokens OutOfPlace at r = (faults.Unexpected at, r)
 refused_by tokens OverLimit at r = (faults.TooDeep at, r)
 
-decided : (tokens : List Terminal) (found : Result (ProgramTree × List Terminal) Refusal) → Verdict tokens found → ((tree : ProgramTree) × Spells tokens tree) ⊎ ((fault : ParseFault) × IsRefused tokens fault)
+decided : (tokens : List Terminal) (found : Result (ProgramTree × List Terminal) Refusal) → Verdict tokens found → ((tree : ProgramTree) × SpellsProgram tokens tree) ⊎ ((fault : ParseFault) × IsRefused tokens fault)
 decided tokens (Ok found) v = inl (found.0, v.0)
 decided tokens (Err refusal) v = inr (refused_by tokens refusal.why refusal.at v.0)
 
-pub spelled_or_refused : (tokens : List Terminal) → IsTerminated tokens → ((tree : ProgramTree) × Spells tokens tree) ⊎ ((fault : ParseFault) × IsRefused tokens fault)
+pub spelled_or_refused : (tokens : List Terminal) → IsTerminated tokens → ((tree : ProgramTree) × SpellsProgram tokens tree) ⊎ ((fault : ParseFault) × IsRefused tokens fault)
 spelled_or_refused tokens terminated = decided tokens (read 64 program tokens) (verdict tokens terminated)

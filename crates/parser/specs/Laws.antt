@@ -4,18 +4,18 @@ use Rattle.std.specs.Prelude.{◌≡◌, ◌⊎◌, List}
 use Rattle.lexer.specs.Terminal.{Terminal, IsTerminated}
 use Rattle.parser.specs.declared.fault.ParseFault.{ParseFault}
 use Rattle.parser.specs.Refusal.{IsRefused}
-use Rattle.syntax.specs.Grammar.{Spells}
+use Rattle.syntax.specs.Grammar.{SpellsProgram}
 use Rattle.syntax.specs.Tree.{ProgramTree}
 
 -- tokens spell a tree, or they are refused
 abbrev pub IsSpelledOrRefused : Type 0
 IsSpelledOrRefused =
     (tokens : List Terminal) → IsTerminated tokens
-    → ((tree : ProgramTree) × Spells tokens tree) ⊎ ((fault : ParseFault) × IsRefused tokens fault)
+    → ((tree : ProgramTree) × SpellsProgram tokens tree) ⊎ ((fault : ParseFault) × IsRefused tokens fault)
 
 -- tokens that spell a tree are not refused
 abbrev pub IsNotSpelledAndRefused : Type 0
-IsNotSpelledAndRefused = (tokens : List Terminal) (tree : ProgramTree) (fault : ParseFault) → Spells tokens tree → IsRefused tokens fault → ⊥
+IsNotSpelledAndRefused = (tokens : List Terminal) (tree : ProgramTree) (fault : ParseFault) → SpellsProgram tokens tree → IsRefused tokens fault → ⊥
 
 -- tokens are refused for one reason at most, at one token
 abbrev pub HasOneRefusal : Type 0

@@ -1,6 +1,6 @@
 ghost use Rattle.std.specs.Prelude.{◌≤◌, length, IfOk};
 ghost use Rattle.lexer.specs.Terminal.{IsTerminated, terminals_of};
-ghost use Rattle.syntax.specs.Grammar.{Spells, program};
+ghost use Rattle.syntax.specs.Grammar.{SpellsProgram, program};
 ghost use Rattle.syntax.specs.Laws.{SpellsOneTree, SpelledIsTerminated, SpelledHasFewNodes, SpelledIsNested, SpelledIsWritten};
 ghost use Rattle.syntax.specs.Nodes.{program_nodes};
 ghost use Rattle.syntax.specs.Tree.{program_tree};
@@ -43,7 +43,8 @@ pub fn parse(alloc: Global, tokens: &[Token<'_>]) -> Result<Program, ParseFault>
     requires of_text { IsOfText (terminals_of tokens.now) }
 
     // All the tokens together spell the answer, which has at most as many nodes.
-    ensures spelled { IfOk result (λ items. Spells (terminals_of tokens.now) (program_tree items)) }
+    ensures spelled { IfOk result (λ items.
+        SpellsProgram (terminals_of tokens.now) (program_tree items)) }
     ensures bounded { IfOk result (λ items.
         program_nodes (program_tree items) ≤ length tokens.now) }
 

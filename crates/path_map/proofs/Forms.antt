@@ -21,9 +21,9 @@ use Rattle.path_map.specs.declared.fault.EndsFault.{EndsFault}
 use Rattle.path_map.specs.FirstFault.{IsFirst}
 use Rattle.path_map.specs.Joins.{join, of_loop, raised_list, raises_some}
 use Rattle.path_map.specs.Paths.{inner_paths, block_paths, rest_paths, handlers_paths}
-use Rattle.path_map.specs.Sets.{row_has, IsSum, IsKeptOf, is_one_of, throws}
+use Rattle.path_map.specs.Sets.{row_has, IsSum, IsSummaryOf, is_one_of, throws}
 use Rattle.path_map.specs.Walks.{IsFound, AreThrown, AreLeft}
-use Rattle.path_map.proofs.Kept.{any-append, loop-thrown}
+use Rattle.path_map.proofs.Summary.{any-append, loop-thrown}
 use Rattle.path_map.proofs.Walking.{both, looped, try-found, are-thrown, first-left, first-right, none-both}
 
 -- what is found of a tree is found of the statement that stands for it
@@ -120,13 +120,13 @@ module _ (program : Program) (at : ℕ) (block : Block) (handlers : Handlers) (e
 
   pub try-is-found : (e2 : List Exits) (i2 r0 r1 r2 : List ℕ) (y w j : Exits) (k : Raised)
       → IsFound (handlers_ends program handlers) (handlers_paths program handlers) e1 e2 r0 r1 y → AreLeft i1 i2 handlers
-      → IsSum r1 (row_has i2) r2 → IsKeptOf (row_has i2) k → w ≡ record x { raised = k } → j ≡ join w y
+      → IsSum r1 (row_has i2) r2 → IsSummaryOf (row_has i2) k → w ≡ record x { raised = k } → j ≡ join w y
       → IsFound (statement_ends program (Try at block handlers)) (inner_paths program (Try at block handlers)) e0 e2 r0 r2 j
-  try-is-found e2 i2 r0 r1 r2 y w j k handled left united kept first second =
+  try-is-found e2 i2 r0 r1 r2 y w j k handled left united summary first second =
       found-same (statement_ends program (Try at block handlers)) (inner_paths program (Try at block handlers)) e0 e2 r0 r2 (join (record x { raised = k }) y) j
       (second ∙ ap (λ v. join v y) first)
       (try-found (block_ends program block) (handlers_ends program handlers) handlers (block_paths program block) (handlers_paths program handlers)
-      e0 e1 e2 none i1 i2 r0 r1 r2 x y k empty tried handled left united kept)
+      e0 e1 e2 none i1 i2 r0 r1 r2 x y k empty tried handled left united summary)
 
 -- the next statement of a block, and the next handler
 pub next-statement : (block : List S.Statement) (i : ℕ) (statement : S.Statement) → i < length block → statement ≡ get_or block i statement

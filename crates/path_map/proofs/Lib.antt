@@ -1,4 +1,4 @@
-pub mod Kept
+pub mod Summary
 pub mod Rows
 pub mod Single
 pub mod Walking

@@ -30,7 +30,7 @@ use Rattle.path_map.specs.Joins.{join_raised}
 use Rattle.path_map.specs.Paths.{block_paths}
 use Rattle.path_map.specs.Sets.{AreDeclared, HasUndeclared, is_one_of, row_has, throws}
 use Rattle.path_map.specs.Walks.{IsFound}
-use Rattle.path_map.proofs.Kept.{same-number, or-true, or-false, any-append, raised-append, throws-thrown}
+use Rattle.path_map.proofs.Summary.{same-number, or-true, or-false, any-append, raised-append, throws-thrown}
 use Rattle.path_map.proofs.Walking.{first-left, first-right, none-both}
 
 same-is : (x y : Exit) → same_exit x y ≡ true → x ≡ y
@@ -124,7 +124,7 @@ module _ (program : Program) (procedure : ProcedureEntry) where
 
 -- what a walk along a procedure's body has found of its ends
 pub record Ended (program : Program) (procedure : ProcedureEntry) (raised : List ℕ) (exits : Exits) : Type 0 where
-  pub kept : exits ≡ exits_of (block_ends program procedure.body)
+  pub summary : exits ≡ exits_of (block_ends program procedure.body)
   pub same : (e : ℕ) → row_has raised e ≡ throws (block_ends program procedure.body) e
   pub clean : block_faults program false true procedure.body ≡ []
   pub value : (is_some procedure.result && has_end (block_ends program procedure.body) Normal) ≡ (is_some procedure.result && exits.normal)
@@ -135,15 +135,15 @@ pub walked : (program : Program) (procedure : Procedure) (body : List S.Statemen
     → block_faults program false true (block_of body) ≡ []
     → Ended program (procedure_entry procedure) raised exits
 walked program procedure body old new none raised exits lent empty found clean =
-    let kept : exits ≡ exits_of (block_ends program (block_of procedure.body.items)) =
-    found.kept ∙ ap (λ list. exits_of (block_ends program (block_of list))) lent in
+    let summary : exits ≡ exits_of (block_ends program (block_of procedure.body.items)) =
+    found.summary ∙ ap (λ list. exits_of (block_ends program (block_of list))) lent in
     record {
-      kept = kept;
+      summary = summary;
       same = λ e.
           found.raised.has e ∙ ap (λ b. b || throws (block_ends program (block_of body)) e) (empty e)
           ∙ ap (λ list. throws (block_ends program (block_of list)) e) lent;
       clean = sym (ap (λ list. block_faults program false true (block_of list)) lent) ∙ clean;
-      value = ap (λ (x : Exits). is_some (result_entry procedure.result) && x.normal) (sym kept);
+      value = ap (λ (x : Exits). is_some (result_entry procedure.result) && x.normal) (sym summary);
     }
 
 pub all-may-end : (program : Program) (procedure : Procedure) (list : List Thrown) (raised : List ℕ) (exits : Exits) (declared : Bool)
@@ -153,7 +153,7 @@ pub all-may-end : (program : Program) (procedure : Procedure) (list : List Throw
 all-may-end program procedure list raised exits declared lent ended are =
     may-all (procedure_entry procedure) (block_ends program (block_of procedure.body.items)) (row_has raised) declared ended.same
     (subst (λ throws. AreDeclared (row_has raised) (declared_by (map thrown_entry throws)) declared) lent are)
-    ∙ ap (λ (x : Exits). not (x.breaks || (x.continues || not declared))) (sym ended.kept)
+    ∙ ap (λ (x : Exits). not (x.breaks || (x.continues || not declared))) (sym ended.summary)
 
 -- along the procedures of a program
 pub record Beside (program : Program) (all tail : List ProcedureEntry) (now : List Exits) : Type 0 where

@@ -15,8 +15,8 @@ use mir.Syntax.{w32, w64}
 use Rattle.path_map.specs.declared.exits.Raised.{Raised}
 use Rattle.path_map.specs.declared.exits.Raised.TheVariants.{Nothing, One, Several}
 use Rattle.path_map.specs.Joins.{join_raised}
-use Rattle.path_map.specs.Sets.{row_has, word_has, IsSum, HasTwo, HasOnly, IsKeptOf}
-use Rattle.path_map.proofs.Kept.{same-number, or-true, or-false}
+use Rattle.path_map.specs.Sets.{row_has, word_has, IsSum, HasTwo, HasOnly, IsSummaryOf}
+use Rattle.path_map.proofs.Summary.{same-number, or-true, or-false}
 
 -- a row in which one word was written
 write-same : (words : List ℕ) (e other v : ℕ) → e / 64 < length words → other / 64 ≡ e / 64
@@ -233,17 +233,17 @@ module _ (word index lowest others : ℕ) (fits : word < 2 ^ 64) (some : 0 < wor
       let differs : other ≢ lowest = λ same.
       let one : bit_at others lowest ≡ 1 = ap (λ k. bit_at others k) (sym same) ∙ h.1 in
       omega arith in
-      let kept : bit_at others other ≡ bit_at word other =
+      let summary : bit_at others other ≡ bit_at word other =
       ap (λ n. bit_at n other) rest ∙ bit_at_clear_other w64 word lowest within other other_within differs in
       record {
         first = index * 64 + lowest;
         second = index * 64 + other;
         has_first = word-member word index lowest (index * 64 + lowest) (omega arith) (omega arith) low.1;
-        has_second = word-member word index other (index * 64 + other) (omega arith) (omega arith) (sym kept ∙ h.1);
+        has_second = word-member word index other (index * 64 + other) (omega arith) (omega arith) (sym summary ∙ h.1);
         differ = λ same. differs (omega arith);
       }
 
--- what is kept of two sets together
+-- the summary of two sets together
 module _ (f g h : ℕ → Bool) (each : (e : ℕ) → h e ≡ (f e || g e)) where
   left-in : (e : ℕ) → f e ≡ true → h e ≡ true
   left-in e there = each e ∙ ap (λ b. b || g e) there
@@ -275,20 +275,20 @@ module _ (f g h : ℕ → Bool) (each : (e : ℕ) → h e ≡ (f e || g e)) wher
   only-other : (e : ℕ) → h e ≡ true → ((e : ℕ) → g e ≡ true → ⊥) → f e ≡ true
   only-other e there none = elim (or_cases (f e) (g e) (sym (each e) ∙ there)) [ inl at_left ↦ at_left | inr at_right ↦ absurd (none e at_right) ]
 
-  pub kept-join : (a b : Raised) → IsKeptOf f a → IsKeptOf g b → IsKeptOf h (join_raised a b)
-  kept-join Nothing Nothing p q = λ e. each e ∙ rw (p e, q e) refl
-  kept-join Nothing (One y) p q = record {
+  pub summary-join : (a b : Raised) → IsSummaryOf f a → IsSummaryOf g b → IsSummaryOf h (join_raised a b)
+  summary-join Nothing Nothing p q = λ e. each e ∙ rw (p e, q e) refl
+  summary-join Nothing (One y) p q = record {
     has = right-in y q.has;
     only = λ e there. q.only e (only-one e there (λ x at. let no : true ≡ false = sym at ∙ p x in cc));
   }
-  kept-join Nothing Several p q = two-right q
-  kept-join (One x) Nothing p q = record {
+  summary-join Nothing Several p q = two-right q
+  summary-join (One x) Nothing p q = record {
     has = left-in x p.has;
     only = λ e there. p.only e (only-other e there (λ y at. let no : true ≡ false = sym at ∙ q y in cc));
   }
-  kept-join (One x) (One y) p q = go (x == y) refl
+  summary-join (One x) (One y) p q = go (x == y) refl
     where
-      go : (same : Bool) → (x == y) ≡ same → IsKeptOf h (if x == y then One x else Several)
+      go : (same : Bool) → (x == y) ≡ same → IsSummaryOf h (if x == y then One x else Several)
       go true e = rw e (record {
         has = left-in x p.has;
         only = λ z there. elim (or_cases (f z) (g z) (sym (each z) ∙ there)) [
@@ -303,15 +303,15 @@ module _ (f g h : ℕ → Bool) (each : (e : ℕ) → h e ≡ (f e || g e)) wher
         has_second = right-in y q.has;
         differ = eqb-false x y e;
       })
-  kept-join (One x) Several p q = two-right q
-  kept-join Several Nothing p q = two-left p
-  kept-join Several (One y) p q = two-left p
-  kept-join Several Several p q = two-left p
+  summary-join (One x) Several p q = two-right q
+  summary-join Several Nothing p q = two-left p
+  summary-join Several (One y) p q = two-left p
+  summary-join Several Several p q = two-left p
 
-pub kept-same : (f g : ℕ → Bool) → ((e : ℕ) → g e ≡ f e) → (a : Raised) → IsKeptOf f a → IsKeptOf g a
-kept-same f g each Nothing p = λ e. each e ∙ p e
-kept-same f g each (One x) p = record { has = each x ∙ p.has; only = λ e there. p.only e (sym (each e) ∙ there) }
-kept-same f g each Several p = record {
+pub summary-same : (f g : ℕ → Bool) → ((e : ℕ) → g e ≡ f e) → (a : Raised) → IsSummaryOf f a → IsSummaryOf g a
+summary-same f g each Nothing p = λ e. each e ∙ p e
+summary-same f g each (One x) p = record { has = each x ∙ p.has; only = λ e there. p.only e (sym (each e) ∙ there) }
+summary-same f g each Several p = record {
   first = p.first;
   second = p.second;
   has_first = each p.first ∙ p.has_first;

@@ -1,4 +1,4 @@
--- The one end of ends, by what is kept of them.
+-- The one end of ends, by their summary.
 use Rattle.std.proofs.Common.{◌≡◌, refl, sym, ap, ◌∙◌, ℕ, List, [], ◌∷◌, ◌++◌, Bool, true, false, not, ◌&&◌, ◌||◌, map, arith}
 use Rattle.std.specs.Prelude.{◌==◌, if◌then◌else◌, Option, Some, None, is_some}
 use Rattle.std.specs.List.{list_all, list_any}
@@ -10,7 +10,7 @@ use Rattle.path_map.specs.declared.exits.Raised.{Raised}
 use Rattle.path_map.specs.declared.exits.Raised.TheVariants.{Nothing, One, Several}
 use Rattle.path_map.specs.declared.exits.Exits.{Exits}
 use Rattle.path_map.specs.Exits.{thrown_in, raised_by, exits_of, single_end}
-use Rattle.path_map.proofs.Kept.{or-assoc}
+use Rattle.path_map.proofs.Summary.{or-assoc}
 
 abbrev pub single_of : (normal returns breaks continues : Bool) → Raised → Option Exit
 single_of true false false false Nothing = Some Normal
@@ -20,8 +20,8 @@ single_of false false false true Nothing = Some Continue
 single_of false false false false (One e) = Some (Throw e)
 single_of _ _ _ _ _ = None
 
-abbrev pub single_kept : Exits → Option Exit
-single_kept kept = single_of kept.normal kept.returns kept.breaks kept.continues kept.raised
+abbrev pub single_summary : Exits → Option Exit
+single_summary summary = single_of summary.normal summary.returns summary.breaks summary.continues summary.raised
 
 is_nothing : Raised → Bool
 is_nothing Nothing = true
@@ -274,7 +274,7 @@ first-throw x false false false true false = refl
 first-throw x false false false false true = refl
 first-throw x false false false false false = refl
 
-pub single-is : (ends : List Exit) → single_end ends ≡ single_kept (exits_of ends)
+pub single-is : (ends : List Exit) → single_end ends ≡ single_summary (exits_of ends)
 single-is [] = refl
 single-is (Normal ∷ ends) =
     ap (λ b. if b then Some Normal else None) (all-normal ends)
@@ -293,8 +293,8 @@ single-is (Throw x ∷ ends) =
     ∙ first-throw x (has_end ends Normal) (has_end ends Return) (has_end ends Break) (has_end ends Continue) (list_all (λ other. x == other) (thrown_in ends))
 
 -- the answer of a function that finds it
-pub answer : (kept : Exits) (found : Option Exit) → found ≡ single_kept kept → (ends : List Exit) → kept ≡ exits_of ends → found ≡ single_end ends
-answer kept found is ends e = is ∙ (ap single_kept e ∙ sym (single-is ends))
+pub answer : (summary : Exits) (found : Option Exit) → found ≡ single_summary summary → (ends : List Exit) → summary ≡ exits_of ends → found ≡ single_end ends
+answer summary found is ends e = is ∙ (ap single_summary e ∙ sym (single-is ends))
 
 pub one-is : (ends : List Exit) → is_some (single_end ends) ≡ one_end ends
 one-is [] = refl
@@ -349,9 +349,9 @@ thrown-joined (Break ∷ ends) = thrown-joined ends
 thrown-joined (Continue ∷ ends) = thrown-joined ends
 thrown-joined (Throw e ∷ ends) = ap (λ es. e ∷ es) (thrown-joined ends)
 
-pub joined-is : (kept : Exits) (ends : List Exit) → kept ≡ exits_of ends
-    → record kept { normal = kept.normal || kept.returns; returns = false } ≡ exits_of (map as_one_end ends)
-joined-is kept ends is =
+pub joined-is : (summary : Exits) (ends : List Exit) → summary ≡ exits_of ends
+    → record summary { normal = summary.normal || summary.returns; returns = false } ≡ exits_of (map as_one_end ends)
+joined-is summary ends is =
     ap (λ (x : Exits). record x { normal = x.normal || x.returns; returns = false }) is
     ∙ sym (rw (normal-joined ends, return-joined ends, break-joined ends, continue-joined ends, thrown-joined ends) refl)
 

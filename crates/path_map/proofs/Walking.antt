@@ -19,9 +19,9 @@ use Rattle.path_map.specs.FirstFault.{IsFirst, fault_of, first_of}
 use Rattle.path_map.specs.Exits.{exits_of, raised_by, thrown_in}
 use Rattle.path_map.specs.Joins.{join, join_raised, after, only_raised, of_loop}
 use Rattle.path_map.specs.Paths.{statement_paths, inner_paths, block_paths, rest_paths, handlers_paths}
-use Rattle.path_map.specs.Sets.{row_has, IsSum, IsKeptOf, is_one_of, throws}
+use Rattle.path_map.specs.Sets.{row_has, IsSum, IsSummaryOf, is_one_of, throws}
 use Rattle.path_map.specs.Walks.{IsFound, AreThrown, AreLeft}
-use Rattle.path_map.proofs.Kept.{or-assoc, or-false, or-true, same-number, any-append, exits-append, exits-assoc, exits-then, throws-then, after-assoc, after-normal, and-false, join-none, loop-kept, loop-throws, exits-pass, throws-pass, throws-in, throws-thrown, exits-thrown, raised-same, raised-append, kept-is}
+use Rattle.path_map.proofs.Summary.{or-assoc, or-false, or-true, same-number, any-append, exits-append, exits-assoc, exits-then, throws-then, after-assoc, after-normal, and-false, join-none, loop-summary, loop-throws, exits-pass, throws-pass, throws-in, throws-thrown, exits-thrown, raised-same, raised-append, summary-is}
 
 -- sums of sets
 pub sum-then : (a b c : List ℕ) (f g h : ℕ → Bool) → IsSum a f b → IsSum b g c → ((e : ℕ) → h e ≡ (f e || g e)) → IsSum a h c
@@ -46,12 +46,12 @@ pub reserved : (ends : List Exit) (paths : List (List Exit)) (old room new : Lis
     → room ≡ old ++ p ∷ [] → at ≡ length old → IsFound ends paths room new had has found
     → IsFound ends (ends ∷ paths) old (set new at found) had has found
 reserved ends paths old room new p at had has found made number piece = record {
-  kept = piece.kept;
+  summary = piece.summary;
   entries =
       ap (λ xs. set xs at found) (piece.entries ∙ ap (λ xs. xs ++ map exits_of paths) made ∙ append_assoc old (p ∷ []) (map exits_of paths))
       ∙ ap (λ i. set (old ++ p ∷ map exits_of paths) i found) number
       ∙ set-at old p (map exits_of paths) found
-      ∙ ap (λ x. old ++ x ∷ map exits_of paths) piece.kept;
+      ∙ ap (λ x. old ++ x ∷ map exits_of paths) piece.summary;
   raised = piece.raised;
 }
 
@@ -64,7 +64,7 @@ has-room ends paths old room new p at had has found made number piece =
 pub both : (a b : List Exit) (ps qs : List (List Exit)) (e0 e1 e2 : List Exits) (r0 r1 r2 : List ℕ) (x y : Exits)
     → IsFound a ps e0 e1 r0 r1 x → IsFound b qs e1 e2 r1 r2 y → IsFound (a ++ b) (ps ++ qs) e0 e2 r0 r2 (join x y)
 both a b ps qs e0 e1 e2 r0 r1 r2 x y first second = record {
-  kept = ap (λ k. join k y) first.kept ∙ ap (λ k. join (exits_of a) k) second.kept ∙ sym (exits-append a b);
+  summary = ap (λ k. join k y) first.summary ∙ ap (λ k. join (exits_of a) k) second.summary ∙ sym (exits-append a b);
   entries =
       second.entries ∙ ap (λ xs. xs ++ map exits_of qs) first.entries
       ∙ append_assoc e0 (map exits_of ps) (map exits_of qs) ∙ ap (λ xs. e0 ++ xs) (sym (map-append exits_of ps qs));
@@ -75,7 +75,7 @@ both a b ps qs e0 e1 e2 r0 r1 r2 x y first second = record {
 pub looped : (ends : List Exit) (ps : List (List Exit)) (e0 e1 : List Exits) (r0 r1 : List ℕ) (x : Exits)
     → IsFound ends ps e0 e1 r0 r1 x → IsFound (Normal ∷ filter leaves_loop ends) ps e0 e1 r0 r1 (of_loop x)
 looped ends ps e0 e1 r0 r1 x piece = record {
-  kept = ap of_loop piece.kept ∙ sym (loop-kept ends);
+  summary = ap of_loop piece.summary ∙ sym (loop-summary ends);
   entries = piece.entries;
   raised = sum-same r0 r1 (throws ends) (throws (Normal ∷ filter leaves_loop ends)) piece.raised (loop-throws ends);
 }
@@ -91,7 +91,7 @@ or-swap false false false = refl
 module _ (b h : List Exit) (handlers : Handlers) (pb ph : List (List Exit)) (e0 e1 e2 : List Exits)
     (none i1 i2 r0 r1 r2 : List ℕ) (x y : Exits) (k : Raised)
     (empty : (e : ℕ) → row_has none e ≡ false) (tried : IsFound b pb e0 e1 none i1 x)
-    (handled : IsFound h ph e1 e2 r0 r1 y) (left : AreLeft i1 i2 handlers) (united : IsSum r1 (row_has i2) r2) (kept : IsKeptOf (row_has i2) k) where
+    (handled : IsFound h ph e1 e2 r0 r1 y) (left : AreLeft i1 i2 handlers) (united : IsSum r1 (row_has i2) r2) (summary : IsSummaryOf (row_has i2) k) where
   inner-throws : (e : ℕ) → row_has i1 e ≡ throws b e
   inner-throws e = tried.raised.has e ∙ ap (λ z. z || throws b e) (empty e)
 
@@ -106,12 +106,12 @@ module _ (b h : List Exit) (handlers : Handlers) (pb ph : List (List Exit)) (e0 
   try-found =
       let passing : List Exit = filter (passes handlers) b in
       let is : k ≡ raised_by (thrown_in passing) =
-      kept-is (thrown_in passing) (row_has i2) (λ e. throws-in passing e ∙ pass-throws e) k kept in
+      summary-is (thrown_in passing) (row_has i2) (λ e. throws-in passing e ∙ pass-throws e) k summary in
       record {
-        kept =
-            ap (λ (z : Exits). join (record z { raised = k }) y) tried.kept
+        summary =
+            ap (λ (z : Exits). join (record z { raised = k }) y) tried.summary
             ∙ ap (λ z. join z y) (exits-pass handlers b k is)
-            ∙ ap (λ z. join (exits_of passing) z) handled.kept ∙ sym (exits-append passing h);
+            ∙ ap (λ z. join (exits_of passing) z) handled.summary ∙ sym (exits-append passing h);
         entries =
             handled.entries ∙ ap (λ xs. xs ++ map exits_of ph) tried.entries
             ∙ append_assoc e0 (map exits_of pb) (map exits_of ph) ∙ ap (λ xs. e0 ++ xs) (sym (map-append exits_of pb ph));
@@ -138,7 +138,7 @@ none-both a b p q = ap (λ xs. xs ++ b) p ∙ q
 
 -- along the statements of a block: what was found so far, with what is to come, is what is found of the block
 pub record Along (program : Program) (in_loop : Bool) (block tail : Block) (old now : List Exits) (had has : List ℕ) (so_far : Exits) : Type 0 where
-  pub kept : after so_far (exits_of (block_ends program tail)) ≡ exits_of (block_ends program block)
+  pub summary : after so_far (exits_of (block_ends program tail)) ≡ exits_of (block_ends program block)
   pub entries : now ++ map exits_of (rest_paths program tail) ≡ old ++ map exits_of (rest_paths program block)
   pub raised : (e : ℕ) → (row_has has e || (so_far.normal && throws (block_ends program tail) e)) ≡ (row_has had e || throws (block_ends program block) e)
   pub faults : block_faults program in_loop so_far.normal tail ≡ block_faults program in_loop true block
@@ -146,7 +146,7 @@ pub record Along (program : Program) (in_loop : Bool) (block tail : Block) (old 
 module _ (program : Program) (in_loop : Bool) (block : Block) (old : List Exits) (had : List ℕ) where
   pub along-begin : (so_far : Exits) → so_far ≡ record (only_raised Nothing) { normal = true } → Along program in_loop block block old old had had so_far
   along-begin so_far is = record {
-    kept = ap (λ (x : Exits). after x (exits_of (block_ends program block))) is;
+    summary = ap (λ (x : Exits). after x (exits_of (block_ends program block))) is;
     entries = refl;
     raised = λ e. ap (λ (x : Exits). row_has had e || (x.normal && throws (block_ends program block) e)) is;
     faults = ap (λ (x : Exits). block_faults program in_loop x.normal block) is;
@@ -178,13 +178,13 @@ module _ (program : Program) (in_loop : Bool) (block : Block) (old : List Exits)
     along-step stands reached next more found piece clean =
         let ends : List Exit = statement_ends program statement in
         let rest : List Exit = block_ends program tail in
-        let goes_on : (after so_far found).normal ≡ has_end ends Normal = rw reached (ap (λ (x : Exits). x.normal) piece.kept) in
+        let goes_on : (after so_far found).normal ≡ has_end ends Normal = rw reached (ap (λ (x : Exits). x.normal) piece.summary) in
         record {
-          kept =
-              ap (λ x. after (after so_far x) (exits_of rest)) piece.kept
+          summary =
+              ap (λ x. after (after so_far x) (exits_of rest)) piece.summary
               ∙ after-assoc so_far (exits_of ends) (exits_of rest)
               ∙ ap (λ x. after so_far x) (sym (exits-then ends rest))
-              ∙ along.kept;
+              ∙ along.summary;
           entries =
               ap (λ xs. xs ++ map exits_of (rest_paths program tail)) piece.entries
               ∙ append_assoc now (map exits_of (statement_paths program statement)) (map exits_of (rest_paths program tail))
@@ -206,7 +206,7 @@ module _ (program : Program) (in_loop : Bool) (block : Block) (old : List Exits)
   pub along-end : (now : List Exits) (has : List ℕ) (so_far : Exits) → Along program in_loop block Empty old now had has so_far
       → IsFound (block_ends program block) (rest_paths program block) old now had has so_far
   along-end now has so_far along = record {
-    kept = after-normal so_far ∙ along.kept;
+    summary = after-normal so_far ∙ along.summary;
     entries = sym (append-nil now) ∙ along.entries;
     raised = record { has = λ e. sym (ap (λ b. row_has has e || b) (and-false so_far.normal) ∙ or-false (row_has has e)) ∙ along.raised e };
   }
@@ -222,7 +222,7 @@ pub record Remaining (program : Program) (in_loop : Bool) (faults : List EndFaul
   pub same : handlers_faults program in_loop ends tail ≡ faults
 
 pub record Handling (program : Program) (in_loop : Bool) (handlers tail : Handlers) (old now : List Exits) (had has was row : List ℕ) (so_far : Exits) : Type 0 where
-  pub kept : join so_far (exits_of (handlers_ends program tail)) ≡ exits_of (handlers_ends program handlers)
+  pub summary : join so_far (exits_of (handlers_ends program tail)) ≡ exits_of (handlers_ends program handlers)
   pub entries : now ++ map exits_of (handlers_paths program tail) ≡ old ++ map exits_of (handlers_paths program handlers)
   pub raised : (e : ℕ) → (row_has has e || throws (handlers_ends program tail) e) ≡ (row_has had e || throws (handlers_ends program handlers) e)
   pub left : (e : ℕ) → (row_has row e && not (handles tail e)) ≡ (row_has was e && not (handles handlers e))
@@ -254,7 +254,7 @@ throws-without h (Throw x ∷ ends) e = go (h == x) refl (e == x) refl (throws-w
 module _ (program : Program) (in_loop : Bool) (handlers : Handlers) (old : List Exits) (had was : List ℕ) where
   pub handling-begin : (so_far : Exits) → so_far ≡ only_raised Nothing → Handling program in_loop handlers handlers old old had had was was so_far
   handling-begin so_far is = record {
-    kept = ap (λ x. join x (exits_of (handlers_ends program handlers))) is;
+    summary = ap (λ x. join x (exits_of (handlers_ends program handlers))) is;
     entries = refl;
     raised = λ e. refl;
     left = λ e. refl;
@@ -288,11 +288,11 @@ module _ (program : Program) (in_loop : Bool) (handlers : Handlers) (old : List 
         let ends : List Exit = block_ends program body in
         let rest : List Exit = handlers_ends program tail in
         record {
-          kept =
-              ap (λ x. join (join so_far x) (exits_of rest)) piece.kept
+          summary =
+              ap (λ x. join (join so_far x) (exits_of rest)) piece.summary
               ∙ exits-assoc so_far (exits_of ends) (exits_of rest)
               ∙ ap (λ x. join so_far x) (sym (exits-append ends rest))
-              ∙ along.kept;
+              ∙ along.summary;
           entries =
               ap (λ xs. xs ++ map exits_of (handlers_paths program tail)) piece.entries
               ∙ append_assoc now (map exits_of (block_paths program body)) (map exits_of (handlers_paths program tail))
@@ -328,7 +328,7 @@ module _ (program : Program) (in_loop : Bool) (handlers : Handlers) (old : List 
   pub handling-end : (now : List Exits) (has row : List ℕ) (so_far : Exits) → Handling program in_loop handlers NoMore old now had has was row so_far
       → IsFound (handlers_ends program handlers) (handlers_paths program handlers) old now had has so_far
   handling-end now has row so_far along = record {
-    kept = sym (join-none so_far) ∙ along.kept;
+    summary = sym (join-none so_far) ∙ along.summary;
     entries = sym (append-nil now) ∙ along.entries;
     raised = record { has = λ e. sym (or-false (row_has has e)) ∙ along.raised e };
   }
@@ -356,21 +356,21 @@ module _ (listed exceptions : List ℕ) (same : (e : ℕ) → is_one_of listed e
 
   pub raising-found : exits ≡ only_raised raised → IsFound (thrown_ends exceptions) [] entries entries had has exits
   raising-found made = record {
-    kept = made ∙ (ap only_raised raised-is ∙ sym (exits-thrown exceptions));
+    summary = made ∙ (ap only_raised raised-is ∙ sym (exits-thrown exceptions));
     entries = sym (append-nil entries);
     raised = sum-is;
   }
 
   pub going-found : exits ≡ record (only_raised raised) { normal = true } → IsFound (Normal ∷ thrown_ends exceptions) [] entries entries had has exits
   going-found made = record {
-    kept = made ∙ ap (λ (x : Exits). record x { normal = true }) (ap only_raised raised-is ∙ sym (exits-thrown exceptions));
+    summary = made ∙ ap (λ (x : Exits). record x { normal = true }) (ap only_raised raised-is ∙ sym (exits-thrown exceptions));
     entries = sym (append-nil entries);
     raised = sum-same had has (throws (thrown_ends exceptions)) (throws (Normal ∷ thrown_ends exceptions)) sum-is (λ e. refl);
   }
 
   pub returning-found : exits ≡ record (only_raised raised) { returns = true } → IsFound (Return ∷ thrown_ends exceptions) [] entries entries had has exits
   returning-found made = record {
-    kept = made ∙ ap (λ (x : Exits). record x { returns = true }) (ap only_raised raised-is ∙ sym (exits-thrown exceptions));
+    summary = made ∙ ap (λ (x : Exits). record x { returns = true }) (ap only_raised raised-is ∙ sym (exits-thrown exceptions));
     entries = sym (append-nil entries);
     raised = sum-same had has (throws (thrown_ends exceptions)) (throws (Return ∷ thrown_ends exceptions)) sum-is (λ e. refl);
   }

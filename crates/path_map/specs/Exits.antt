@@ -23,7 +23,7 @@ abbrev pub raised_by : List ℕ → Raised
 raised_by [] = Nothing
 raised_by (exception ∷ rest) = if list_all (λ other. exception == other) rest then One exception else Several
 
--- what is kept of ends
+-- the summary of ends
 abbrev pub exits_of : List Exit → Exits
 exits_of ends = record {
   normal = has_end ends Normal;

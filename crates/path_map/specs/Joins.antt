@@ -1,4 +1,4 @@
--- How what is kept of ends is put together.
+-- How summaries of ends are put together.
 -- Source: our own.
 use Rattle.std.specs.Prelude.{ℕ, List, [], ◌∷◌, ◌++◌, Bool, true, false, ◌==◌, ◌||◌, if◌then◌else◌, Option, Some, None}
 use Rattle.resolved.specs.declared.statement.Exit.{Exit}

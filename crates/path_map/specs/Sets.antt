@@ -1,4 +1,4 @@
--- Sets of exceptions as rows of bits, 64 in a word, and what is kept of such a set.
+-- Sets of exceptions as rows of bits, 64 in a word, and the summary of such a set.
 -- Source: our own.
 use Rattle.std.specs.Prelude.{◌≡◌, ◌≢◌, ℕ, ◌/◌, ◌%◌, List, Bool, true, false, ◌==◌, ◌&&◌, ◌||◌, slice_index}
 use Rattle.std.specs.List.{list_any}
@@ -36,11 +36,11 @@ pub record HasOnly (set : ℕ → Bool) (exception : ℕ) : Type 0 where
   pub has : set exception ≡ true
   pub only : (other : ℕ) → set other ≡ true → other ≡ exception
 
--- what is kept of a set
-abbrev pub IsKeptOf : (ℕ → Bool) → Raised → Type 0
-IsKeptOf set Nothing = (exception : ℕ) → set exception ≡ false
-IsKeptOf set (One exception) = HasOnly set exception
-IsKeptOf set Several = HasTwo set
+-- the summary of a set
+abbrev pub IsSummaryOf : (ℕ → Bool) → Raised → Type 0
+IsSummaryOf set Nothing = (exception : ℕ) → set exception ≡ false
+IsSummaryOf set (One exception) = HasOnly set exception
+IsSummaryOf set Several = HasTwo set
 
 -- an expression raises these: two sets that are the same
 abbrev pub AreRaised : Raises → List ℕ → Type 0

@@ -17,7 +17,7 @@ use Rattle.path_map.specs.Sets.{IsSum, row_has, throws}
 
 -- of a piece with these ends, and with these in it, where `old` are the entries before it and `had` the exceptions so far
 pub record IsFound (ends : List Exit) (paths : List (List Exit)) (old new : List Exits) (had has : List ℕ) (found : Exits) : Type 0 where
-  pub kept : found ≡ exits_of ends
+  pub summary : found ≡ exits_of ends
   pub entries : new ≡ old ++ map exits_of paths
   pub raised : IsSum had (throws ends) has
 

@@ -35,13 +35,13 @@ impl<'a> Walk<'a> {
         Ok(Walk { alloc, core, rows })
     }
 
-    // What is kept of the exceptions that a procedure declares, which are added to a set.
+    // The summary of the exceptions that a procedure declares, which are added to a set.
     pub(crate) fn add_declared(
         &self,
         callee: u32,
         set: &mut ExceptionSet,
     ) -> Result<Raised, AllocError>
-        ensures kept { IfOk result (λ kept. kept
+        ensures summary { IfOk result (λ summary. summary
             ≡ raised_by (declared_by (procedure_at (program_of self.now.core.now) callee).throws)) }
         ensures added { OnOk result (IsSum set.old.words.items
             (is_one_of (declared_by (procedure_at (program_of self.now.core.now) callee).throws))
@@ -54,7 +54,7 @@ impl<'a> Walk<'a> {
                     Some(Some(row)) => set.unite(row)?,
                     _ => insert_all(&procedure.throws, set)?,
                 }
-                Ok(kept_of(&procedure.throws))
+                Ok(summary_of(&procedure.throws))
             }
         }
     }
@@ -89,16 +89,16 @@ fn insert_all(throws: &[Thrown], set: &mut ExceptionSet) -> Result<(), AllocErro
     Ok(())
 }
 
-// What is kept of declared exceptions.
-fn kept_of(throws: &[Thrown]) -> Raised
+// The summary of declared exceptions.
+fn summary_of(throws: &[Thrown]) -> Raised
     ensures { result ≡ raised_by (declared_by (map thrown_entry throws.now)) }
 {
-    let mut kept = Raised::Nothing;
+    let mut summary = Raised::Nothing;
     for thrown in throws {
-        if let Raised::Several = kept {
-            return kept;
+        if let Raised::Several = summary {
+            return summary;
         }
-        kept = kept.join(Raised::One(thrown.exception));
+        summary = summary.join(Raised::One(thrown.exception));
     }
-    kept
+    summary
 }

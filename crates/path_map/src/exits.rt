@@ -28,7 +28,7 @@ pub struct Exits {
 }
 
 impl Raised {
-    // What is kept of the exceptions of two lists.
+    // The summary of the exceptions of two lists.
     pub(crate) fn join(self, other: Raised) -> Raised
         ensures { result ≡ join_raised self other }
     {
@@ -42,7 +42,7 @@ impl Raised {
 }
 
 impl Exits {
-    // What is kept of these exceptions as ends.
+    // The summary of these exceptions as ends.
     pub(crate) fn raising(raised: Raised) -> Exits
         ensures { result ≡ only_raised raised }
     {
@@ -55,7 +55,7 @@ impl Exits {
         }
     }
 
-    // What is kept of a normal end and these exceptions.
+    // The summary of a normal end and these exceptions.
     pub(crate) fn going_on(raised: Raised) -> Exits
         ensures { result ≡ record (only_raised raised) { normal = true } }
     {
@@ -65,7 +65,7 @@ impl Exits {
         }
     }
 
-    // What is kept of a return and these exceptions.
+    // The summary of a return and these exceptions.
     pub(crate) fn returning(raised: Raised) -> Exits
         ensures { result ≡ record (only_raised raised) { returns = true } }
     {
@@ -75,14 +75,14 @@ impl Exits {
         }
     }
 
-    // What is kept of the same ends with these exceptions in place of theirs.
+    // The summary of the same ends with these exceptions in place of theirs.
     pub(crate) fn with(self, raised: Raised) -> Exits
         ensures { result ≡ record self { raised = raised } }
     {
         Exits { raised, ..self }
     }
 
-    // What is kept of the ends of two lists.
+    // The summary of the ends of two lists.
     pub(crate) fn join(self, other: Exits) -> Exits
         ensures { result ≡ join self other }
     {
@@ -95,7 +95,7 @@ impl Exits {
         }
     }
 
-    // What is kept of the ends of a statement and of what follows it.
+    // The summary of the ends of a statement and of what follows it.
     pub(crate) fn then(self, rest: Exits) -> Exits
         ensures { result ≡ after self rest }
     {
@@ -109,7 +109,7 @@ impl Exits {
         leaving.join(rest)
     }
 
-    // What is kept of the ends of a loop with this body, but for its condition.
+    // The summary of the ends of a loop with this body, but for its condition.
     pub(crate) fn of_loop(self) -> Exits
         ensures { result ≡ of_loop self }
     {

@@ -90,5 +90,5 @@ fn are_declared(throws: &[Thrown], set: &mut ExceptionSet) -> bool
     for thrown in throws {
         let _there = set.remove(thrown.exception);
     }
-    set.kept() == Raised::Nothing
+    set.summary() == Raised::Nothing
 }

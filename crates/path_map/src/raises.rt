@@ -43,9 +43,9 @@ impl Raises {
         }
     }
 
-    // What is kept of these exceptions, which are added to a set.
+    // The summary of these exceptions, which are added to a set.
     pub(crate) fn add_to(self, set: &mut ExceptionSet) -> Result<Raised, AllocError>
-        ensures kept { IfOk result (λ kept. kept
+        ensures summary { IfOk result (λ summary. summary
             ≡ raised_by (raised_list self.arith self.bounds)) }
         ensures added { OnOk result (IsSum set.old.words.items
             (is_one_of (raised_list self.arith self.bounds)) set.new.words.items) }

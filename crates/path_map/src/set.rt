@@ -1,5 +1,5 @@
 //! Sets of exceptions.
-ghost use Rattle.path_map.specs.Sets.{IsKeptOf, IsSum, row_has, word_has};
+ghost use Rattle.path_map.specs.Sets.{IsSummaryOf, IsSum, row_has, word_has};
 ghost use Rattle.std.specs.Prelude.{OnOk, false, length, not, ℕ, ◌&&◌, ◌<◌, ◌==◌, ◌≡◌, ◌≤◌};
 
 use crate::exits::Raised;
@@ -71,22 +71,22 @@ impl ExceptionSet {
         Ok(())
     }
 
-    // What is kept of the set.
-    pub(crate) fn kept(&self) -> Raised
-        ensures { IsKeptOf (row_has self.now.words.items) result }
+    // The summary of the set.
+    pub(crate) fn summary(&self) -> Raised
+        ensures { IsSummaryOf (row_has self.now.words.items) result }
     {
-        let mut kept = Raised::Nothing;
+        let mut summary = Raised::Nothing;
         for (i, word) in self.words.iter().enumerate() {
-            kept = kept.join(kept_of_word(*word, i));
+            summary = summary.join(summary_of_word(*word, i));
         }
-        kept
+        summary
     }
 }
 
-// What is kept of the exceptions of one word of a row.
-fn kept_of_word(word: u64, index: usize) -> Raised
+// The summary of the exceptions of one word of a row.
+fn summary_of_word(word: u64, index: usize) -> Raised
     requires { index < 67108864 }
-    ensures { IsKeptOf (word_has word index) result }
+    ensures { IsSummaryOf (word_has word index) result }
 {
     if word == 0 {
         return Raised::Nothing;

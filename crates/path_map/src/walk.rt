@@ -145,7 +145,7 @@ fn walk_form(
             let tried = walk_block(walk, in_loop, block, entries, &mut inner)?;
             let handled = walk_handlers(walk, in_loop, handlers, &mut inner, entries, raised)?;
             raised.unite(&inner)?;
-            Ok(tried.with(inner.kept()).join(handled))
+            Ok(tried.with(inner.summary()).join(handled))
         }
         Statement::Nested(_, block) => walk_block(walk, in_loop, block, entries, raised),
     }

@@ -8,10 +8,10 @@ use Rattle.std.proofs.lemmas.Slice.Eq.{bytes_eq-Decides}
 use Rattle.lexer.specs.Terminal.{Terminal, IsTerminated}
 use Rattle.lexer.specs.declared.token.Kind.{Kind}
 use Rattle.lexer.specs.declared.token.Kind.TheVariants as kind
-use Rattle.principals.specs.HierarchyText.{Entry, Declares, Relates, IsWord, IsPrincipalName, Nonterminal, Items, Names, Derives, Finish, Declaration, Relation, OneMore, Last, BeginsForm}
+use Rattle.principals.specs.HierarchyText.{Entry, Declares, Relates, IsWord, IsPrincipalName, Nonterminal, Items, Names, Derives, Finish, Declaration, Relation, OneMore, Last, IsPrefixOfForm}
 use Rattle.principals.specs.declared.reading.Role.{Role}
 use Rattle.principals.specs.declared.reading.Role.TheVariants.{Principal, ActsFor, Name, Comma, Semicolon, End}
-use Rattle.principals.specs.Reading.{role_by, role_of, State, Fresh, Declaring, Listed, Subject, Verb, Complete, Ended, next_by, next, said, run}
+use Rattle.principals.specs.Reading.{role_by, role_of, ReadingState, Fresh, Declaring, Listed, Subject, Verb, Complete, Ended, next_by, next, said, run}
 
 -- ---- what a token is
 
@@ -102,30 +102,30 @@ kind_role t k r by e = ap (λ x. role_by x t.text) e ∙ by t.text
 -- ---- runs
 
 -- what a run gives goes on
-abbrev onto : List Entry → Option (State × List Entry) → Option (State × List Entry)
+abbrev onto : List Entry → Option (ReadingState × List Entry) → Option (ReadingState × List Entry)
 onto entries r = option_map (λ end. (end.0, entries ++ end.1)) r
 
-onto-onto : (xs ys : List Entry) (r : Option (State × List Entry)) → onto xs (onto ys r) ≡ onto (xs ++ ys) r
+onto-onto : (xs ys : List Entry) (r : Option (ReadingState × List Entry)) → onto xs (onto ys r) ≡ onto (xs ++ ys) r
 onto-onto xs ys None = refl
 onto-onto xs ys (Some (s, es)) = ap (λ x. Some (s, x)) (sym (append_assoc xs ys es))
 
-onto-nil : (r : Option (State × List Entry)) → onto [] r ≡ r
+onto-nil : (r : Option (ReadingState × List Entry)) → onto [] r ≡ r
 onto-nil None = refl
 onto-nil (Some (s, es)) = refl
 
 -- what is read after the first part
-abbrev then_run : List Terminal → Option (State × List Entry) → Option (State × List Entry)
+abbrev then_run : List Terminal → Option (ReadingState × List Entry) → Option (ReadingState × List Entry)
 then_run rest r = option_and_then (λ end. onto end.1 (run end.0 rest)) r
 
-onto-then : (entries : List Entry) (rest : List Terminal) (r : Option (State × List Entry)) → onto entries (then_run rest r) ≡ then_run rest (onto entries r)
+onto-then : (entries : List Entry) (rest : List Terminal) (r : Option (ReadingState × List Entry)) → onto entries (then_run rest r) ≡ then_run rest (onto entries r)
 onto-then entries rest None = refl
 onto-then entries rest (Some (s, es)) = onto-onto entries es (run s rest)
 
 -- a run over two lists is one over the first and then one over the second
-pub run-append : (s : State) (front rest : List Terminal) → run s (front ++ rest) ≡ then_run rest (run s front)
+pub run-append : (s : ReadingState) (front rest : List Terminal) → run s (front ++ rest) ≡ then_run rest (run s front)
 run-append s [] rest = sym (onto-nil (run s rest))
 run-append s (t ∷ front) rest =
-    let on : (o : Option State) → option_and_then (λ after. onto (said s t) (run after (front ++ rest))) o
+    let on : (o : Option ReadingState) → option_and_then (λ after. onto (said s t) (run after (front ++ rest))) o
     ≡ then_run rest (option_and_then (λ after. onto (said s t) (run after front)) o) =
     λ o. elim o as (λ o'. option_and_then (λ after. onto (said s t) (run after (front ++ rest))) o'
     ≡ then_run rest (option_and_then (λ after. onto (said s t) (run after front)) o')) [
@@ -135,7 +135,7 @@ run-append s (t ∷ front) rest =
     on (next s t)
 
 -- one token more
-pub run-push : (s : State) (front : List Terminal) (t : Terminal) (end after : State) (es : List Entry) → run s front ≡ Some (end, es) →
+pub run-push : (s : ReadingState) (front : List Terminal) (t : Terminal) (end after : ReadingState) (es : List Entry) → run s front ≡ Some (end, es) →
     next end t ≡ Some after → run s (front ++ t ∷ []) ≡ Some (after, es ++ said end t)
 run-push s front t end after es h k =
     run-append s front (t ∷ []) ∙ ap (then_run (t ∷ [])) h
@@ -143,7 +143,7 @@ run-push s front t end after es h k =
     ∙ ap (λ x. Some (after, es ++ x)) (append-nil (said end t))
 
 -- no token more, whatever comes behind it
-pub run-stop : (s : State) (front : List Terminal) (t : Terminal) (rest : List Terminal) (end : State) (es : List Entry) → run s front ≡ Some (end, es) →
+pub run-stop : (s : ReadingState) (front : List Terminal) (t : Terminal) (rest : List Terminal) (end : ReadingState) (es : List Entry) → run s front ≡ Some (end, es) →
     next end t ≡ None → run s (front ++ t ∷ rest) ≡ None
 run-stop s front t rest end es h k =
     run-append s front (t ∷ rest) ∙ ap (then_run (t ∷ rest)) h
@@ -152,12 +152,12 @@ run-stop s front t rest end es h k =
 -- ---- what the grammar derives is read
 
 -- where a nonterminal is expected
-abbrev at_start : Nonterminal → State
+abbrev at_start : Nonterminal → ReadingState
 at_start Items = Fresh
 at_start Names = Declaring
 
 -- one token of a run, by its role
-one : (s : State) (t : Terminal) (r : Role) (after : State) (rest : List Terminal) (es : List Entry) → role_of t ≡ r → next_by s r t ≡ Some after →
+one : (s : ReadingState) (t : Terminal) (r : Role) (after : ReadingState) (rest : List Terminal) (es : List Entry) → role_of t ≡ r → next_by s r t ≡ Some after →
     run after rest ≡ Some (Ended, es) → run s (t ∷ rest) ≡ Some (Ended, said s t ++ es)
 one s t r after rest es role step h =
     let e : next s t ≡ Some after = ap (λ x. next_by s x t) role ∙ step in
@@ -182,7 +182,7 @@ derived_is_read (Last name semicolon rest entries n s d) =
 -- ---- what is read is derived
 
 -- what the grammar derives from a state on, with the tokens of the open item in front of it
-abbrev Open : State → List Terminal → List Entry → Type 0
+abbrev Open : ReadingState → List Terminal → List Entry → Type 0
 Open Fresh tokens entries = Derives Items tokens entries
 Open Declaring tokens entries = Derives Names tokens entries
 Open Listed tokens entries = (name : Terminal) → IsPrincipalName name → Derives Names (name ∷ tokens) (Declares name ∷ entries)
@@ -192,10 +192,10 @@ Open Complete tokens entries = (left word right : Terminal) → IsPrincipalName 
     Derives Items (left ∷ word ∷ right ∷ tokens) (Relates left right ∷ entries)
 Open Ended tokens entries = (end : Terminal) → end.kind ≡ kind.End → Derives Items (end ∷ tokens) entries
 
-none : {P : Type 0} (s : State) → None ≡ Some s → P
+none : {P : Type 0} (s : ReadingState) → None ≡ Some s → P
 none s h = absurd (none-some s h)
 
-open_step : (s : State) (t : Terminal) (r : Role) (after : State) (rest : List Terminal) (es : List Entry) → role_of t ≡ r → next_by s r t ≡ Some after →
+open_step : (s : ReadingState) (t : Terminal) (r : Role) (after : ReadingState) (rest : List Terminal) (es : List Entry) → role_of t ≡ r → next_by s r t ≡ Some after →
     Open after rest es → Open s (t ∷ rest) (said s t ++ es)
 open_step Fresh t Principal after rest es role h o = Declaration t rest es (role_is_principal t role) (subst (λ s. Open s rest es) (sym (same_Some _ _ h)) o)
 open_step Fresh t Name after rest es role h o = subst (λ s. Open s rest es) (sym (same_Some _ _ h)) o (role_is_name t role)
@@ -213,12 +213,12 @@ open_step Complete t Semicolon after rest es role h o =
 open_step _ t _ after rest es role h o = none after h
 
 -- a run to the end reads what is open from its state on
-pub read_is_open : (tokens : List Terminal) (s : State) (es : List Entry) → run s tokens ≡ Some (Ended, es) → Open s tokens es
+pub read_is_open : (tokens : List Terminal) (s : ReadingState) (es : List Entry) → run s tokens ≡ Some (Ended, es) → Open s tokens es
 read_is_open [] s es h =
     let parts = some_pair_parts s Ended [] es h in
     subst (λ x. Open x [] es) (sym parts.0) (subst (λ x. Open Ended [] x) parts.1 (λ end k. Finish end k))
 read_is_open (t ∷ rest) s es h =
-    let on_end : (after : State) → next s t ≡ Some after → (o : Option (State × List Entry)) → run after rest ≡ o → onto (said s t) o ≡ Some (Ended, es) → Open s (t ∷ rest) es =
+    let on_end : (after : ReadingState) → next s t ≡ Some after → (o : Option (ReadingState × List Entry)) → run after rest ≡ o → onto (said s t) o ≡ Some (Ended, es) → Open s (t ∷ rest) es =
     λ after step o. elim o as (λ o'. run after rest ≡ o' → onto (said s t) o' ≡ Some (Ended, es) → Open s (t ∷ rest) es) [
       | None ↦ λ k g. absurd (none-some _ g)
       | Some end ↦ λ k g.
@@ -226,7 +226,7 @@ read_is_open (t ∷ rest) s es h =
           let last : run after rest ≡ Some (Ended, end.1) = k ∙ ap (λ x. Some (x, end.1)) parts.0 in
           subst (λ x. Open s (t ∷ rest) x) parts.1 (open_step s t (role_of t) after rest end.1 refl step (read_is_open rest after end.1 last))
     ] in
-    let on_step : (o : Option State) → next s t ≡ o → option_and_then (λ after. onto (said s t) (run after rest)) o ≡ Some (Ended, es) → Open s (t ∷ rest) es =
+    let on_step : (o : Option ReadingState) → next s t ≡ o → option_and_then (λ after. onto (said s t) (run after rest)) o ≡ Some (Ended, es) → Open s (t ∷ rest) es =
     λ o. elim o as (λ o'. next s t ≡ o' → option_and_then (λ after. onto (said s t) (run after rest)) o' ≡ Some (Ended, es) → Open s (t ∷ rest) es) [
       | None ↦ λ k g. absurd (none-some _ g)
       | Some after ↦ λ k g. on_end after k (run after rest) refl g
@@ -248,7 +248,7 @@ any_verb : Terminal
 any_verb = record { kind = kind.Name; text = codes "actsfor"; start = 0; end = 0 }
 
 -- every state can be ended
-live : (s : State) → (more : List Terminal) × (es : List Entry) × (run s more ≡ Some (Ended, es))
+live : (s : ReadingState) → (more : List Terminal) × (es : List Entry) × (run s more ≡ Some (Ended, es))
 unfolding any_end any_semicolon any_name any_verb
 live Fresh = (any_end ∷ [], [], refl)
 live Declaring = (any_name ∷ any_semicolon ∷ any_end ∷ [], Declares any_name ∷ [], refl)
@@ -258,8 +258,8 @@ live (Verb left) = (any_name ∷ any_semicolon ∷ any_end ∷ [], Relates left 
 live Complete = (any_semicolon ∷ any_end ∷ [], [], refl)
 live Ended = ([], [], refl)
 
-pub begins : (front : List Terminal) (s : State) (es : List Entry) → run Fresh front ≡ Some (s, es) → BeginsForm front
-begins front s es h =
+pub is_prefix : (front : List Terminal) (s : ReadingState) (es : List Entry) → run Fresh front ≡ Some (s, es) → IsPrefixOfForm front
+is_prefix front s es h =
     let end = live s in
     record {
       more = end.0;
@@ -268,14 +268,14 @@ begins front s es h =
           (run-append Fresh front end.0 ∙ ap (then_run end.0) h ∙ ap (onto es) end.2);
     }
 
-pub stops : (front : List Terminal) (t : Terminal) (s : State) (es : List Entry) → run Fresh front ≡ Some (s, es) → next s t ≡ None → BeginsForm (front ++ t ∷ []) → ⊥
+pub stops : (front : List Terminal) (t : Terminal) (s : ReadingState) (es : List Entry) → run Fresh front ≡ Some (s, es) → next s t ≡ None → IsPrefixOfForm (front ++ t ∷ []) → ⊥
 stops front t s es h k b =
     let whole : run Fresh ((front ++ t ∷ []) ++ b.more) ≡ Some (Ended, b.entries) = derived_is_read b.form in
     none-some (Ended, b.entries) (sym (run-stop Fresh front t b.more s es h k) ∙ ap (run Fresh) (sym (append_assoc front (t ∷ []) b.more)) ∙ whole)
 
 -- ---- the end marker
 
-ends_by : (s : State) (t : Terminal) (after : State) → next_by s End t ≡ Some after → after ≡ Ended
+ends_by : (s : ReadingState) (t : Terminal) (after : ReadingState) → next_by s End t ≡ Some after → after ≡ Ended
 ends_by Fresh t after h = sym (same_Some _ _ h)
 ends_by Declaring t after h = none after h
 ends_by Listed t after h = none after h
@@ -285,10 +285,10 @@ ends_by Complete t after h = none after h
 ends_by Ended t after h = none after h
 
 -- a run over tokens with the end marker behind them has ended
-pub run_ends : (tokens : List Terminal) (s end : State) (es : List Entry) → IsTerminated tokens → run s tokens ≡ Some (end, es) → end ≡ Ended
+pub run_ends : (tokens : List Terminal) (s end : ReadingState) (es : List Entry) → IsTerminated tokens → run s tokens ≡ Some (end, es) → end ≡ Ended
 run_ends [] s end es t h = absurd t
 run_ends (t ∷ rest) s end es terminated h =
-    let on_end : (after : State) → next s t ≡ Some after → (o : Option (State × List Entry)) → run after rest ≡ o → onto (said s t) o ≡ Some (end, es) → end ≡ Ended =
+    let on_end : (after : ReadingState) → next s t ≡ Some after → (o : Option (ReadingState × List Entry)) → run after rest ≡ o → onto (said s t) o ≡ Some (end, es) → end ≡ Ended =
     λ after step o. elim o as (λ o'. run after rest ≡ o' → onto (said s t) o' ≡ Some (end, es) → end ≡ Ended) [
       | None ↦ λ k g. absurd (none-some _ g)
       | Some last ↦ λ k g.
@@ -301,7 +301,7 @@ run_ends (t ∷ rest) s end es terminated h =
           (λ later. sym parts.0 ∙ run_ends rest after last.0 last.1 later.1 k)
           terminated
     ] in
-    let on_step : (o : Option State) → next s t ≡ o → option_and_then (λ after. onto (said s t) (run after rest)) o ≡ Some (end, es) → end ≡ Ended =
+    let on_step : (o : Option ReadingState) → next s t ≡ o → option_and_then (λ after. onto (said s t) (run after rest)) o ≡ Some (end, es) → end ≡ Ended =
     λ o. elim o as (λ o'. next s t ≡ o' → option_and_then (λ after. onto (said s t) (run after rest)) o' ≡ Some (end, es) → end ≡ Ended) [
       | None ↦ λ k g. absurd (none-some _ g)
       | Some after ↦ λ k g. on_end after k (run after rest) refl g

@@ -153,7 +153,7 @@ built_refused es after names pairs entry fault built refused = record {
   before = es;
   entry = entry;
   after = after;
-  parts = refl;
+  entries_are = refl;
   accepted = built.accepted;
   refused = subst (λ x. IsRefusal x entry fault) built.same_names refused;
 }

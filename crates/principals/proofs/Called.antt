@@ -30,10 +30,10 @@ IsText token = IsUtf8 token.text
 cut_texts : (start : ℕ) (text : List ℕ) (tokens : List Terminal) (end : ℕ) (rest : List ℕ) → Cuts start text tokens end rest → all_scalars text ≡ true → AllByRecursion IsText tokens
 cut_texts start text tokens end rest (Nothing _ _) scalars = tt
 cut_texts start text tokens end rest (Token _ _ kind front left others _ _ next cuts) scalars =
-    let (here, later) = scalars_parts front left (subst (λ t. all_scalars t ≡ true) next.parts scalars) in
+    let (here, later) = scalars_parts front left (subst (λ t. all_scalars t ≡ true) next.text_is scalars) in
     ((front, (here, refl)), cut_texts (start + size front) left others end rest cuts later)
 cut_texts start text tokens end rest (Between _ _ front left _ _ _ next cuts) scalars =
-    let (here, later) = scalars_parts front left (subst (λ t. all_scalars t ≡ true) next.parts scalars) in
+    let (here, later) = scalars_parts front left (subst (λ t. all_scalars t ≡ true) next.text_is scalars) in
     cut_texts (start + size front) left tokens end rest cuts later
 
 pub token_texts : (text : List ℕ) (tokens : List Terminal) → IsUtf8 text → IsCut text tokens → All (λ token. IsUtf8 token.text) tokens
@@ -63,7 +63,7 @@ slice_short text token slice =
 
 name_within : (text : List ℕ) (token : Terminal) → IsSliceOf text token → IsSpelled token → IsText token → token.kind ≡ Name → IsNameWithin (length text) token.text
 name_within text token slice spelled characters kind = record {
-  named = subst (λ kind. listing.Spells kind token.text) kind spelled;
+  named = subst (λ kind. listing.SpellsToken kind token.text) kind spelled;
   characters = characters;
   short = slice_short text token slice;
 }

@@ -58,7 +58,7 @@ wrong_spot : (text : List ℕ) (f : HierFault) (es : List Entry) → IsUtf8 text
 wrong_spot text f es ok says first =
     refusal_spot text _ first.entry f
     (middle (EntryStartsIn text) first.before first.after first.entry
-    (subst (AllByRecursion (EntryStartsIn text)) first.parts (entry_spots text says.form (token_spots text says.tokens ok says.cut))))
+    (subst (AllByRecursion (EntryStartsIn text)) first.entries_are (entry_spots text says.form (token_spots text says.tokens ok says.cut))))
     first.refused
 
 syntax_spot : (text : List ℕ) (at : ℕ) → IsUtf8 text → IsSyntaxFault text at → IsCharBoundary text at
@@ -66,7 +66,7 @@ syntax_spot text at ok s =
     ⊎_elim
     (λ l. fault_spot text l.0 at (refused_at text l.0 ok l.1) l.2)
     (λ t. subst (λ k. IsCharBoundary text k) (sym t.2.place)
-    (middle (StartsIn text) t.2.before t.2.after t.2.token (subst (AllByRecursion (StartsIn text)) t.2.parts (token_spots text t.0 ok t.1))))
+    (middle (StartsIn text) t.2.before t.2.after t.2.token (subst (AllByRecursion (StartsIn text)) t.2.tokens_are (token_spots text t.0 ok t.1))))
     s
 
 -- a refusal of a text stands at a boundary

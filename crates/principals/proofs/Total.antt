@@ -14,10 +14,10 @@ use Rattle.lexer.proofs.Total.{is_cut_or_refused}
 use Rattle.principals.specs.ActsFor.{PrincipalHierarchy, IsHierarchy, AllBelow, AllDifferent}
 use Rattle.principals.specs.HierarchyText.{Entry, Declares, Relates, IsHierarchyForm, IsUnexpectedAt, IsRefusal, Twice, Crowded, UnknownLeft, UnknownRight, IsFirstRefusal, IsSaid, declared, written, greatest_text, Says, IsHierarchyOf, IsRefusedText}
 use Rattle.principals.specs.Laws.{HasOneHierarchy, IsReadOrRefused}
-use Rattle.principals.specs.Reading.{Built, HaveNames, State, Fresh, Ended, next, run, said}
+use Rattle.principals.specs.Reading.{Built, HaveNames, ReadingState, Fresh, Ended, next, run, said}
 use Rattle.principals.specs.declared.fault.HierFault.{HierFault}
 use Rattle.principals.specs.declared.fault.HierFault.TheVariants as fault
-use Rattle.principals.proofs.Automaton.{run-push, read_is_open, begins, stops, run_ends}
+use Rattle.principals.proofs.Automaton.{run-push, read_is_open, is_prefix, stops, run_ends}
 use Rattle.principals.proofs.Building.{built_nothing, built_name, built_pair, built_refused, built_said}
 use Rattle.principals.proofs.Closure.{none_in_nil, Contains-cons_cases, Contains-first, Contains-later}
 use Rattle.principals.proofs.Names.{number_contained}
@@ -103,7 +103,7 @@ said_is_hierarchy es h is =
       different = subst AllDifferent same built.2.different;
       there = below h.names (written es) h.pairs is.pairs;
     })
-    (λ refused. absurd (is.accepted refused.1.before refused.1.after refused.1.entry refused.0 refused.1.parts refused.1.refused))
+    (λ refused. absurd (is.accepted refused.1.before refused.1.after refused.1.entry refused.0 refused.1.entries_are refused.1.refused))
     (entries_outcome es)
 
 -- ---- the form
@@ -111,7 +111,7 @@ said_is_hierarchy es h is =
 abbrev Formed : List Terminal → Type 0
 Formed tokens = ((es : List Entry) × IsHierarchyForm tokens es) ⊎ ((at : ℕ) × IsUnexpectedAt tokens at)
 
-walk : (before rest : List Terminal) (s : State) (es : List Entry) → IsTerminated (before ++ rest) → run Fresh before ≡ Some (s, es) → Formed (before ++ rest)
+walk : (before rest : List Terminal) (s : ReadingState) (es : List Entry) → IsTerminated (before ++ rest) → run Fresh before ≡ Some (s, es) → Formed (before ++ rest)
 walk before [] s es terminated h =
     let whole : run Fresh (before ++ []) ≡ Some (s, es) = ap (run Fresh) (append-nil before) ∙ h in
     let ended : s ≡ Ended = run_ends (before ++ []) Fresh s es terminated whole in
@@ -123,7 +123,7 @@ walk before (t ∷ rest) s es terminated h =
     (subst IsTerminated (sym (append_assoc before (t ∷ []) rest)) terminated)
     (run-push Fresh before t s after es h e)))
   where
-    by : (o : Option State) → next s t ≡ o → ((after : State) → next s t ≡ Some after → Formed (before ++ t ∷ rest)) → Formed (before ++ t ∷ rest)
+    by : (o : Option ReadingState) → next s t ≡ o → ((after : ReadingState) → next s t ≡ Some after → Formed (before ++ t ∷ rest)) → Formed (before ++ t ∷ rest)
     by None e on =
         inr (
           t.start,
@@ -131,8 +131,8 @@ walk before (t ∷ rest) s es terminated h =
             before = before;
             token = t;
             after = rest;
-            parts = refl;
-            goes_on = begins before s es h;
+            tokens_are = refl;
+            goes_on = is_prefix before s es h;
             stops = stops before t s es h e;
             place = refl;
           },

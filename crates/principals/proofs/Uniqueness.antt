@@ -8,7 +8,7 @@ use Rattle.lexer.specs.declared.fault.LexFault.{LexFault}
 use Rattle.lexer.specs.declared.fault.LexFault.TheVariants as lex
 use Rattle.lexer.proofs.Cutting.{has_one_cut, not_cut_and_refused, has_one_refusal}
 use Rattle.principals.specs.ActsFor.{PrincipalHierarchy, HasName, IsHierarchy}
-use Rattle.principals.specs.HierarchyText.{Entry, IsHierarchyForm, BeginsForm, IsUnexpectedAt, IsRefusal, Twice, Crowded, UnknownLeft, UnknownRight, IsFirstRefusal, IsSaid, declared, written, greatest_text, Says, IsHierarchyOf, IsLexFaultAt, IsSyntaxFault, IsRefusedText}
+use Rattle.principals.specs.HierarchyText.{Entry, IsHierarchyForm, IsPrefixOfForm, IsUnexpectedAt, IsRefusal, Twice, Crowded, UnknownLeft, UnknownRight, IsFirstRefusal, IsSaid, declared, written, greatest_text, Says, IsHierarchyOf, IsLexFaultAt, IsSyntaxFault, IsRefusedText}
 use Rattle.principals.specs.Reading.{Ended, IsStatementsFault, IsReadFault}
 use Rattle.principals.specs.declared.fault.HierFault.{HierFault}
 use Rattle.principals.specs.declared.fault.HierFault.TheVariants as fault
@@ -55,10 +55,10 @@ first_once es f g a b =
     (⊎_elim
     (λ later. absurd (b.accepted a.before later.0 a.entry f later.1 a.refused))
     (λ later. absurd (a.accepted b.before later.0 b.entry g later.1 b.refused)))
-    (two_places a.before b.before a.after b.after a.entry b.entry (sym a.parts ∙ b.parts))
+    (two_places a.before b.before a.after b.after a.entry b.entry (sym a.entries_are ∙ b.entries_are))
 
 said_not_refused : (es : List Entry) (h : PrincipalHierarchy) (f : HierFault) → IsSaid es h → IsFirstRefusal es f → ⊥
-said_not_refused es h f said first = said.accepted first.before first.after first.entry f first.parts first.refused
+said_not_refused es h f said first = said.accepted first.before first.after first.entry f first.entries_are first.refused
 
 same_pairs : (h : PrincipalHierarchy) → IsHierarchy h → (texts : List (List ℕ × List ℕ)) (pairs others : List (ℕ × ℕ)) →
     AllZip (λ text pair. HasName h pair.0 text.0 × HasName h pair.1 text.1) texts pairs →
@@ -91,12 +91,12 @@ form_is_expected tokens es at form u =
     u.stops (record {
       more = u.after;
       entries = es;
-      form = subst (λ x. IsHierarchyForm x es) (u.parts ∙ sym (append_assoc u.before (u.token ∷ []) u.after)) form;
+      form = subst (λ x. IsHierarchyForm x es) (u.tokens_are ∙ sym (append_assoc u.before (u.token ∷ []) u.after)) form;
     })
 
--- a front of what begins a text of the form begins one
-shorter_begins : (front : List Terminal) (t : Terminal) (between whole : List Terminal) → whole ≡ front ++ t ∷ between → BeginsForm whole → BeginsForm (front ++ t ∷ [])
-shorter_begins front t between whole e b = record {
+-- a front of a prefix of a text of the form is such a prefix
+shorter_prefix : (front : List Terminal) (t : Terminal) (between whole : List Terminal) → whole ≡ front ++ t ∷ between → IsPrefixOfForm whole → IsPrefixOfForm (front ++ t ∷ [])
+shorter_prefix front t between whole e b = record {
   more = between ++ b.more;
   entries = b.entries;
   form = subst (λ x. IsHierarchyForm x b.entries)
@@ -108,9 +108,9 @@ unexpected_once tokens at other a b =
     ⊎_elim
     (λ same. a.place ∙ ap (λ t. t.start) same.1 ∙ sym b.place)
     (⊎_elim
-    (λ later. absurd (a.stops (shorter_begins a.before a.token later.0 b.before later.1 b.goes_on)))
-    (λ later. absurd (b.stops (shorter_begins b.before b.token later.0 a.before later.1 a.goes_on))))
-    (two_places a.before b.before a.after b.after a.token b.token (sym a.parts ∙ b.parts))
+    (λ later. absurd (a.stops (shorter_prefix a.before a.token later.0 b.before later.1 b.goes_on)))
+    (λ later. absurd (b.stops (shorter_prefix b.before b.token later.0 a.before later.1 a.goes_on))))
+    (two_places a.before b.before a.after b.after a.token b.token (sym a.tokens_are ∙ b.tokens_are))
 
 -- ---- the text
 

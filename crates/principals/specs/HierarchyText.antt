@@ -52,8 +52,8 @@ pub data Derives : Nonterminal → List Terminal → List Entry → Type 0 where
 abbrev pub IsHierarchyForm : List Terminal → List Entry → Type 0
 IsHierarchyForm tokens entries = Derives Items tokens entries
 
--- some text of this form begins with these tokens
-pub record BeginsForm (front : List Terminal) : Type 0 where
+-- the tokens are a prefix of those of some text of this form
+pub record IsPrefixOfForm (front : List Terminal) : Type 0 where
   pub more : List Terminal
   pub entries : List Entry
   pub form : IsHierarchyForm (front ++ more) entries
@@ -63,9 +63,9 @@ pub record IsUnexpectedAt (tokens : List Terminal) (at : ℕ) : Type 0 where
   pub before : List Terminal
   pub token : Terminal
   pub after : List Terminal
-  pub parts : tokens ≡ before ++ token ∷ after
-  pub goes_on : BeginsForm before
-  pub stops : BeginsForm (before ++ token ∷ []) → ⊥
+  pub tokens_are : tokens ≡ before ++ token ∷ after
+  pub goes_on : IsPrefixOfForm before
+  pub stops : IsPrefixOfForm (before ++ token ∷ []) → ⊥
   pub place : at ≡ token.start
 
 -- ---- what the entries declare and write
@@ -102,7 +102,7 @@ pub record IsFirstRefusal (entries : List Entry) (fault : HierFault) : Type 0 wh
   pub before : List Entry
   pub entry : Entry
   pub after : List Entry
-  pub parts : entries ≡ before ++ entry ∷ after
+  pub entries_are : entries ≡ before ++ entry ∷ after
   pub accepted : AllAccepted before
   pub refused : IsRefusal (declared before) entry fault
 

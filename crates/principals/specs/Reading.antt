@@ -29,17 +29,17 @@ role_of token = role_by token.kind token.text
 
 -- what was read of an item: nothing; what comes before a declared name; the name; the left name of a pair; this and the
 -- word; the whole pair. At last the end marker
-pub data State : Type 0 where
-  Fresh : State
-  Declaring : State
-  Listed : State
-  Subject : Terminal → State
-  Verb : Terminal → State
-  Complete : State
-  Ended : State
+pub data ReadingState : Type 0 where
+  Fresh : ReadingState
+  Declaring : ReadingState
+  Listed : ReadingState
+  Subject : Terminal → ReadingState
+  Verb : Terminal → ReadingState
+  Complete : ReadingState
+  Ended : ReadingState
 
 -- the state after one more token, if some text goes on with it
-abbrev pub next_by : State → Role → Terminal → Option State
+abbrev pub next_by : ReadingState → Role → Terminal → Option ReadingState
 next_by Fresh Principal token = Some Declaring
 next_by Fresh Name token = Some (Subject token)
 next_by Fresh End token = Some Ended
@@ -51,23 +51,23 @@ next_by (Verb left) Name token = Some Complete
 next_by Complete Semicolon token = Some Fresh
 next_by _ _ token = None
 
-abbrev pub next : State → Terminal → Option State
+abbrev pub next : ReadingState → Terminal → Option ReadingState
 next state token = next_by state (role_of token) token
 
 -- the entry that one more token makes whole
-abbrev pub said : State → Terminal → List Entry
+abbrev pub said : ReadingState → Terminal → List Entry
 said Declaring token = Declares token ∷ []
 said (Verb left) token = Relates left token ∷ []
 said _ token = []
 
 -- the state after tokens, and what they say
-abbrev pub run : State → List Terminal → Option (State × List Entry)
+abbrev pub run : ReadingState → List Terminal → Option (ReadingState × List Entry)
 run state [] = Some (state, [])
 run state (token ∷ rest) =
     option_and_then (λ after. option_map (λ end. (end.0, said state token ++ end.1)) (run after rest)) (next state token)
 
 -- the code's states and statements, without references
-abbrev pub state_of : Progress → State
+abbrev pub state_of : Progress → ReadingState
 state_of progress.Fresh = Fresh
 state_of progress.Declaring = Declaring
 state_of progress.Listed = Listed

@@ -6,7 +6,7 @@ use Rattle.labels.specs.Label.{Label, may_read}
 use Rattle.labels.specs.Sent.{IsPrefix, seen}
 use Rattle.resolved.specs.declared.tables.Direction.TheVariants.{Input}
 use Rattle.resolved.specs.Program.{Program, channel_at}
-use Rattle.resolved.specs.State.{World}
+use Rattle.resolved.specs.SourceState.{World}
 use Rattle.resolved.specs.Meaning.{sent_by}
 use Rattle.resolved.specs.Labelled.{channel_label}
 

@@ -10,7 +10,7 @@ use Rattle.resolved.specs.Ends.{same_exit}
 use Rattle.resolved.specs.Tree.{Expression, Block}
 use Rattle.resolved.specs.Program.{Program, ProcedureEntry, ResultEntry, SlotEntry, procedure_at}
 use Rattle.resolved.specs.Value.{Evaluated, Gives, Raises, base_of}
-use Rattle.resolved.specs.State.{World, State, cells, value_of}
+use Rattle.resolved.specs.SourceState.{World, SourceState, cells, value_of}
 use Rattle.resolved.specs.Meaning.{Outcome, Ended, Stopped, state_after, block_meaning, calls_with, entering, first_state}
 use Rattle.resolved.specs.WellFormed.{VariableType, variable_type, cell_count, same_base, has_base, has_result, block_fits, well_formed}
 
@@ -20,7 +20,7 @@ pub record CellsFit (type : VariableType) (values : List Value) : Type 0 where
   pub kinds : All (λ v. base_of v ≡ type.base) values
 
 -- a state in which each variable of a procedure has the cells of its type
-pub record StateFits (program : Program) (procedure : ProcedureEntry) (s : State) : Type 0 where
+pub record StateFits (program : Program) (procedure : ProcedureEntry) (s : SourceState) : Type 0 where
   pub fits : (x : Variable) (type : VariableType) → variable_type program procedure x ≡ Some type → CellsFit type (cells s x)
 
 -- arguments for parameters: as many, and each of its base type
@@ -52,13 +52,13 @@ pub record OutcomeFits (program : Program) (procedure : ProcedureEntry) (place :
 abbrev pub MeaningKeepsTypes : Type 0
 MeaningKeepsTypes = (program : Program) → IsTrue (well_formed program)
     → (procedure : ProcedureEntry) (block : Block) → IsTrue (block_fits program procedure block)
-    → (frames k : ℕ) (s : State) → StateFits program procedure s
+    → (frames k : ℕ) (s : SourceState) → StateFits program procedure s
     → OutcomeFits program procedure Return procedure.result (block_meaning (calls_with program k frames) k block s)
 
 -- in a state that fits, a well-formed expression has a value of its base type or raises an exception
 abbrev pub ValuesHaveTheirTypes : Type 0
 ValuesHaveTheirTypes = (program : Program) (procedure : ProcedureEntry) (base : Base) (e : Expression)
-    → IsTrue (has_base program procedure base e) → (s : State) → StateFits program procedure s → GivesBase base (value_of s e)
+    → IsTrue (has_base program procedure base e) → (s : SourceState) → StateFits program procedure s → GivesBase base (value_of s e)
 
 -- a well-formed program begins in a state that fits
 abbrev pub RunsBeginTyped : Type 0

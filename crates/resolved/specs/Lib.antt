@@ -3,7 +3,7 @@ pub mod Program
 pub mod Names
 pub mod Exceptions
 pub mod Value
-pub mod State
+pub mod SourceState
 pub mod Meaning
 pub mod Ends
 pub mod EndFaults

@@ -13,7 +13,7 @@ use Rattle.resolved.specs.declared.tables.Direction.TheVariants.{Input, Output}
 use Rattle.resolved.specs.Tree.{Statement, Assign, Clear, Store, Receive, Send, Call, If, While, Leave, ReturnWith, Try, Nested, Block, Empty, Then, Handlers, NoMore, Catch}
 use Rattle.resolved.specs.Program.{Program, ChannelEntry, GlobalEntry, SlotEntry, ProcedureEntry, procedure_at}
 use Rattle.resolved.specs.Value.{Evaluated, Gives, Raises, number_in, truth_in, zero_value, checked_index, end_exception}
-use Rattle.resolved.specs.State.{World, State, updated, assigned, stored, cleared, value_of, values_of}
+use Rattle.resolved.specs.SourceState.{World, SourceState, updated, assigned, stored, cleared, value_of, values_of}
 
 -- why a run stops before its end: a call beyond the frames that there may be, or a loop that would make one turn more than the
 -- bound
@@ -24,17 +24,17 @@ pub data Stop : Type 0 where
 -- what a statement comes to: the way out that it takes, with the value that it returns if it does, and the state then; or a
 -- stop, which nothing catches
 pub data Outcome : Type 0 where
-  Ended : (exit : Exit) (returned : Option Value) → State → Outcome
-  Stopped : Stop → State → Outcome
+  Ended : (exit : Exit) (returned : Option Value) → SourceState → Outcome
+  Stopped : Stop → SourceState → Outcome
 
-abbrev pub normally : State → Outcome
+abbrev pub normally : SourceState → Outcome
 normally s = Ended Normal None s
 
-abbrev pub thrown : (exception : ℕ) → State → Outcome
+abbrev pub thrown : (exception : ℕ) → SourceState → Outcome
 thrown exception s = Ended (Throw exception) None s
 
 -- goes on after a normal end; every other end stays
-abbrev pub after : Outcome → (State → Outcome) → Outcome
+abbrev pub after : Outcome → (SourceState → Outcome) → Outcome
 after (Ended Normal returned s) next = next s
 after (Ended Return returned s) next = Ended Return returned s
 after (Ended Break returned s) next = Ended Break returned s
@@ -43,12 +43,12 @@ after (Ended (Throw exception) returned s) next = Ended (Throw exception) return
 after (Stopped stop s) next = Stopped stop s
 
 -- goes on with what was evaluated; an exception is the end
-abbrev pub evaluated : {A : Type 0} → Evaluated A → State → (A → Outcome) → Outcome
+abbrev pub evaluated : {A : Type 0} → Evaluated A → SourceState → (A → Outcome) → Outcome
 evaluated (Gives v) s next = next v
 evaluated (Raises exception) s next = thrown exception s
 
 -- goes on after the body of a loop where that ended normally or by `continue`; `break` is the normal end of the loop
-abbrev pub looped : Outcome → (State → Outcome) → Outcome
+abbrev pub looped : Outcome → (SourceState → Outcome) → Outcome
 looped (Ended Normal returned s) again = again s
 looped (Ended Return returned s) again = Ended Return returned s
 looped (Ended Break returned s) again = normally s
@@ -58,14 +58,14 @@ looped (Stopped stop s) again = Stopped stop s
 
 -- a loop of at most k turns, by the value of its condition and by what its body does; where the condition is true once more,
 -- the run is out of turns
-abbrev pub turns : (k : ℕ) → (State → Evaluated Value) → (State → Outcome) → State → Outcome
+abbrev pub turns : (k : ℕ) → (SourceState → Evaluated Value) → (SourceState → Outcome) → SourceState → Outcome
 turns zero condition body s =
     evaluated (condition s) s (λ v. if truth_in v then Stopped OutOfTurns s else normally s)
 turns (suc k) condition body s =
     evaluated (condition s) s (λ v. if truth_in v then looped (body s) (turns k condition body) else normally s)
 
 -- hands an exception to the handlers; every other end stays
-abbrev pub caught : Outcome → (ℕ → State → Outcome) → Outcome
+abbrev pub caught : Outcome → (ℕ → SourceState → Outcome) → Outcome
 caught (Ended Normal returned s) handle = Ended Normal returned s
 caught (Ended Return returned s) handle = Ended Return returned s
 caught (Ended Break returned s) handle = Ended Break returned s
@@ -74,22 +74,22 @@ caught (Ended (Throw exception) returned s) handle = handle exception s
 caught (Stopped stop s) handle = Stopped stop s
 
 -- the state in which a target, if there is one, has a value
-abbrev pub kept_in : Option Variable → Value → State → State
+abbrev pub kept_in : Option Variable → Value → SourceState → SourceState
 kept_in None v s = s
 kept_in (Some x) v s = assigned s x v
 
 -- takes the next number of an input, or raises `End`
-abbrev pub received : List ℤ → (channel : ℕ) → Option Variable → State → Outcome
+abbrev pub received : List ℤ → (channel : ℕ) → Option Variable → SourceState → Outcome
 received [] channel target s = thrown end_exception s
 received (z ∷ rest) channel target s =
     normally (kept_in target (Number z) (record s { inputs = updated s.inputs channel rest }))
 
 -- adds a pair to what was sent
-abbrev pub sending : (channel : ℕ) → Value → State → State
+abbrev pub sending : (channel : ℕ) → Value → SourceState → SourceState
 sending channel v s = record s { sent = s.sent ++ (record { channel = channel; number = number_in v } ∷ []) }
 
 -- what a call comes to by what the procedure's body does: a return is the normal end of the call, and the caller has its frame again
-abbrev pub leaving : (State → State) → Outcome → Outcome
+abbrev pub leaving : (SourceState → SourceState) → Outcome → Outcome
 leaving back (Ended Normal returned s) = Ended Normal returned (back s)
 leaving back (Ended Return returned s) = Ended Normal returned (back s)
 leaving back (Ended Break returned s) = Ended Break returned (back s)
@@ -99,7 +99,7 @@ leaving back (Stopped stop s) = Stopped stop (back s)
 
 -- the state in which a target, if there is one, has the value that was returned. In a well-formed program without a fault of its ends
 -- there is a value wherever there is a target
-abbrev pub given_to : Option Variable → Option Value → State → State
+abbrev pub given_to : Option Variable → Option Value → SourceState → SourceState
 given_to None returned s = s
 given_to (Some x) None s = s
 given_to (Some x) (Some v) s = assigned s x v
@@ -115,12 +115,12 @@ returned_to target (Stopped stop s) = Stopped stop s
 
 -- what the call of a procedure with these arguments does
 abbrev pub Calls : Type 0
-Calls = (procedure : ℕ) → List Value → State → Outcome
+Calls = (procedure : ℕ) → List Value → SourceState → Outcome
 
 -- the meaning of statements, blocks and handlers, by what calls do and with at most k turns of each loop, counted anew each
 -- time the loop is reached
 abbrev mutual
-  pub statement_meaning : Calls → (k : ℕ) → Statement → State → Outcome
+  pub statement_meaning : Calls → (k : ℕ) → Statement → SourceState → Outcome
   statement_meaning calls k (Assign at x e) s =
       evaluated (value_of s e) s (λ v. normally (assigned s x v))
   statement_meaning calls k (Clear at slot) s = normally (cleared s slot)
@@ -146,13 +146,13 @@ abbrev mutual
       caught (block_meaning calls k block s) (handlers_meaning calls k handlers)
   statement_meaning calls k (Nested at block) s = block_meaning calls k block s
 
-  pub block_meaning : Calls → (k : ℕ) → Block → State → Outcome
+  pub block_meaning : Calls → (k : ℕ) → Block → SourceState → Outcome
   block_meaning calls k Empty s = normally s
   block_meaning calls k (Then statement rest) s =
       after (statement_meaning calls k statement s) (block_meaning calls k rest)
 
   -- the first handler of the exception; without one it goes on
-  pub handlers_meaning : Calls → (k : ℕ) → Handlers → (exception : ℕ) → State → Outcome
+  pub handlers_meaning : Calls → (k : ℕ) → Handlers → (exception : ℕ) → SourceState → Outcome
   handlers_meaning calls k NoMore exception s = thrown exception s
   handlers_meaning calls k (Catch at handled body rest) exception s =
       if exception == handled then block_meaning calls k body s else handlers_meaning calls k rest exception s
@@ -172,7 +172,7 @@ abbrev pub frame_of : List SlotEntry → List Value → ℕ → List Value
 frame_of slots arguments n = slot_cells (slice_get slots n) (slice_get arguments n)
 
 -- the state at the begin of a call: the frame is new
-abbrev pub entering : ProcedureEntry → List Value → State → State
+abbrev pub entering : ProcedureEntry → List Value → SourceState → SourceState
 entering callee arguments s = record s { locals = frame_of callee.slots arguments }
 
 -- the calls of a program where so many more frames may be made; a call beyond them is deep
@@ -198,7 +198,7 @@ channel_numbers None numbers = []
 channel_numbers (Some entry) numbers = numbers_by entry.direction numbers
 
 -- the state in which a run begins
-abbrev pub first_state : Program → World → State
+abbrev pub first_state : Program → World → SourceState
 first_state program world = record {
   globals = λ n. global_cells (slice_get program.globals n);
   locals = λ n. [];
@@ -215,7 +215,7 @@ run_within frames program world k = calls_with program k frames program.main [] 
 unfoldable pub frame_limit : ℕ
 frame_limit = 512
 
-abbrev pub state_after : Outcome → State
+abbrev pub state_after : Outcome → SourceState
 state_after (Ended exit returned s) = s
 state_after (Stopped stop s) = s
 

@@ -15,7 +15,7 @@ use Rattle.resolved.specs.declared.tables.Direction.TheVariants.{Input, Output}
 use Rattle.resolved.specs.declared.statement.Exit.TheVariants.{Normal, Throw}
 use Rattle.resolved.specs.Tree.{Expression, Integer, Read, Unary, Binary, Statement, Assign, Receive, Send, If, While, Try, Block, Empty, Then, Handlers, NoMore, Catch}
 use Rattle.resolved.specs.Program.{Program, ProcedureEntry, ThrownEntry, GlobalEntry, SlotEntry}
-use Rattle.resolved.specs.State.{World}
+use Rattle.resolved.specs.SourceState.{World}
 use Rattle.resolved.specs.Meaning.{Outcome, Ended, Stopped, Stop, run_within, state_after}
 use Rattle.resolved.specs.Labelled.{Demand, Labelling, chosen, program_demands}
 

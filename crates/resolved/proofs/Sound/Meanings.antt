@@ -13,7 +13,7 @@ use Rattle.resolved.specs.declared.tables.Direction.TheVariants.{Input}
 use Rattle.resolved.specs.Tree.{Expression, Statement, Assign, Clear, Store, Receive, Send, Call, If, While, Leave, ReturnWith, Try, Nested, Block, Empty, Then, Handlers, NoMore, Catch}
 use Rattle.resolved.specs.Program.{Program, ProcedureEntry, ResultEntry, SlotEntry}
 use Rattle.resolved.specs.Value.{Evaluated, Gives, Raises, base_of, checked_index, truth_in}
-use Rattle.resolved.specs.State.{State, cells, assigned, stored, value_of, values_of, updated}
+use Rattle.resolved.specs.SourceState.{SourceState, cells, assigned, stored, value_of, values_of, updated}
 use Rattle.resolved.specs.Meaning.{Outcome, Ended, Stopped, Calls, normally, after, evaluated, looped, turns, caught, received, kept_in, sending, leaving, returned_to, entering, calls_with, statement_meaning, block_meaning, handlers_meaning}
 use Rattle.resolved.specs.WellFormed.{VariableType, variable_type, scalar_by, array_by, has_length, has_base, has_result, same_base, target_by, statement_fits, block_fits, handlers_fit, channel_is, is_exception, call_matches, arguments_match, parameters_of, well_formed}
 use Rattle.resolved.specs.Kinds.{StateFits, GivesBase, OutcomeFits, MeaningKeepsTypes, ValuesHaveTheirTypes, ArgumentsFit}
@@ -35,11 +35,11 @@ module _ (program : Program) (procedure : ProcedureEntry) (place : Exit) (result
   abbrev Fits : Outcome → Type 0
   Fits outcome = OutcomeFits program procedure place result outcome
 
-  ended_fits : (exit : Exit) (s : State) → StateFits program procedure s → OutcomeFits program procedure place result (Ended exit None s)
+  ended_fits : (exit : Exit) (s : SourceState) → StateFits program procedure s → OutcomeFits program procedure place result (Ended exit None s)
   ended_fits exit s state = record { state = state; returned = tt }
 
-  after_fits : (outcome : Outcome) (next : State → Outcome) → OutcomeFits program procedure place result outcome
-      → ((s : State) → StateFits program procedure s → OutcomeFits program procedure place result (next s))
+  after_fits : (outcome : Outcome) (next : SourceState → Outcome) → OutcomeFits program procedure place result outcome
+      → ((s : SourceState) → StateFits program procedure s → OutcomeFits program procedure place result (next s))
       → OutcomeFits program procedure place result (after outcome next)
   after_fits (Ended Normal returned s) next h k = k s h.state
   after_fits (Ended Return returned s) next h k = h
@@ -48,14 +48,14 @@ module _ (program : Program) (procedure : ProcedureEntry) (place : Exit) (result
   after_fits (Ended (Throw exception) returned s) next h k = h
   after_fits (Stopped stop s) next h k = h
 
-  evaluated_fits : {A : Type 0} (first : Evaluated A) (s : State) (next : A → Outcome) → StateFits program procedure s
+  evaluated_fits : {A : Type 0} (first : Evaluated A) (s : SourceState) (next : A → Outcome) → StateFits program procedure s
       → ((v : A) → first ≡ Gives v → OutcomeFits program procedure place result (next v))
       → OutcomeFits program procedure place result (evaluated first s next)
   evaluated_fits (Gives v) s next state h = h v refl
   evaluated_fits (Raises exception) s next state h = ended_fits (Throw exception) s state
 
-  looped_fits : (outcome : Outcome) (again : State → Outcome) → OutcomeFits program procedure place result outcome
-      → ((s : State) → StateFits program procedure s → OutcomeFits program procedure place result (again s))
+  looped_fits : (outcome : Outcome) (again : SourceState → Outcome) → OutcomeFits program procedure place result outcome
+      → ((s : SourceState) → StateFits program procedure s → OutcomeFits program procedure place result (again s))
       → OutcomeFits program procedure place result (looped outcome again)
   looped_fits (Ended Normal returned s) again h k = k s h.state
   looped_fits (Ended Return returned s) again h k = h
@@ -69,9 +69,9 @@ module _ (program : Program) (procedure : ProcedureEntry) (place : Exit) (result
   either_fits true first second h k = h
   either_fits false first second h k = k
 
-  turns_fits : (k : ℕ) (condition : State → Evaluated Value) (body : State → Outcome)
-      → ((s : State) → StateFits program procedure s → OutcomeFits program procedure place result (body s))
-      → (s : State) → StateFits program procedure s → OutcomeFits program procedure place result (turns k condition body s)
+  turns_fits : (k : ℕ) (condition : SourceState → Evaluated Value) (body : SourceState → Outcome)
+      → ((s : SourceState) → StateFits program procedure s → OutcomeFits program procedure place result (body s))
+      → (s : SourceState) → StateFits program procedure s → OutcomeFits program procedure place result (turns k condition body s)
   turns_fits zero condition body h s state =
       evaluated_fits (condition s) s _ state (λ v _.
       either_fits (truth_in v) _ _ (record { state = state; returned = tt }) (ended_fits Normal s state))
@@ -79,8 +79,8 @@ module _ (program : Program) (procedure : ProcedureEntry) (place : Exit) (result
       evaluated_fits (condition s) s _ state (λ v _.
       either_fits (truth_in v) _ _ (looped_fits (body s) _ (h s state) (turns_fits k condition body h)) (ended_fits Normal s state))
 
-  caught_fits : (outcome : Outcome) (handle : ℕ → State → Outcome) → OutcomeFits program procedure place result outcome
-      → ((exception : ℕ) (s : State) → StateFits program procedure s → OutcomeFits program procedure place result (handle exception s))
+  caught_fits : (outcome : Outcome) (handle : ℕ → SourceState → Outcome) → OutcomeFits program procedure place result outcome
+      → ((exception : ℕ) (s : SourceState) → StateFits program procedure s → OutcomeFits program procedure place result (handle exception s))
       → OutcomeFits program procedure place result (caught outcome handle)
   caught_fits (Ended Normal returned s) handle h k = h
   caught_fits (Ended Return returned s) handle h k = h
@@ -108,7 +108,7 @@ array_found length test (Some found) type h e =
     subst (λ t. test t.base ≡ true) same (both (has_length found.size length) _ h).1
 
 module _ (program : Program) (procedure : ProcedureEntry) where
-  kept_fits : (target : Option Variable) (v : Value) (s : State) → StateFits program procedure s
+  kept_fits : (target : Option Variable) (v : Value) (s : SourceState) → StateFits program procedure s
       → target_by program procedure target (same_base (base_of v)) ≡ true → StateFits program procedure (kept_in target v s)
   kept_fits None v s state h = state
   kept_fits (Some x) v s state h =
@@ -117,7 +117,7 @@ module _ (program : Program) (procedure : ProcedureEntry) where
       scalar_found (same_base (base_of v)) (variable_type program procedure x) type h e in
       (parts.0, same_base_is (base_of v) type.base parts.1))
 
-  received_fits : (numbers : List ℤ) (channel : ℕ) (target : Option Variable) (s : State) → StateFits program procedure s
+  received_fits : (numbers : List ℤ) (channel : ℕ) (target : Option Variable) (s : SourceState) → StateFits program procedure s
       → target_by program procedure target (same_base Int) ≡ true
       → (place : Exit) (result : Option ResultEntry) → OutcomeFits program procedure place result (received numbers channel target s)
   received_fits [] channel target s state h place result = record { state = state; returned = tt }
@@ -131,7 +131,7 @@ module _ (program : Program) (procedure : ProcedureEntry) where
       same (Global n) = refl
       same (Local n) = refl
 
-  sending_fits : (channel : ℕ) (v : Value) (s : State) → StateFits program procedure s → StateFits program procedure (sending channel v s)
+  sending_fits : (channel : ℕ) (v : Value) (s : SourceState) → StateFits program procedure s → StateFits program procedure (sending channel v s)
   sending_fits channel v s state = same_variables program procedure s (sending channel v s) same state
     where
       same : (x : Variable) → cells (sending channel v s) x ≡ cells s x
@@ -183,11 +183,11 @@ match_given parameters (Raises exception) values e h = cc
 -- the procedure's base type
 abbrev pub CallsKeep : Program → Calls → Type 0
 CallsKeep program calls = (caller : ProcedureEntry) (f : ℕ) (callee : ProcedureEntry) → slice_get program.procedures f ≡ Some callee
-    → (values : List Value) → ArgumentsFit (parameters_of callee) values → (s : State) → StateFits program caller s
+    → (values : List Value) → ArgumentsFit (parameters_of callee) values → (s : SourceState) → StateFits program caller s
     → OutcomeFits program caller Normal callee.result (calls f values s)
 
 module _ (program : Program) (procedure : ProcedureEntry) (calls : Calls) (keep : CallsKeep program calls) (k : ℕ) where
-  assign_keeps : (x : Variable) (e : Expression) (s : State) → StateFits program procedure s
+  assign_keeps : (x : Variable) (e : Expression) (s : SourceState) → StateFits program procedure s
       → scalar_by (variable_type program procedure x) (λ base. has_base program procedure base e) ≡ true
       → OutcomeFits program procedure Return procedure.result (evaluated (value_of s e) s (λ v. normally (assigned s x v)))
   assign_keeps x e s state h =
@@ -199,7 +199,7 @@ module _ (program : Program) (procedure : ProcedureEntry) (calls : Calls) (keep 
         returned = tt;
       })
 
-  store_keeps : (array : Variable) (length : ℕ) (index e : Expression) (s : State) → StateFits program procedure s
+  store_keeps : (array : Variable) (length : ℕ) (index e : Expression) (s : SourceState) → StateFits program procedure s
       → array_by (variable_type program procedure array) length (λ base. has_base program procedure base e) ≡ true
       → OutcomeFits program procedure Return procedure.result
       (evaluated (value_of s index) s (λ v.
@@ -216,7 +216,7 @@ module _ (program : Program) (procedure : ProcedureEntry) (calls : Calls) (keep 
         returned = tt;
       })))
 
-  call_keeps : (f : ℕ) (callee : Option ProcedureEntry) (arguments : List Expression) (target : Option Variable) (s : State)
+  call_keeps : (f : ℕ) (callee : Option ProcedureEntry) (arguments : List Expression) (target : Option Variable) (s : SourceState)
       → StateFits program procedure s → slice_get program.procedures f ≡ callee → call_matches program procedure callee arguments target ≡ true
       → OutcomeFits program procedure Return procedure.result
       (evaluated (values_of s arguments) s (λ values. returned_to target (calls f values s)))
@@ -232,7 +232,7 @@ module _ (program : Program) (procedure : ProcedureEntry) (calls : Calls) (keep 
       (values_match program procedure s state (parameters_of callee) arguments parts.0)) s state)
       parts.1 procedure.result)
 
-  return_keeps : (result : Option ResultEntry) (e : Expression) (s : State) → StateFits program procedure s
+  return_keeps : (result : Option ResultEntry) (e : Expression) (s : SourceState) → StateFits program procedure s
       → has_result result (λ base. has_base program procedure base e) ≡ true
       → OutcomeFits program procedure Return result (evaluated (value_of s e) s (λ v. Ended Return (Some v) s))
   return_keeps None e s state h = cc
@@ -245,7 +245,7 @@ module _ (program : Program) (procedure : ProcedureEntry) (calls : Calls) (keep 
       })
 
   mutual
-    pub statement_keeps : (statement : Statement) (s : State) → StateFits program procedure s
+    pub statement_keeps : (statement : Statement) (s : SourceState) → StateFits program procedure s
         → statement_fits program procedure statement ≡ true
         → OutcomeFits program procedure Return procedure.result (statement_meaning calls k statement s)
     statement_keeps (Assign at x e) s state h = assign_keeps x e s state h
@@ -282,7 +282,7 @@ module _ (program : Program) (procedure : ProcedureEntry) (calls : Calls) (keep 
         (λ exception t fit. handlers_keep handlers exception t fit parts.1)
     statement_keeps (Nested at block) s state h = block_keeps block s state h
 
-    pub block_keeps : (block : Block) (s : State) → StateFits program procedure s → block_fits program procedure block ≡ true
+    pub block_keeps : (block : Block) (s : SourceState) → StateFits program procedure s → block_fits program procedure block ≡ true
         → OutcomeFits program procedure Return procedure.result (block_meaning calls k block s)
     block_keeps Empty s state h = record { state = state; returned = tt }
     block_keeps (Then statement rest) s state h =
@@ -291,7 +291,7 @@ module _ (program : Program) (procedure : ProcedureEntry) (calls : Calls) (keep 
         after_fits program procedure Return procedure.result (statement_meaning calls k statement s) (block_meaning calls k rest)
         (statement_keeps statement s state parts.0) (λ t fit. block_keeps rest t fit parts.1)
 
-    pub handlers_keep : (handlers : Handlers) (exception : ℕ) (s : State) → StateFits program procedure s
+    pub handlers_keep : (handlers : Handlers) (exception : ℕ) (s : SourceState) → StateFits program procedure s
         → handlers_fit program procedure handlers ≡ true
         → OutcomeFits program procedure Return procedure.result (handlers_meaning calls k handlers exception s)
     handlers_keep NoMore exception s state h = record { state = state; returned = tt }
@@ -303,7 +303,7 @@ module _ (program : Program) (procedure : ProcedureEntry) (calls : Calls) (keep 
         (handlers_keep rest exception s state parts.1)
 
 -- ---- calls
-leaving_fits : (program : Program) (caller callee : ProcedureEntry) (s : State) (outcome : Outcome) → StateFits program caller s
+leaving_fits : (program : Program) (caller callee : ProcedureEntry) (s : SourceState) (outcome : Outcome) → StateFits program caller s
     → OutcomeFits program callee Return callee.result outcome
     → OutcomeFits program caller Normal callee.result (leaving (λ t. record t { locals = s.locals }) outcome)
 leaving_fits program caller callee s (Ended Normal None t) state h =

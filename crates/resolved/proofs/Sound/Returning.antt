@@ -9,7 +9,7 @@ use Rattle.resolved.specs.declared.statement.Exit.TheVariants.{Normal, Return, B
 use Rattle.resolved.specs.Tree.{Statement, Assign, Clear, Store, Receive, Send, Call, If, While, Leave, ReturnWith, Try, Nested, Block, Empty, Then, Handlers, NoMore, Catch}
 use Rattle.resolved.specs.Program.{Program, ProcedureEntry, ResultEntry}
 use Rattle.resolved.specs.Value.{Evaluated, Gives, Raises, checked_index, truth_in}
-use Rattle.resolved.specs.State.{State, value_of, values_of}
+use Rattle.resolved.specs.SourceState.{SourceState, value_of, values_of}
 use Rattle.resolved.specs.Meaning.{Outcome, Ended, Stopped, after, evaluated, looped, turns, caught, received, leaving, returned_to, calls_with, statement_meaning, block_meaning, handlers_meaning}
 use Rattle.resolved.specs.WellFormed.{has_base, statement_fits, block_fits, handlers_fit, is_exception}
 
@@ -23,7 +23,7 @@ ReturnsSome (Ended Continue returned s) = Unit {0}
 ReturnsSome (Ended (Throw exception) returned s) = Unit {0}
 ReturnsSome (Stopped stop s) = Unit {0}
 
-after_some : (outcome : Outcome) (next : State → Outcome) → ReturnsSome outcome → ((s : State) → ReturnsSome (next s)) → ReturnsSome (after outcome next)
+after_some : (outcome : Outcome) (next : SourceState → Outcome) → ReturnsSome outcome → ((s : SourceState) → ReturnsSome (next s)) → ReturnsSome (after outcome next)
 after_some (Ended Normal returned s) next h each = each s
 after_some (Ended Return returned s) next h each = h
 after_some (Ended Break returned s) next h each = tt
@@ -31,7 +31,7 @@ after_some (Ended Continue returned s) next h each = tt
 after_some (Ended (Throw exception) returned s) next h each = tt
 after_some (Stopped stop s) next h each = tt
 
-evaluated_some : {A : Type 0} (first : Evaluated A) (s : State) (next : A → Outcome) → ((v : A) → ReturnsSome (next v)) → ReturnsSome (evaluated first s next)
+evaluated_some : {A : Type 0} (first : Evaluated A) (s : SourceState) (next : A → Outcome) → ((v : A) → ReturnsSome (next v)) → ReturnsSome (evaluated first s next)
 evaluated_some (Gives v) s next each = each v
 evaluated_some (Raises exception) s next each = tt
 
@@ -39,7 +39,7 @@ either_some : (test : Bool) (first second : Outcome) → ReturnsSome first → R
 either_some true first second h k = h
 either_some false first second h k = k
 
-looped_some : (outcome : Outcome) (again : State → Outcome) → ReturnsSome outcome → ((s : State) → ReturnsSome (again s)) → ReturnsSome (looped outcome again)
+looped_some : (outcome : Outcome) (again : SourceState → Outcome) → ReturnsSome outcome → ((s : SourceState) → ReturnsSome (again s)) → ReturnsSome (looped outcome again)
 looped_some (Ended Normal returned s) again h each = each s
 looped_some (Ended Return returned s) again h each = h
 looped_some (Ended Break returned s) again h each = tt
@@ -47,13 +47,13 @@ looped_some (Ended Continue returned s) again h each = each s
 looped_some (Ended (Throw exception) returned s) again h each = tt
 looped_some (Stopped stop s) again h each = tt
 
-turns_some : (k : ℕ) (condition : State → Evaluated Value) (body : State → Outcome) → ((s : State) → ReturnsSome (body s)) → (s : State) →
+turns_some : (k : ℕ) (condition : SourceState → Evaluated Value) (body : SourceState → Outcome) → ((s : SourceState) → ReturnsSome (body s)) → (s : SourceState) →
     ReturnsSome (turns k condition body s)
 turns_some zero condition body each s = evaluated_some (condition s) s _ (λ v. either_some (truth_in v) _ _ tt tt)
 turns_some (suc k) condition body each s =
     evaluated_some (condition s) s _ (λ v. either_some (truth_in v) _ _ (looped_some (body s) _ (each s) (turns_some k condition body each)) tt)
 
-caught_some : (outcome : Outcome) (handle : ℕ → State → Outcome) → ReturnsSome outcome → ((exception : ℕ) (s : State) → ReturnsSome (handle exception s)) →
+caught_some : (outcome : Outcome) (handle : ℕ → SourceState → Outcome) → ReturnsSome outcome → ((exception : ℕ) (s : SourceState) → ReturnsSome (handle exception s)) →
     ReturnsSome (caught outcome handle)
 caught_some (Ended Normal returned s) handle h each = tt
 caught_some (Ended Return returned s) handle h each = h
@@ -62,7 +62,7 @@ caught_some (Ended Continue returned s) handle h each = tt
 caught_some (Ended (Throw exception) returned s) handle h each = each exception s
 caught_some (Stopped stop s) handle h each = tt
 
-received_some : (numbers : List ℤ) (channel : ℕ) (target : Option Variable) (s : State) → ReturnsSome (received numbers channel target s)
+received_some : (numbers : List ℤ) (channel : ℕ) (target : Option Variable) (s : SourceState) → ReturnsSome (received numbers channel target s)
 received_some [] channel target s = tt
 received_some (z ∷ rest) channel target s = tt
 
@@ -75,7 +75,7 @@ returned_to_some target (Ended (Throw exception) returned s) h = tt
 returned_to_some target (Stopped stop s) h = tt
 
 -- a return is the normal end of its call
-leaving_some : (back : State → State) (outcome : Outcome) → ReturnsSome (leaving back outcome)
+leaving_some : (back : SourceState → SourceState) (outcome : Outcome) → ReturnsSome (leaving back outcome)
 leaving_some back (Ended Normal returned s) = tt
 leaving_some back (Ended Return returned s) = tt
 leaving_some back (Ended Break returned s) = tt
@@ -83,13 +83,13 @@ leaving_some back (Ended Continue returned s) = tt
 leaving_some back (Ended (Throw exception) returned s) = tt
 leaving_some back (Stopped stop s) = tt
 
-calls_some : (program : Program) (k frames f : ℕ) (arguments : List Value) (s : State) → ReturnsSome (calls_with program k frames f arguments s)
+calls_some : (program : Program) (k frames f : ℕ) (arguments : List Value) (s : SourceState) → ReturnsSome (calls_with program k frames f arguments s)
 calls_some program k zero f arguments s = tt
 calls_some program k (suc frames) f arguments s = leaving_some (λ t. record t { locals = s.locals }) _
 
 module _ (program : Program) (procedure : ProcedureEntry) (entry : ResultEntry) (is : procedure.result ≡ Some entry) (k frames : ℕ) where
   mutual
-    statement_some : (statement : Statement) (s : State) → statement_fits program procedure statement ≡ true →
+    statement_some : (statement : Statement) (s : SourceState) → statement_fits program procedure statement ≡ true →
         ReturnsSome (statement_meaning (calls_with program k frames) k statement s)
     statement_some (Assign at x e) s fit = evaluated_some (value_of s e) s _ (λ v. tt)
     statement_some (Clear at slot) s fit = tt
@@ -118,13 +118,13 @@ module _ (program : Program) (procedure : ProcedureEntry) (entry : ResultEntry) 
         caught_some (block_meaning (calls_with program k frames) k block s) _ (block_some block s parts.0) (λ exception t. handlers_some handlers exception t parts.1)
     statement_some (Nested at block) s fit = block_some block s fit
 
-    pub block_some : (block : Block) (s : State) → block_fits program procedure block ≡ true → ReturnsSome (block_meaning (calls_with program k frames) k block s)
+    pub block_some : (block : Block) (s : SourceState) → block_fits program procedure block ≡ true → ReturnsSome (block_meaning (calls_with program k frames) k block s)
     block_some Empty s fit = tt
     block_some (Then statement rest) s fit =
         let parts = and_parts (statement_fits program procedure statement) (block_fits program procedure rest) fit in
         after_some (statement_meaning (calls_with program k frames) k statement s) _ (statement_some statement s parts.0) (λ t. block_some rest t parts.1)
 
-    handlers_some : (handlers : Handlers) (exception : ℕ) (s : State) → handlers_fit program procedure handlers ≡ true →
+    handlers_some : (handlers : Handlers) (exception : ℕ) (s : SourceState) → handlers_fit program procedure handlers ≡ true →
         ReturnsSome (handlers_meaning (calls_with program k frames) k handlers exception s)
     handlers_some NoMore exception s fit = tt
     handlers_some (Catch at handled body rest) exception s fit =

@@ -7,7 +7,7 @@ use Rattle.resolved.specs.declared.expression.Variable.{Variable}
 use Rattle.resolved.specs.declared.expression.Variable.TheVariants.{Global, Local}
 use Rattle.resolved.specs.Program.{Program, ProcedureEntry, GlobalEntry, procedure_at}
 use Rattle.resolved.specs.Value.{base_of}
-use Rattle.resolved.specs.State.{World, cells}
+use Rattle.resolved.specs.SourceState.{World, cells}
 use Rattle.resolved.specs.Meaning.{entering, first_state, global_cells}
 use Rattle.resolved.specs.WellFormed.{VariableType, variable_type, global_type, same_base, size_fits, label_fits, first_fits, main_fits, well_formed}
 use Rattle.resolved.specs.Kinds.{CellsFit, StateFits, RunsBeginTyped, ArgumentsFit}

@@ -12,14 +12,14 @@ use Rattle.resolved.specs.declared.expression.Variable.{Variable}
 use Rattle.resolved.specs.declared.expression.Variable.TheVariants.{Global, Local}
 use Rattle.resolved.specs.Program.{Program, ProcedureEntry, SlotEntry}
 use Rattle.resolved.specs.Value.{base_of, zero_value}
-use Rattle.resolved.specs.State.{State, cells, with_cells, assigned, stored, cleared}
+use Rattle.resolved.specs.SourceState.{SourceState, cells, with_cells, assigned, stored, cleared}
 use Rattle.resolved.specs.Meaning.{entering, cells_of, slot_cells}
 use Rattle.resolved.specs.WellFormed.{VariableType, variable_type, slot_type, cell_count, parameter_fits, parameters_of}
 use Rattle.resolved.specs.Kinds.{CellsFit, StateFits, ArgumentsFit}
 use Rattle.resolved.proofs.Sound.Values.{both}
 
 -- a state with the same variables
-pub same_variables : (program : Program) (procedure : ProcedureEntry) (s t : State) → ((x : Variable) → cells t x ≡ cells s x)
+pub same_variables : (program : Program) (procedure : ProcedureEntry) (s t : SourceState) → ((x : Variable) → cells t x ≡ cells s x)
     → StateFits program procedure s → StateFits program procedure t
 same_variables program procedure s t same state = record {
   fits = λ x type e. subst (CellsFit type) (sym (same x)) (state.fits x type e);
@@ -46,7 +46,7 @@ pub some_same : {A : Type 0} {x y : A} → ◌≡◌ {A = Option A} (Some x) (So
 some_same h = cc
 
 module _ (program : Program) (procedure : ProcedureEntry) where
-  pub with_cells_fits : (s : State) (x : Variable) (values : List Value) → StateFits program procedure s
+  pub with_cells_fits : (s : SourceState) (x : Variable) (values : List Value) → StateFits program procedure s
       → ((type : VariableType) → variable_type program procedure x ≡ Some type → CellsFit type values)
       → StateFits program procedure (with_cells s x values)
   with_cells_fits s (Global n) values state new = record { fits = go }
@@ -68,13 +68,13 @@ module _ (program : Program) (procedure : ProcedureEntry) where
           (λ h. new type (subst (λ i. variable_type program procedure (Local i) ≡ Some type) (eqb-true m n h) e))
           (λ h. state.fits (Local m) type e)
 
-  pub assigned_fits : (s : State) (x : Variable) (v : Value) → StateFits program procedure s
+  pub assigned_fits : (s : SourceState) (x : Variable) (v : Value) → StateFits program procedure s
       → ((type : VariableType) → variable_type program procedure x ≡ Some type → (is_none type.size ≡ true) × (base_of v ≡ type.base))
       → StateFits program procedure (assigned s x v)
   assigned_fits s x v state h =
       with_cells_fits s x (v ∷ []) state (λ type e. one_cell_fits type v (h type e).0 (h type e).1)
 
-  pub stored_fits : (s : State) (array : Variable) (i : ℕ) (v : Value) → StateFits program procedure s
+  pub stored_fits : (s : SourceState) (array : Variable) (i : ℕ) (v : Value) → StateFits program procedure s
       → ((type : VariableType) → variable_type program procedure array ≡ Some type → base_of v ≡ type.base)
       → StateFits program procedure (stored s array i v)
   stored_fits s array i v state h =
@@ -85,7 +85,7 @@ module _ (program : Program) (procedure : ProcedureEntry) where
         kinds = All-set (λ w. base_of w ≡ type.base) (cells s array) i v (h type e) fit.kinds;
       })
 
-  pub cleared_fits : (s : State) (slot : ℕ) → StateFits program procedure s → StateFits program procedure (cleared s slot)
+  pub cleared_fits : (s : SourceState) (slot : ℕ) → StateFits program procedure s → StateFits program procedure (cleared s slot)
   cleared_fits s slot state =
       with_cells_fits s (Local slot) (map (λ v. zero_value (base_of v)) (s.locals slot)) state (λ type e.
       let fit : CellsFit type (s.locals slot) = state.fits (Local slot) type e in
@@ -119,7 +119,7 @@ argument_matches (suc m) (parameter ∷ slots) (w ∷ values) (suc n) slot v mat
     argument_matches m slots values n slot v matches.1 (both (parameter_fits parameter) _ fit).1 e e'
 
 -- a call begins in a state that fits its procedure
-pub entering_fits : (program : Program) (caller callee : ProcedureEntry) (s : State) (values : List Value)
+pub entering_fits : (program : Program) (caller callee : ProcedureEntry) (s : SourceState) (values : List Value)
     → StateFits program caller s → ArgumentsFit (parameters_of callee) values → list_all parameter_fits (parameters_of callee) ≡ true
     → StateFits program callee (entering callee values s)
 entering_fits program caller callee s values state matches fit = record { fits = go }
@@ -145,7 +145,7 @@ entering_fits program caller callee s values state matches fit = record { fits =
     go (Local n) type e = slot_fits (slice_get callee.slots n) (slice_get values n) n type refl refl e
 
 -- what a caller finds again: its own slots, and the globals of the callee
-pub back_fits : (program : Program) (caller callee : ProcedureEntry) (s t : State)
+pub back_fits : (program : Program) (caller callee : ProcedureEntry) (s t : SourceState)
     → StateFits program caller s → StateFits program callee t → StateFits program caller (record t { locals = s.locals })
 back_fits program caller callee s t before after_call = record { fits = go }
   where

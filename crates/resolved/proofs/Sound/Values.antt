@@ -17,7 +17,7 @@ use Rattle.resolved.specs.declared.expression.Connective.{Connective}
 use Rattle.resolved.specs.Tree.{Expression, Integer, Logical, Read, Element, Unary, Binary, Short}
 use Rattle.resolved.specs.Program.{Program, ProcedureEntry, SlotEntry}
 use Rattle.resolved.specs.Value.{Evaluated, Gives, Raises, then_with, base_of, operator_value, prefix_value, checked_index, number_in, in_range, position_of, is_zero, decides, bounds_exception}
-use Rattle.resolved.specs.State.{State, cells, cell_at, value_of, values_of}
+use Rattle.resolved.specs.SourceState.{SourceState, cells, cell_at, value_of, values_of}
 use Rattle.resolved.specs.WellFormed.{VariableType, variable_type, scalar_by, array_by, has_length, cell_count, same_base, prefix_base, result_base, has_base, arguments_match}
 use Rattle.resolved.specs.Kinds.{CellsFit, StateFits, GivesBase, ArgumentsFit}
 
@@ -104,7 +104,7 @@ connective_gives base connective (Gives v) right same h k =
     right_gives base (decides connective v) v right (h ∙ same) (gives_at Boolean base right same k)
 connective_gives base connective (Raises exception) right same h k = tt
 
-module _ (program : Program) (procedure : ProcedureEntry) (s : State) (state : StateFits program procedure s) where
+module _ (program : Program) (procedure : ProcedureEntry) (s : SourceState) (state : StateFits program procedure s) where
   scalar_read : (base : Base) (x : Variable) → scalar_by (variable_type program procedure x) (same_base base) ≡ true
       → base_of (cell_at (cells s x) 0) ≡ base
   scalar_read base x h = go (variable_type program procedure x) refl h
@@ -179,7 +179,7 @@ more_match parameter parameters (Gives v) (Gives vs) h k = (h, k)
 more_match parameter parameters (Gives v) (Raises exception) h k = tt
 more_match parameter parameters (Raises exception) rest h k = tt
 
-pub values_match : (program : Program) (procedure : ProcedureEntry) (s : State) → StateFits program procedure s
+pub values_match : (program : Program) (procedure : ProcedureEntry) (s : SourceState) → StateFits program procedure s
     → (parameters : List SlotEntry) (arguments : List Expression) → arguments_match program procedure parameters arguments ≡ true
     → GivesMatch parameters (values_of s arguments)
 values_match program procedure s state [] [] h = tt

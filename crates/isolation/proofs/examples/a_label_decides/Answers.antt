@@ -36,12 +36,12 @@ size (negsuc n) = n
 
 apart : (m n : ℕ) → IsPrefix (sends (pos m)) (sends (pos n)) → m ≡ n
 unfolding first_of_list size
-apart m n begins = ap (λ l. size (first_of_list l)) begins.1
+apart m n prefix = ap (λ l. size (first_of_list l)) prefix.1
 
 pub returns-clause-leaks : goal.returns-clause-leaks
 unfolding frame_limit
 returns-clause-leaks c isolated =
     ⊎_elim
-    (λ begins. let e : 5 ≡ 6 = apart 5 6 begins in omega (arith, e))
-    (λ begins. let e : 6 ≡ 5 = apart 6 5 begins in omega (arith, e))
+    (λ prefix. let e : 5 ≡ 6 = apart 5 6 prefix in omega (arith, e))
+    (λ prefix. let e : 6 ≡ 5 = apart 6 5 prefix in omega (arith, e))
     (isolated bob (comes (pos 5)) (comes (pos 6)) (same_for_bob (pos 5) (pos 6)) 1 1)

@@ -7,7 +7,7 @@ use Rattle.resolved.specs.declared.expression.Operator.TheVariants.{GreaterThan}
 use Rattle.resolved.specs.Tree.{Integer, Read, Binary, Assign, Receive, Send, Try, Empty, Then, NoMore, Catch}
 use Rattle.resolved.specs.Program.{procedure_at}
 use Rattle.resolved.specs.Value.{end_exception}
-use Rattle.resolved.specs.State.{State, value_of}
+use Rattle.resolved.specs.SourceState.{SourceState, value_of}
 use Rattle.resolved.specs.Meaning.{Outcome, after, leaving, entering, block_meaning, calls_with, first_state, state_after, frame_limit}
 use Rattle.resolved.specs.Labelled.{channel_label}
 use Rattle.isolation.specs.Examples.{for_alice, two_principals, bob, comes, waiting}
@@ -30,7 +30,7 @@ returns-clause-all c zero = refl
 returns-clause-all c (suc k) = refl
 
 -- the state in which the loop is reached, and the run from there on
-reached : (k : ℕ) → State
+reached : (k : ℕ) → SourceState
 reached k =
     state_after (block_meaning (calls_with waiting k 511) k
     (Then (Assign 0 (Local 0) (Integer 0)) (Then (Try 0 (Then (Receive 0 0 (Some (Local 0))) Empty) (Catch 0 end_exception Empty NoMore)) Empty))

@@ -1,5 +1,5 @@
 use Rattle.std.proofs.Common.{[]}
-use Rattle.isolation.proofs.Longer.{calls-go_on, begins-longer}
+use Rattle.isolation.proofs.Longer.{calls-go_on, prefix-longer}
 use Rattle.isolation.proofs.runs.more_turns_go_on.Goals as goal
 use Rattle.resolved.specs.Meaning.{first_state, frame_limit, run_within}
 
@@ -8,5 +8,5 @@ returns-clause-runs c program frames world k m le = calls-go_on program k m le f
 
 pub returns-clause-sent : goal.returns-clause-sent
 returns-clause-sent c program world k m le =
-    begins-longer (run_within frame_limit program world k) (run_within frame_limit program world m)
+    prefix-longer (run_within frame_limit program world k) (run_within frame_limit program world m)
     (calls-go_on program k m le frame_limit program.main [] (first_state program world))

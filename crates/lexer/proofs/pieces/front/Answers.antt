@@ -11,5 +11,5 @@ split_at-requires c = (parted c.args.text.now c.args.rest.now c.utf8.text c.utf8
 
 pub returns : goal.returns
 returns c =
-    (parted c.args.text.now c.args.rest.now c.utf8.text c.utf8.rest c.requires).parts
+    (parted c.args.text.now c.args.rest.now c.utf8.text c.utf8.rest c.requires).text_is
     ∙ ap (λ l. chars l ++ chars c.args.rest.now) (sym c.split_at.ensures.front)

@@ -1,6 +1,6 @@
 use Rattle.std.proofs.Common.{◌≤◌, length, ap, sym, ◌∙◌, subst}
 use Rattle.lexer.specs.Terminal.{terminals_of}
-use Rattle.syntax.specs.Grammar.{Spells}
+use Rattle.syntax.specs.Grammar.{SpellsProgram}
 use Rattle.syntax.specs.Nodes.{program_nodes}
 use Rattle.syntax.specs.Tree.{program_tree}
 use Rattle.parser.proofs.Parsing.{items_spelled, items_only, items_bounded, items_program, items_not_refused, fault_only, fault_unexpected, fault_too_deep, fault_first}
@@ -12,7 +12,7 @@ new-requires c =
 
 pub returns-in-Ok-clause-spelled : goal.returns-in-Ok-clause-spelled
 returns-in-Ok-clause-spelled c =
-    subst (λ items. Spells (terminals_of c.args.tokens.now) (program_tree items)) (sym c.new.ensures.same) (items_spelled c.args.tokens.now c.requires.terminated c.in-Ok.items.items c.program.new.self.rest.now c.in-Ok.ensures)
+    subst (λ items. SpellsProgram (terminals_of c.args.tokens.now) (program_tree items)) (sym c.new.ensures.same) (items_spelled c.args.tokens.now c.requires.terminated c.in-Ok.items.items c.program.new.self.rest.now c.in-Ok.ensures)
 
 pub returns-in-Ok-clause-bounded : goal.returns-in-Ok-clause-bounded
 returns-in-Ok-clause-bounded c =

@@ -187,8 +187,8 @@ walk_form-returns-in_ok-unite-in-Try-clause-found t c =
     (try-is-found program c.in-Try.field-0 block handlers c.args.entries.now.items c.walk_block-in-Try.new.entries.items c.new-inner.result.words.items c.walk_block-in-Try.new.raised.words.items c.in_ok-tried-in-Try.tried
     c.new-inner.ensures c.in_ok-tried-in-Try.ensures.found
     c.walk_handlers.new.entries.items c.walk_handlers.new.inner.words.items c.args.raised.now.words.items c.walk_handlers.new.raised.words.items c.unite.new.self.words.items
-    c.in_ok-handled-in-Try.handled c.with.result c.join-in-Try.result c.kept.result
-    c.in_ok-handled-in-Try.ensures.found c.in_ok-handled-in-Try.ensures.left c.in_ok-unite-in-Try.ensures c.kept.ensures c.with.ensures c.join-in-Try.ensures)
+    c.in_ok-handled-in-Try.handled c.with.result c.join-in-Try.result c.summary.result
+    c.in_ok-handled-in-Try.ensures.found c.in_ok-handled-in-Try.ensures.left c.in_ok-unite-in-Try.ensures c.summary.ensures c.with.ensures c.join-in-Try.ensures)
 
 pub walk_form-returns-in_ok-unite-in-Try-clause-accepted : goal.walk_form-returns-in_ok-unite-in-Try-clause-accepted
 walk_form-returns-in_ok-unite-in-Try-clause-accepted t c =

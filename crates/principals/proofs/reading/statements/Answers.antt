@@ -5,9 +5,9 @@ use Rattle.lexer.specs.declared.token.Kind.TheVariants.{Boolean}
 use Rattle.principals.specs.declared.reading.Progress.{Progress}
 use Rattle.lexer.specs.Terminal.{terminal_of, terminals_of}
 use Rattle.principals.specs.HierarchyText.{Entry}
-use Rattle.principals.specs.Reading.{State, Fresh, Ended, next, run, said, state_of, entry_of, entries_of}
+use Rattle.principals.specs.Reading.{ReadingState, Fresh, Ended, next, run, said, state_of, entry_of, entries_of}
 use Rattle.principals.specs.declared.reading.Statement.{Statement}
-use Rattle.principals.proofs.Automaton.{run-push, read_is_open, begins, stops, run_ends}
+use Rattle.principals.proofs.Automaton.{run-push, read_is_open, is_prefix, stops, run_ends}
 use Rattle.principals.proofs.reading.statements.Goals as goal
 use Rattle.principals.proofs.reading.statements.Goals.{In-Some, in-Some-said+in_ok-push, in_default-said}
 
@@ -16,7 +16,7 @@ one_more : (tokens : List Token) (i : ℕ) (d : Token) → i < length tokens →
 one_more tokens i d h = ap terminals_of (take_more tokens i d h) ∙ map-append terminal_of (take i tokens) (get_or tokens i d ∷ [])
 
 -- the state and the entries after one more token
-step : (tokens : List Token) (i : ℕ) (d : Token) (before after : State) (es now : List Entry) → i < length tokens →
+step : (tokens : List Token) (i : ℕ) (d : Token) (before after : ReadingState) (es now : List Entry) → i < length tokens →
     run Fresh (terminals_of (take i tokens)) ≡ Some (before, es) → Some after ≡ next before (terminal_of (get_or tokens i d)) →
     now ≡ es ++ said before (terminal_of (get_or tokens i d)) →
     run Fresh (terminals_of (take (i + 1) tokens)) ≡ Some (after, now)
@@ -83,8 +83,8 @@ returns-in_default-clause-refused c =
       before = front;
       token = token;
       after = terminals_of (drop (i + 1) tokens);
-      parts = cut tokens i past c.loop-token-test.true;
-      goes_on = begins front state es c.loop-token.invariant;
+      tokens_are = cut tokens i past c.loop-token-test.true;
+      goes_on = is_prefix front state es c.loop-token.invariant;
       stops = stops front token state es c.loop-token.invariant stop;
       place = refl;
     }

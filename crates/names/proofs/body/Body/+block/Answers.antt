@@ -8,7 +8,7 @@ use Rattle.resolved.specs.Tree.{If}
 use Rattle.resolved.specs.TreeOf.{expression_of, block_of, handlers_of, statement_of}
 use Rattle.names.specs.Environment.{exception_outcome}
 use Rattle.names.specs.Statements.{statement_outcome, block_outcome, catches_outcome}
-use Rattle.names.specs.Views.{Fails, Gives, at_point, point_of, setting_of, taken}
+use Rattle.names.specs.Views.{Fails, Resolves, at_point, point_of, setting_of, taken}
 use Rattle.names.proofs.Along.{statement_fits, statement_part, statement_wrong, statement_right, statements_done, exception_wrong, body_wrong, catch_fits, catch_part, catch_right, catches_done}
 use Rattle.names.proofs.Holding.{condition_wrong, if_done, if_else_done, if_wrong, else_wrong, while_done, while_wrong, try_done, try_wrong, handlers_wrong, nested_done, nested_wrong, if_nodes}
 use Rattle.names.proofs.Later.{setting_same}
@@ -24,7 +24,7 @@ statement-choose-requires t c =
 pub statement-returns-in-If-clause-made : goal.statement-returns-in-If-clause-made
 statement-returns-in-If-clause-made t c =
     let before = c.args.self.now in
-    subst (λ one. Gives (at_point c.choose.new.self statement_of) c.choose.result (statement_outcome (setting_of before) (point_of before) one))
+    subst (λ one. Resolves (at_point c.choose.new.self statement_of) c.choose.result (statement_outcome (setting_of before) (point_of before) one))
     (sym (ap statement_tree c.in-If.is ∙ if_is c.in-If.at c.in-If.condition c.in-If.accepted c.in-If.otherwise)) c.choose.ensures.made
 
 pub statement-returns-in-If-clause-grows : goal.statement-returns-in-If-clause-grows
@@ -40,7 +40,7 @@ statement-repeat-requires t c =
 pub statement-returns-in-While-clause-made : goal.statement-returns-in-While-clause-made
 statement-returns-in-While-clause-made t c =
     let before = c.args.self.now in
-    subst (λ one. Gives (at_point c.repeat.new.self statement_of) c.repeat.result (statement_outcome (setting_of before) (point_of before) one))
+    subst (λ one. Resolves (at_point c.repeat.new.self statement_of) c.repeat.result (statement_outcome (setting_of before) (point_of before) one))
     (sym (ap statement_tree c.in-While.is ∙ while_is c.in-While.at c.in-While.condition c.in-While.body)) c.repeat.ensures.made
 
 pub statement-returns-in-While-clause-grows : goal.statement-returns-in-While-clause-grows
@@ -57,7 +57,7 @@ statement-attempt-requires t c =
 pub statement-returns-in-Try-clause-made : goal.statement-returns-in-Try-clause-made
 statement-returns-in-Try-clause-made t c =
     let before = c.args.self.now in
-    subst (λ one. Gives (at_point c.attempt.new.self statement_of) c.attempt.result (statement_outcome (setting_of before) (point_of before) one))
+    subst (λ one. Resolves (at_point c.attempt.new.self statement_of) c.attempt.result (statement_outcome (setting_of before) (point_of before) one))
     (sym (ap statement_tree c.in-Try.is ∙ try_is c.in-Try.at c.in-Try.body c.in-Try.catches
     ∙ ap (λ list. TryTree c.in-Try.at (block_tree c.in-Try.body) (catches_of (map catch_tree list))) (sym c.deref.ensures.value))) c.attempt.ensures.made
 
@@ -75,7 +75,7 @@ statement-nest-requires t c =
 pub statement-returns-in-Nested-clause-made : goal.statement-returns-in-Nested-clause-made
 statement-returns-in-Nested-clause-made t c =
     let before = c.args.self.now in
-    subst (λ one. Gives (at_point c.nest.new.self statement_of) c.nest.result (statement_outcome (setting_of before) (point_of before) one))
+    subst (λ one. Resolves (at_point c.nest.new.self statement_of) c.nest.result (statement_outcome (setting_of before) (point_of before) one))
     (sym (ap statement_tree c.in-Nested.is ∙ nested_is c.in-Nested.block)) c.nest.ensures.made
 
 pub statement-returns-in-Nested-clause-grows : goal.statement-returns-in-Nested-clause-grows

@@ -2,7 +2,7 @@ use Rattle.std.proofs.Common.{◌≡◌, ℕ, ◌+◌, ◌<◌, ◌≤◌, ◌||
 use Rattle.std.specs.Int.Bits.{bit_or}
 use Rattle.std.proofs.lemmas.List.{get_or_read, length-set}
 use Rattle.path_map.specs.Sets.{row_has, word_has}
-use Rattle.path_map.proofs.Kept.{or-assoc}
+use Rattle.path_map.proofs.Summary.{or-assoc}
 use Rattle.path_map.proofs.Rows.{unite-word, take-row}
 use Rattle.path_map.proofs.set.ExceptionSet.unite.Goals as goal
 

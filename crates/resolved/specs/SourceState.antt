@@ -15,7 +15,7 @@ World = ℕ → List ℤ
 
 -- a state: the cells of each global and of each slot of the current frame, a scalar being a list of one; the numbers that are
 -- left of each input; and the pairs sent so far
-pub record State : Type 0 where
+pub record SourceState : Type 0 where
   pub globals : ℕ → List Value
   pub locals : ℕ → List Value
   pub inputs : World
@@ -26,11 +26,11 @@ abbrev pub updated : {A : Type 0} → (ℕ → A) → ℕ → A → ℕ → A
 updated table n entry m = if m == n then entry else table m
 
 -- the cells of a variable
-abbrev pub cells : State → Variable → List Value
+abbrev pub cells : SourceState → Variable → List Value
 cells s (Global n) = s.globals n
 cells s (Local n) = s.locals n
 
-abbrev pub with_cells : State → Variable → List Value → State
+abbrev pub with_cells : SourceState → Variable → List Value → SourceState
 with_cells s (Global n) values = record s { globals = updated s.globals n values }
 with_cells s (Local n) values = record s { locals = updated s.locals n values }
 
@@ -39,18 +39,18 @@ abbrev pub cell_at : List Value → ℕ → Value
 cell_at values i = slice_index_or values i (Number (pos 0))
 
 -- a state in which a scalar has another value, and one in which an element has
-abbrev pub assigned : State → Variable → Value → State
+abbrev pub assigned : SourceState → Variable → Value → SourceState
 assigned s x v = with_cells s x (v ∷ [])
 
-abbrev pub stored : State → Variable → ℕ → Value → State
+abbrev pub stored : SourceState → Variable → ℕ → Value → SourceState
 stored s array i v = with_cells s array (slice_set (cells s array) i v)
 
 -- a state in which all elements of a local array are 0 or `false`
-abbrev pub cleared : State → ℕ → State
+abbrev pub cleared : SourceState → ℕ → SourceState
 cleared s slot = with_cells s (Local slot) (map (λ v. zero_value (base_of v)) (s.locals slot))
 
 -- the value of an expression, or the exception of the first part that raises one, left operands first
-abbrev pub value_of : State → Expression → Evaluated Value
+abbrev pub value_of : SourceState → Expression → Evaluated Value
 value_of s (Integer n) = Gives (Number (literal_number n))
 value_of s (Logical b) = Gives (Truth b)
 value_of s (Read x) = Gives (cell_at (cells s x) 0)
@@ -67,7 +67,7 @@ value_of s (Short connective d e) =
     then_with (value_of s d) (λ v. if decides connective v then Gives v else value_of s e)
 
 -- the values of arguments, from the left
-abbrev pub values_of : State → List Expression → Evaluated (List Value)
+abbrev pub values_of : SourceState → List Expression → Evaluated (List Value)
 values_of s [] = Gives []
 values_of s (e ∷ rest) =
     then_with (value_of s e) (λ v.

@@ -1,4 +1,4 @@
--- What is kept of ends, of lists that are put together.
+-- The summary of ends, of lists that are put together.
 use Rattle.std.proofs.Common.{◌≡◌, ◌≢◌, refl, sym, ap, ◌∙◌, ℕ, List, [], ◌∷◌, ◌++◌, Bool, true, false, not, ◌&&◌, ◌||◌, map, arith, filter, append_assoc}
 use Rattle.std.specs.Prelude.{◌==◌, if◌then◌else◌}
 use Rattle.std.specs.List.{list_all, list_any}
@@ -12,7 +12,7 @@ use Rattle.path_map.specs.declared.exits.Raised.TheVariants.{Nothing, One, Sever
 use Rattle.path_map.specs.declared.exits.Exits.{Exits}
 use Rattle.path_map.specs.Exits.{thrown_in, raised_by, exits_of}
 use Rattle.path_map.specs.Joins.{join_raised, join, after, only_raised, of_loop}
-use Rattle.path_map.specs.Sets.{is_one_of, HasTwo, HasOnly, IsKeptOf, throws}
+use Rattle.path_map.specs.Sets.{is_one_of, HasTwo, HasOnly, IsSummaryOf, throws}
 
 -- tests of Booleans
 pub or-assoc : (a b c : Bool) → ((a || b) || c) ≡ (a || (b || c))
@@ -133,7 +133,7 @@ throws-in (Break ∷ ends) e = throws-in ends e
 throws-in (Continue ∷ ends) e = throws-in ends e
 throws-in (Throw x ∷ ends) e = ap (λ b. (e == x) || b) (throws-in ends e)
 
--- what is kept of a set of exceptions
+-- the summary of a set of exceptions
 all-same : (x : ℕ) (xs : List ℕ) → ((other : ℕ) → is_one_of xs other ≡ true → other ≡ x) → list_all (λ other. x == other) xs ≡ true
 all-same x [] each = refl
 all-same x (y ∷ xs) each =
@@ -150,27 +150,27 @@ same-all x (y ∷ xs) all other there =
     go first true e more = eqb-true other y e ∙ sym (eqb-true x y first)
     go first false e more = more (rw e at there)
 
-pub kept-is : (xs : List ℕ) (set : ℕ → Bool) → ((e : ℕ) → is_one_of xs e ≡ set e) → (raised : Raised) → IsKeptOf set raised → raised ≡ raised_by xs
-kept-is [] set same Nothing kept = refl
-kept-is (x ∷ xs) set same Nothing kept =
-    absurd (let there : true ≡ false = sym (rw (same-number x) refl) ∙ (same x ∙ kept x) in cc)
-kept-is [] set same (One e) kept = absurd (let no : false ≡ true = same e ∙ kept.has in cc)
-kept-is (x ∷ xs) set same (One e) kept =
-    let first : x ≡ e = kept.only x (sym (same x) ∙ rw (same-number x) refl) in
+pub summary-is : (xs : List ℕ) (set : ℕ → Bool) → ((e : ℕ) → is_one_of xs e ≡ set e) → (raised : Raised) → IsSummaryOf set raised → raised ≡ raised_by xs
+summary-is [] set same Nothing summary = refl
+summary-is (x ∷ xs) set same Nothing summary =
+    absurd (let there : true ≡ false = sym (rw (same-number x) refl) ∙ (same x ∙ summary x) in cc)
+summary-is [] set same (One e) summary = absurd (let no : false ≡ true = same e ∙ summary.has in cc)
+summary-is (x ∷ xs) set same (One e) summary =
+    let first : x ≡ e = summary.only x (sym (same x) ∙ rw (same-number x) refl) in
     let all : list_all (λ other. x == other) xs ≡ true =
-    all-same x xs (λ other there. kept.only other (sym (same other) ∙ rw there (or-true (other == x))) ∙ sym first) in
+    all-same x xs (λ other there. summary.only other (sym (same other) ∙ rw there (or-true (other == x))) ∙ sym first) in
     rw (all, first) refl
-kept-is [] set same Several kept = absurd (let no : false ≡ true = same kept.first ∙ kept.has_first in cc)
-kept-is (x ∷ xs) set same Several kept = go (list_all (λ other. x == other) xs) refl
+summary-is [] set same Several summary = absurd (let no : false ≡ true = same summary.first ∙ summary.has_first in cc)
+summary-is (x ∷ xs) set same Several summary = go (list_all (λ other. x == other) xs) refl
   where
     there : (e : ℕ) → set e ≡ true → list_all (λ other. x == other) xs ≡ true → e ≡ x
     there e has all = same-all x (x ∷ xs) (rw (same-number x) all) e (same e ∙ has)
 
     go : (all : Bool) → list_all (λ other. x == other) xs ≡ all → Several ≡ (if list_all (λ other. x == other) xs then One x else Several)
     go false f = rw f refl
-    go true f = absurd (kept.differ (there kept.first kept.has_first f ∙ sym (there kept.second kept.has_second f)))
+    go true f = absurd (summary.differ (there summary.first summary.has_first f ∙ sym (there summary.second summary.has_second f)))
 
--- what is kept of a list is kept of its set
+-- the summary of a list is that of its set
 not-all : (x : ℕ) (xs : List ℕ) → list_all (λ other. x == other) xs ≡ false → (y : ℕ) × (is_one_of xs y ≡ true) × (x ≢ y)
 not-all x [] some = absurd (let no : true ≡ false = some in cc)
 not-all x (y ∷ xs) some = go (x == y) refl (λ rest. not-all x xs rest)
@@ -183,15 +183,15 @@ not-all x (y ∷ xs) some = go (x == y) refl (λ rest. not-all x xs rest)
         let found = more (rw e at some) in
         (found.0, rw found.1 (or-true (found.0 == y)), found.2)
 
-pub kept-of : (xs : List ℕ) → IsKeptOf (is_one_of xs) (raised_by xs)
-kept-of [] = λ e. refl
-kept-of (x ∷ xs) = go (list_all (λ other. x == other) xs) refl
+pub summary-of : (xs : List ℕ) → IsSummaryOf (is_one_of xs) (raised_by xs)
+summary-of [] = λ e. refl
+summary-of (x ∷ xs) = go (list_all (λ other. x == other) xs) refl
   where
     here : is_one_of (x ∷ xs) x ≡ true
     here = rw (same-number x) refl
 
     go : (all : Bool) → list_all (λ other. x == other) xs ≡ all
-        → IsKeptOf (is_one_of (x ∷ xs)) (if list_all (λ other. x == other) xs then One x else Several)
+        → IsSummaryOf (is_one_of (x ∷ xs)) (if list_all (λ other. x == other) xs then One x else Several)
     go true e = rw e (record { has = here; only = λ other there. same-all x (x ∷ xs) (rw (same-number x) e) other there })
     go false e =
         let found = not-all x xs e in
@@ -205,7 +205,7 @@ kept-of (x ∷ xs) = go (list_all (λ other. x == other) xs) refl
 
 -- lists with the same exceptions
 pub raised-same : (xs ys : List ℕ) → ((e : ℕ) → is_one_of xs e ≡ is_one_of ys e) → raised_by xs ≡ raised_by ys
-raised-same xs ys same = kept-is ys (is_one_of xs) (λ e. sym (same e)) (raised_by xs) (kept-of xs)
+raised-same xs ys same = summary-is ys (is_one_of xs) (λ e. sym (same e)) (raised_by xs) (summary-of xs)
 
 -- to join is associative
 list-of : Raised → List ℕ
@@ -274,7 +274,7 @@ after-normal x = go x.normal refl
     go false e = rw e refl
     go true e = rw (e, or-false x.returns, or-false x.breaks, or-false x.continues, join-nothing x.raised) refl
 
--- what is kept of a statement and what follows it
+-- the summary of a statement and what follows it
 normal-out : (ends : List Exit) → exits_of (filter (λ exit. not (same_exit Normal exit)) ends) ≡ record (exits_of ends) { normal = false }
 normal-out [] = refl
 normal-out (Normal ∷ ends) = normal-out ends
@@ -312,7 +312,7 @@ throws-then first rest e = go (has_end first Normal) refl
         rw f (any-append (same_exit (Throw e)) (filter (λ exit. not (same_exit Normal exit)) first) rest
         ∙ ap (λ b. b || throws rest e) (throws-out first e))
 
--- what is kept of a loop
+-- the summary of a loop
 thrown-loop : (ends : List Exit) → thrown_in (filter leaves_loop ends) ≡ thrown_in ends
 thrown-loop [] = refl
 thrown-loop (Normal ∷ ends) = thrown-loop ends
@@ -345,8 +345,8 @@ continue-loop (Break ∷ ends) = continue-loop ends
 continue-loop (Continue ∷ ends) = continue-loop ends
 continue-loop (Throw e ∷ ends) = continue-loop ends
 
-pub loop-kept : (ends : List Exit) → exits_of (Normal ∷ filter leaves_loop ends) ≡ of_loop (exits_of ends)
-loop-kept ends = rw (return-loop ends, break-loop ends, continue-loop ends, thrown-loop ends) refl
+pub loop-summary : (ends : List Exit) → exits_of (Normal ∷ filter leaves_loop ends) ≡ of_loop (exits_of ends)
+loop-summary ends = rw (return-loop ends, break-loop ends, continue-loop ends, thrown-loop ends) refl
 
 pub loop-throws : (ends : List Exit) (e : ℕ) → throws (Normal ∷ filter leaves_loop ends) e ≡ throws ends e
 loop-throws [] e = refl
@@ -360,7 +360,7 @@ pub loop-thrown : (es : List ℕ) (ends : List Exit) → filter leaves_loop (thr
 loop-thrown [] ends = refl
 loop-thrown (e ∷ es) ends = ap (λ rest. Throw e ∷ rest) (loop-thrown es ends)
 
--- what is kept of the ends that pass handlers
+-- the summary of the ends that pass handlers
 pub throws-pass : (handlers : Handlers) (ends : List Exit) (e : ℕ)
     → throws (filter (passes handlers) ends) e ≡ (throws ends e && not (handles handlers e))
 throws-pass handlers [] e = refl

@@ -1,6 +1,6 @@
 use Rattle.std.proofs.Common.{sym, ◌∙◌}
 use Rattle.path_map.proofs.Procedures.{several-stays}
-use Rattle.path_map.proofs.calls.kept_of.Goals as goal
+use Rattle.path_map.proofs.calls.summary_of.Goals as goal
 
 pub returns-in-Several : goal.returns-in-Several
 returns-in-Several c =

@@ -4,7 +4,7 @@ use Rattle.std.specs.Int.Bits.{bit_and}
 use Rattle.std.proofs.lemmas.Nat.{and_le_l}
 use mir.Syntax.{w64}
 use Rattle.path_map.proofs.Rows.{word-one, word-several}
-use Rattle.path_map.proofs.set.kept_of_word.Goals as goal
+use Rattle.path_map.proofs.set.summary_of_word.Goals as goal
 
 pub returns-then-others-ne0 : goal.returns-then-others-ne0
 returns-then-others-ne0 c =
