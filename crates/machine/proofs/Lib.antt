@@ -1,6 +1,7 @@
 pub mod Lists
 pub mod Cuts
 pub mod OnSlab
+pub mod UpTo
 pub mod Indexes
 pub mod Operands
 pub mod Raising

@@ -9,3 +9,4 @@ pub mod Steps
 pub mod Operations
 pub mod Fusing
 pub mod OpenCells
+pub mod Inner

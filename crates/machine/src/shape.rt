@@ -78,3 +78,17 @@ pub fn count_of(slot: Slot) -> usize
         Slot::Array(_, count) => count as usize,
     }
 }
+
+/// How many cells slots have.
+pub fn cells_of(slots: &[Slot]) -> Result<usize, AllocError>
+    ensures { IfOk result (λ size. size ≡ total (map cells_in slots.now)) }
+{
+    let mut size: usize = 0;
+    for slot in slots {
+        let Some(next) = size.checked_add(count_of(*slot)) else {
+            return Err(AllocError);
+        };
+        size = next;
+    }
+    Ok(size)
+}
