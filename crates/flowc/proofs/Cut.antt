@@ -9,7 +9,7 @@ use Rattle.principals.specs.ActsFor.{PrincipalHierarchy}
 use Rattle.bytecode.specs.Contents.{ModuleContents}
 use Rattle.bytecode.specs.Form.{Spells}
 use Rattle.bytecode.specs.Format.{module_file}
-use Rattle.bytecode.specs.Machine.{Machine, Running, after_steps, exec, first_state, program_of, sent_of}
+use Rattle.bytecode.specs.Machine.{Machine, Running, after_steps, exec, first_state, machine_code, sent_of}
 use Rattle.channels.specs.Sink.{AppendsPrefix}
 use Rattle.channels.specs.World.{input_names}
 use Rattle.channels.specs.WorldText.{IsWorldText, lines_of}
@@ -46,22 +46,22 @@ can_run code text name m principal h spelled faultless encoded right observed is
 -- a prefix of what is shown of a run was written
 pub cut_off : (code text : List ℕ) (name : Option (List ℕ)) (steps : ℕ) (old new : Option (List ℕ)) (m program : ModuleContents) (principal : Option ℕ) (taken : ℕ)
     (pairs : List Pair) (before after : Machine) → CanRun code text name m principal → taken ≤ steps → program ≡ m
-    → before ≡ Running (first_state m (numbers_in m text)) → after ≡ exec (program_of m) taken before → pairs ≡ sent_of after
+    → before ≡ Running (first_state m (numbers_in m text)) → after ≡ exec (machine_code m) taken before → pairs ≡ sent_of after
     → AppendsPrefix old new (view_text program (view_for program principal pairs)) → ShowsSome code text name steps old new
 cut_off code text name steps old new m program principal taken pairs before after can within is first reached sent part =
     let all : view_text program (view_for program principal pairs) ≡ text_shown m text principal taken =
     ap (λ (w : ModuleContents). view_text w (view_for w principal pairs)) is
-    ∙ ap (λ (list : List Pair). view_text m (view_for m principal list)) (sent ∙ ap sent_of reached ∙ ap (λ (x : Machine). sent_of (exec (program_of m) taken x)) first) in
+    ∙ ap (λ (list : List Pair). view_text m (view_for m principal list)) (sent ∙ ap sent_of reached ∙ ap (λ (x : Machine). sent_of (exec (machine_code m) taken x)) first) in
     let cut = subst (λ (t : List ℕ). AppendsPrefix old new t) all part in
     inr (cut.0, record { program = m; principal = principal; taken = taken; can_run = can; within = within; prefix = cut.1 }, cut.2)
 
 -- what is known of a run that has taken some steps from the first state on
 module _ (code text : List ℕ) (name : Option (List ℕ)) (steps : ℕ) (m program : ModuleContents) (principal : Option ℕ) (taken : ℕ)
     (before after : Machine) (end : Status) (can : CanRun code text name m principal) (within : taken ≤ steps) (is : program ≡ m)
-    (first : before ≡ Running (first_state m (numbers_in m text))) (reached : after ≡ exec (program_of m) taken before)
-    (stands : ReportsStatus (program_of m) steps taken end after) where
+    (first : before ≡ Running (first_state m (numbers_in m text))) (reached : after ≡ exec (machine_code m) taken before)
+    (stands : ReportsStatus (machine_code m) steps taken end after) where
   there : after ≡ after_steps m (numbers_in m text) taken
-  there = reached ∙ ap (λ (x : Machine). exec (program_of m) taken x) first
+  there = reached ∙ ap (λ (x : Machine). exec (machine_code m) taken x) first
 
   -- it was shown, with the status that reports how it then stands
   pub shows_run : (old new : Option (List ℕ)) (pairs : List Pair) (result : Result Ended PerformFault) → pairs ≡ sent_of after
@@ -81,7 +81,7 @@ module _ (code text : List ℕ) (name : Option (List ℕ)) (steps : ℕ) (m prog
         within = within;
         view = subst (λ (t : List ℕ). Appends old new t) all view;
         end = end;
-        ended = subst (λ (x : Machine). ReportsStatus (program_of m) steps taken end x) there stands;
+        ended = subst (λ (x : Machine). ReportsStatus (machine_code m) steps taken end x) there stands;
         reported = status;
       }
 
@@ -97,7 +97,7 @@ module _ (code text : List ℕ) (name : Option (List ℕ)) (steps : ℕ) (m prog
     can_run = can;
     within = within;
     end = end;
-    ended = subst (λ (x : Machine). ReportsStatus (program_of m) steps taken end x) there stands;
+    ended = subst (λ (x : Machine). ReportsStatus (machine_code m) steps taken end x) there stands;
     reported = status;
     says = line ∙ ap (λ (w : ModuleContents). reported_line w principal end) is;
   }

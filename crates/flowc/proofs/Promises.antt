@@ -17,7 +17,7 @@ use Rattle.bytecode.specs.Form.{Fits, Spells}
 use Rattle.bytecode.specs.Format.{contents, hierarchy, module_file}
 use Rattle.bytecode.specs.Isolated.{AgreeOnInputs, IsIsolated, OneIsPrefix, channel_label, seen_of}
 use Rattle.module_file.proofs.Facts.{principals-different}
-use Rattle.bytecode.specs.Machine.{Machine, Ending, after_steps, program_of, sent_after, sent_of}
+use Rattle.bytecode.specs.Machine.{Machine, Ending, after_steps, machine_code, sent_after, sent_of}
 use Rattle.channels.specs.World.{InputNumbers, input_names, numbers_of_channel}
 use Rattle.compiler.specs.Compiled.{IsCompiled}
 use Rattle.channels.specs.WorldText.{IsWorldText, lines_of}
@@ -50,8 +50,8 @@ use Rattle.channels.proofs.Views.{view_text-append}
 sent-grows : (m : ModuleContents) (numbers : World) (i j : ℕ) → i ≤ j → IsPrefix (sent_after m numbers i) (sent_after m numbers j)
 sent-grows m numbers i j h =
     let program : j ≡ i + (j - i) = omega (arith, h) in
-    subst (λ (x : Machine). IsPrefix (sent_after m numbers i) (sent_of x)) (exec_more (program_of m) i (j - i) j _ program)
-    (exec-keeps (program_of m) (j - i) (after_steps m numbers i))
+    subst (λ (x : Machine). IsPrefix (sent_after m numbers i) (sent_of x)) (exec_more (machine_code m) i (j - i) j _ program)
+    (exec-keeps (machine_code m) (j - i) (after_steps m numbers i))
 
 pub no_more : sessions.SessionsAreFreshRuns → SessionsShowNoMore
 no_more fresh said source code compiled world p pairs shows =
@@ -68,7 +68,7 @@ no_more fresh said source code compiled world p pairs shows =
 sent-ended : (m : ModuleContents) (numbers : World) (n j : ℕ) (ending : Ending) → HasEnded ending (after_steps m numbers n)
     → n ≤ j → sent_after m numbers j ≡ sent_after m numbers n
 sent-ended m numbers n j ending ended h =
-    ap sent_of (same_at (program_of m) n j ending (after_steps m numbers 0) h ended)
+    ap sent_of (same_at (machine_code m) n j ending (after_steps m numbers 0) h ended)
 
 -- what a session shows, where a fresh run has sent all of a list by the steps that the session has taken
 shown-by : sessions.SessionsAreFreshRuns → (hierarchy source code : List ℕ) (compiled : IsCompiled hierarchy source code) (world : List InputNumbers)
@@ -229,7 +229,7 @@ module _ (one : (m n : ModuleContents) (bytes : List ℕ) → Spells module_file
             ∙ ap (λ names. end_line names run.end) compiled.code_of.interface.exceptions,
         λ ending ends.
             let over : HasEnded ending (after_steps run.program (numbers_in run.program text) run.taken) =
-            end_of_status (program_of run.program) steps run.taken run.end (after_steps run.program (numbers_in run.program text) run.taken) ending ends run.ended in
+            end_of_status (machine_code run.program) steps run.taken run.end (after_steps run.program (numbers_in run.program text) run.taken) ending ends run.ended in
             let here = subst (λ (w : ModuleContents). HasEnded ending (after_steps w (numbers_in w text) run.taken)) same over in
             (compiled.code_of.kept.ends_so numbers run.taken ending (sent_after m numbers run.taken) here).0,
       )

@@ -4,7 +4,7 @@ use Rattle.labels.specs.declared.sent.Pair.{Pair}
 use Rattle.bytecode.specs.Contents.{ModuleContents}
 use Rattle.bytecode.specs.Isolated.{seen_of}
 use Rattle.bytecode.specs.Machine as machine
-use Rattle.bytecode.specs.Machine.{Machine, Running, Ended, Stuck, Ending, MachineCode, exec, program_of, sent_after, sent_of, step}
+use Rattle.bytecode.specs.Machine.{Machine, Running, Ended, Stuck, Ending, MachineCode, exec, machine_code, sent_after, sent_of, step}
 use Rattle.channels.specs.World.{InputNumbers, numbers_of_channel}
 use Rattle.verifier.specs.Safety.{HasRow, IsNeverStuck}
 use Rattle.machine.specs.Run.{IsRunning, ReportsStatus, WasRunning}
@@ -108,8 +108,8 @@ pub record Session (code : List ℕ) (world : List InputNumbers) (m : ModuleCont
 
 module _ (code : List ℕ) (world : List InputNumbers) (m : ModuleContents) (can : CanOpen code world m) (never_stuck : IsNeverStuck m)
     (p : ℕ) (there : p < length m.hierarchy.names) (n : ℕ) where
-  run : Stop (program_of m) n (first_machine m world)
-  run = stop (program_of m) n (first_machine m world) (never_stuck (numbers_of_channel m world)) tt
+  run : Stop (machine_code m) n (first_machine m world)
+  run = stop (machine_code m) n (first_machine m world) (never_stuck (numbers_of_channel m world)) tt
 
   abbrev empty : HostContents
   empty = record { next = 0; sessions = [] }
@@ -118,7 +118,7 @@ module _ (code : List ℕ) (world : List InputNumbers) (m : ModuleContents) (can
   fresh = record { id = 0; program = m; machine = first_machine m world }
 
   after : Machine
-  after = exec (program_of m) run.taken (first_machine m world)
+  after = exec (machine_code m) run.taken (first_machine m world)
 
   abbrev moved : SessionContents
   moved = record { id = 0; program = m; machine = after }

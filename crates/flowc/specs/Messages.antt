@@ -11,7 +11,7 @@ use Rattle.bytecode.specs.Contents.{ModuleContents}
 use Rattle.module_file.specs.Decoded.{first_refusal}
 use Rattle.bytecode.specs.Form.{Spells}
 use Rattle.bytecode.specs.Format.{module_file}
-use Rattle.bytecode.specs.Machine.{after_steps, program_of}
+use Rattle.bytecode.specs.Machine.{after_steps, machine_code}
 use Rattle.bytecode.specs.declared.fault.Refusal.{Refusal}
 use Rattle.channels.specs.Sink.{AppendsPrefix}
 use Rattle.channels.specs.World.{input_names}
@@ -95,7 +95,7 @@ pub record IsEndLine (code text : List ℕ) (observer : Option (List ℕ)) (step
   pub can_run : CanRun code text observer program principal
   pub within : taken ≤ steps
   pub end : Status
-  pub ended : ReportsStatus (program_of program) steps taken end (after_steps program (numbers_in program text) taken)
+  pub ended : ReportsStatus (machine_code program) steps taken end (after_steps program (numbers_in program text) taken)
   pub reported : status ≡ reported_status principal end
   pub says : line ≡ reported_line program principal end
 

@@ -9,7 +9,7 @@ use Rattle.labels.specs.Sent.{IsPrefix}
 use Rattle.bytecode.specs.Contents.{ModuleContents}
 use Rattle.bytecode.specs.Form.{Spells}
 use Rattle.bytecode.specs.Format.{module_file}
-use Rattle.bytecode.specs.Machine.{after_steps, program_of, sent_after}
+use Rattle.bytecode.specs.Machine.{after_steps, machine_code, sent_after}
 use Rattle.channels.specs.Sink.{AppendsPrefix}
 use Rattle.channels.specs.World.{input_names, numbers_of_channel}
 use Rattle.channels.specs.WorldText.{IsWorldText, lines_of, world_of}
@@ -55,7 +55,7 @@ pub record ShowsRun (code text : List ℕ) (observer : Option (List ℕ)) (steps
   pub within : taken ≤ steps
   pub view : Appends old new (text_shown program text principal taken)
   pub end : Status
-  pub ended : ReportsStatus (program_of program) steps taken end (after_steps program (numbers_in program text) taken)
+  pub ended : ReportsStatus (machine_code program) steps taken end (after_steps program (numbers_in program text) taken)
   pub reported : status ≡ reported_status principal end
 
 -- a text shows nothing else than a run on the world: it is a prefix of what is shown of the run after at most so many steps

@@ -6,7 +6,7 @@ use Rattle.labels.specs.declared.sent.Pair.{Pair}
 use Rattle.bytecode.specs.Contents.{ModuleContents}
 use Rattle.bytecode.specs.Form.{Spells}
 use Rattle.bytecode.specs.Format.{module_file}
-use Rattle.bytecode.specs.Machine.{Machine, Ending, exec, program_of, sent_of}
+use Rattle.bytecode.specs.Machine.{Machine, Ending, exec, machine_code, sent_of}
 use Rattle.channels.specs.World.{InputNumbers}
 use Rattle.bytecode.specs.Isolated.{seen_of}
 use Rattle.machine.proofs.Reporting.{exec_more}
@@ -17,8 +17,8 @@ use Rattle.host.specs.Laws.{ending_of, moved_by, reported_of, steps_reported}
 use Rattle.host.proofs.Ends.{still_ended_at, end_of_status}
 
 -- the steps that a session takes, and then more
-steps_join : (s : SessionContents) (taken more : ℕ) → exec (program_of s.program) more (exec (program_of s.program) taken s.machine) ≡ exec (program_of s.program) (taken + more) s.machine
-steps_join s taken more = exec_more (program_of s.program) taken more (taken + more) s.machine refl
+steps_join : (s : SessionContents) (taken more : ℕ) → exec (machine_code s.program) more (exec (machine_code s.program) taken s.machine) ≡ exec (machine_code s.program) (taken + more) s.machine
+steps_join s taken more = exec_more (machine_code s.program) taken more (taken + more) s.machine refl
 
 -- ---- the session of an id when another one changes
 
@@ -111,7 +111,7 @@ live_event limit id s old new (Turn other n) (Turned taken status) by live = go 
           given = live.given;
           is_open = ap (λ k. session_of id (with_machine k by.2.0 old.sessions)) number
               ∙ with_machine-same id by.2.0 old.sessions s live.is_open
-              ∙ ap (λ (m : Machine). Some (record s { machine = m })) (by.2.1.machine ∙ ap (λ (x : SessionContents). exec (program_of x.program) taken x.machine) same);
+              ∙ ap (λ (m : Machine). Some (record s { machine = m })) (by.2.1.machine ∙ ap (λ (x : SessionContents). exec (machine_code x.program) taken x.machine) same);
         }))
     go false e =
         inl (subst (λ h. IsLive id s h) (sym by.2.2) (record {
@@ -201,7 +201,7 @@ module _ (limit id p : ℕ) (pairs : List Pair) where
   shown_moved : (events : List HostEvent) (answers : List HostAnswer) (old new : HostContents) (s : SessionContents)
       → Answered limit old events answers new → IsLive id s old
       → (k : ℕ) → slice_get events k ≡ Some (View id p) → slice_get answers k ≡ Some (Viewed pairs)
-      → pairs ≡ seen_of s.program p (sent_of (exec (program_of s.program) (steps_reported id (take k events) (take k answers)) s.machine))
+      → pairs ≡ seen_of s.program p (sent_of (exec (machine_code s.program) (steps_reported id (take k events) (take k answers)) s.machine))
   shown_moved [] answers old new s by live k asked reported = absurd (none-some (View id p) asked)
   shown_moved (event ∷ events) [] old new s by live k asked reported = absurd by
   shown_moved (event ∷ events) (answer ∷ answers) old new s by live zero asked reported =
@@ -245,7 +245,7 @@ module _ (limit id steps taken : ℕ) (reported : Status) (ending : Ending) (end
   ended_moved : (events : List HostEvent) (answers : List HostAnswer) (old new : HostContents) (s : SessionContents)
       → Answered limit old events answers new → IsLive id s old
       → (k : ℕ) → slice_get events k ≡ Some (Turn id steps) → slice_get answers k ≡ Some (Turned taken reported)
-      → HasEnded ending (exec (program_of s.program) (steps_reported id (take (suc k) events) (take (suc k) answers)) s.machine)
+      → HasEnded ending (exec (machine_code s.program) (steps_reported id (take (suc k) events) (take (suc k) answers)) s.machine)
   ended_moved [] answers old new s by live k asked said = absurd (none-some (Turn id steps) asked)
   ended_moved (event ∷ events) [] old new s by live k asked said = absurd by
   ended_moved (event ∷ events) (answer ∷ answers) old new s by live zero asked said =
@@ -255,10 +255,10 @@ module _ (limit id steps taken : ℕ) (reported : Status) (ending : Ending) (end
       ap (λ e. reported_of id e answer) (some_is event (Turn id steps) asked) ∙ ap (reported_of id (Turn id steps)) (some_is answer (Turned taken reported) said)
       ∙ ap (λ b. cond b taken 0) (eq-eqb id id refl) in
       let all : reported_of id event answer + 0 ≡ taken = omega (arith, here) in
-      let after : HasEnded ending turned.2.0 = end_of_status (program_of turned.0.program) steps taken reported turned.2.0 ending ends turned.2.1.reported in
+      let after : HasEnded ending turned.2.0 = end_of_status (machine_code turned.0.program) steps taken reported turned.2.0 ending ends turned.2.1.reported in
       subst (HasEnded ending)
-      (turned.2.1.machine ∙ ap (λ (x : SessionContents). exec (program_of x.program) taken x.machine) same
-      ∙ ap (λ n. exec (program_of s.program) n s.machine) (sym all))
+      (turned.2.1.machine ∙ ap (λ (x : SessionContents). exec (machine_code x.program) taken x.machine) same
+      ∙ ap (λ n. exec (machine_code s.program) n s.machine) (sym all))
       after
   ended_moved (event ∷ events) (answer ∷ answers) old new s by live (suc k) asked said =
       ⊎_elim
@@ -285,7 +285,7 @@ module _ (limit id p : ℕ) (pairs : List Pair) (bytes : List ℕ) (world : List
       → (i j : ℕ) → i < j
       → slice_get events i ≡ Some (Open bytes world) → slice_get answers i ≡ Some (Opened id)
       → slice_get events j ≡ Some (View id p) → slice_get answers j ≡ Some (Viewed pairs)
-      → pairs ≡ seen_of m p (sent_of (exec (program_of m) (steps_reported id (drop i (take j events)) (drop i (take j answers))) (first_machine m world)))
+      → pairs ≡ seen_of m p (sent_of (exec (machine_code m) (steps_reported id (drop i (take j events)) (drop i (take j answers))) (first_machine m world)))
   shown_fresh events answers old new by i zero later opens opened views viewed = absurd (omega arith)
   shown_fresh [] answers old new by i (suc j) later opens opened views viewed = absurd (none-some (Open bytes world) opens)
   shown_fresh (event ∷ events) [] old new by i (suc j) later opens opened views viewed = absurd by
@@ -296,8 +296,8 @@ module _ (limit id p : ℕ) (pairs : List Pair) (bytes : List ℕ) (world : List
       let first : reported_of id event answer ≡ 0 = ap (λ e. reported_of id e answer) (some_is event (Open bytes world) opens) ∙ ap (reported_of id (Open bytes world)) (some_is answer (Opened id) opened) in
       let steps : steps_reported id (take j events) (take j answers) ≡ reported_of id event answer + steps_reported id (take j events) (take j answers) = omega (arith, first) in
       shown_moved limit id p pairs events answers by.0 new (record { id = old.next; program = n; machine = first_machine n world }) by.2 live j views viewed
-      ∙ ap (λ (x : ModuleContents). seen_of x p (sent_of (exec (program_of x) (steps_reported id (take j events) (take j answers)) (first_machine x world)))) (unique n at.2.1.spelled)
-      ∙ ap (λ k. seen_of m p (sent_of (exec (program_of m) k (first_machine m world)))) steps
+      ∙ ap (λ (x : ModuleContents). seen_of x p (sent_of (exec (machine_code x) (steps_reported id (take j events) (take j answers)) (first_machine x world)))) (unique n at.2.1.spelled)
+      ∙ ap (λ k. seen_of m p (sent_of (exec (machine_code m) k (first_machine m world)))) steps
   shown_fresh (event ∷ events) (answer ∷ answers) old new by (suc i) (suc j) later opens opened views viewed =
       shown_fresh events answers by.0 new by.2 i j (omega arith) opens opened views viewed
 
@@ -307,7 +307,7 @@ module _ (limit id steps taken : ℕ) (reported : Status) (ending : Ending) (end
       → (i k j : ℕ) → i < k → k < j
       → slice_get events i ≡ Some (Open bytes world) → slice_get answers i ≡ Some (Opened id)
       → slice_get events k ≡ Some (Turn id steps) → slice_get answers k ≡ Some (Turned taken reported)
-      → HasEnded ending (exec (program_of m) (steps_reported id (drop i (take j events)) (drop i (take j answers))) (first_machine m world))
+      → HasEnded ending (exec (machine_code m) (steps_reported id (drop i (take j events)) (drop i (take j answers))) (first_machine m world))
   ended_fresh events answers old new by i k zero later before opens opened asked said = absurd (omega (arith, before))
   ended_fresh events answers old new by i zero (suc j) later before opens opened asked said = absurd (omega (arith, later))
   ended_fresh [] answers old new by i (suc k) (suc j) later before opens opened asked said = absurd (none-some (Open bytes world) opens)
@@ -319,10 +319,10 @@ module _ (limit id steps taken : ℕ) (reported : Status) (ending : Ending) (end
       let first : reported_of id event answer ≡ 0 = ap (λ e. reported_of id e answer) (some_is event (Open bytes world) opens) ∙ ap (reported_of id (Open bytes world)) (some_is answer (Opened id) opened) in
       let total : steps_reported id (take j events) (take j answers) ≡ reported_of id event answer + steps_reported id (take j events) (take j answers) = omega (arith, first) in
       let ended = ended_moved limit id steps taken reported ending ends events answers by.0 new (record { id = old.next; program = n; machine = first_machine n world }) by.2 live k asked said in
-      let grown = still_ended_at (program_of n) (steps_reported id (take (suc k) events) (take (suc k) answers)) (steps_reported id (take j events) (take j answers)) ending
+      let grown = still_ended_at (machine_code n) (steps_reported id (take (suc k) events) (take (suc k) answers)) (steps_reported id (take j events) (take j answers)) ending
       (first_machine n world) (steps_grow id events answers (suc k) j (omega (arith, before))) ended in
-      subst (λ t. HasEnded ending (exec (program_of m) t (first_machine m world))) total
-      (subst (λ (x : ModuleContents). HasEnded ending (exec (program_of x) (steps_reported id (take j events) (take j answers)) (first_machine x world))) (unique n at.2.1.spelled) grown)
+      subst (λ t. HasEnded ending (exec (machine_code m) t (first_machine m world))) total
+      (subst (λ (x : ModuleContents). HasEnded ending (exec (machine_code x) (steps_reported id (take j events) (take j answers)) (first_machine x world))) (unique n at.2.1.spelled) grown)
   ended_fresh (event ∷ events) (answer ∷ answers) old new by (suc i) (suc k) (suc j) later before opens opened asked said =
       ended_fresh events answers by.0 new by.2 i k j (omega (arith, later)) (omega (arith, before)) opens opened asked said
 
@@ -357,7 +357,7 @@ module _ (limit id : ℕ) (bytes : List ℕ) (world : List InputNumbers) (m : Mo
   pub stands : (events : List HostEvent) (answers : List HostAnswer) (old new : HostContents) → Answered limit old events answers new
       → (i : ℕ) → slice_get events i ≡ Some (Open bytes world) → slice_get answers i ≡ Some (Opened id)
       → (session : SessionContents) → IsOpen new id session
-      → session ≡ record { id = id; program = m; machine = exec (program_of m) (steps_reported id (drop i events) (drop i answers)) (first_machine m world) }
+      → session ≡ record { id = id; program = m; machine = exec (machine_code m) (steps_reported id (drop i events) (drop i answers)) (first_machine m world) }
   stands [] answers old new by i opens opened session there = absurd (none-some (Open bytes world) opens)
   stands (event ∷ events) [] old new by i opens opened session there = absurd by
   stands (event ∷ events) (answer ∷ answers) old new by zero opens opened session there =
@@ -370,7 +370,7 @@ module _ (limit id : ℕ) (bytes : List ℕ) (world : List InputNumbers) (m : Mo
       ⊎_elim
       (λ l.
       one_session new id id session (moved_by (record { id = old.next; program = n; machine = first_machine n world }) (steps_reported id events answers)) refl there l.is_open
-      ∙ (λ i. record { id = sym at.1 i; program = same i; machine = exec (program_of (same i)) (steps i) (first_machine (same i) world) }))
+      ∙ (λ i. record { id = sym at.1 i; program = same i; machine = exec (machine_code (same i)) (steps i) (first_machine (same i) world) }))
       (λ g. absurd (none-some session (sym g.is_shut ∙ there)))
       (still_moved limit id events answers by.0 new (record { id = old.next; program = n; machine = first_machine n world }) by.2 live)
   stands (event ∷ events) (answer ∷ answers) old new by (suc i) opens opened session there =
@@ -388,7 +388,7 @@ module _ (limit : ℕ) (events : List HostEvent) (answers : List HostAnswer) (ol
       (still_moved limit id events answers old new s by (record { given = given; is_open = is_open }))
 
   pub shows_on : (k p : ℕ) (pairs : List Pair) → slice_get events k ≡ Some (View id p) → slice_get answers k ≡ Some (Viewed pairs)
-      → pairs ≡ seen_of s.program p (sent_of (exec (program_of s.program) (steps_reported id (take k events) (take k answers)) s.machine))
+      → pairs ≡ seen_of s.program p (sent_of (exec (machine_code s.program) (steps_reported id (take k events) (take k answers)) s.machine))
   shows_on k p pairs views viewed =
       shown_moved limit id p pairs events answers old new s by (record { given = given; is_open = is_open }) k views viewed
 

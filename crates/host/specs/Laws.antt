@@ -7,7 +7,7 @@ use Rattle.labels.specs.declared.sent.Pair.{Pair}
 use Rattle.bytecode.specs.Contents.{ModuleContents}
 use Rattle.bytecode.specs.Form.{Spells}
 use Rattle.bytecode.specs.Format.{module_file}
-use Rattle.bytecode.specs.Machine.{Ending, Finished, Threw, Deep, after_steps, exec, program_of, sent_after}
+use Rattle.bytecode.specs.Machine.{Ending, Finished, Threw, Deep, after_steps, exec, machine_code, sent_after}
 use Rattle.channels.specs.World.{InputNumbers, numbers_of_channel}
 use Rattle.bytecode.specs.Isolated.{seen_of, AgreeOnInputs, OneIsPrefix, IsIsolated}
 use Rattle.machine.specs.Run.{HasEnded}
@@ -109,7 +109,7 @@ SessionsStandAsReported =
 
 -- a session some steps on
 abbrev pub moved_by : SessionContents → ℕ → SessionContents
-moved_by session steps = record session { machine = exec (program_of session.program) steps session.machine }
+moved_by session steps = record session { machine = exec (machine_code session.program) steps session.machine }
 
 -- a session that was open before any events, under an id that was given, and is open after them: it has gone on by the steps that
 -- its own turns reported, and is otherwise as it was

@@ -7,7 +7,7 @@ use Rattle.bytecode.specs.Contents.{ModuleContents}
 use Rattle.module_file.specs.Decoded.{first_refusal}
 use Rattle.bytecode.specs.Form.{Spells}
 use Rattle.bytecode.specs.Format.{module_file}
-use Rattle.bytecode.specs.Machine.{Machine, after_steps, exec, program_of, sent_of}
+use Rattle.bytecode.specs.Machine.{Machine, after_steps, exec, machine_code, sent_of}
 use Rattle.channels.specs.World.{InputNumbers, input_names, numbers_of_channel}
 use Rattle.machine.specs.Run.{ReportsStatus, WasRunning, names_of}
 use Rattle.machine.specs.declared.status.Status.{Status}
@@ -130,9 +130,9 @@ OpenRefused limit host bytes world fault = HasRoom limit host × CannotOpen byte
 -- a session may be let take at most so many steps, takes so many, and reports so how it then stands
 pub record Takes (session : SessionContents) (n taken : ℕ) (status : Status) (after : Machine) : Type 0 where
   pub within : taken ≤ n
-  pub running : WasRunning (program_of session.program) taken session.machine
-  pub machine : after ≡ exec (program_of session.program) taken session.machine
-  pub reported : ReportsStatus (program_of session.program) n taken status after
+  pub running : WasRunning (machine_code session.program) taken session.machine
+  pub machine : after ≡ exec (machine_code session.program) taken session.machine
+  pub reported : ReportsStatus (machine_code session.program) n taken status after
 
 -- a number is that of a principal of a session's module
 abbrev pub IsPrincipal : SessionContents → ℕ → Type 0

@@ -20,7 +20,7 @@ use Rattle.resolved.specs.declared.statement.Exit.{Exit}
 use Rattle.resolved.specs.declared.statement.Exit.TheVariants.{Normal, Return, Break, Continue, Throw}
 use Rattle.resolved.specs.Tree.{Expression, Integer, Logical, Read, Element, Unary, Binary, Short, Statement, Assign, Clear, Store, Receive, Send, Call, If, While, Leave, ReturnWith, Try, Nested, Block, Empty, Then, Handlers, NoMore, Catch}
 use Rattle.resolved.specs.Program.{Program, procedure_at}
-use Rattle.resolved.specs.Value.{Evaluated, Gives, Raises, then_with, truth_in, number_in, wrapped, literal_number, is_zero, unless_zero, operator_value, decides, in_range, position_of, checked_index, arith_exception, bounds_exception, end_exception}
+use Rattle.resolved.specs.Value.{Evaluated, Yields, Raises, then_with, truth_in, number_in, wrapped, literal_number, is_zero, unless_zero, operator_value, decides, in_range, position_of, checked_index, arith_exception, bounds_exception, end_exception}
 use Rattle.resolved.specs.SourceState.{SourceState, value_of, values_of, cells, cell_at, assigned, stored, cleared}
 use Rattle.resolved.specs.Meaning.{OutOfTurns, Outcome, Ended, Stopped, normally, thrown, after, evaluated, looped, turns, caught, leaving, returned_to, received, sending, Calls, statement_meaning, block_meaning, handlers_meaning, frame_of, calls_with}
 use Rattle.resolved.specs.Ends.{same_exit, has_end, index_can_raise, divisor_can_raise, index_raises, operator_raises, raises, raises_all, thrown_ends, declared_by, leaves_loop, handles, passes, then_ends, statement_ends, block_ends, handlers_ends}
@@ -69,15 +69,15 @@ end-filter p ends exit = any-filter_same (same_exit exit) p (p exit) (λ e h. sy
 pub record RaisesAmong {A : Type 0} (xs : List ℕ) (o : Evaluated A) : Type 0 where
   pub among : (x : ℕ) → o ≡ Raises x → raised_in xs x ≡ true
 
-raises-none : {A : Type 0} (xs : List ℕ) (v : A) → RaisesAmong xs (Gives v)
+raises-none : {A : Type 0} (xs : List ℕ) (v : A) → RaisesAmong xs (Yields v)
 raises-none xs v = record { among = λ x e. absurd (cc) }
 
 raises-this : {A : Type 0} (xs : List ℕ) (y : ℕ) → raised_in xs y ≡ true → RaisesAmong {A = A} xs (Raises y)
 raises-this xs y h = record { among = λ x e. let f : y ≡ x = cc in rw (← f) h }
 
 raises-then : {A B : Type 0} (xs ys : List ℕ) (o : Evaluated A) (next : A → Evaluated B) → RaisesAmong xs o →
-    ((v : A) → o ≡ Gives v → RaisesAmong ys (next v)) → RaisesAmong (xs ++ ys) (then_with o next)
-raises-then xs ys (Gives v) next h rest = record { among = λ x e. any-right (λ y. x == y) xs ys ((rest v refl).among x e) }
+    ((v : A) → o ≡ Yields v → RaisesAmong ys (next v)) → RaisesAmong (xs ++ ys) (then_with o next)
+raises-then xs ys (Yields v) next h rest = record { among = λ x e. any-right (λ y. x == y) xs ys ((rest v refl).among x e) }
 raises-then xs ys (Raises z) next h rest = raises-this (xs ++ ys) z (any-left (λ y. z == y) xs ys (h.among z refl))
 
 raises-more : {A : Type 0} (xs ys : List ℕ) (o : Evaluated A) → RaisesAmong xs o → RaisesAmong (xs ++ ys) o
@@ -88,7 +88,7 @@ raises-last xs ys o h = record { among = λ x e. any-right (λ y. x == y) xs ys 
 
 -- an index that cannot raise is in range
 pub index-in_range : (s : SourceState) (index : Expression) (length : ℕ) (v : Value) → index_can_raise index length ≡ false →
-    value_of s index ≡ Gives v → in_range (number_in v) length ≡ true
+    value_of s index ≡ Yields v → in_range (number_in v) length ≡ true
 index-in_range s (Integer n) length v h e = go (in_range (literal_number n) length) refl
   where
     go : (b : Bool) → in_range (literal_number n) length ≡ b → in_range (number_in v) length ≡ true
@@ -109,7 +109,7 @@ negated-zero z h =
     let right : int_wrap w32 (y +ℤ int_wrap w32 (neg_ℤ y)) ≡ int_wrap w32 (y +ℤ neg_ℤ y) = int_wrap-add_right w32 y (neg_ℤ y) in
     sym fits ∙ sym (ap (λ a. int_wrap w32 a) (ap (λ b. y +ℤ b) h ∙ +ℤ_idr y)) ∙ right ∙ ap (λ a. int_wrap w32 a) (+ℤ_invr y)
 
-pub divisor-not_zero : (s : SourceState) (e : Expression) (w : Value) → divisor_can_raise e ≡ false → value_of s e ≡ Gives w →
+pub divisor-not_zero : (s : SourceState) (e : Expression) (w : Value) → divisor_can_raise e ≡ false → value_of s e ≡ Yields w →
     is_zero (number_in w) ≡ false
 divisor-not_zero s (Integer n) w h e =
     let g : Number (literal_number n) ≡ w = cc in rw (← g) h
@@ -122,7 +122,7 @@ divisor-not_zero s (Unary Negate (Integer n)) w h e = go (is_zero (wrapped (neg_
         let i : true ≡ false = sym (ap is_zero zero) ∙ h in absurd (cc)
 divisor-not_zero s other w h e = let i : true ≡ false = h in absurd (cc)
 
-raises-checked_index : (s : SourceState) (index : Expression) (length : ℕ) (v : Value) → value_of s index ≡ Gives v →
+raises-checked_index : (s : SourceState) (index : Expression) (length : ℕ) (v : Value) → value_of s index ≡ Yields v →
     RaisesAmong (index_raises index length) (checked_index v length)
 raises-checked_index s index length v e = go (index_can_raise index length) refl (in_range (number_in v) length) refl
   where
@@ -132,7 +132,7 @@ raises-checked_index s index length v e = go (index_can_raise index length) refl
     go true f false g = rw (f, g) (raises-this (bounds_exception ∷ []) bounds_exception refl)
     go false f false g = let i : true ≡ false = sym (index-in_range s index length v f e) ∙ g in absurd (cc)
 
-raises-division : (s : SourceState) (e : Expression) (w : Value) (result : ℤ) → value_of s e ≡ Gives w →
+raises-division : (s : SourceState) (e : Expression) (w : Value) (result : ℤ) → value_of s e ≡ Yields w →
     RaisesAmong (if divisor_can_raise e then arith_exception ∷ [] else []) (unless_zero (number_in w) result)
 raises-division s e w result f = go (divisor_can_raise e) refl (is_zero (number_in w)) refl
   where
@@ -142,7 +142,7 @@ raises-division s e w result f = go (divisor_can_raise e) refl (is_zero (number_
     go true g true h = rw (g, h) (raises-this (arith_exception ∷ []) arith_exception refl)
     go false g true h = let i : true ≡ false = sym h ∙ divisor-not_zero s e w g f in absurd (cc)
 
-raises-operator : (s : SourceState) (operator : Operator) (e : Expression) (v w : Value) → value_of s e ≡ Gives w →
+raises-operator : (s : SourceState) (operator : Operator) (e : Expression) (v w : Value) → value_of s e ≡ Yields w →
     RaisesAmong (operator_raises operator e) (operator_value operator v w)
 raises-operator s Divide e v w f = raises-division s e w _ f
 raises-operator s Remainder e v w f = raises-division s e w _ f
@@ -170,9 +170,9 @@ expression-raises s (Logical b) = raises-none [] (Truth b)
 expression-raises s (Read x) = raises-none [] (cell_at (cells s x) 0)
 expression-raises s (Element array length index) =
     raises-then (raises index) (index_raises index length) (value_of s index)
-    (λ v. then_with (checked_index v length) (λ i. Gives (cell_at (cells s array) i))) (expression-raises s index) (λ v e.
+    (λ v. then_with (checked_index v length) (λ i. Yields (cell_at (cells s array) i))) (expression-raises s index) (λ v e.
     rw (← append-nil (index_raises index length)) (raises-then (index_raises index length) [] (checked_index v length)
-    (λ i. Gives (cell_at (cells s array) i)) (raises-checked_index s index length v e)
+    (λ i. Yields (cell_at (cells s array) i)) (raises-checked_index s index length v e)
     (λ i f. raises-none [] (cell_at (cells s array) i))))
 expression-raises s (Unary prefix e) =
     rw (← append-nil (raises e)) (raises-then (raises e) [] (value_of s e) _ (expression-raises s e) (λ v f. raises-none [] _))
@@ -182,14 +182,14 @@ expression-raises s (Binary operator d e) =
     raises-then (raises e) (operator_raises operator e) (value_of s e) (λ w. operator_value operator v w) (expression-raises s e) (λ w g.
     raises-operator s operator e v w g)))
 expression-raises s (Short connective d e) =
-    raises-then (raises d) (raises e) (value_of s d) (λ v. if decides connective v then Gives v else value_of s e) (expression-raises s d) (λ v f.
-    raises-if (raises e) (decides connective v) (Gives v) (value_of s e) (raises-none (raises e) v) (expression-raises s e))
+    raises-then (raises d) (raises e) (value_of s d) (λ v. if decides connective v then Yields v else value_of s e) (expression-raises s d) (λ v f.
+    raises-if (raises e) (decides connective v) (Yields v) (value_of s e) (raises-none (raises e) v) (expression-raises s e))
 
 pub expressions-raise : (s : SourceState) (es : List Expression) → RaisesAmong (raises_all es) (values_of s es)
 expressions-raise s [] = raises-none [] []
 expressions-raise s (e ∷ rest) =
-    raises-then (raises e) (raises_all rest) (value_of s e) (λ v. then_with (values_of s rest) (λ vs. Gives (v ∷ vs))) (expression-raises s e) (λ v f.
-    rw (← append-nil (raises_all rest)) (raises-then (raises_all rest) [] (values_of s rest) (λ vs. Gives (v ∷ vs))
+    raises-then (raises e) (raises_all rest) (value_of s e) (λ v. then_with (values_of s rest) (λ vs. Yields (v ∷ vs))) (expression-raises s e) (λ v f.
+    rw (← append-nil (raises_all rest)) (raises-then (raises_all rest) [] (values_of s rest) (λ vs. Yields (v ∷ vs))
     (expressions-raise s rest) (λ vs g. raises-none [] (v ∷ vs))))
 
 -- the end of an outcome is in a list
@@ -218,8 +218,8 @@ among-thrown xs x s h = record { among = thrown-among xs x h }
 
 among-evaluated : {A : Type 0} (xs : List ℕ) (ends : List Exit) (e : Evaluated A) (s : SourceState) (next : A → Outcome) →
     RaisesAmong xs e → ((exit : Exit) → has_end (thrown_ends xs) exit ≡ true → has_end ends exit ≡ true) →
-    ((v : A) → e ≡ Gives v → Among ends (next v)) → Among ends (evaluated e s next)
-among-evaluated xs ends (Gives v) s next h more rest = rest v refl
+    ((v : A) → e ≡ Yields v → Among ends (next v)) → Among ends (evaluated e s next)
+among-evaluated xs ends (Yields v) s next h more rest = rest v refl
 among-evaluated xs ends (Raises x) s next h more rest = record { among = more (Throw x) (thrown-among xs x (h.among x refl)) }
 
 among-if : (ends : List Exit) (b : Bool) (x y : Outcome) → Among ends x → Among ends y → Among ends (if b then x else y)

@@ -11,7 +11,7 @@ use Rattle.resolved.specs.declared.expression.Value.TheVariants.{Number}
 use Rattle.resolved.specs.declared.statement.Exit.TheVariants.{Normal, Return, Break, Continue, Throw}
 use Rattle.resolved.specs.Tree.{Statement, Assign, Clear, Store, Receive, Send, Call, If, While, Leave, ReturnWith, Try, Nested, Block, Empty, Then, Handlers, NoMore, Catch}
 use Rattle.resolved.specs.Program.{Program, procedure_at}
-use Rattle.resolved.specs.Value.{Evaluated, Gives, Raises, number_in, truth_in, checked_index}
+use Rattle.resolved.specs.Value.{Evaluated, Yields, Raises, number_in, truth_in, checked_index}
 use Rattle.resolved.specs.SourceState.{SourceState, with_cells, assigned, stored, cleared, value_of, values_of, updated}
 use Rattle.resolved.specs.Meaning.{Deep, OutOfTurns, Outcome, Ended, Stopped, normally, thrown, after, evaluated, looped, turns, caught, kept_in, received, sending, leaving, returned_to, Calls, statement_meaning, block_meaning, handlers_meaning, frame_of, calls_with, state_after}
 
@@ -33,7 +33,7 @@ grows-itself s t e o f = record { sent = ([], append-nil s.sent ∙ e ∙ f) }
 
 pub grows-evaluated : {A : Type 0} (s : SourceState) (e : Evaluated A) (next : A → Outcome) → ((v : A) → Grows s (next v)) →
     Grows s (evaluated e s next)
-grows-evaluated s (Gives v) next h = h v
+grows-evaluated s (Yields v) next h = h v
 grows-evaluated s (Raises x) next h = grows-itself s s refl (thrown x s) refl
 
 pub grows-if : (s : SourceState) (b : Bool) (x y : Outcome) → Grows s x → Grows s y → Grows s (if b then x else y)

@@ -5,7 +5,7 @@ use Rattle.resolved.specs.declared.expression.Value.{Value}
 use Rattle.resolved.specs.declared.statement.Exit.{Exit}
 use Rattle.resolved.specs.declared.statement.Exit.TheVariants.{Normal, Return, Break, Continue, Throw}
 use Rattle.resolved.specs.Tree.{Handlers}
-use Rattle.resolved.specs.Value.{Evaluated, Gives, Raises, truth_in}
+use Rattle.resolved.specs.Value.{Evaluated, Yields, Raises, truth_in}
 use Rattle.resolved.specs.SourceState.{SourceState}
 use Rattle.resolved.specs.Meaning.{Stop, OutOfTurns, Outcome, Ended, Stopped, normally, after, evaluated, looped, turns, caught, state_after}
 use Rattle.resolved.specs.Ends.{same_exit, leaves_loop, passes}
@@ -47,9 +47,9 @@ pub kept-stop : (view : View) (value : Bool) (exits : Exit → Bool) (s : Source
 kept-stop view value exits s stop = record { agree = agree-itself view s; hidden = hidden_stop stop s }
 
 pub kept-evaluated : {A : Type 0} (view : View) (value : Bool) (exits : Exit → Bool) (s : SourceState) (e : Evaluated A) (next : A →
-    Outcome) → ((x : ℕ) → e ≡ Raises x → exits (Throw x) ≡ false) → ((v : A) → e ≡ Gives v → Kept view value exits s (next v)) →
+    Outcome) → ((x : ℕ) → e ≡ Raises x → exits (Throw x) ≡ false) → ((v : A) → e ≡ Yields v → Kept view value exits s (next v)) →
     Kept view value exits s (evaluated e s next)
-kept-evaluated view value exits s (Gives v) next raised rest = rest v refl
+kept-evaluated view value exits s (Yields v) next raised rest = rest v refl
 kept-evaluated view value exits s (Raises x) next raised rest = kept-end view value exits s (Throw x) (raised x refl)
 
 pub kept-if : (view : View) (value : Bool) (exits : Exit → Bool) (s : SourceState) (b : Bool) (x y : Outcome) →

@@ -7,7 +7,7 @@ use Rattle.resolved.specs.declared.expression.Value.{Value}
 use Rattle.resolved.specs.declared.statement.Exit.TheVariants.{Normal, Return, Break, Continue, Throw}
 use Rattle.resolved.specs.Tree.{Statement, Call, If, While, ReturnWith, Try, Nested, Block, Empty, Then, Handlers, NoMore, Catch}
 use Rattle.resolved.specs.Program.{Program, procedure_at}
-use Rattle.resolved.specs.Value.{Evaluated, Gives, Raises, truth_in}
+use Rattle.resolved.specs.Value.{Evaluated, Yields, Raises, truth_in}
 use Rattle.resolved.specs.SourceState.{SourceState, value_of, values_of}
 use Rattle.resolved.specs.Meaning.{Deep, OutOfTurns, Outcome, Ended, Stopped, normally, thrown, after, evaluated, looped, turns, caught, leaving, returned_to, Calls, statement_meaning, block_meaning, handlers_meaning, frame_of, calls_with, state_after}
 use Rattle.isolation.specs.Runs.{GoesOn}
@@ -63,7 +63,7 @@ longer-caught (Stopped OutOfTurns s) more next further h rest grows =
 
 longer-evaluated : {A : Type 0} (e : Evaluated A) (s : SourceState) (next further : A → Outcome) →
     ((v : A) → Longer (next v) (further v)) → Longer (evaluated e s next) (evaluated e s further)
-longer-evaluated (Gives v) s next further h = h v
+longer-evaluated (Yields v) s next further h = h v
 longer-evaluated (Raises x) s next further h = longer-itself (thrown x s)
 
 longer-if : (b : Bool) (x y x' y' : Outcome) → Longer x x' → Longer y y' → Longer (if b then x else y) (if b then x' else y')

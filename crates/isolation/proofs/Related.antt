@@ -10,7 +10,7 @@ use Rattle.resolved.specs.declared.expression.Value.{Value}
 use Rattle.resolved.specs.declared.statement.Exit.{Exit}
 use Rattle.resolved.specs.declared.statement.Exit.TheVariants.{Normal, Return, Break, Continue, Throw}
 use Rattle.resolved.specs.Tree.{Handlers}
-use Rattle.resolved.specs.Value.{Evaluated, Gives, Raises, truth_in}
+use Rattle.resolved.specs.Value.{Evaluated, Yields, Raises, truth_in}
 use Rattle.resolved.specs.SourceState.{SourceState}
 use Rattle.resolved.specs.Meaning.{Stop, OutOfTurns, Outcome, Ended, Stopped, normally, thrown, after, evaluated, looped, turns, caught, state_after}
 use Rattle.resolved.specs.Ends.{same_exit, passes}
@@ -64,7 +64,7 @@ both-kept view value exits s t o p h i j =
 
 pub related-evaluated : {A B : Type 0} (P : A → B → Type 0) (view : View) (value : Bool) (exits : Exit →
     Bool) (s t : SourceState) (e : Evaluated A) (f : Evaluated B) (next : A → Outcome) (further : B → Outcome) → AgreeFor view s t →
-    Alike P e f → ((v : A) (w : B) → e ≡ Gives v → f ≡ Gives w → P v w → Related view value exits (next v) (further w)) →
+    Alike P e f → ((v : A) (w : B) → e ≡ Yields v → f ≡ Yields w → P v w → Related view value exits (next v) (further w)) →
     Related view value exits (evaluated e s next) (evaluated f t further)
 related-evaluated P view value exits s t e f next further agree (both_give v w h) rest = rest v w refl refl h
 related-evaluated P view value exits s t e f next further agree (both_raise x) rest = same_end (Throw x) s t agree
@@ -214,7 +214,7 @@ pub record LoopUnread (view : View) (value : Bool) (inner more : Exit → Bool) 
 
 pub kept-once : (view : View) (value : Bool) (inner more : Exit → Bool) (b : Bool) (condition : SourceState →
     Evaluated Value) (body : SourceState → Outcome) → LoopUnread view value inner more b condition body →
-    (k : ℕ) (s : SourceState) (v : Value) → condition s ≡ Gives v → Kept view value more s (turns k condition body s)
+    (k : ℕ) (s : SourceState) (v : Value) → condition s ≡ Yields v → Kept view value more s (turns k condition body s)
 kept-once view value inner more b condition body h zero s v e =
     kept-turn_zero view value more condition body s (λ x f. absurd (cc)) h.over
 kept-once view value inner more b condition body h (suc k) s v e =

@@ -9,7 +9,7 @@ use Rattle.resolved.specs.declared.expression.Operator.{Operator}
 use Rattle.resolved.specs.declared.expression.Operator.TheVariants.{Add, Subtract, Multiply, Divide, Remainder, LessThan, AtMost, GreaterThan, AtLeast, Equal, Unequal, Same, Different}
 use Rattle.resolved.specs.declared.expression.Connective.{Connective}
 use Rattle.resolved.specs.Tree.{Expression, Integer, Logical, Read, Element, Unary, Binary, Short}
-use Rattle.resolved.specs.Value.{Evaluated, Gives, Raises, then_with, number_in, literal_number, wrapped, is_zero, unless_zero, prefix_value, operator_value, decides, in_range, position_of, checked_index, arith_exception, bounds_exception}
+use Rattle.resolved.specs.Value.{Evaluated, Yields, Raises, then_with, number_in, literal_number, wrapped, is_zero, unless_zero, prefix_value, operator_value, decides, in_range, position_of, checked_index, arith_exception, bounds_exception}
 use Rattle.resolved.specs.SourceState.{SourceState, cells, cell_at, value_of, values_of}
 use Rattle.resolved.specs.Ends.{index_can_raise, divisor_can_raise, is_division, raises}
 use Rattle.resolved.specs.Labelled.{Scope, variable_label, value_label, raise_label, raise_labels, label_if, any_of, Labelling, Join}
@@ -18,7 +18,7 @@ use Rattle.isolation.proofs.Observer.{Reader, view_of, AgreeFor, read-left, read
 
 -- two evaluations: both give values that are related, or both raise the same exception
 pub data Alike {A B : Type 0} (P : A → B → Type 0) : Evaluated A → Evaluated B → Type 0 where
-  both_give : (v : A) (w : B) → P v w → Alike P (Gives v) (Gives w)
+  both_give : (v : A) (w : B) → P v w → Alike P (Yields v) (Yields w)
   both_raise : (x : ℕ) → Alike P (Raises x) (Raises x)
 
 -- the same value where a test holds
@@ -26,7 +26,7 @@ abbrev pub SameIf : {A : Type 0} → Bool → A → A → Type 0
 SameIf b v w = b ≡ true → v ≡ w
 
 alike-then : {A B : Type 0} (P : A → A → Type 0) (Q : B → B → Type 0) (o p : Evaluated A) (next further : A → Evaluated B) →
-    Alike P o p → ((v w : A) → o ≡ Gives v → p ≡ Gives w → P v w → Alike Q (next v) (further w)) →
+    Alike P o p → ((v w : A) → o ≡ Yields v → p ≡ Yields w → P v w → Alike Q (next v) (further w)) →
     Alike Q (then_with o next) (then_with p further)
 alike-then P Q o p next further (both_give v w h) rest = rest v w refl refl h
 alike-then P Q o p next further (both_raise x) rest = both_raise x
@@ -41,7 +41,7 @@ pub read-label_if : {h : PrincipalHierarchy} {labelling : Labelling} (reader : R
 read-label_if reader test label h e = rw e at h
 
 pub index-alike : (s t : SourceState) (index : Expression) (len : ℕ) (b : Bool) (v w : Value) →
-    (index_can_raise index len ≡ true → b ≡ true) → value_of s index ≡ Gives v → value_of t index ≡ Gives w → SameIf b v w →
+    (index_can_raise index len ≡ true → b ≡ true) → value_of s index ≡ Yields v → value_of t index ≡ Yields w → SameIf b v w →
     Alike (SameIf b) (checked_index v len) (checked_index w len)
 index-alike s t index len b v w covered f g same = go (index_can_raise index len) refl
   where
@@ -88,7 +88,7 @@ operator-alike b Different v w v' w' no_zero left right = both_give _ _ (λ i. r
 
 -- whether a divisor is 0 is the same in both, if it can be
 divisor-alike : (s t : SourceState) (e : Expression) (b : Bool) (w w' : Value) → (divisor_can_raise e ≡ true → b ≡ true) →
-    value_of s e ≡ Gives w → value_of t e ≡ Gives w' → SameIf b w w' → is_zero (number_in w) ≡ is_zero (number_in w')
+    value_of s e ≡ Yields w → value_of t e ≡ Yields w' → SameIf b w w' → is_zero (number_in w) ≡ is_zero (number_in w')
 divisor-alike s t e b w w' covered f g same = go (divisor_can_raise e) refl
   where
     go : (c : Bool) → divisor_can_raise e ≡ c → is_zero (number_in w) ≡ is_zero (number_in w')
@@ -96,30 +96,30 @@ divisor-alike s t e b w w' covered f g same = go (divisor_can_raise e) refl
     go false i = divisor-not_zero s e w i f ∙ sym (divisor-not_zero t e w' i g)
 
 -- what can raise nothing gives a value
-gives-value : {A : Type 0} (xs : List ℕ) (o : Evaluated A) → any_of xs ≡ false → RaisesAmong xs o → (v : A) × (o ≡ Gives v)
-gives-value [] (Gives v) e h = (v, refl)
+gives-value : {A : Type 0} (xs : List ℕ) (o : Evaluated A) → any_of xs ≡ false → RaisesAmong xs o → (v : A) × (o ≡ Yields v)
+gives-value [] (Yields v) e h = (v, refl)
 gives-value [] (Raises x) e h = let i : true ≡ false = sym (h.among x refl) in absurd (cc)
 gives-value (y ∷ xs) o e h = let i : true ≡ false = e in absurd (cc)
 
-short-gives : (test : Bool) (v : Value) (o : Evaluated Value) → (w : Value) × (o ≡ Gives w) →
-    (u : Value) × ((if test then Gives v else o) ≡ Gives u)
+short-gives : (test : Bool) (v : Value) (o : Evaluated Value) → (w : Value) × (o ≡ Yields w) →
+    (u : Value) × ((if test then Yields v else o) ≡ Yields u)
 short-gives true v o h = (v, refl)
 short-gives false v o h = h
 
-alike-gives : {A : Type 0} (P : A → A → Type 0) (o p : Evaluated A) → (v : A) × (o ≡ Gives v) → (w : A) × (p ≡ Gives w) →
+alike-gives : {A : Type 0} (P : A → A → Type 0) (o p : Evaluated A) → (v : A) × (o ≡ Yields v) → (w : A) × (p ≡ Yields w) →
     ((v w : A) → P v w) → Alike P o p
 alike-gives P o p h i each = rw (h.1, i.1) (both_give h.0 i.0 (each h.0 i.0))
 
 short-alike : (connective : Connective) (b c : Bool) (xs : List ℕ) (v w : Value) (o p : Evaluated Value) → SameIf b v w →
     (any_of xs ≡ true → b ≡ true) → (c ≡ true → b ≡ true) → RaisesAmong xs o → RaisesAmong xs p → Alike (SameIf c) o p →
-    Alike (SameIf c) (if decides connective v then Gives v else o) (if decides connective w then Gives w else p)
+    Alike (SameIf c) (if decides connective v then Yields v else o) (if decides connective w then Yields w else p)
 short-alike connective true c xs v w o p same covered more h i alike = rw (same refl) (go (decides connective w))
   where
-    go : (d : Bool) → Alike (SameIf c) (if d then Gives w else o) (if d then Gives w else p)
+    go : (d : Bool) → Alike (SameIf c) (if d then Yields w else o) (if d then Yields w else p)
     go true = both_give w w (λ j. refl)
     go false = alike
 short-alike connective false c xs v w o p same covered more h i alike =
-    alike-gives (SameIf c) (if decides connective v then Gives v else o) (if decides connective w then Gives w else p)
+    alike-gives (SameIf c) (if decides connective v then Yields v else o) (if decides connective w then Yields w else p)
     (short-gives (decides connective v) v o (gives-value xs o (none (any_of xs) refl) h))
     (short-gives (decides connective w) w p (gives-value xs p (none (any_of xs) refl) i))
     (λ x y j. let k : false ≡ true = more j in absurd (cc))
@@ -142,17 +142,17 @@ expression-alike reader scope s t agree (Element array len index) reads =
     let covered : test ≡ true → reader.reads l ≡ true = read-label_if reader test l
     (read-right reader (raise_label scope index) (label_if test l) reads) in
     alike-then (SameIf (reader.reads l)) (SameIf (reader.reads (c ++ l))) (value_of s index) (value_of t index)
-    (λ v. then_with (checked_index v len) (λ i. Gives (cell_at (cells s array) i)))
-    (λ v. then_with (checked_index v len) (λ i. Gives (cell_at (cells t array) i)))
+    (λ v. then_with (checked_index v len) (λ i. Yields (cell_at (cells s array) i)))
+    (λ v. then_with (checked_index v len) (λ i. Yields (cell_at (cells t array) i)))
     (expression-alike reader scope s t agree index (read-left reader (raise_label scope index) (label_if test l) reads)) (λ v w f g same.
     alike-then (SameIf (reader.reads l)) (SameIf (reader.reads (c ++ l))) (checked_index v len) (checked_index w len)
-    (λ i. Gives (cell_at (cells s array) i)) (λ i. Gives (cell_at (cells t array) i))
+    (λ i. Yields (cell_at (cells s array) i)) (λ i. Yields (cell_at (cells t array) i))
     (index-alike s t index len (reader.reads l) v w covered f g same) (λ i j p q same_index.
     both_give (cell_at (cells s array) i) (cell_at (cells t array) j) (λ all.
     rw (same_index (read-right reader c l all)) (ap (λ xs. cell_at xs j) (agree.variables array (read-left reader c l all))))))
 expression-alike reader scope s t agree (Unary prefix e) reads =
     alike-then (SameIf (reader.reads (value_label scope e))) (SameIf (reader.reads (value_label scope e))) (value_of s e) (value_of t e)
-    (λ v. Gives (prefix_value prefix v)) (λ v. Gives (prefix_value prefix v)) (expression-alike reader scope s t agree e reads) (λ v w f g same.
+    (λ v. Yields (prefix_value prefix v)) (λ v. Yields (prefix_value prefix v)) (expression-alike reader scope s t agree e reads) (λ v w f g same.
     both_give (prefix_value prefix v) (prefix_value prefix w) (λ i. ap (λ x. prefix_value prefix x) (same i)))
 expression-alike reader scope s t agree (Binary operator d e) reads =
     let rd : Join = raise_label scope d in
@@ -180,7 +180,7 @@ expression-alike reader scope s t agree (Short connective d e) reads =
     let both : reader.reads (rd ++ re) ≡ true = read-left reader (rd ++ re) (label_if test vd) reads in
     let covered : test ≡ true → reader.reads vd ≡ true = read-label_if reader test vd (read-right reader (rd ++ re) (label_if test vd) reads) in
     alike-then (SameIf (reader.reads vd)) (SameIf (reader.reads (vd ++ ve))) (value_of s d) (value_of t d)
-    (λ v. if decides connective v then Gives v else value_of s e) (λ v. if decides connective v then Gives v else value_of t e)
+    (λ v. if decides connective v then Yields v else value_of s e) (λ v. if decides connective v then Yields v else value_of t e)
     (expression-alike reader scope s t agree d (read-left reader rd re both)) (λ v w f g same.
     short-alike connective (reader.reads vd) (reader.reads (vd ++ ve)) (raises e) v w (value_of s e) (value_of t e) same covered
     (read-left reader vd ve)
@@ -202,9 +202,9 @@ pub arguments-alike : {h : PrincipalHierarchy} {labelling : Labelling} (reader :
 arguments-alike reader scope s t agree [] reads = both_give [] [] no_arguments
 arguments-alike reader scope s t agree (e ∷ rest) reads =
     alike-then (SameIf (reader.reads (value_label scope e))) (ArgumentsAlike reader scope (e ∷ rest)) (value_of s e) (value_of t e)
-    (λ v. then_with (values_of s rest) (λ vs. Gives (v ∷ vs))) (λ v. then_with (values_of t rest) (λ vs. Gives (v ∷ vs)))
+    (λ v. then_with (values_of s rest) (λ vs. Yields (v ∷ vs))) (λ v. then_with (values_of t rest) (λ vs. Yields (v ∷ vs)))
     (expression-alike reader scope s t agree e (read-left reader (raise_label scope e) (raise_labels scope rest) reads)) (λ v w f g same.
     alike-then (ArgumentsAlike reader scope rest) (ArgumentsAlike reader scope (e ∷ rest)) (values_of s rest) (values_of t rest)
-    (λ vs. Gives (v ∷ vs)) (λ vs. Gives (w ∷ vs))
+    (λ vs. Yields (v ∷ vs)) (λ vs. Yields (w ∷ vs))
     (arguments-alike reader scope s t agree rest (read-right reader (raise_label scope e) (raise_labels scope rest) reads)) (λ vs ws i j more.
     both_give (v ∷ vs) (w ∷ ws) (one_more e rest v w vs ws same more)))

@@ -2,11 +2,11 @@
 use Rattle.std.proofs.Common.{◌≡◌, refl, ℕ, zero, suc, true}
 use Rattle.resolved.specs.declared.expression.Value.{Value}
 use Rattle.resolved.specs.declared.expression.Value.TheVariants.{Truth}
-use Rattle.resolved.specs.Value.{Evaluated, Gives}
+use Rattle.resolved.specs.Value.{Evaluated, Yields}
 use Rattle.resolved.specs.SourceState.{SourceState}
 use Rattle.resolved.specs.Meaning.{OutOfTurns, Outcome, Stopped, normally, turns}
 
 pub waits-for_ever : (k : ℕ) (condition : SourceState → Evaluated Value) (body : SourceState → Outcome) (s : SourceState) →
-    condition s ≡ Gives (Truth true) → body s ≡ normally s → turns k condition body s ≡ Stopped OutOfTurns s
+    condition s ≡ Yields (Truth true) → body s ≡ normally s → turns k condition body s ≡ Stopped OutOfTurns s
 waits-for_ever zero condition body s holds nothing = rw holds refl
 waits-for_ever (suc k) condition body s holds nothing = rw (holds, nothing) (waits-for_ever k condition body s holds nothing)

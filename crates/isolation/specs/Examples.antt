@@ -29,8 +29,8 @@ abbrev pub for_alice : Label
 for_alice = record { owner = 0; readers = [] } ∷ []
 
 -- a program with the channels `input{Alice:} s; output OUT out;` and `main` alone, whose one slot is `int{Alice:} x`
-abbrev pub program_of : (out : Label) → List ThrownEntry → (end_label : Label) → Block → Program
-program_of out throws end_label body = record {
+abbrev pub program_with : (out : Label) → List ThrownEntry → (end_label : Label) → Block → Program
+program_with out throws end_label body = record {
   hierarchy = two_principals;
   channels = record { direction = Input; name = 115 ∷ []; label = for_alice }
       ∷ record { direction = Output; name = 111 ∷ []; label = out } ∷ [];
@@ -53,12 +53,12 @@ program_of out throws end_label body = record {
 
 -- `void main() throws (End{Alice:}) { int{Alice:} x = receive s; send out, x; }`
 abbrev pub relay : (out : Label) → Program
-relay out = program_of out (record { exception = end_exception; label = for_alice } ∷ []) for_alice
+relay out = program_with out (record { exception = end_exception; label = for_alice } ∷ []) for_alice
     (Then (Receive 0 0 (Some (Local 0))) (Then (Send 0 1 (Read (Local 0))) Empty))
 
 -- `void main() { int{Alice:} x = 0; try { x = receive s; } catch (End) { } while (x > 0) { } send out, 1; }`, with `output{} out;`
 abbrev pub waiting : Program
-waiting = program_of [] [] []
+waiting = program_with [] [] []
     (Then (Assign 0 (Local 0) (Integer 0))
     (Then (Try 0 (Then (Receive 0 0 (Some (Local 0))) Empty) (Catch 0 end_exception Empty NoMore))
     (Then (While 0 0 (Binary GreaterThan (Read (Local 0)) (Integer 0)) Empty)

@@ -12,7 +12,7 @@ use Rattle.bytecode.specs.declared.declaration.Handler.{Handler}
 use Rattle.bytecode.specs.declared.declaration.Slot.{Slot}
 use Rattle.bytecode.specs.Code.{width_of, instruction_at}
 use Rattle.bytecode.specs.Contents.{ProcedureContents, ModuleContents}
-use Rattle.bytecode.specs.Machine.{Header, MachineCode, Machine, Running, Ended, Stuck, Ending, header_of, code_of, handlers_of, slots_in, position_after, handler_for, program_of, first_state, new_frame, exec, after_steps, sent_of}
+use Rattle.bytecode.specs.Machine.{Header, MachineCode, Machine, Running, Ended, Stuck, Ending, header_of, code_of, handlers_of, slots_in, position_after, handler_for, machine_code, first_state, new_frame, exec, after_steps, sent_of}
 use Rattle.bytecode.specs.Targets.{renamed_instruction, renamed_handler}
 use Rattle.layout.specs.Offsets.{offset, laid_out_procedure, laid_out, offset_in}
 use Rattle.layout.specs.Runs.{graph_program, graph_after_steps}
@@ -137,9 +137,9 @@ procedure_at g k = slice_get-map laid_out_procedure g.procedures k
 relaid_of : ModuleContents → Relaid
 relaid_of g = record {
   program = graph_program g;
-  fetch = (program_of (laid_out g)).fetch;
-  next = (program_of (laid_out g)).next;
-  find = (program_of (laid_out g)).find;
+  fetch = (machine_code (laid_out g)).fetch;
+  next = (machine_code (laid_out g)).next;
+  find = (machine_code (laid_out g)).find;
   rename = offset_in g;
   start = λ procedure. offset-start (code_of (slice_get g.procedures procedure));
   fetched = λ procedure k.
@@ -153,9 +153,9 @@ relaid_of g = record {
       ∙ found_in (slice_get g.procedures procedure) k exception;
 }
 
-program-same : (g : ModuleContents) → program_of (laid_out g) ≡ relaid (relaid_of g)
+program-same : (g : ModuleContents) → machine_code (laid_out g) ≡ relaid (relaid_of g)
 unfolding relaid_of
-program-same g = ap (λ (headers : List Header). record (program_of (laid_out g)) { headers = headers }) (headers-same g.procedures)
+program-same g = ap (λ (headers : List Header). record (machine_code (laid_out g)) { headers = headers }) (headers-same g.procedures)
 
 first-same : (g : ModuleContents) (world : ℕ → List ℤ) → Running (first_state (laid_out g) world) ≡ renamed (offset_in g) (Running (first_state g world))
 first-same g world =

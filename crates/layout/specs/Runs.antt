@@ -3,12 +3,12 @@
 use Rattle.std.specs.Prelude.{ℕ, ◌+◌, List, slice_get, ℤ}
 use Rattle.labels.specs.declared.sent.Pair.{Pair}
 use Rattle.bytecode.specs.Contents.{ModuleContents}
-use Rattle.bytecode.specs.Machine.{MachineCode, program_of, code_of, Machine, Running, first_state, exec, sent_of}
+use Rattle.bytecode.specs.Machine.{MachineCode, machine_code, code_of, Machine, Running, first_state, exec, sent_of}
 
 -- the program of a graph. The instruction at a position is the one with that number, and the next position is one more; else it is
 -- what it is for a module: a handler holds an instruction where its range holds the instruction's position
 abbrev pub graph_program : ModuleContents → MachineCode
-graph_program graph = record (program_of graph) {
+graph_program graph = record (machine_code graph) {
   fetch = λ procedure position. slice_get (code_of (slice_get graph.procedures procedure)) position;
   next = λ procedure position. position + 1;
 }

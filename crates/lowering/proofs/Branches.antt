@@ -13,7 +13,7 @@ use Rattle.resolved.specs.declared.expression.Connective.TheVariants.{And, Or}
 use Rattle.resolved.specs.Tree.{Expression, Integer, Logical, Read, Element, Unary, Binary, Short}
 use Rattle.resolved.specs.SourceState as source
 use Rattle.resolved.specs.SourceState.{value_of}
-use Rattle.resolved.specs.Value.{Evaluated, Gives, Raises, then_with, prefix_value, operator_value, decides, bool_eq, truth_in, number_in}
+use Rattle.resolved.specs.Value.{Evaluated, Yields, Raises, then_with, prefix_value, operator_value, decides, bool_eq, truth_in, number_in}
 use Rattle.resolved.specs.WellFormed.{has_base, result_base}
 use Rattle.resolved.specs.Kinds.{StateFits, GivesBase}
 use Rattle.resolved.proofs.Sound.Values.{both, value_fits}
@@ -37,7 +37,7 @@ lead_by wanted truth target end = if bool_eq wanted truth then target else end
 
 -- in at least one step the machine comes to the target or behind the code, or to where the exception goes
 abbrev pub BranchRuns : Setting → (ℕ → Option ℕ) → (wanted : Bool) → (target : ℕ) → Machine → (end : ℕ) → source.SourceState → Evaluated Value → Type 0
-BranchRuns g h wanted target from end s (Gives v) = Strides g.p from (place g (lead_by wanted (truth_in v) target end) [] s)
+BranchRuns g h wanted target from end s (Yields v) = Strides g.p from (place g (lead_by wanted (truth_in v) target end) [] s)
 BranchRuns g h wanted target from end s (Raises exception) = Leads g.p from (thrown_to g (h exception) exception s)
 
 -- ---- turned conditions
@@ -59,11 +59,11 @@ twice : (b : Bool) → b ≡ not (not b)
 twice true = refl
 twice false = refl
 
-turned_truth : (a b : Bool) → a ≡ b → ◌≡◌ {A = Evaluated Value} (Gives (Truth a)) (Gives (Truth b))
-turned_truth a b e = ap (λ (t : Bool). Gives (Truth t)) e
+turned_truth : (a b : Bool) → a ≡ b → ◌≡◌ {A = Evaluated Value} (Yields (Truth a)) (Yields (Truth b))
+turned_truth a b e = ap (λ (t : Bool). Yields (Truth t)) e
 
 turned-operator : (op : Operator) (v w : Value) → result_base op ≡ base.Boolean
-    → operator_value (turned_operator op) v w ≡ then_with (operator_value op v w) (λ x. Gives (prefix_value prefix.Not x))
+    → operator_value (turned_operator op) v w ≡ then_with (operator_value op v w) (λ x. Yields (prefix_value prefix.Not x))
 turned-operator operator.LessThan v w e = turned_truth _ _ (turned_order (number_in v) (number_in w))
 turned-operator operator.AtMost v w e = turned_truth _ _ (turned_order' (number_in v) (number_in w))
 turned-operator operator.GreaterThan v w e = turned_truth _ _ (turned_order (number_in w) (number_in v))
@@ -76,14 +76,14 @@ turned-operator _ v w e = absurd (let no : base.Int ≡ base.Boolean = e in cc)
 
 turned_pair : (op : Operator) (first second : Evaluated Value) → result_base op ≡ base.Boolean
     → then_with first (λ v. then_with second (λ w. operator_value (turned_operator op) v w))
-    ≡ then_with (then_with first (λ v. then_with second (λ w. operator_value op v w))) (λ x. Gives (prefix_value prefix.Not x))
-turned_pair op (Gives v) (Gives w) e = turned-operator op v w e
-turned_pair op (Gives v) (Raises exception) e = refl
+    ≡ then_with (then_with first (λ v. then_with second (λ w. operator_value op v w))) (λ x. Yields (prefix_value prefix.Not x))
+turned_pair op (Yields v) (Yields w) e = turned-operator op v w e
+turned_pair op (Yields v) (Raises exception) e = refl
 turned_pair op (Raises exception) second e = refl
 
 module _ (g : Setting) (h : ℕ → Option ℕ) (s : source.SourceState) (fit : StateFits g.program g.procedure s) where
   turned-value : (e : Expression) → has_base g.program g.procedure base.Boolean e ≡ true
-      → value_of s (turned e) ≡ then_with (value_of s e) (λ x. Gives (prefix_value prefix.Not x))
+      → value_of s (turned e) ≡ then_with (value_of s e) (λ x. Yields (prefix_value prefix.Not x))
   turned-value (Integer n) typed = refl
   turned-value (Logical b) typed = refl
   turned-value (Read x) typed = refl
@@ -96,7 +96,7 @@ module _ (g : Setting) (h : ℕ → Option ℕ) (s : source.SourceState) (fit : 
 
   branch-from : (wanted : Bool) (target : ℕ) (from mid : Machine) (end : ℕ) (o : Evaluated Value)
       → Leads g.p from mid → BranchRuns g h wanted target mid end s o → BranchRuns g h wanted target from end s o
-  branch-from wanted target from mid end (Gives v) first second = strides-through g.p from mid _ first second
+  branch-from wanted target from mid end (Yields v) first second = strides-through g.p from mid _ first second
   branch-from wanted target from mid end (Raises exception) first second = leads-through g.p from mid _ first second
 
   branch-at : (wanted : Bool) (target : ℕ) (from : Machine) (mid end : ℕ) (o : Evaluated Value)
@@ -106,17 +106,17 @@ module _ (g : Setting) (h : ℕ → Option ℕ) (s : source.SourceState) (fit : 
   -- a truth on the operands is tested
   after-test : (target mid : ℕ) (from : Machine) (more : List Instruction) (o : Evaluated Value) → GivesBase base.Boolean o
       → ValueRuns g h [] from mid s o → Stands g.code (JumpIfFalse target ∷ more) mid → BranchRuns g h false target from (mid + 1) s o
-  after-test target mid from more (Gives (Truth true)) typed run stands =
+  after-test target mid from more (Yields (Truth true)) typed run stands =
       strides-through g.p from _ _ run (does_stride g more (JumpIfFalse target) mid (cell.Bool true ∷ []) s _ stands refl (onward g mid (cell.Bool true ∷ []) [] s))
-  after-test target mid from more (Gives (Truth false)) typed run stands =
+  after-test target mid from more (Yields (Truth false)) typed run stands =
       strides-through g.p from _ _ run (does_stride g more (JumpIfFalse target) mid (cell.Bool false ∷ []) s _ stands refl refl)
-  after-test target mid from more (Gives (Number z)) typed run stands = absurd (let no : base.Int ≡ base.Boolean = typed in cc)
+  after-test target mid from more (Yields (Number z)) typed run stands = absurd (let no : base.Int ≡ base.Boolean = typed in cc)
   after-test target mid from more (Raises exception) typed run stands = run
 
   -- a condition behind `!`
   not-branch : (wanted : Bool) (target end : ℕ) (from : Machine) (o : Evaluated Value)
-      → BranchRuns g h (not wanted) target from end s o → BranchRuns g h wanted target from end s (then_with o (λ x. Gives (prefix_value prefix.Not x)))
-  not-branch wanted target end from (Gives v) run = subst (λ (b : Bool). Strides g.p from (place g (if b then target else end) [] s)) (same wanted (truth_in v)) run
+      → BranchRuns g h (not wanted) target from end s o → BranchRuns g h wanted target from end s (then_with o (λ x. Yields (prefix_value prefix.Not x)))
+  not-branch wanted target end from (Yields v) run = subst (λ (b : Bool). Strides g.p from (place g (if b then target else end) [] s)) (same wanted (truth_in v)) run
     where
       same : (a b : Bool) → bool_eq (not a) b ≡ bool_eq a (not b)
       same true b = refl
@@ -125,8 +125,8 @@ module _ (g : Setting) (h : ℕ → Option ℕ) (s : source.SourceState) (fit : 
   not-branch wanted target end from (Raises exception) run = run
 
   turned-branch : (target end : ℕ) (from : Machine) (o : Evaluated Value)
-      → BranchRuns g h false target from end s (then_with o (λ x. Gives (prefix_value prefix.Not x))) → BranchRuns g h true target from end s o
-  turned-branch target end from (Gives v) run = subst (λ (b : Bool). Strides g.p from (place g (if b then target else end) [] s)) (sym (twice (truth_in v))) run
+      → BranchRuns g h false target from end s (then_with o (λ x. Yields (prefix_value prefix.Not x))) → BranchRuns g h true target from end s o
+  turned-branch target end from (Yields v) run = subst (λ (b : Bool). Strides g.p from (place g (if b then target else end) [] s)) (sym (twice (truth_in v))) run
   turned-branch target end from (Raises exception) run = run
 
   test-runs : (wanted : Bool) (e : Expression) (at target : ℕ) → has_base g.program g.procedure base.Boolean e ≡ true
@@ -153,12 +153,12 @@ module _ (g : Setting) (h : ℕ → Option ℕ) (s : source.SourceState) (fit : 
   short-branch : (connective : Connective) (wanted : Bool) (target mid end : ℕ) (from : Machine) (o right : Evaluated Value) → GivesBase base.Boolean o
       → BranchRuns g h (deciding connective) (if bool_eq wanted (deciding connective) then target else end) from mid s o
       → BranchRuns g h wanted target (place g mid [] s) end s right
-      → BranchRuns g h wanted target from end s (then_with o (λ v. if decides connective v then Gives v else right))
-  short-branch And wanted target mid end from (Gives (Truth true)) right typed run next = branch-from wanted target from _ end right (strides-leads g.p _ _ run) next
-  short-branch And wanted target mid end from (Gives (Truth false)) right typed run next = run
-  short-branch Or wanted target mid end from (Gives (Truth true)) right typed run next = run
-  short-branch Or wanted target mid end from (Gives (Truth false)) right typed run next = branch-from wanted target from _ end right (strides-leads g.p _ _ run) next
-  short-branch connective wanted target mid end from (Gives (Number z)) right typed run next = absurd (let no : base.Int ≡ base.Boolean = typed in cc)
+      → BranchRuns g h wanted target from end s (then_with o (λ v. if decides connective v then Yields v else right))
+  short-branch And wanted target mid end from (Yields (Truth true)) right typed run next = branch-from wanted target from _ end right (strides-leads g.p _ _ run) next
+  short-branch And wanted target mid end from (Yields (Truth false)) right typed run next = run
+  short-branch Or wanted target mid end from (Yields (Truth true)) right typed run next = run
+  short-branch Or wanted target mid end from (Yields (Truth false)) right typed run next = branch-from wanted target from _ end right (strides-leads g.p _ _ run) next
+  short-branch connective wanted target mid end from (Yields (Number z)) right typed run next = absurd (let no : base.Int ≡ base.Boolean = typed in cc)
   short-branch connective wanted target mid end from (Raises exception) right typed run next = run
 
   pub branch-runs : (e : Expression) (wanted : Bool) (at target : ℕ) → has_base g.program g.procedure base.Boolean e ≡ true

@@ -16,7 +16,7 @@ use Rattle.resolved.specs.declared.expression.Connective.TheVariants.{And, Or}
 use Rattle.resolved.specs.Tree.{Expression, Integer, Logical, Read, Element, Unary, Binary, Short}
 use Rattle.resolved.specs.SourceState as source
 use Rattle.resolved.specs.SourceState.{value_of, values_of, cells, cell_at}
-use Rattle.resolved.specs.Value.{Evaluated, Gives, Raises, literal_number, base_of, prefix_value, operator_value, decides, is_zero, bool_eq, wrapped}
+use Rattle.resolved.specs.Value.{Evaluated, Yields, Raises, literal_number, base_of, prefix_value, operator_value, decides, is_zero, bool_eq, wrapped}
 use Rattle.resolved.specs.WellFormed.{variable_type, has_base, same_base, array_by, prefix_base, operand_base, result_base}
 use Rattle.resolved.specs.Kinds.{StateFits}
 use Rattle.resolved.proofs.Sound.Values.{both, value_fits}
@@ -67,7 +67,7 @@ module _ (g : Setting) (h : ℕ → Option ℕ) (s : source.SourceState) where
       → is_zero z ≡ test → Stands g.code (i ∷ more) at → ((exception : ℕ) → g.p.find g.number at exception ≡ h exception)
       → act g.p i (state_at g at (cell.Int z ∷ cell.Int a ∷ operands) s)
       ≡ pushes_number g.p (state_at g at (cell.Int z ∷ cell.Int a ∷ operands) s) operands (if machine.is_zero z then None else Some result)
-      → ValueRuns g h operands (place g at (cell.Int z ∷ cell.Int a ∷ operands) s) (at + 1) s (if test then Raises 0 else Gives (Number result))
+      → ValueRuns g h operands (place g at (cell.Int z ∷ cell.Int a ∷ operands) s) (at + 1) s (if test then Raises 0 else Yields (Number result))
   division-runs i a z result true at operands more e stands finds acts =
       let before = cell.Int z ∷ cell.Int a ∷ operands in
       does g more i at before s _ stands
@@ -152,7 +152,7 @@ module _ (g : Setting) (h : ℕ → Option ℕ) (s : source.SourceState) where
   short-runs : (connective : Connective) (t : Bool) (at n : ℕ) (right : ℕ → List Instruction) (operands : List Cell) (o : Evaluated Value)
       → ((q : ℕ) → length (right q) ≡ n) → Stands g.code (rest_of_short connective at n right) at
       → ((q : ℕ) → at ≤ q → q + n ≤ at + (1 + (n + 2)) → Stands g.code (right q) q → ValueRuns g h operands (place g q operands s) (q + n) s o)
-      → ValueRuns g h operands (place g at (cell.Bool t ∷ operands) s) (at + (1 + (n + 2))) s (if decides connective (Truth t) then Gives (Truth t) else o)
+      → ValueRuns g h operands (place g at (cell.Bool t ∷ operands) s) (at + (1 + (n + 2))) s (if decides connective (Truth t) then Yields (Truth t) else o)
   short-runs And true at n right operands o sized stands each =
       let second = stands-back g.code (instruction.JumpIfFalse (at + 1 + n + 1) ∷ []) (right (at + 1) ++ instruction.Jump (at + 1 + n + 1 + 1) ∷ instruction.PushBoolean false ∷ []) at 1 refl stands in
       let jump = stands-back g.code (right (at + 1)) (instruction.Jump (at + 1 + n + 1 + 1) ∷ instruction.PushBoolean false ∷ []) (at + 1) n (sized (at + 1)) second in
@@ -166,7 +166,7 @@ module _ (g : Setting) (h : ℕ → Option ℕ) (s : source.SourceState) where
       let second = stands-back g.code (instruction.JumpIfFalse (at + 1 + n + 1) ∷ []) (right (at + 1) ++ instruction.Jump (at + 1 + n + 1 + 1) ∷ instruction.PushBoolean false ∷ []) at 1 refl stands in
       let jump = stands-back g.code (right (at + 1)) (instruction.Jump (at + 1 + n + 1 + 1) ∷ instruction.PushBoolean false ∷ []) (at + 1) n (sized (at + 1)) second in
       let last = stands-back g.code (instruction.Jump (at + 1 + n + 1 + 1) ∷ []) (instruction.PushBoolean false ∷ []) (at + 1 + n) 1 refl jump in
-      value-at g h operands _ (at + 1 + n + 1 + 1) (at + (1 + (n + 2))) s (Gives (Truth false)) (omega arith)
+      value-at g h operands _ (at + 1 + n + 1 + 1) (at + (1 + (n + 2))) s (Yields (Truth false)) (omega arith)
       (leads-through g.p _ _ _
       (branch-off (at + 1 + n + 1) at operands (right (at + 1) ++ instruction.Jump (at + 1 + n + 1 + 1) ∷ instruction.PushBoolean false ∷ []) stands)
       (gives-runs (instruction.PushBoolean false) (at + 1 + n + 1) operands operands (Truth false) [] last refl))
@@ -174,7 +174,7 @@ module _ (g : Setting) (h : ℕ → Option ℕ) (s : source.SourceState) where
       let rest = right (at + 1 + 1 + 1) in
       let second = stands-back g.code (instruction.JumpIfFalse (at + 1 + 1 + 1) ∷ []) (instruction.PushBoolean true ∷ instruction.Jump (at + 1 + 1 + 1 + n) ∷ rest) at 1 refl stands in
       let jump = stands-back g.code (instruction.PushBoolean true ∷ []) (instruction.Jump (at + 1 + 1 + 1 + n) ∷ rest) (at + 1) 1 refl second in
-      value-at g h operands _ (at + 1 + 1 + 1 + n) (at + (1 + (n + 2))) s (Gives (Truth true)) (omega arith)
+      value-at g h operands _ (at + 1 + 1 + 1 + n) (at + (1 + (n + 2))) s (Yields (Truth true)) (omega arith)
       (leads-through g.p _ _ _
       (branch-on (at + 1 + 1 + 1) at operands (instruction.PushBoolean true ∷ instruction.Jump (at + 1 + 1 + 1 + n) ∷ rest) stands)
       (leads-through g.p _ _ _
@@ -263,6 +263,6 @@ module _ (g : Setting) (h : ℕ → Option ℕ) (s : source.SourceState) (fit : 
       decided : (connective : Connective) (v : Value) (mid m : ℕ) (right : ℕ → List Instruction) (operands : List Cell) (o : Evaluated Value) → base_of v ≡ base.Boolean
           → ((q : ℕ) → length (right q) ≡ m) → Stands g.code (rest_of_short connective mid m right) mid
           → ((q : ℕ) → mid ≤ q → q + m ≤ mid + (1 + (m + 2)) → Stands g.code (right q) q → ValueRuns g h operands (place g q operands s) (q + m) s o)
-          → ValueRuns g h operands (place g mid (cell_of v ∷ operands) s) (mid + (1 + (m + 2))) s (if decides connective v then Gives v else o)
+          → ValueRuns g h operands (place g mid (cell_of v ∷ operands) s) (mid + (1 + (m + 2))) s (if decides connective v then Yields v else o)
       decided connective (Truth t) mid m right operands o typed sized stands each = short-runs g h s connective t mid m right operands o sized stands each
       decided connective (Number z) mid m right operands o typed sized stands each = absurd (let no : base.Int ≡ base.Boolean = typed in cc)

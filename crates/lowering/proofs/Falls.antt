@@ -7,7 +7,7 @@ use Rattle.resolved.specs.declared.statement.Exit.TheVariants.{Normal, Return, B
 use Rattle.resolved.specs.Tree.{Statement, If, Leave, ReturnWith, Try, Nested, Block, Empty, Then, Handlers, NoMore, Catch}
 use Rattle.resolved.specs.Program.{Program, ProcedureEntry}
 use Rattle.resolved.specs.SourceState.{SourceState, value_of}
-use Rattle.resolved.specs.Value.{Evaluated, Gives, Raises, truth_in}
+use Rattle.resolved.specs.Value.{Evaluated, Yields, Raises, truth_in}
 use Rattle.resolved.specs.Meaning.{Outcome, Ended, Stopped, Calls, after, evaluated, caught, statement_meaning, block_meaning, handlers_meaning}
 use Rattle.resolved.specs.WellFormed.{has_base, statement_fits, block_fits, handlers_fit, is_exception, may_leave_by}
 use Rattle.resolved.proofs.Sound.Values.{both}
@@ -39,7 +39,7 @@ not-rest (Ended (Throw exception) returned t) next h = tt
 not-rest (Stopped stop t) next h = tt
 
 not-evaluated : {A : Type 0} (o : Evaluated A) (s : SourceState) (next : A → Outcome) → ((v : A) → NotNormal (next v)) → NotNormal (evaluated o s next)
-not-evaluated (Gives v) s next h = h v
+not-evaluated (Yields v) s next h = h v
 not-evaluated (Raises exception) s next h = tt
 
 not-either : (b : Bool) (one other : Outcome) → NotNormal one → NotNormal other → NotNormal (if b then one else other)

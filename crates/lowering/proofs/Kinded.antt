@@ -14,7 +14,7 @@ use Rattle.resolved.specs.Program.{Program, ProcedureEntry, SlotEntry, ChannelEn
 use Rattle.resolved.specs.WellFormed.{VariableType, variable_type, scalar_by, array_by, has_length, channel_is, prefix_base, operand_base, result_base}
 use Rattle.resolved.proofs.Sound.Values.{both}
 use Rattle.bytecode.specs.Contents.{ProcedureContents, ModuleContents}
-use Rattle.bytecode.specs.Machine.{program_of, header_of, kinds_of}
+use Rattle.bytecode.specs.Machine.{machine_code, header_of, kinds_of}
 use Rattle.bytecode.specs.Values.{is_same_kind}
 use Rattle.bytecode.specs.declared.instruction.Instruction.{Instruction}
 use Rattle.bytecode.specs.declared.instruction.Instruction.TheVariants as instruction
@@ -109,7 +109,7 @@ output-is (Some entry) h = by entry.direction h
 module _ (m : ModuleContents) (p : ProcedureContents) where
   -- the slot or the global of a variable
   abbrev pub slot_in : Variable → Option Slot
-  slot_in (Global k) = slice_get (program_of m).globals k
+  slot_in (Global k) = slice_get (machine_code m).globals k
   slot_in (Local k) = slice_get p.slots k
 
   going : (i : Instruction) (before after : List Kind) → effect m p i before ≡ Leaves after → goes_on i ≡ true → target_of i ≡ None
@@ -195,15 +195,15 @@ module _ (m : ModuleContents) (p : ProcedureContents) where
   operator-does operator.Same kinds = going instruction.SameBoolean (Boolean ∷ Boolean ∷ kinds) (Boolean ∷ kinds) refl refl refl refl
   operator-does operator.Different kinds = going instruction.OtherBoolean (Boolean ∷ Boolean ∷ kinds) (Boolean ∷ kinds) refl refl refl refl
 
-  pub receive-does : (channel : ℕ) (kinds : List Kind) → is_input (slice_get (program_of m).directions channel) ≡ true
+  pub receive-does : (channel : ℕ) (kinds : List Kind) → is_input (slice_get (machine_code m).directions channel) ≡ true
       → Does m p (instruction.Receive channel) kinds (Int ∷ kinds)
   receive-does channel kinds h =
-      going (instruction.Receive channel) kinds (Int ∷ kinds) refl refl refl (unless-right (is_input (slice_get (program_of m).directions channel)) SlotOrIndex h)
+      going (instruction.Receive channel) kinds (Int ∷ kinds) refl refl refl (unless-right (is_input (slice_get (machine_code m).directions channel)) SlotOrIndex h)
 
-  pub send-does : (channel : ℕ) (kinds : List Kind) → is_output (slice_get (program_of m).directions channel) ≡ true
+  pub send-does : (channel : ℕ) (kinds : List Kind) → is_output (slice_get (machine_code m).directions channel) ≡ true
       → Does m p (instruction.Send channel) (Int ∷ kinds) kinds
   send-does channel kinds h =
-      going (instruction.Send channel) (Int ∷ kinds) kinds refl refl refl (unless-right (is_output (slice_get (program_of m).directions channel)) SlotOrIndex h)
+      going (instruction.Send channel) (Int ∷ kinds) kinds refl refl refl (unless-right (is_output (slice_get (machine_code m).directions channel)) SlotOrIndex h)
 
   pub call-does : (f : ℕ) (callee : ProcedureContents) (kinds : List Kind) → slice_get m.procedures f ≡ Some callee
       → Does m p (instruction.Call f) (reverse (header_of callee).parameters ++ kinds) (pushed callee.returned kinds)
@@ -234,20 +234,20 @@ module _ (m : ModuleContents) (p : ProcedureContents) where
     fixed = refl;
   }
 
-  pub throw-does : (exception : ℕ) → nat_lt exception (program_of m).exceptions ≡ true → Does m p (instruction.Throw exception) [] []
+  pub throw-does : (exception : ℕ) → nat_lt exception (machine_code m).exceptions ≡ true → Does m p (instruction.Throw exception) [] []
   throw-does exception h = record {
     after = [];
     leaves = refl;
     follows = refl;
     no_target = refl;
-    fixed = unless-right (nat_lt exception (program_of m).exceptions) SlotOrIndex h;
+    fixed = unless-right (nat_lt exception (machine_code m).exceptions) SlotOrIndex h;
   }
 
 -- ---- a procedure of a program in a module
 pub record Stated (program : Program) (procedure : ProcedureEntry) (m : ModuleContents) (p : ProcedureContents) : Type 0 where
   pub variables_there : (x : Variable) → slot_in m p x ≡ slot_of_type (variable_type program procedure x)
-  pub channels_there : (k : ℕ) → slice_get (program_of m).directions k ≡ direction_in (slice_get program.channels k)
-  pub exceptions_there : (program_of m).exceptions ≡ 3 + length program.exceptions
+  pub channels_there : (k : ℕ) → slice_get (machine_code m).directions k ≡ direction_in (slice_get program.channels k)
+  pub exceptions_there : (machine_code m).exceptions ≡ 3 + length program.exceptions
   pub returned_is : p.returned ≡ returned_kind procedure.result
   pub called_there : (f : ℕ) (callee : ProcedureEntry) → slice_get program.procedures f ≡ Some callee
       → (q : ProcedureContents) × (slice_get m.procedures f ≡ Some q) × (header_of q ≡ header_of (procedure_contents program callee))

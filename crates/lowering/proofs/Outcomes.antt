@@ -4,7 +4,7 @@ use Rattle.std.specs.Prelude.{Option, Some, if◌then◌else◌}
 use Rattle.resolved.specs.declared.expression.Value.{Value}
 use Rattle.resolved.specs.declared.statement.Exit.TheVariants.{Normal, Return, Break, Continue, Throw}
 use Rattle.resolved.specs.SourceState as source
-use Rattle.resolved.specs.Value.{Evaluated, Gives, Raises, truth_in}
+use Rattle.resolved.specs.Value.{Evaluated, Yields, Raises, truth_in}
 use Rattle.resolved.specs.Meaning.{Outcome, Ended, Stopped, Deep, OutOfTurns, after, evaluated, looped, turns, caught, normally, state_after}
 use Rattle.resolved.specs.Kinds.{StateFits}
 use Rattle.bytecode.specs.declared.value.Cell.{Cell}
@@ -106,9 +106,9 @@ module _ (g : Setting) (loop : Loop) (h : ℕ → Option ℕ) (k : ℕ) where
 
   pub evaluated-runs : (operands : List Cell) (from : Machine) (mid end : ℕ) (s : source.SourceState) (first : Evaluated Value) (next : Value → Outcome)
       → ValueRuns g h operands from mid s first
-      → ((v : Value) → first ≡ Gives v → Runs g loop h k (place g mid (cell_of v ∷ operands) s) end (next v))
+      → ((v : Value) → first ≡ Yields v → Runs g loop h k (place g mid (cell_of v ∷ operands) s) end (next v))
       → Runs g loop h k from end (evaluated first s next)
-  evaluated-runs operands from mid end s (Gives v) next run each = runs-from from (place g mid (cell_of v ∷ operands) s) end (next v) run (each v refl)
+  evaluated-runs operands from mid end s (Yields v) next run each = runs-from from (place g mid (cell_of v ∷ operands) s) end (next v) run (each v refl)
   evaluated-runs operands from mid end s (Raises exception) next run each = run
 
   -- a condition that goes to its target where it has the wanted truth
@@ -116,7 +116,7 @@ module _ (g : Setting) (loop : Loop) (h : ℕ → Option ℕ) (k : ℕ) where
       → BranchRuns g h wanted target from mid s first
       → ((t : Bool) → Runs g loop h k (place g (lead_by wanted t target mid) [] s) end (next t))
       → Runs g loop h k from end (evaluated first s (λ v. next (truth_in v)))
-  branch-evaluated wanted target from mid end s (Gives v) next run each =
+  branch-evaluated wanted target from mid end s (Yields v) next run each =
       runs-from from (place g (lead_by wanted (truth_in v) target mid) [] s) end (next (truth_in v)) (strides-leads g.p _ _ run) (each (truth_in v))
   branch-evaluated wanted target from mid end s (Raises exception) next run each = run
 
@@ -153,7 +153,7 @@ turns-run g loop inner h start k condition body test run keeps zero less s fit =
 
     go : (o : Evaluated Value) → BranchRuns g h true start (place g inner.test [] s) inner.behind s o
         → Runs g loop h 0 (place g inner.test [] s) inner.behind (evaluated o s (λ v. if truth_in v then Stopped OutOfTurns s else normally s))
-    go (Gives v) first = last (truth_in v) first
+    go (Yields v) first = last (truth_in v) first
     go (Raises exception) first = first
 turns-run g loop inner h start k condition body test run keeps (suc j) less s fit =
     go (turns-run g loop inner h start k condition body test run keeps j (omega (arith, less))) (condition s) (test s fit)
@@ -167,7 +167,7 @@ turns-run g loop inner h start k condition body test run keeps (suc j) less s fi
     go : ((t : source.SourceState) → StateFits g.program g.procedure t → Runs g loop h j (place g inner.test [] t) inner.behind (turns j condition body t))
         → (o : Evaluated Value) → BranchRuns g h true start (place g inner.test [] s) inner.behind s o
         → Runs g loop h (suc j) (place g inner.test [] s) inner.behind (evaluated o s (λ v. if truth_in v then looped (body s) (turns j condition body) else normally s))
-    go again (Gives v) first = turn again (truth_in v) first
+    go again (Yields v) first = turn again (truth_in v) first
     go again (Raises exception) first = first
 
 -- ---- exceptions

@@ -14,7 +14,7 @@ use Rattle.resolved.specs.Tree.{Expression}
 use Rattle.resolved.specs.Program as resolved
 use Rattle.resolved.specs.SourceState as source
 use Rattle.resolved.specs.SourceState.{value_of, cells, cell_at, assigned, stored, cleared, updated, with_cells}
-use Rattle.resolved.specs.Value.{Gives, Raises, base_of, checked_index, zero_value}
+use Rattle.resolved.specs.Value.{Yields, Raises, base_of, checked_index, zero_value}
 use Rattle.resolved.specs.Meaning.{Ended, normally, evaluated, received, kept_in, sending}
 use Rattle.resolved.specs.WellFormed.{VariableType, variable_type, has_base, same_base, scalar_by, array_by, target_by, channel_is, is_array, may_leave_by, is_exception, has_result, cell_count}
 use Rattle.resolved.specs.Kinds.{StateFits, CellsFit}
@@ -181,7 +181,7 @@ module _ (g : Setting) (loop : Loop) (h : ℕ → Option ℕ) (k : ℕ) (s : sou
           (stores_nowhere g x kind count w z at [] s slot_is (kind-same w type.base same) none ∙ ap (λ (o : Option ℕ). thrown_to g o bounds s) (finds bounds))
 
       inside : (i : ℕ) (test : Bool) → nat_lt i count ≡ test
-          → Runs g loop h k (place g at (cell_of w ∷ cell.Int (pos i) ∷ []) s) (at + 1) (evaluated (if test then Gives i else Raises 1) s (λ i. normally (stored s x i w)))
+          → Runs g loop h k (place g at (cell_of w ∷ cell.Int (pos i) ∷ []) s) (at + 1) (evaluated (if test then Yields i else Raises 1) s (λ i. normally (stored s x i w)))
       inside i true e =
           let there : nat_lt i (length (cells_of (cells s x))) ≡ true = ap (λ n. nat_lt i n) (length-map (cells s x) cell_of ∙ many) ∙ e in
           does g more (store_element_of x) at (cell_of w ∷ cell.Int (pos i) ∷ []) s _ stands

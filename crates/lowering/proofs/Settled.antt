@@ -18,7 +18,7 @@ use Rattle.resolved.proofs.Parts.{procedure_at_is}
 use Rattle.resolved.proofs.Sound.Values.{both, same_base_is}
 use Rattle.isolation.proofs.Declared.{append-empty, no_fault-test}
 use Rattle.bytecode.specs.Contents.{ProcedureContents, ModuleContents}
-use Rattle.bytecode.specs.Machine.{Header, program_of, header_of}
+use Rattle.bytecode.specs.Machine.{Header, machine_code, header_of}
 use Rattle.bytecode.specs.declared.declaration.Direction.{Direction}
 use Rattle.bytecode.specs.declared.declaration.Handler.{Handler}
 use Rattle.bytecode.specs.declared.declaration.Slot.TheVariants as slot
@@ -56,7 +56,7 @@ module _ (m : ModuleContents) (p : ProcedureContents) (whole : List Instruction)
   -- a handler to which control goes without operands, and whose exception is there
   pub record Catches (handler : Handler) : Type 0 where
     pub empty : kinds_at m p whole handler.target ≡ []
-    pub there : nat_lt handler.exception (program_of m).exceptions ≡ true
+    pub there : nat_lt handler.exception (machine_code m).exceptions ≡ true
 
   -- code with its handlers, without operands before and behind it
   pub record Settles (at : ℕ) (code : List Instruction) (table : List Handler) (aims : Type 0) : Type 0 where
@@ -163,7 +163,7 @@ module _ (m : ModuleContents) (p : ProcedureContents) (whole : List Instruction)
 
   -- the body of a handler, a jump behind the handlers, and those that follow
   catch-settles : (place n k start end exception behind : ℕ) (j : Bool) (body rest : List Instruction) (es fs : List Handler) (aims : Type 0)
-      → length body ≡ n → length (jump_code j behind) ≡ k → nat_lt exception (program_of m).exceptions ≡ true
+      → length body ≡ n → length (jump_code j behind) ≡ k → nat_lt exception (machine_code m).exceptions ≡ true
       → Settles place body es aims → Settles (place + n + k) rest fs (aims × (kinds_at m p whole behind ≡ []))
       → Settles place (body ++ (jump_code j behind ++ rest)) (entry_of start end exception place ++ (es ++ fs)) (aims × (kinds_at m p whole behind ≡ []))
   catch-settles place n k start end exception behind j body rest es fs aims body_size jump_sized there catches others =
@@ -176,7 +176,7 @@ module _ (m : ModuleContents) (p : ProcedureContents) (whole : List Instruction)
       }
 
 module _ (program : Program) (procedure : ProcedureEntry) (m : ModuleContents) (p : ProcedureContents) (whole : List Instruction) (stated : Stated program procedure m p) where
-  exception-there : (exception : ℕ) → is_exception program exception ≡ true → nat_lt exception (program_of m).exceptions ≡ true
+  exception-there : (exception : ℕ) → is_exception program exception ≡ true → nat_lt exception (machine_code m).exceptions ≡ true
   exception-there exception h = ap (nat_lt exception) stated.exceptions_there ∙ h
 
   -- ---- forms without blocks

@@ -9,7 +9,7 @@ use Rattle.std.proofs.lemmas.List.Elements.{All-head, All-tail, All-map, All-con
 use Rattle.std.proofs.lemmas.Option.{slice_get-get_or}
 use Rattle.bytecode.specs.Code.{width_of, code_length, instruction_at}
 use Rattle.bytecode.specs.Contents.{ProcedureContents, ModuleContents}
-use Rattle.bytecode.specs.Machine.{program_of}
+use Rattle.bytecode.specs.Machine.{machine_code}
 use Rattle.bytecode.specs.declared.declaration.Handler.{Handler}
 use Rattle.bytecode.specs.declared.instruction.Instruction.{Instruction}
 use Rattle.bytecode.specs.declared.instruction.Instruction.TheVariants.{Jump, JumpIfFalse, Return}
@@ -281,7 +281,7 @@ module _ (m : ModuleContents) (g : ProcedureContents) (s : Sound m g) where
       let ends : is_end (laid_out_procedure g) (offset g.code x.end) ≡ true = end-right x.end (ltb x.end (length g.code)) refl h.within in
       let less : nat_lt (offset g.code x.start) (offset g.code x.end) ≡ true = lt-ltb (offset g.code x.start) (offset g.code x.end) (offset-less g.code x.start x.end h.not_empty) in
       all (is_start (laid_out_procedure g) (offset g.code x.start)) (is_start (laid_out_procedure g) (offset g.code x.target))
-      (is_end (laid_out_procedure g) (offset g.code x.end)) (nat_lt (offset g.code x.start) (offset g.code x.end)) (nat_lt x.exception (program_of m).exceptions)
+      (is_end (laid_out_procedure g) (offset g.code x.end)) (nat_lt (offset g.code x.start) (offset g.code x.end)) (nat_lt x.exception (machine_code m).exceptions)
       starts goes ends less c.there
     where
       all : (a b c d e : Bool) → a ≡ true → b ≡ true → c ≡ true → d ≡ true → e ≡ true

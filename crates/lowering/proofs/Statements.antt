@@ -8,7 +8,7 @@ use Rattle.resolved.specs.Tree.{Expression}
 use Rattle.resolved.specs.Program.{ProcedureEntry, SlotEntry, ResultEntry, procedure_at}
 use Rattle.resolved.specs.SourceState as source
 use Rattle.resolved.specs.SourceState.{value_of, values_of, assigned}
-use Rattle.resolved.specs.Value.{Evaluated, Gives, Raises, then_with, base_of}
+use Rattle.resolved.specs.Value.{Evaluated, Yields, Raises, then_with, base_of}
 use Rattle.resolved.specs.Meaning.{Outcome, Ended, Stopped, Deep, OutOfTurns, Calls, evaluated, returned_to}
 use Rattle.resolved.specs.WellFormed.{has_base, has_result, same_base, target_by, call_matches, arguments_match, parameters_of}
 use Rattle.resolved.specs.Kinds.{StateFits, ArgumentsFit}
@@ -39,14 +39,14 @@ pushed [] operands = operands
 pushed (v ∷ rest) operands = pushed rest (cell_of v ∷ operands)
 
 abbrev pub ArgumentsRun : Setting → (ℕ → Option ℕ) → List Cell → Machine → (end : ℕ) → source.SourceState → Evaluated (List Value) → Type 0
-ArgumentsRun g h operands from end s (Gives vs) = Leads g.p from (place g end (pushed vs operands) s)
+ArgumentsRun g h operands from end s (Yields vs) = Leads g.p from (place g end (pushed vs operands) s)
 ArgumentsRun g h operands from end s (Raises exception) = Leads g.p from (thrown_to g (h exception) exception s)
 
 more-run : (g : Setting) (h : ℕ → Option ℕ) (operands : List Cell) (from : Machine) (mid end : ℕ) (s : source.SourceState) (first : Evaluated Value) (rest : Evaluated (List Value))
     → ValueRuns g h operands from mid s first → ((v : Value) → ArgumentsRun g h (cell_of v ∷ operands) (place g mid (cell_of v ∷ operands) s) end s rest)
-    → ArgumentsRun g h operands from end s (then_with first (λ v. then_with rest (λ vs. Gives (v ∷ vs))))
-more-run g h operands from mid end s (Gives v) (Gives vs) run each = leads-through g.p from _ _ run (each v)
-more-run g h operands from mid end s (Gives v) (Raises exception) run each = leads-through g.p from _ _ run (each v)
+    → ArgumentsRun g h operands from end s (then_with first (λ v. then_with rest (λ vs. Yields (v ∷ vs))))
+more-run g h operands from mid end s (Yields v) (Yields vs) run each = leads-through g.p from _ _ run (each v)
+more-run g h operands from mid end s (Yields v) (Raises exception) run each = leads-through g.p from _ _ run (each v)
 more-run g h operands from mid end s (Raises exception) rest run each = run
 
 module _ (g : Setting) (h : ℕ → Option ℕ) (s : source.SourceState) (fit : StateFits g.program g.procedure s) where
@@ -158,7 +158,7 @@ module _ (g : Setting) (loop : Loop) (h : ℕ → Option ℕ) (k : ℕ) where
           → ArgumentsRun g h [] (place g at [] s) (at + arguments_size arguments) s o
           → Runs g loop h k (place g at [] s) (at + (arguments_size arguments + (1 + result_size (procedure_at g.program f).result))) (evaluated o s (λ vs. returned_to target (calls f vs s)))
       go typed here all is (Raises exception) given first = first
-      go typed here all is (Gives vs) given first =
+      go typed here all is (Yields vs) given first =
           let mid = at + arguments_size arguments in
           let called : Called g k (place g at [] s) mid callee.result (calls f vs s) =
           called-from (place g at [] s) (place g mid (pushed vs []) s) mid callee.result (calls f vs s) first

@@ -12,7 +12,7 @@ use Rattle.resolved.specs.declared.expression.Base.TheVariants as base
 use Rattle.resolved.specs.declared.expression.Variable.{Variable}
 use Rattle.resolved.specs.SourceState as source
 use Rattle.resolved.specs.SourceState.{value_of, cells, cell_at}
-use Rattle.resolved.specs.Value.{Evaluated, Gives, Raises, then_with, base_of, checked_index}
+use Rattle.resolved.specs.Value.{Evaluated, Yields, Raises, then_with, base_of, checked_index}
 use Rattle.resolved.specs.WellFormed.{VariableType, variable_type, same_base, scalar_by, array_by, has_length, cell_count}
 use Rattle.resolved.specs.Kinds.{StateFits, CellsFit, GivesBase}
 use Rattle.resolved.proofs.Sound.Values.{both}
@@ -39,20 +39,20 @@ finds-part g at n h from m low high f = record { finds = λ i least most excepti
 
 -- the machine comes from one machine to the end of code with the value on the operands, or to where the exception goes
 abbrev pub ValueRuns : Setting → (ℕ → Option ℕ) → List Cell → Machine → (end : ℕ) → source.SourceState → Evaluated Value → Type 0
-ValueRuns g h operands from end s (Gives v) = Leads g.p from (place g end (cell_of v ∷ operands) s)
+ValueRuns g h operands from end s (Yields v) = Leads g.p from (place g end (cell_of v ∷ operands) s)
 ValueRuns g h operands from end s (Raises exception) = Leads g.p from (thrown_to g (h exception) exception s)
 
 -- ---- putting pieces together
 
 pub value-from : (g : Setting) (h : ℕ → Option ℕ) (operands : List Cell) (from mid : Machine) (end : ℕ) (s : source.SourceState) (o : Evaluated Value)
     → Leads g.p from mid → ValueRuns g h operands mid end s o → ValueRuns g h operands from end s o
-value-from g h operands from mid end s (Gives v) first second = leads-through g.p from mid _ first second
+value-from g h operands from mid end s (Yields v) first second = leads-through g.p from mid _ first second
 value-from g h operands from mid end s (Raises exception) first second = leads-through g.p from mid _ first second
 
 pub value-to : (g : Setting) (h : ℕ → Option ℕ) (operands : List Cell) (from : Machine) (mid end : ℕ) (s : source.SourceState) (o : Evaluated Value)
     → ValueRuns g h operands from mid s o → ((v : Value) → Leads g.p (place g mid (cell_of v ∷ operands) s) (place g end (cell_of v ∷ operands) s))
     → ValueRuns g h operands from end s o
-value-to g h operands from mid end s (Gives v) first each = leads-through g.p from _ _ first (each v)
+value-to g h operands from mid end s (Yields v) first each = leads-through g.p from _ _ first (each v)
 value-to g h operands from mid end s (Raises exception) first each = first
 
 pub value-at : (g : Setting) (h : ℕ → Option ℕ) (operands : List Cell) (from : Machine) (mid end : ℕ) (s : source.SourceState) (o : Evaluated Value)
@@ -61,15 +61,15 @@ value-at g h operands from mid end s o e first = subst (λ (q : ℕ). ValueRuns 
 
 pub then-runs : (g : Setting) (h : ℕ → Option ℕ) (before behind : List Cell) (from : Machine) (mid end : ℕ) (s : source.SourceState) (first : Evaluated Value) (next : Value → Evaluated Value)
     → ValueRuns g h before from mid s first
-    → ((v : Value) → first ≡ Gives v → ValueRuns g h behind (place g mid (cell_of v ∷ before) s) end s (next v))
+    → ((v : Value) → first ≡ Yields v → ValueRuns g h behind (place g mid (cell_of v ∷ before) s) end s (next v))
     → ValueRuns g h behind from end s (then_with first next)
-then-runs g h before behind from mid end s (Gives v) next run each =
+then-runs g h before behind from mid end s (Yields v) next run each =
     value-from g h behind from (place g mid (cell_of v ∷ before) s) end s (next v) run (each v refl)
 then-runs g h before behind from mid end s (Raises exception) next run each = run
 
 -- the base type of what was given
-pub given-base : (b : Base) (o : Evaluated Value) (v : Value) → GivesBase b o → o ≡ Gives v → base_of v ≡ b
-given-base b (Gives w) v fit e = let same : w ≡ v = cc in subst (λ x. base_of x ≡ b) same fit
+pub given-base : (b : Base) (o : Evaluated Value) (v : Value) → GivesBase b o → o ≡ Yields v → base_of v ≡ b
+given-base b (Yields w) v fit e = let same : w ≡ v = cc in subst (λ x. base_of x ≡ b) same fit
 given-base b (Raises exception) v fit e = cc
 
 -- ---- variables
@@ -132,7 +132,7 @@ module _ (g : Setting) (h : ℕ → Option ℕ) (s : source.SourceState) (fit : 
   pub element-runs : (x : Variable) (count : ℕ) (b : Base) (v : Value) (at : ℕ) (operands : List Cell) (more : List Instruction)
       → array_by (variable_type g.program g.procedure x) count (same_base b) ≡ true → base_of v ≡ base.Int → Stands g.code (load_element_of x ∷ more) at
       → ((exception : ℕ) → g.p.find g.number at exception ≡ h exception)
-      → ValueRuns g h operands (place g at (cell_of v ∷ operands) s) (at + 1) s (then_with (checked_index v count) (λ i. Gives (cell_at (cells s x) i)))
+      → ValueRuns g h operands (place g at (cell_of v ∷ operands) s) (at + 1) s (then_with (checked_index v count) (λ i. Yields (cell_at (cells s x) i)))
   element-runs x count b (Truth t) at operands more typed is_int stands finds = cc
   element-runs x count b (Number z) at operands more typed is_int stands finds =
       let there = array-there (variable_type g.program g.procedure x) count (same_base b) typed in
@@ -156,7 +156,7 @@ module _ (g : Setting) (h : ℕ → Option ℕ) (s : source.SourceState) (fit : 
 
       inside : (i : ℕ) (test : Bool) → nat_lt i count ≡ test → length (cells s x) ≡ count
           → act g.p (load_element_of x) (state_at g at (cell.Int (pos i) ∷ operands) s) ≡ found g.p (state_at g at (cell.Int (pos i) ∷ operands) s) operands (element_at (cells_of (cells s x)) (pos i))
-          → ValueRuns g h operands (place g at (cell.Int (pos i) ∷ operands) s) (at + 1) s (then_with (if test then Gives i else Raises 1) (λ i. Gives (cell_at (cells s x) i)))
+          → ValueRuns g h operands (place g at (cell.Int (pos i) ∷ operands) s) (at + 1) s (then_with (if test then Yields i else Raises 1) (λ i. Yields (cell_at (cells s x) i)))
       inside i true e many acts =
           does g more (load_element_of x) at (cell.Int (pos i) ∷ operands) s _ stands
           (acts ∙ ap (found g.p (state_at g at (cell.Int (pos i) ∷ operands) s) operands) (element-there (cells s x) i (omega (arith, many, ltb-true i count e)))
@@ -165,6 +165,6 @@ module _ (g : Setting) (h : ℕ → Option ℕ) (s : source.SourceState) (fit : 
 
       go : (z : ℤ) → length (cells s x) ≡ count
           → act g.p (load_element_of x) (state_at g at (cell.Int z ∷ operands) s) ≡ found g.p (state_at g at (cell.Int z ∷ operands) s) operands (element_at (cells_of (cells s x)) z)
-          → ValueRuns g h operands (place g at (cell.Int z ∷ operands) s) (at + 1) s (then_with (checked_index (Number z) count) (λ i. Gives (cell_at (cells s x) i)))
+          → ValueRuns g h operands (place g at (cell.Int z ∷ operands) s) (at + 1) s (then_with (checked_index (Number z) count) (λ i. Yields (cell_at (cells s x) i)))
       go (pos i) many acts = inside i (nat_lt i count) refl many acts
       go (negsuc i) many acts = missing (negsuc i) refl acts

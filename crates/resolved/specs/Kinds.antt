@@ -9,7 +9,7 @@ use Rattle.resolved.specs.declared.statement.Exit.TheVariants.{Return}
 use Rattle.resolved.specs.Ends.{same_exit}
 use Rattle.resolved.specs.Tree.{Expression, Block}
 use Rattle.resolved.specs.Program.{Program, ProcedureEntry, ResultEntry, SlotEntry, procedure_at}
-use Rattle.resolved.specs.Value.{Evaluated, Gives, Raises, base_of}
+use Rattle.resolved.specs.Value.{Evaluated, Yields, Raises, base_of}
 use Rattle.resolved.specs.SourceState.{World, SourceState, cells, value_of}
 use Rattle.resolved.specs.Meaning.{Outcome, Ended, Stopped, state_after, block_meaning, calls_with, entering, first_state}
 use Rattle.resolved.specs.WellFormed.{VariableType, variable_type, cell_count, same_base, has_base, has_result, block_fits, well_formed}
@@ -32,7 +32,7 @@ ArgumentsFit (parameter ∷ parameters) (v ∷ rest) = (base_of v ≡ parameter.
 
 -- a value of a base type, where evaluation gives a value
 abbrev pub GivesBase : Base → Evaluated Value → Type 0
-GivesBase base (Gives v) = base_of v ≡ base
+GivesBase base (Yields v) = base_of v ≡ base
 GivesBase base (Raises exception) = Unit {0}
 
 -- a returned value stands at this way out alone, and has the base type of a procedure's value

@@ -12,7 +12,7 @@ use Rattle.resolved.specs.declared.tables.Direction.{Direction}
 use Rattle.resolved.specs.declared.tables.Direction.TheVariants.{Input, Output}
 use Rattle.resolved.specs.Tree.{Statement, Assign, Clear, Store, Receive, Send, Call, If, While, Leave, ReturnWith, Try, Nested, Block, Empty, Then, Handlers, NoMore, Catch}
 use Rattle.resolved.specs.Program.{Program, ChannelEntry, GlobalEntry, SlotEntry, ProcedureEntry, procedure_at}
-use Rattle.resolved.specs.Value.{Evaluated, Gives, Raises, number_in, truth_in, zero_value, checked_index, end_exception}
+use Rattle.resolved.specs.Value.{Evaluated, Yields, Raises, number_in, truth_in, zero_value, checked_index, end_exception}
 use Rattle.resolved.specs.SourceState.{World, SourceState, updated, assigned, stored, cleared, value_of, values_of}
 
 -- why a run stops before its end: a call beyond the frames that there may be, or a loop that would make one turn more than the
@@ -44,7 +44,7 @@ after (Stopped stop s) next = Stopped stop s
 
 -- goes on with what was evaluated; an exception is the end
 abbrev pub evaluated : {A : Type 0} → Evaluated A → SourceState → (A → Outcome) → Outcome
-evaluated (Gives v) s next = next v
+evaluated (Yields v) s next = next v
 evaluated (Raises exception) s next = thrown exception s
 
 -- goes on after the body of a loop where that ended normally or by `continue`; `break` is the normal end of the loop

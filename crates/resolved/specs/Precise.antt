@@ -46,8 +46,8 @@ procedure end_label parameters slots body = record {
 }
 
 -- `main` and another procedure, under `principal Alice;`, `output{} pub;` and `exception Oops;`
-abbrev pub program_of : (main other : ProcedureEntry) → Program
-program_of main other = record {
+abbrev pub program_with : (main other : ProcedureEntry) → Program
+program_with main other = record {
   hierarchy = record { names = (65 ∷ []) ∷ []; pairs = [] };
   channels = record { direction = Output; name = []; label = [] } ∷ [];
   exceptions = (79 ∷ []) ∷ [];
@@ -72,7 +72,7 @@ send_one = Send 0 0 (Integer 1)
 -- `int{} y = 3; int{Alice:} x = 0; try { boolean{Alice:} b = 1 / y == x && x < 9; send pub, 1; } catch (Arith) { }`: the division
 -- raises, by y alone. The right side of `&&` raises nothing, so whether it is evaluated, which x decides, leaves no trace
 abbrev pub short_circuit : Program
-short_circuit = program_of
+short_circuit = program_with
     (procedure [] 0
     (int_slot [] ∷ int_slot secret ∷ record { base = Boolean; size = None; written = Some secret; at = 0; name = [] } ∷ [])
     (Then (Assign 0 (Local 0) (Integer 3))
@@ -88,7 +88,7 @@ short_circuit = program_of
 -- `void f(int{} n) : {Alice:} { }` and `int{} y = 3; try { f(1 / y); send pub, 1; } catch (Arith) { }`: the argument raises, and f
 -- declares no exception, so that it always ends normally and its end label says nothing
 abbrev pub raising_argument : Program
-raising_argument = program_of
+raising_argument = program_with
     (procedure [] 0 (int_slot [] ∷ [])
     (Then (Assign 0 (Local 0) (Integer 3))
     (Then (Try 0
@@ -100,7 +100,7 @@ raising_argument = program_of
 -- `void g(int{Alice:} x) { if (x > 0) { return; } x = 1; }` and `g(5); send pub, 1;`: whether it returns or ends normally is secret,
 -- and its caller sees the same of both
 abbrev pub two_normal_ends : Program
-two_normal_ends = program_of
+two_normal_ends = program_with
     (procedure [] 0 [] (Then (Call 0 1 (Integer 5 ∷ []) None) (Then send_one Empty)))
     (procedure [] 1 (int_slot secret ∷ [])
     (Then (If 0 (Binary GreaterThan (local 0) (Integer 0)) (Then (ReturnWith 0 None) Empty) Empty)
@@ -109,7 +109,7 @@ two_normal_ends = program_of
 -- `int{} y = 3; int{Alice:} x = 0; try { y = 1 / y; if (x > 0) { throw Oops; } } catch (Arith) { send pub, 1; } catch (Oops) { }`: only
 -- the division raises Arith, and it is reached and raises by what is public, though the block throws Oops by a secret
 abbrev pub handler_of_one : Program
-handler_of_one = program_of
+handler_of_one = program_with
     (procedure [] 0 (int_slot [] ∷ int_slot secret ∷ [])
     (Then (Assign 0 (Local 0) (Integer 3))
     (Then (Assign 0 (Local 1) (Integer 0))

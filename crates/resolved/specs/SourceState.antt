@@ -7,7 +7,7 @@ use Rattle.resolved.specs.declared.expression.Variable.TheVariants.{Global, Loca
 use Rattle.resolved.specs.declared.expression.Value.{Value}
 use Rattle.resolved.specs.declared.expression.Value.TheVariants.{Number, Truth}
 use Rattle.resolved.specs.Tree.{Expression, Integer, Logical, Read, Element, Unary, Binary, Short}
-use Rattle.resolved.specs.Value.{Evaluated, Gives, then_with, literal_number, zero_value, base_of, prefix_value, operator_value, decides, checked_index}
+use Rattle.resolved.specs.Value.{Evaluated, Yields, then_with, literal_number, zero_value, base_of, prefix_value, operator_value, decides, checked_index}
 
 -- a world: the numbers of each input channel
 abbrev pub World : Type 0
@@ -51,25 +51,25 @@ cleared s slot = with_cells s (Local slot) (map (λ v. zero_value (base_of v)) (
 
 -- the value of an expression, or the exception of the first part that raises one, left operands first
 abbrev pub value_of : SourceState → Expression → Evaluated Value
-value_of s (Integer n) = Gives (Number (literal_number n))
-value_of s (Logical b) = Gives (Truth b)
-value_of s (Read x) = Gives (cell_at (cells s x) 0)
+value_of s (Integer n) = Yields (Number (literal_number n))
+value_of s (Logical b) = Yields (Truth b)
+value_of s (Read x) = Yields (cell_at (cells s x) 0)
 value_of s (Element array length index) =
     then_with (value_of s index) (λ v.
     then_with (checked_index v length) (λ i.
-    Gives (cell_at (cells s array) i)))
-value_of s (Unary prefix e) = then_with (value_of s e) (λ v. Gives (prefix_value prefix v))
+    Yields (cell_at (cells s array) i)))
+value_of s (Unary prefix e) = then_with (value_of s e) (λ v. Yields (prefix_value prefix v))
 value_of s (Binary operator d e) =
     then_with (value_of s d) (λ v.
     then_with (value_of s e) (λ w.
     operator_value operator v w))
 value_of s (Short connective d e) =
-    then_with (value_of s d) (λ v. if decides connective v then Gives v else value_of s e)
+    then_with (value_of s d) (λ v. if decides connective v then Yields v else value_of s e)
 
 -- the values of arguments, from the left
 abbrev pub values_of : SourceState → List Expression → Evaluated (List Value)
-values_of s [] = Gives []
+values_of s [] = Yields []
 values_of s (e ∷ rest) =
     then_with (value_of s e) (λ v.
     then_with (values_of s rest) (λ vs.
-    Gives (v ∷ vs)))
+    Yields (v ∷ vs)))

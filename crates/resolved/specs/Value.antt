@@ -27,12 +27,12 @@ end_exception = 2
 
 -- what evaluation comes to: a result, or the exception that was raised
 pub data Evaluated (A : Type 0) : Type 0 where
-  Gives : A → Evaluated A
+  Yields : A → Evaluated A
   Raises : (exception : ℕ) → Evaluated A
 
 -- goes on with a result; an exception stays
 abbrev pub then_with : {A B : Type 0} → Evaluated A → (A → Evaluated B) → Evaluated B
-then_with (Gives v) next = next v
+then_with (Yields v) next = next v
 then_with (Raises exception) next = Raises exception
 
 -- a whole number reduced to 32 bits, from -2147483648 to 2147483647
@@ -72,7 +72,7 @@ is_zero (negsuc n) = false
 
 -- what a division gives, which raises `Arith` where the divisor is 0
 abbrev pub unless_zero : ℤ → ℤ → Evaluated Value
-unless_zero divisor result = if is_zero divisor then Raises arith_exception else Gives (Number result)
+unless_zero divisor result = if is_zero divisor then Raises arith_exception else Yields (Number result)
 
 abbrev pub bool_eq : Bool → Bool → Bool
 bool_eq true b = b
@@ -80,19 +80,19 @@ bool_eq false b = not b
 
 -- an operator on both its operands. Division truncates toward zero, a remainder has the dividend's sign
 abbrev pub operator_value : Operator → Value → Value → Evaluated Value
-operator_value Add v w = Gives (Number (wrapped (number_in v +ℤ number_in w)))
-operator_value Subtract v w = Gives (Number (wrapped (number_in v -ℤ number_in w)))
-operator_value Multiply v w = Gives (Number (wrapped (number_in v *ℤ number_in w)))
+operator_value Add v w = Yields (Number (wrapped (number_in v +ℤ number_in w)))
+operator_value Subtract v w = Yields (Number (wrapped (number_in v -ℤ number_in w)))
+operator_value Multiply v w = Yields (Number (wrapped (number_in v *ℤ number_in w)))
 operator_value Divide v w = unless_zero (number_in w) (wrapped (int_div (number_in v) (number_in w)))
 operator_value Remainder v w = unless_zero (number_in w) (int_rem (number_in v) (number_in w))
-operator_value LessThan v w = Gives (Truth (int_lt (number_in v) (number_in w)))
-operator_value AtMost v w = Gives (Truth (int_le (number_in v) (number_in w)))
-operator_value GreaterThan v w = Gives (Truth (int_lt (number_in w) (number_in v)))
-operator_value AtLeast v w = Gives (Truth (int_le (number_in w) (number_in v)))
-operator_value Equal v w = Gives (Truth (int_eq (number_in v) (number_in w)))
-operator_value Unequal v w = Gives (Truth (not (int_eq (number_in v) (number_in w))))
-operator_value Same v w = Gives (Truth (bool_eq (truth_in v) (truth_in w)))
-operator_value Different v w = Gives (Truth (not (bool_eq (truth_in v) (truth_in w))))
+operator_value LessThan v w = Yields (Truth (int_lt (number_in v) (number_in w)))
+operator_value AtMost v w = Yields (Truth (int_le (number_in v) (number_in w)))
+operator_value GreaterThan v w = Yields (Truth (int_lt (number_in w) (number_in v)))
+operator_value AtLeast v w = Yields (Truth (int_le (number_in w) (number_in v)))
+operator_value Equal v w = Yields (Truth (int_eq (number_in v) (number_in w)))
+operator_value Unequal v w = Yields (Truth (not (int_eq (number_in v) (number_in w))))
+operator_value Same v w = Yields (Truth (bool_eq (truth_in v) (truth_in w)))
+operator_value Different v w = Yields (Truth (not (bool_eq (truth_in v) (truth_in w))))
 
 -- whether the left operand alone decides: `false` does for `&&` and `true` for `||`, and then it is the result
 abbrev pub decides : Connective → Value → Bool
@@ -112,4 +112,4 @@ position_of (negsuc i) = 0
 -- an index that is in range, or `Bounds`
 abbrev pub checked_index : Value → ℕ → Evaluated ℕ
 checked_index v length =
-    if in_range (number_in v) length then Gives (position_of (number_in v)) else Raises bounds_exception
+    if in_range (number_in v) length then Yields (position_of (number_in v)) else Raises bounds_exception

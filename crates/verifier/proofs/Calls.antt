@@ -5,7 +5,7 @@ use Rattle.std.proofs.lemmas.List.{reverse-append}
 use Rattle.bytecode.specs.Code.{width_of, instruction_at}
 use Rattle.bytecode.specs.Contents.{ProcedureContents, ModuleContents}
 use Rattle.bytecode.specs.Machine as machine
-use Rattle.bytecode.specs.Machine.{State, Caller, Machine, Running, Ended, Deep, Header, program_of, header_of, code_of, position_after, kinds_of, frame_limit}
+use Rattle.bytecode.specs.Machine.{State, Caller, Machine, Running, Ended, Deep, Header, machine_code, header_of, code_of, position_after, kinds_of, frame_limit}
 use Rattle.bytecode.specs.Values.{kind_of, is_same_kind}
 use Rattle.bytecode.specs.declared.instruction.Instruction.TheVariants.{Call, Return, ReturnValue}
 use Rattle.bytecode.specs.declared.value.Kind.{Kind}
@@ -62,14 +62,14 @@ get_header (x ∷ procedures) (suc k) p e = get_header procedures k p e
 module _ (m : ModuleContents) (free : HasNoFault m) (p : ProcedureContents) (s : State) where
   -- ---- a call
 
-  enters_good : (callee : ProcedureContents) (number : ℕ) (rest : List Kind) → Stands m p s (Call number) (map kind_of s.frame.operands) → slice_get m.procedures number ≡ Some callee → effect m p (Call number) (map kind_of s.frame.operands) ≡ Leaves (pushed callee.returned rest) → (arguments left : List Cell) → map kind_of arguments ≡ (header_of callee).parameters → map kind_of left ≡ rest → Good m (machine.enters (program_of m) s number callee.slots (Some (arguments, left)))
+  enters_good : (callee : ProcedureContents) (number : ℕ) (rest : List Kind) → Stands m p s (Call number) (map kind_of s.frame.operands) → slice_get m.procedures number ≡ Some callee → effect m p (Call number) (map kind_of s.frame.operands) ≡ Leaves (pushed callee.returned rest) → (arguments left : List Cell) → map kind_of arguments ≡ (header_of callee).parameters → map kind_of left ≡ rest → Good m (machine.enters (machine_code m) s number callee.slots (Some (arguments, left)))
   enters_good callee number rest st there e arguments left kinds is = split (nat_lt (length s.callers + 1) frame_limit)
     where
       resumes : position_after (instruction_at (code_of (slice_get m.procedures s.frame.procedure)) s.frame.position) s.frame.position ≡ s.frame.position + width_of (Call number)
       resumes = ap (λ o. position_after (instruction_at (code_of o) s.frame.position) s.frame.position) st.there ∙ ap (λ o. position_after o s.frame.position) st.instruction
 
       caller : Caller
-      caller = record { frame = record s.frame { operands = left }; resume = (program_of m).next s.frame.procedure s.frame.position }
+      caller = record { frame = record s.frame { operands = left }; resume = (machine_code m).next s.frame.procedure s.frame.position }
 
       waits : Waits m p callee caller
       waits = record {
@@ -95,7 +95,7 @@ module _ (m : ModuleContents) (free : HasNoFault m) (p : ProcedureContents) (s :
             callers = inner callee p caller s.callers waits st.callers;
           })
 
-  pub calls_good : (number : ℕ) (callee : ProcedureContents) (after : List Kind) → Stands m p s (Call number) (map kind_of s.frame.operands) → slice_get m.procedures number ≡ Some callee → effect m p (Call number) (map kind_of s.frame.operands) ≡ Leaves after → Good m (machine.calls (program_of m) s number (slice_get (program_of m).headers number))
+  pub calls_good : (number : ℕ) (callee : ProcedureContents) (after : List Kind) → Stands m p s (Call number) (map kind_of s.frame.operands) → slice_get m.procedures number ≡ Some callee → effect m p (Call number) (map kind_of s.frame.operands) ≡ Leaves after → Good m (machine.calls (machine_code m) s number (slice_get (machine_code m).headers number))
   calls_good number callee after st there e =
       let kinds = map kind_of s.frame.operands in
       let parameters = (header_of callee).parameters in
@@ -103,8 +103,8 @@ module _ (m : ModuleContents) (free : HasNoFault m) (p : ProcedureContents) (s :
       let popped_first = and_then_leaves (all_popped (map (λ kind. Some kind) (reverse parameters)) kinds) (λ rest. Leaves (pushed callee.returned rest)) after own in
       let all = pops (reverse parameters) [] s.frame.operands popped_first.0 popped_first.1.0 in
       let arguments_are : map kind_of all.arguments ≡ parameters = all.kinds_are ∙ append-nil (reverse (reverse parameters)) ∙ reverse-reverse parameters in
-      subst (λ o. Good m (machine.calls (program_of m) s number o)) (sym (get_header m.procedures number callee there))
-      (subst (λ o. Good m (machine.enters (program_of m) s number callee.slots o)) (sym all.popped)
+      subst (λ o. Good m (machine.calls (machine_code m) s number o)) (sym (get_header m.procedures number callee there))
+      (subst (λ o. Good m (machine.enters (machine_code m) s number callee.slots o)) (sym all.popped)
       (enters_good callee number popped_first.0 st there (e ∙ sym popped_first.1.1) all.arguments all.left arguments_are all.rest_is))
 
   -- ---- returns
@@ -117,7 +117,7 @@ module _ (m : ModuleContents) (free : HasNoFault m) (p : ProcedureContents) (s :
   own_of true e after h = (refl, h)
   own_of false e after h = absurd (let no : Misses OperandKind ≡ Leaves after = h in cc)
 
-  pub returns_good : (kinds after : List Kind) → Stands m p s Return kinds → effect m p Return kinds ≡ Leaves after → Good m (machine.returns_nothing s (slice_get (program_of m).headers s.frame.procedure))
+  pub returns_good : (kinds after : List Kind) → Stands m p s Return kinds → effect m p Return kinds ≡ Leaves after → Good m (machine.returns_nothing s (slice_get (machine_code m).headers s.frame.procedure))
   returns_good kinds after st e =
       let none = none_of p.returned (own_of (is_none p.returned) _ after e).0 in
       subst (λ o. Good m (machine.returns_nothing s o)) (sym (get_header m.procedures s.frame.procedure p st.there))
@@ -132,7 +132,7 @@ module _ (m : ModuleContents) (free : HasNoFault m) (p : ProcedureContents) (s :
       subst (λ (b : Bool). Good m (if b then machine.leaves_value s x s.callers else machine.no_row s)) (sym r.0)
       (value_good m free s x st.globals p s.callers (is ∙ ap (λ (k : Kind). Some k) (same_of q (kind_of x) r.0)) st.callers)
 
-  pub gives_back_good : (after : List Kind) → Stands m p s ReturnValue (map kind_of s.frame.operands) → effect m p ReturnValue (map kind_of s.frame.operands) ≡ Leaves after → Good m (machine.returns_value s (slice_get (program_of m).headers s.frame.procedure))
+  pub gives_back_good : (after : List Kind) → Stands m p s ReturnValue (map kind_of s.frame.operands) → effect m p ReturnValue (map kind_of s.frame.operands) ≡ Leaves after → Good m (machine.returns_value s (slice_get (machine_code m).headers s.frame.procedure))
   gives_back_good after st e =
       let own = own_of (is_some p.returned) _ after e in
       subst (λ o. Good m (machine.returns_value s o)) (sym (get_header m.procedures s.frame.procedure p st.there))

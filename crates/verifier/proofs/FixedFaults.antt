@@ -12,7 +12,7 @@ use Rattle.bytecode.specs.declared.declaration.Handler.{Handler}
 use Rattle.verifier.specs.Fixed.{instruction_defect, instruction_faults, handler_defect, handler_faults, procedure_faults, fixed_faults, fault_list, unless, is_start, is_end, has_right_offsets}
 use Rattle.verifier.specs.Verified.{own_faults}
 use Rattle.bytecode.specs.declared.instruction.Instruction.TheVariants.{Jump, JumpIfFalse}
-use Rattle.bytecode.specs.Machine.{program_of}
+use Rattle.bytecode.specs.Machine.{machine_code}
 use Rattle.bytecode.specs.Targets.{target_of}
 use Rattle.verifier.specs.Boundaries.{IsBoundary, KeepsBoundaries}
 use Rattle.verifier.specs.declared.fault.Defect.{Defect}
@@ -168,7 +168,7 @@ jump_right m p _ to e is = absurd (let no : None ≡ Some to = is in cc)
 pub handler_parts : (m : ModuleContents) (p : ProcedureContents) (h : Handler) → handler_defect m p h ≡ None → has_right_offsets p h ≡ true
 handler_parts m p h e = split (has_right_offsets p h) refl e
   where
-    split : (b : Bool) → has_right_offsets p h ≡ b → (if b then unless (nat_lt h.exception (program_of m).exceptions) defect.SlotOrIndex else Some defect.Jump) ≡ None → has_right_offsets p h ≡ true
+    split : (b : Bool) → has_right_offsets p h ≡ b → (if b then unless (nat_lt h.exception (machine_code m).exceptions) defect.SlotOrIndex else Some defect.Jump) ≡ None → has_right_offsets p h ≡ true
     split true is e = is
     split false is e = absurd (let no : Some defect.Jump ≡ None = e in cc)
 

@@ -5,7 +5,7 @@ use Rattle.std.proofs.lemmas.Bool.{and_parts}
 use Rattle.bytecode.specs.Code.{instruction_at}
 use Rattle.bytecode.specs.Contents.{ProcedureContents, ModuleContents}
 use Rattle.bytecode.specs.Machine as machine
-use Rattle.bytecode.specs.Machine.{State, Machine, Running, Ended, Stuck, program_of, header_of, code_of, slots_of, slot_at, slots_in, with_slot, with_global, first_state, first_slots, act, acts, step, exec, after_steps}
+use Rattle.bytecode.specs.Machine.{State, Machine, Running, Ended, Stuck, machine_code, header_of, code_of, slots_of, slot_at, slots_in, with_slot, with_global, first_state, first_slots, act, acts, step, exec, after_steps}
 use Rattle.bytecode.specs.Format.{may_start}
 use Rattle.bytecode.specs.Values.{kind_of}
 use Rattle.bytecode.specs.declared.instruction.Instruction.{Instruction}
@@ -51,7 +51,7 @@ procedure_there None e = absurd (let no : false ≡ true = e in cc)
 procedure_there (Some p) e = (p, refl)
 
 module _ (m : ModuleContents) (free : HasNoFault m) (p : ProcedureContents) (s : State) (i : Instruction) (st : Stands m p s i (map kind_of s.frame.operands)) where
-  slot_here : (k : ℕ) → slot_at (program_of m) s k ≡ slice_get p.slots k
+  slot_here : (k : ℕ) → slot_at (machine_code m) s k ≡ slice_get p.slots k
   slot_here k = ap (λ o. slice_get (slots_of o) k) (get_header m.procedures s.frame.procedure p st.there)
 
   with_slot_stands : (k : ℕ) (cells : List Cell) → AllOf (slot_kind (slice_get p.slots k)) cells → Stands m p (with_slot s k cells) i (map kind_of s.frame.operands)
@@ -64,52 +64,52 @@ module _ (m : ModuleContents) (free : HasNoFault m) (p : ProcedureContents) (s :
     callers = st.callers;
   }
 
-  with_global_stands : (k : ℕ) (cells : List Cell) → AllOf (slot_kind (slice_get (program_of m).globals k)) cells → Stands m p (with_global s k cells) i (map kind_of s.frame.operands)
+  with_global_stands : (k : ℕ) (cells : List Cell) → AllOf (slot_kind (slice_get (machine_code m).globals k)) cells → Stands m p (with_global s k cells) i (map kind_of s.frame.operands)
   with_global_stands k cells all = record {
     there = st.there;
     instruction = st.instruction;
     flow = st.flow;
     slots = st.slots;
-    globals = holds_changed (program_of m).globals s.globals k cells st.globals all;
+    globals = holds_changed (machine_code m).globals s.globals k cells st.globals all;
     callers = st.callers;
   }
 
 -- an instruction without a defect whose operands are there acts
-act_good : (m : ModuleContents) → HasNoFault m → (p : ProcedureContents) (s : State) (i : Instruction) (after : List Kind) → Stands m p s i (map kind_of s.frame.operands) → instruction_defect m p i ≡ None → effect m p i (map kind_of s.frame.operands) ≡ Leaves after → Good m (act (program_of m) i s)
+act_good : (m : ModuleContents) → HasNoFault m → (p : ProcedureContents) (s : State) (i : Instruction) (after : List Kind) → Stands m p s i (map kind_of s.frame.operands) → instruction_defect m p i ≡ None → effect m p i (map kind_of s.frame.operands) ≡ Leaves after → Good m (act (machine_code m) i s)
 act_good m free p s (Push n) after st d e = next_good m free p s (Push n) _ after (cell.Int n ∷ s.frame.operands) st e refl (leaves_same _ after e)
 act_good m free p s (PushBoolean b) after st d e = next_good m free p s (PushBoolean b) _ after (cell.Bool b ∷ s.frame.operands) st e refl (leaves_same _ after e)
 act_good m free p s Pop after st d e = drops_good m free p Pop s s.frame.operands after st e refl (sym (unpushed _) ∙ e)
 act_good m free p s (Load k) after st d e =
     let scalar = right_of_unless (is_scalar (slice_get p.slots k)) SlotOrIndex d in
-    subst (λ o. Good m (machine.loads (program_of m) s o (s.frame.slots k))) (sym (slot_here m free p s (Load k) st k))
+    subst (λ o. Good m (machine.loads (machine_code m) s o (s.frame.slots k))) (sym (slot_here m free p s (Load k) st k))
     (loads_good m free p (Load k) s _ after (slice_get p.slots k) (s.frame.slots k) st refl e refl scalar (scalar_there p.slots s.frame.slots k st.slots scalar) (sym (leaves_same _ after e)))
 act_good m free p s (Store k) after st d e =
-    subst (λ o. Good m (machine.stores (program_of m) s o (with_slot s k) s.frame.operands)) (sym (slot_here m free p s (Store k) st k))
+    subst (λ o. Good m (machine.stores (machine_code m) s o (with_slot s k) s.frame.operands)) (sym (slot_here m free p s (Store k) st k))
     (stores_good m free p (Store k) s (with_slot s k) (slice_get p.slots k) s.frame.operands after st (with_slot_stands m free p s (Store k) st k) e refl (right_of_unless (is_scalar (slice_get p.slots k)) SlotOrIndex d) (sym (unpushed _) ∙ e))
 act_good m free p s (LoadGlobal k) after st d e =
-    let globals = (program_of m).globals in
+    let globals = (machine_code m).globals in
     let scalar = right_of_unless (is_scalar (slice_get globals k)) SlotOrIndex d in
     loads_good m free p (LoadGlobal k) s _ after (slice_get globals k) (s.globals k) st refl e refl scalar (scalar_there globals s.globals k st.globals scalar) (sym (leaves_same _ after e))
 act_good m free p s (StoreGlobal k) after st d e =
-    stores_good m free p (StoreGlobal k) s (with_global s k) (slice_get (program_of m).globals k) s.frame.operands after st (with_global_stands m free p s (StoreGlobal k) st k) e refl (right_of_unless (is_scalar (slice_get (program_of m).globals k)) SlotOrIndex d) (sym (unpushed _) ∙ e)
+    stores_good m free p (StoreGlobal k) s (with_global s k) (slice_get (machine_code m).globals k) s.frame.operands after st (with_global_stands m free p s (StoreGlobal k) st k) e refl (right_of_unless (is_scalar (slice_get (machine_code m).globals k)) SlotOrIndex d) (sym (unpushed _) ∙ e)
 act_good m free p s (LoadElement k) after st d e =
     let array = right_of_unless (is_array (slice_get p.slots k)) SlotOrIndex d in
-    subst (λ o. Good m (machine.loads_element (program_of m) s o (s.frame.slots k) s.frame.operands)) (sym (slot_here m free p s (LoadElement k) st k))
+    subst (λ o. Good m (machine.loads_element (machine_code m) s o (s.frame.slots k) s.frame.operands)) (sym (slot_here m free p s (LoadElement k) st k))
     (loads_element_good m free p (LoadElement k) s (slice_get p.slots k) (s.frame.slots k) s.frame.operands after st e refl array (array_there p.slots s.frame.slots k st.slots array) e)
 act_good m free p s (StoreElement k) after st d e =
     let array = right_of_unless (is_array (slice_get p.slots k)) SlotOrIndex d in
-    subst (λ o. Good m (machine.stores_element (program_of m) s o (with_slot s k) (s.frame.slots k) s.frame.operands)) (sym (slot_here m free p s (StoreElement k) st k))
+    subst (λ o. Good m (machine.stores_element (machine_code m) s o (with_slot s k) (s.frame.slots k) s.frame.operands)) (sym (slot_here m free p s (StoreElement k) st k))
     (stores_element_good m free p (StoreElement k) s (with_slot s k) (slice_get p.slots k) (s.frame.slots k) s.frame.operands after st (with_slot_stands m free p s (StoreElement k) st k) e refl array (array_there p.slots s.frame.slots k st.slots array) (sym (unpushed _) ∙ e))
 act_good m free p s (LoadGlobalElement k) after st d e =
-    let globals = (program_of m).globals in
+    let globals = (machine_code m).globals in
     let array = right_of_unless (is_array (slice_get globals k)) SlotOrIndex d in
     loads_element_good m free p (LoadGlobalElement k) s (slice_get globals k) (s.globals k) s.frame.operands after st e refl array (array_there globals s.globals k st.globals array) e
 act_good m free p s (StoreGlobalElement k) after st d e =
-    let globals = (program_of m).globals in
+    let globals = (machine_code m).globals in
     let array = right_of_unless (is_array (slice_get globals k)) SlotOrIndex d in
     stores_element_good m free p (StoreGlobalElement k) s (with_global s k) (slice_get globals k) (s.globals k) s.frame.operands after st (with_global_stands m free p s (StoreGlobalElement k) st k) e refl array (array_there globals s.globals k st.globals array) (sym (unpushed _) ∙ e)
 act_good m free p s (Clear k) after st d e =
-    subst (λ o. Good m (machine.clears (program_of m) s k o)) (sym (slot_here m free p s (Clear k) st k))
+    subst (λ o. Good m (machine.clears (machine_code m) s k o)) (sym (slot_here m free p s (Clear k) st k))
     (clears_good m free p (Clear k) s k (slice_get p.slots k) after st (with_slot_stands m free p s (Clear k) st k) e refl (right_of_unless (is_array (slice_get p.slots k)) SlotOrIndex d) (leaves_same _ after e))
 act_good m free p s (Compute operator) after st d e = computes_good m free p (Compute operator) s operator s.frame.operands after st e refl e
 act_good m free p s Negate after st d e = negates_good m free p Negate s s.frame.operands after st e refl e
@@ -125,11 +125,11 @@ act_good m free p s (Call number) after st d e =
 act_good m free p s Return after st d e = returns_good m free p s _ after st e
 act_good m free p s ReturnValue after st d e = gives_back_good m free p s after st e
 act_good m free p s (Receive channel) after st d e =
-    receives_good m free p (Receive channel) s channel (slice_get (program_of m).directions channel) after st e refl (right_of_unless (is_input (slice_get (program_of m).directions channel)) SlotOrIndex d) (sym (leaves_same _ after e))
+    receives_good m free p (Receive channel) s channel (slice_get (machine_code m).directions channel) after st e refl (right_of_unless (is_input (slice_get (machine_code m).directions channel)) SlotOrIndex d) (sym (leaves_same _ after e))
 act_good m free p s (Send channel) after st d e =
-    sends_good m free p (Send channel) s channel (slice_get (program_of m).directions channel) s.frame.operands after st e refl (right_of_unless (is_output (slice_get (program_of m).directions channel)) SlotOrIndex d) (sym (unpushed _) ∙ e)
+    sends_good m free p (Send channel) s channel (slice_get (machine_code m).directions channel) s.frame.operands after st e refl (right_of_unless (is_output (slice_get (machine_code m).directions channel)) SlotOrIndex d) (sym (unpushed _) ∙ e)
 act_good m free p s (Throw exception) after st d e =
-    subst (λ (b : Bool). Good m (if b then machine.raised (program_of m) s exception else machine.no_row s)) (sym (right_of_unless (nat_lt exception (program_of m).exceptions) SlotOrIndex d))
+    subst (λ (b : Bool). Good m (if b then machine.raised (machine_code m) s exception else machine.no_row s)) (sym (right_of_unless (nat_lt exception (machine_code m).exceptions) SlotOrIndex d))
     (raised_good m free p s (Throw exception) _ exception st)
 
 -- ---- where control goes
@@ -154,17 +154,17 @@ flow_boundary m p boundaries _ (grows table from before to after f has edge none
 -- ---- steps
 
 module _ (m : ModuleContents) (free : HasNoFault m) where
-  instruction_good : (s : State) (g : GoodState m s) (i : Instruction) → instruction_at g.procedure.code s.frame.position ≡ Some i → Good m (act (program_of m) i s)
+  instruction_good : (s : State) (g : GoodState m s) (i : Instruction) → instruction_at g.procedure.code s.frame.position ≡ Some i → Good m (act (machine_code m) i s)
   instruction_good s g i is = split (effect m g.procedure i (map kind_of s.frame.operands)) refl
     where
-      split : (e : Effect) → effect m g.procedure i (map kind_of s.frame.operands) ≡ e → Good m (act (program_of m) i s)
+      split : (e : Effect) → effect m g.procedure i (map kind_of s.frame.operands) ≡ e → Good m (act (machine_code m) i s)
       split (Misses wrong) e = absurd (flow_finds m g.procedure (flows m free s.frame.procedure g.procedure g.there) s.frame.position (map kind_of s.frame.operands) i wrong g.flow is e)
       split (Leaves after) e =
           act_good m free g.procedure s i after
           (record { there = g.there; instruction = is; flow = g.flow; slots = g.slots; globals = g.globals; callers = g.callers })
           ((all_right m free.fixed s.frame.procedure g.procedure g.there).instructions s.frame.position i is) e
 
-  state_good : (s : State) → GoodState m s → Good m (step (program_of m) (Running s))
+  state_good : (s : State) → GoodState m s → Good m (step (machine_code m) (Running s))
   state_good s g =
       let p = g.procedure in
       let at = s.frame.position in
@@ -172,16 +172,16 @@ module _ (m : ModuleContents) (free : HasNoFault m) where
       let fetched : instruction_at (code_of (slice_get m.procedures s.frame.procedure)) at ≡ instruction_at p.code at = ap (λ o. instruction_at (code_of o) at) g.there in
       elim boundary [
         | inl ends ↦ absurd (flow_stays m p (flows m free s.frame.procedure p g.there) (map kind_of s.frame.operands) (subst (λ (n : ℕ). IsInFlow m p n (map kind_of s.frame.operands)) ends g.flow))
-        | inr found ↦ subst (λ o. Good m (acts (program_of m) s o)) (sym (fetched ∙ found.1)) (instruction_good s g found.0 found.1)
+        | inr found ↦ subst (λ o. Good m (acts (machine_code m) s o)) (sym (fetched ∙ found.1)) (instruction_good s g found.0 found.1)
       ]
 
-  step_good : (machine : Machine) → Good m machine → Good m (step (program_of m) machine)
+  step_good : (machine : Machine) → Good m machine → Good m (step (machine_code m) machine)
   step_good _ (runs s g) = state_good s g
   step_good _ (over ending sent) = over ending sent
 
-  exec_good : (n : ℕ) (machine : Machine) → Good m machine → Good m (exec (program_of m) n machine)
+  exec_good : (n : ℕ) (machine : Machine) → Good m machine → Good m (exec (machine_code m) n machine)
   exec_good zero machine good = good
-  exec_good (suc n) machine good = exec_good n (step (program_of m) machine) (step_good machine good)
+  exec_good (suc n) machine good = exec_good n (step (machine_code m) machine) (step_good machine good)
 
 good_row : (m : ModuleContents) (machine : Machine) → Good m machine → HasRow machine
 good_row m _ (runs s g) = tt

@@ -2,7 +2,7 @@
 use Rattle.std.proofs.Common.{◌≡◌, ℕ, Bool, true, false, if◌then◌else◌, List, [], ◌∷◌, ◌++◌, map, replicate, Option, Some, None, refl, sym, ap, ◌∙◌, subst, ℤ}
 use Rattle.bytecode.specs.Contents.{ProcedureContents, ModuleContents}
 use Rattle.bytecode.specs.Machine as machine
-use Rattle.bytecode.specs.Machine.{State, Caller, Machine, Running, Ended, Stuck, Deep, Header, program_of, header_of, code_of, slots_of, slot_at, with_slot, with_global, element_at, with_element, computed, bounds, arith as arithmetic, first_slots, kinds_of, frame_limit}
+use Rattle.bytecode.specs.Machine.{State, Caller, Machine, Running, Ended, Stuck, Deep, Header, machine_code, header_of, code_of, slots_of, slot_at, with_slot, with_global, element_at, with_element, computed, bounds, arith as arithmetic, first_slots, kinds_of, frame_limit}
 use Rattle.bytecode.specs.Values.{kind_of, zero_of, is_same_kind}
 use Rattle.bytecode.specs.declared.instruction.Arithmetic.{Arithmetic}
 use Rattle.bytecode.specs.declared.instruction.Comparison.{Comparison}
@@ -31,33 +31,33 @@ right_kind false kinds after more e = absurd (let no : Misses OperandKind ≡ Le
 module _ (m : ModuleContents) (free : HasNoFault m) (p : ProcedureContents) (i : Instruction) where
   -- ---- scalars
 
-  pub loads_good : (s : State) (kinds after : List Kind) (o : Option Slot) (cells : List Cell) → Stands m p s i kinds → kinds ≡ map kind_of s.frame.operands → effect m p i kinds ≡ Leaves after → goes_on i ≡ true → is_scalar o ≡ true → AllOf (slot_kind o) cells → after ≡ slot_kind o ∷ kinds → Good m (machine.loads (program_of m) s o cells)
+  pub loads_good : (s : State) (kinds after : List Kind) (o : Option Slot) (cells : List Cell) → Stands m p s i kinds → kinds ≡ map kind_of s.frame.operands → effect m p i kinds ≡ Leaves after → goes_on i ≡ true → is_scalar o ≡ true → AllOf (slot_kind o) cells → after ≡ slot_kind o ∷ kinds → Good m (machine.loads (machine_code m) s o cells)
   loads_good s kinds after None cells st is e goes scalar all leaves = absurd (let no : false ≡ true = scalar in cc)
   loads_good s kinds after (Some (slot.Array q count)) cells st is e goes scalar all leaves = absurd (let no : false ≡ true = scalar in cc)
   loads_good s kinds after (Some (slot.Scalar q)) cells st is e goes scalar all leaves =
       next_good m free p s i kinds after _ st e goes (ap (λ k. k ∷ map kind_of s.frame.operands) (scalar_kind q cells all) ∙ ap (λ l. q ∷ l) (sym is) ∙ sym leaves)
 
-  pub stores_good : (s : State) (put : List Cell → State) (o : Option Slot) (operands : List Cell) (after : List Kind) → Stands m p s i (map kind_of operands) → ((cells : List Cell) → AllOf (slot_kind o) cells → Stands m p (put cells) i (map kind_of operands)) → effect m p i (map kind_of operands) ≡ Leaves after → goes_on i ≡ true → is_scalar o ≡ true → all_popped (Some (slot_kind o) ∷ []) (map kind_of operands) ≡ Leaves after → Good m (machine.stores (program_of m) s o put operands)
+  pub stores_good : (s : State) (put : List Cell → State) (o : Option Slot) (operands : List Cell) (after : List Kind) → Stands m p s i (map kind_of operands) → ((cells : List Cell) → AllOf (slot_kind o) cells → Stands m p (put cells) i (map kind_of operands)) → effect m p i (map kind_of operands) ≡ Leaves after → goes_on i ≡ true → is_scalar o ≡ true → all_popped (Some (slot_kind o) ∷ []) (map kind_of operands) ≡ Leaves after → Good m (machine.stores (machine_code m) s o put operands)
   stores_good s put None operands after st stands e goes scalar pops = absurd (let no : false ≡ true = scalar in cc)
   stores_good s put (Some (slot.Array q count)) operands after st stands e goes scalar pops = absurd (let no : false ≡ true = scalar in cc)
   stores_good s put (Some (slot.Scalar q)) [] after st stands e goes scalar pops = absurd (cc)
   stores_good s put (Some (slot.Scalar q)) (x ∷ operands) after st stands e goes scalar pops =
       split (is_same_kind q (kind_of x)) refl pops
     where
-      split : (b : Bool) → is_same_kind q (kind_of x) ≡ b → and_then (if b then Leaves (map kind_of operands) else Misses OperandKind) (all_popped []) ≡ Leaves after → Good m (if b then machine.goes_on (program_of m) (put (x ∷ [])) operands else machine.no_row s)
+      split : (b : Bool) → is_same_kind q (kind_of x) ≡ b → and_then (if b then Leaves (map kind_of operands) else Misses OperandKind) (all_popped []) ≡ Leaves after → Good m (if b then machine.goes_on (machine_code m) (put (x ∷ [])) operands else machine.no_row s)
       split true b pops = next_good m free p (put (x ∷ [])) i (map kind_of (x ∷ operands)) after operands (stands (x ∷ []) (sym (same_of q (kind_of x) b), tt)) e goes (leaves_same (map kind_of operands) after pops)
       split false b pops = absurd (cc)
 
   -- ---- arrays
 
-  pub found_good : (s : State) (kinds after : List Kind) (operands : List Cell) (q : Kind) (cells : List Cell) (n : ℤ) → Stands m p s i kinds → effect m p i kinds ≡ Leaves after → goes_on i ≡ true → AllOf q cells → after ≡ q ∷ map kind_of operands → Good m (machine.found (program_of m) s operands (element_at cells n))
+  pub found_good : (s : State) (kinds after : List Kind) (operands : List Cell) (q : Kind) (cells : List Cell) (n : ℤ) → Stands m p s i kinds → effect m p i kinds ≡ Leaves after → goes_on i ≡ true → AllOf q cells → after ≡ q ∷ map kind_of operands → Good m (machine.found (machine_code m) s operands (element_at cells n))
   found_good s kinds after operands q cells n st e goes all leaves = split (element_at cells n) refl
     where
-      split : (o : Option Cell) → element_at cells n ≡ o → Good m (machine.found (program_of m) s operands o)
+      split : (o : Option Cell) → element_at cells n ≡ o → Good m (machine.found (machine_code m) s operands o)
       split None is = raised_good m free p s i kinds bounds st
       split (Some x) is = next_good m free p s i kinds after (x ∷ operands) st e goes (ap (λ k. k ∷ map kind_of operands) (element_kind q cells n x all is) ∙ sym leaves)
 
-  pub loads_element_good : (s : State) (o : Option Slot) (cells : List Cell) (operands : List Cell) (after : List Kind) → Stands m p s i (map kind_of operands) → effect m p i (map kind_of operands) ≡ Leaves after → goes_on i ≡ true → is_array o ≡ true → AllOf (slot_kind o) cells → and_then (all_popped (Some kind.Int ∷ []) (map kind_of operands)) (λ rest. Leaves (slot_kind o ∷ rest)) ≡ Leaves after → Good m (machine.loads_element (program_of m) s o cells operands)
+  pub loads_element_good : (s : State) (o : Option Slot) (cells : List Cell) (operands : List Cell) (after : List Kind) → Stands m p s i (map kind_of operands) → effect m p i (map kind_of operands) ≡ Leaves after → goes_on i ≡ true → is_array o ≡ true → AllOf (slot_kind o) cells → and_then (all_popped (Some kind.Int ∷ []) (map kind_of operands)) (λ rest. Leaves (slot_kind o ∷ rest)) ≡ Leaves after → Good m (machine.loads_element (machine_code m) s o cells operands)
   loads_element_good s None cells operands after st e goes array all pops = absurd (let no : false ≡ true = array in cc)
   loads_element_good s (Some (slot.Scalar q)) cells operands after st e goes array all pops = absurd (let no : false ≡ true = array in cc)
   loads_element_good s (Some (slot.Array q count)) cells [] after st e goes array all pops = absurd (cc)
@@ -65,14 +65,14 @@ module _ (m : ModuleContents) (free : HasNoFault m) (p : ProcedureContents) (i :
   loads_element_good s (Some (slot.Array q count)) cells (cell.Int n ∷ operands) after st e goes array all pops =
       found_good s (map kind_of (cell.Int n ∷ operands)) after operands q cells n st e goes all (sym (leaves_same (q ∷ map kind_of operands) after pops))
 
-  pub changes_good : (s : State) (put : List Cell → State) (kinds after : List Kind) (operands : List Cell) (q : Kind) (cells : List Cell) (n : ℤ) (x : Cell) → Stands m p s i kinds → ((new : List Cell) → AllOf q new → Stands m p (put new) i kinds) → effect m p i kinds ≡ Leaves after → goes_on i ≡ true → AllOf q cells → kind_of x ≡ q → after ≡ map kind_of operands → Good m (machine.changes (program_of m) s put operands (with_element cells n x))
+  pub changes_good : (s : State) (put : List Cell → State) (kinds after : List Kind) (operands : List Cell) (q : Kind) (cells : List Cell) (n : ℤ) (x : Cell) → Stands m p s i kinds → ((new : List Cell) → AllOf q new → Stands m p (put new) i kinds) → effect m p i kinds ≡ Leaves after → goes_on i ≡ true → AllOf q cells → kind_of x ≡ q → after ≡ map kind_of operands → Good m (machine.changes (machine_code m) s put operands (with_element cells n x))
   changes_good s put kinds after operands q cells n x st stands e goes all is leaves = split (with_element cells n x) refl
     where
-      split : (o : Option (List Cell)) → with_element cells n x ≡ o → Good m (machine.changes (program_of m) s put operands o)
+      split : (o : Option (List Cell)) → with_element cells n x ≡ o → Good m (machine.changes (machine_code m) s put operands o)
       split None w = raised_good m free p s i kinds bounds st
       split (Some new) w = next_good m free p (put new) i kinds after operands (stands new (with_element_kind q cells n x new all is w)) e goes (sym leaves)
 
-  pub stores_element_good : (s : State) (put : List Cell → State) (o : Option Slot) (cells : List Cell) (operands : List Cell) (after : List Kind) → Stands m p s i (map kind_of operands) → ((new : List Cell) → AllOf (slot_kind o) new → Stands m p (put new) i (map kind_of operands)) → effect m p i (map kind_of operands) ≡ Leaves after → goes_on i ≡ true → is_array o ≡ true → AllOf (slot_kind o) cells → all_popped (Some (slot_kind o) ∷ Some kind.Int ∷ []) (map kind_of operands) ≡ Leaves after → Good m (machine.stores_element (program_of m) s o put cells operands)
+  pub stores_element_good : (s : State) (put : List Cell → State) (o : Option Slot) (cells : List Cell) (operands : List Cell) (after : List Kind) → Stands m p s i (map kind_of operands) → ((new : List Cell) → AllOf (slot_kind o) new → Stands m p (put new) i (map kind_of operands)) → effect m p i (map kind_of operands) ≡ Leaves after → goes_on i ≡ true → is_array o ≡ true → AllOf (slot_kind o) cells → all_popped (Some (slot_kind o) ∷ Some kind.Int ∷ []) (map kind_of operands) ≡ Leaves after → Good m (machine.stores_element (machine_code m) s o put cells operands)
   stores_element_good s put None cells operands after st stands e goes array all pops = absurd (let no : false ≡ true = array in cc)
   stores_element_good s put (Some (slot.Scalar q)) cells operands after st stands e goes array all pops = absurd (let no : false ≡ true = array in cc)
   stores_element_good s put (Some (slot.Array q count)) cells [] after st stands e goes array all pops = absurd (cc)
@@ -82,10 +82,10 @@ module _ (m : ModuleContents) (free : HasNoFault m) (p : ProcedureContents) (i :
       absurd (let r = right_kind (is_same_kind q (kind_of x)) (kind.Boolean ∷ map kind_of operands) after (all_popped (Some kind.Int ∷ [])) pops in let no : Misses OperandKind ≡ Leaves after = r.1 in cc)
   stores_element_good s put (Some (slot.Array q count)) cells (x ∷ cell.Int n ∷ operands) after st stands e goes array all pops =
       let r = right_kind (is_same_kind q (kind_of x)) (kind.Int ∷ map kind_of operands) after (all_popped (Some kind.Int ∷ [])) pops in
-      subst (λ (b : Bool). Good m (if b then machine.changes (program_of m) s put operands (with_element cells n x) else machine.no_row s)) (sym r.0)
+      subst (λ (b : Bool). Good m (if b then machine.changes (machine_code m) s put operands (with_element cells n x) else machine.no_row s)) (sym r.0)
       (changes_good s put (map kind_of (x ∷ cell.Int n ∷ operands)) after operands q cells n x st stands e goes all (sym (same_of q (kind_of x) r.0)) (sym (leaves_same (map kind_of operands) after r.1)))
 
-  pub clears_good : (s : State) (k : ℕ) (o : Option Slot) (after : List Kind) → Stands m p s i (map kind_of s.frame.operands) → ((new : List Cell) → AllOf (slot_kind o) new → Stands m p (with_slot s k new) i (map kind_of s.frame.operands)) → effect m p i (map kind_of s.frame.operands) ≡ Leaves after → goes_on i ≡ true → is_array o ≡ true → map kind_of s.frame.operands ≡ after → Good m (machine.clears (program_of m) s k o)
+  pub clears_good : (s : State) (k : ℕ) (o : Option Slot) (after : List Kind) → Stands m p s i (map kind_of s.frame.operands) → ((new : List Cell) → AllOf (slot_kind o) new → Stands m p (with_slot s k new) i (map kind_of s.frame.operands)) → effect m p i (map kind_of s.frame.operands) ≡ Leaves after → goes_on i ≡ true → is_array o ≡ true → map kind_of s.frame.operands ≡ after → Good m (machine.clears (machine_code m) s k o)
   clears_good s k None after st stands e goes array is = absurd (let no : false ≡ true = array in cc)
   clears_good s k (Some (slot.Scalar q)) after st stands e goes array is = absurd (let no : false ≡ true = array in cc)
   clears_good s k (Some (slot.Array q count)) after st stands e goes array is =
@@ -93,7 +93,7 @@ module _ (m : ModuleContents) (free : HasNoFault m) (p : ProcedureContents) (i :
 
   -- ---- numbers and booleans
 
-  pub number_good : (s : State) (kinds after : List Kind) (operands : List Cell) (o : Option ℤ) → Stands m p s i kinds → effect m p i kinds ≡ Leaves after → goes_on i ≡ true → after ≡ kind.Int ∷ map kind_of operands → Good m (machine.pushes_number (program_of m) s operands o)
+  pub number_good : (s : State) (kinds after : List Kind) (operands : List Cell) (o : Option ℤ) → Stands m p s i kinds → effect m p i kinds ≡ Leaves after → goes_on i ≡ true → after ≡ kind.Int ∷ map kind_of operands → Good m (machine.pushes_number (machine_code m) s operands o)
   number_good s kinds after operands None st e goes is = raised_good m free p s i kinds arithmetic st
   number_good s kinds after operands (Some n) st e goes is = next_good m free p s i kinds after (cell.Int n ∷ operands) st e goes (sym is)
 
@@ -101,7 +101,7 @@ module _ (m : ModuleContents) (free : HasNoFault m) (p : ProcedureContents) (i :
   two_ints : Option Kind → List Kind → Effect
   two_ints pushes kinds = and_then (all_popped (Some kind.Int ∷ Some kind.Int ∷ []) kinds) (λ rest. Leaves (pushed pushes rest))
 
-  pub computes_good : (s : State) (operator : Arithmetic) (operands : List Cell) (after : List Kind) → Stands m p s i (map kind_of operands) → effect m p i (map kind_of operands) ≡ Leaves after → goes_on i ≡ true → and_then (all_popped (Some kind.Int ∷ Some kind.Int ∷ []) (map kind_of operands)) (λ rest. Leaves (kind.Int ∷ rest)) ≡ Leaves after → Good m (machine.computes (program_of m) s operator operands)
+  pub computes_good : (s : State) (operator : Arithmetic) (operands : List Cell) (after : List Kind) → Stands m p s i (map kind_of operands) → effect m p i (map kind_of operands) ≡ Leaves after → goes_on i ≡ true → and_then (all_popped (Some kind.Int ∷ Some kind.Int ∷ []) (map kind_of operands)) (λ rest. Leaves (kind.Int ∷ rest)) ≡ Leaves after → Good m (machine.computes (machine_code m) s operator operands)
   computes_good s operator [] after st e goes pops = absurd (cc)
   computes_good s operator (cell.Bool b ∷ operands) after st e goes pops = absurd (cc)
   computes_good s operator (cell.Int b ∷ []) after st e goes pops = absurd (cc)
@@ -109,7 +109,7 @@ module _ (m : ModuleContents) (free : HasNoFault m) (p : ProcedureContents) (i :
   computes_good s operator (cell.Int b ∷ cell.Int a ∷ operands) after st e goes pops =
       number_good s (map kind_of (cell.Int b ∷ cell.Int a ∷ operands)) after operands (computed operator a b) st e goes (sym (leaves_same (kind.Int ∷ map kind_of operands) after pops))
 
-  pub compares_good : (s : State) (comparison : Comparison) (operands : List Cell) (after : List Kind) → Stands m p s i (map kind_of operands) → effect m p i (map kind_of operands) ≡ Leaves after → goes_on i ≡ true → and_then (all_popped (Some kind.Int ∷ Some kind.Int ∷ []) (map kind_of operands)) (λ rest. Leaves (kind.Boolean ∷ rest)) ≡ Leaves after → Good m (machine.compares (program_of m) s comparison operands)
+  pub compares_good : (s : State) (comparison : Comparison) (operands : List Cell) (after : List Kind) → Stands m p s i (map kind_of operands) → effect m p i (map kind_of operands) ≡ Leaves after → goes_on i ≡ true → and_then (all_popped (Some kind.Int ∷ Some kind.Int ∷ []) (map kind_of operands)) (λ rest. Leaves (kind.Boolean ∷ rest)) ≡ Leaves after → Good m (machine.compares (machine_code m) s comparison operands)
   compares_good s comparison [] after st e goes pops = absurd (cc)
   compares_good s comparison (cell.Bool b ∷ operands) after st e goes pops = absurd (cc)
   compares_good s comparison (cell.Int b ∷ []) after st e goes pops = absurd (cc)
@@ -117,7 +117,7 @@ module _ (m : ModuleContents) (free : HasNoFault m) (p : ProcedureContents) (i :
   compares_good s comparison (cell.Int b ∷ cell.Int a ∷ operands) after st e goes pops =
       next_good m free p s i (map kind_of (cell.Int b ∷ cell.Int a ∷ operands)) after _ st e goes (leaves_same (kind.Boolean ∷ map kind_of operands) after pops)
 
-  pub matches_good : (s : State) (test : Bool → Bool → Bool) (operands : List Cell) (after : List Kind) → Stands m p s i (map kind_of operands) → effect m p i (map kind_of operands) ≡ Leaves after → goes_on i ≡ true → and_then (all_popped (Some kind.Boolean ∷ Some kind.Boolean ∷ []) (map kind_of operands)) (λ rest. Leaves (kind.Boolean ∷ rest)) ≡ Leaves after → Good m (machine.matches (program_of m) s test operands)
+  pub matches_good : (s : State) (test : Bool → Bool → Bool) (operands : List Cell) (after : List Kind) → Stands m p s i (map kind_of operands) → effect m p i (map kind_of operands) ≡ Leaves after → goes_on i ≡ true → and_then (all_popped (Some kind.Boolean ∷ Some kind.Boolean ∷ []) (map kind_of operands)) (λ rest. Leaves (kind.Boolean ∷ rest)) ≡ Leaves after → Good m (machine.matches (machine_code m) s test operands)
   matches_good s test [] after st e goes pops = absurd (cc)
   matches_good s test (cell.Int b ∷ operands) after st e goes pops = absurd (cc)
   matches_good s test (cell.Bool b ∷ []) after st e goes pops = absurd (cc)
@@ -125,23 +125,23 @@ module _ (m : ModuleContents) (free : HasNoFault m) (p : ProcedureContents) (i :
   matches_good s test (cell.Bool b ∷ cell.Bool a ∷ operands) after st e goes pops =
       next_good m free p s i (map kind_of (cell.Bool b ∷ cell.Bool a ∷ operands)) after _ st e goes (leaves_same (kind.Boolean ∷ map kind_of operands) after pops)
 
-  pub drops_good : (s : State) (operands : List Cell) (after : List Kind) → Stands m p s i (map kind_of operands) → effect m p i (map kind_of operands) ≡ Leaves after → goes_on i ≡ true → all_popped (None ∷ []) (map kind_of operands) ≡ Leaves after → Good m (machine.drops (program_of m) s operands)
+  pub drops_good : (s : State) (operands : List Cell) (after : List Kind) → Stands m p s i (map kind_of operands) → effect m p i (map kind_of operands) ≡ Leaves after → goes_on i ≡ true → all_popped (None ∷ []) (map kind_of operands) ≡ Leaves after → Good m (machine.drops (machine_code m) s operands)
   drops_good s [] after st e goes pops = absurd (cc)
   drops_good s (x ∷ operands) after st e goes pops = next_good m free p s i (map kind_of (x ∷ operands)) after operands st e goes (leaves_same (map kind_of operands) after pops)
 
-  pub negates_good : (s : State) (operands : List Cell) (after : List Kind) → Stands m p s i (map kind_of operands) → effect m p i (map kind_of operands) ≡ Leaves after → goes_on i ≡ true → and_then (all_popped (Some kind.Int ∷ []) (map kind_of operands)) (λ rest. Leaves (kind.Int ∷ rest)) ≡ Leaves after → Good m (machine.negates (program_of m) s operands)
+  pub negates_good : (s : State) (operands : List Cell) (after : List Kind) → Stands m p s i (map kind_of operands) → effect m p i (map kind_of operands) ≡ Leaves after → goes_on i ≡ true → and_then (all_popped (Some kind.Int ∷ []) (map kind_of operands)) (λ rest. Leaves (kind.Int ∷ rest)) ≡ Leaves after → Good m (machine.negates (machine_code m) s operands)
   negates_good s [] after st e goes pops = absurd (cc)
   negates_good s (cell.Bool b ∷ operands) after st e goes pops = absurd (cc)
   negates_good s (cell.Int n ∷ operands) after st e goes pops =
       next_good m free p s i (map kind_of (cell.Int n ∷ operands)) after _ st e goes (leaves_same (kind.Int ∷ map kind_of operands) after pops)
 
-  pub inverts_good : (s : State) (operands : List Cell) (after : List Kind) → Stands m p s i (map kind_of operands) → effect m p i (map kind_of operands) ≡ Leaves after → goes_on i ≡ true → and_then (all_popped (Some kind.Boolean ∷ []) (map kind_of operands)) (λ rest. Leaves (kind.Boolean ∷ rest)) ≡ Leaves after → Good m (machine.inverts (program_of m) s operands)
+  pub inverts_good : (s : State) (operands : List Cell) (after : List Kind) → Stands m p s i (map kind_of operands) → effect m p i (map kind_of operands) ≡ Leaves after → goes_on i ≡ true → and_then (all_popped (Some kind.Boolean ∷ []) (map kind_of operands)) (λ rest. Leaves (kind.Boolean ∷ rest)) ≡ Leaves after → Good m (machine.inverts (machine_code m) s operands)
   inverts_good s [] after st e goes pops = absurd (cc)
   inverts_good s (cell.Int n ∷ operands) after st e goes pops = absurd (cc)
   inverts_good s (cell.Bool b ∷ operands) after st e goes pops =
       next_good m free p s i (map kind_of (cell.Bool b ∷ operands)) after _ st e goes (leaves_same (kind.Boolean ∷ map kind_of operands) after pops)
 
-  pub branches_good : (s : State) (target : ℕ) (operands : List Cell) (after : List Kind) → Stands m p s i (map kind_of operands) → effect m p i (map kind_of operands) ≡ Leaves after → goes_on i ≡ true → target_of i ≡ Some target → all_popped (Some kind.Boolean ∷ []) (map kind_of operands) ≡ Leaves after → Good m (machine.branches (program_of m) s target operands)
+  pub branches_good : (s : State) (target : ℕ) (operands : List Cell) (after : List Kind) → Stands m p s i (map kind_of operands) → effect m p i (map kind_of operands) ≡ Leaves after → goes_on i ≡ true → target_of i ≡ Some target → all_popped (Some kind.Boolean ∷ []) (map kind_of operands) ≡ Leaves after → Good m (machine.branches (machine_code m) s target operands)
   branches_good s target [] after st e goes to pops = absurd (cc)
   branches_good s target (cell.Int n ∷ operands) after st e goes to pops = absurd (cc)
   branches_good s target (cell.Bool true ∷ operands) after st e goes to pops =
@@ -151,7 +151,7 @@ module _ (m : ModuleContents) (free : HasNoFault m) (p : ProcedureContents) (i :
 
   -- ---- channels
 
-  pub sends_good : (s : State) (channel : ℕ) (o : Option Direction) (operands : List Cell) (after : List Kind) → Stands m p s i (map kind_of operands) → effect m p i (map kind_of operands) ≡ Leaves after → goes_on i ≡ true → is_output o ≡ true → all_popped (Some kind.Int ∷ []) (map kind_of operands) ≡ Leaves after → Good m (machine.sends (program_of m) s channel o operands)
+  pub sends_good : (s : State) (channel : ℕ) (o : Option Direction) (operands : List Cell) (after : List Kind) → Stands m p s i (map kind_of operands) → effect m p i (map kind_of operands) ≡ Leaves after → goes_on i ≡ true → is_output o ≡ true → all_popped (Some kind.Int ∷ []) (map kind_of operands) ≡ Leaves after → Good m (machine.sends (machine_code m) s channel o operands)
   sends_good s channel None operands after st e goes output pops = absurd (let no : false ≡ true = output in cc)
   sends_good s channel (Some Input) operands after st e goes output pops = absurd (let no : false ≡ true = output in cc)
   sends_good s channel (Some Output) [] after st e goes output pops = absurd (cc)
@@ -159,12 +159,12 @@ module _ (m : ModuleContents) (free : HasNoFault m) (p : ProcedureContents) (i :
   sends_good s channel (Some Output) (cell.Int n ∷ operands) after st e goes output pops =
       next_good m free p (record s { sent = s.sent ++ record { channel = channel; number = n } ∷ [] }) i (map kind_of (cell.Int n ∷ operands)) after operands (record { there = st.there; instruction = st.instruction; flow = st.flow; slots = st.slots; globals = st.globals; callers = st.callers }) e goes (leaves_same (map kind_of operands) after pops)
 
-  pub takes_good : (s : State) (channel : ℕ) (numbers : List ℤ) (after : List Kind) → Stands m p s i (map kind_of s.frame.operands) → effect m p i (map kind_of s.frame.operands) ≡ Leaves after → goes_on i ≡ true → after ≡ kind.Int ∷ map kind_of s.frame.operands → Good m (machine.takes (program_of m) s channel numbers)
+  pub takes_good : (s : State) (channel : ℕ) (numbers : List ℤ) (after : List Kind) → Stands m p s i (map kind_of s.frame.operands) → effect m p i (map kind_of s.frame.operands) ≡ Leaves after → goes_on i ≡ true → after ≡ kind.Int ∷ map kind_of s.frame.operands → Good m (machine.takes (machine_code m) s channel numbers)
   takes_good s channel [] after st e goes is = raised_good m free p s i (map kind_of s.frame.operands) machine.end_of_input st
   takes_good s channel (n ∷ numbers) after st e goes is =
       next_good m free p (record s { rest = machine.changed s.rest channel numbers }) i (map kind_of s.frame.operands) after (cell.Int n ∷ s.frame.operands) (record { there = st.there; instruction = st.instruction; flow = st.flow; slots = st.slots; globals = st.globals; callers = st.callers }) e goes (sym is)
 
-  pub receives_good : (s : State) (channel : ℕ) (o : Option Direction) (after : List Kind) → Stands m p s i (map kind_of s.frame.operands) → effect m p i (map kind_of s.frame.operands) ≡ Leaves after → goes_on i ≡ true → is_input o ≡ true → after ≡ kind.Int ∷ map kind_of s.frame.operands → Good m (machine.receives (program_of m) s channel o)
+  pub receives_good : (s : State) (channel : ℕ) (o : Option Direction) (after : List Kind) → Stands m p s i (map kind_of s.frame.operands) → effect m p i (map kind_of s.frame.operands) ≡ Leaves after → goes_on i ≡ true → is_input o ≡ true → after ≡ kind.Int ∷ map kind_of s.frame.operands → Good m (machine.receives (machine_code m) s channel o)
   receives_good s channel None after st e goes input is = absurd (let no : false ≡ true = input in cc)
   receives_good s channel (Some Output) after st e goes input is = absurd (let no : false ≡ true = input in cc)
   receives_good s channel (Some Input) after st e goes input is = takes_good s channel (s.rest channel) after st e goes is

@@ -8,7 +8,7 @@ use Rattle.std.proofs.lemmas.Bool.Decides.{nat_tests}
 use Rattle.bytecode.specs.Code.{width_of, instruction_at}
 use Rattle.bytecode.specs.Contents.{ProcedureContents, ModuleContents}
 use Rattle.bytecode.specs.Machine as machine
-use Rattle.bytecode.specs.Machine.{State, Frame, Caller, Machine, Running, Ended, Stuck, Finished, Threw, Deep, program_of, header_of, code_of, handlers_of, handler_for, position_after, handled, unwound, raised, leaves, leaves_value, new_frame, slots_of, slot_of}
+use Rattle.bytecode.specs.Machine.{State, Frame, Caller, Machine, Running, Ended, Stuck, Finished, Threw, Deep, machine_code, header_of, code_of, handlers_of, handler_for, position_after, handled, unwound, raised, leaves, leaves_value, new_frame, slots_of, slot_of}
 use Rattle.bytecode.specs.Values.{kind_of}
 use Rattle.bytecode.specs.declared.instruction.Instruction.{Instruction}
 use Rattle.bytecode.specs.declared.instruction.Instruction.TheVariants.{Call}
@@ -48,7 +48,7 @@ pub record Stands (m : ModuleContents) (p : ProcedureContents) (s : State) (i : 
   pub instruction : instruction_at p.code s.frame.position ≡ Some i
   pub flow : IsInFlow m p s.frame.position kinds
   pub slots : Holds p.slots s.frame.slots
-  pub globals : Holds (program_of m).globals s.globals
+  pub globals : Holds (machine_code m).globals s.globals
   pub callers : Callers m p s.callers
 
 -- a state of a run
@@ -57,7 +57,7 @@ pub record GoodState (m : ModuleContents) (s : State) : Type 0 where
   pub there : slice_get m.procedures s.frame.procedure ≡ Some procedure
   pub flow : IsInFlow m procedure s.frame.position (map kind_of s.frame.operands)
   pub slots : Holds procedure.slots s.frame.slots
-  pub globals : Holds (program_of m).globals s.globals
+  pub globals : Holds (machine_code m).globals s.globals
   pub callers : Callers m procedure s.callers
 
 pub data Good (m : ModuleContents) : Machine → Type 0 where
@@ -69,7 +69,7 @@ leaves_same a b e = cc
 
 module _ (m : ModuleContents) (free : HasNoFault m) where
   -- on to the next instruction
-  pub next_good : (p : ProcedureContents) (s : State) (i : Instruction) (kinds after : List Kind) (operands : List Cell) → Stands m p s i kinds → effect m p i kinds ≡ Leaves after → goes_on i ≡ true → map kind_of operands ≡ after → Good m (machine.goes_on (program_of m) s operands)
+  pub next_good : (p : ProcedureContents) (s : State) (i : Instruction) (kinds after : List Kind) (operands : List Cell) → Stands m p s i kinds → effect m p i kinds ≡ Leaves after → goes_on i ≡ true → map kind_of operands ≡ after → Good m (machine.goes_on (machine_code m) s operands)
   next_good p s i kinds after operands st e goes is =
       let after_is : position_after (instruction_at (code_of (slice_get m.procedures s.frame.procedure)) s.frame.position) s.frame.position ≡ s.frame.position + width_of i =
       ap (λ o. position_after (instruction_at (code_of o) s.frame.position) s.frame.position) st.there ∙ ap (λ o. position_after o s.frame.position) st.instruction in
@@ -126,11 +126,11 @@ module _ (m : ModuleContents) (free : HasNoFault m) where
       split false b e more = catches_more x handlers at target (more e)
 
   -- control goes to a handler of a frame at an instruction, or the search goes on
-  handled_good : (p : ProcedureContents) (s : State) (f : Frame) (callers : List Caller) (exception : ℕ) (i : Instruction) (kinds : List Kind) (otherwise : Machine) → slice_get m.procedures f.procedure ≡ Some p → instruction_at p.code f.position ≡ Some i → IsInFlow m p f.position kinds → Holds p.slots f.slots → Holds (program_of m).globals s.globals → Callers m p callers → Good m otherwise → Good m (handled s f callers ((program_of m).find f.procedure f.position exception) otherwise)
+  handled_good : (p : ProcedureContents) (s : State) (f : Frame) (callers : List Caller) (exception : ℕ) (i : Instruction) (kinds : List Kind) (otherwise : Machine) → slice_get m.procedures f.procedure ≡ Some p → instruction_at p.code f.position ≡ Some i → IsInFlow m p f.position kinds → Holds p.slots f.slots → Holds (machine_code m).globals s.globals → Callers m p callers → Good m otherwise → Good m (handled s f callers ((machine_code m).find f.procedure f.position exception) otherwise)
   handled_good p s f callers exception i kinds otherwise there is flow slots globals waiting more =
-      split ((program_of m).find f.procedure f.position exception) refl
+      split ((machine_code m).find f.procedure f.position exception) refl
     where
-      split : (o : Option ℕ) → (program_of m).find f.procedure f.position exception ≡ o → Good m (handled s f callers o otherwise)
+      split : (o : Option ℕ) → (machine_code m).find f.procedure f.position exception ≡ o → Good m (handled s f callers o otherwise)
       split None e = more
       split (Some target) e =
           let c = catches p.handlers f.position exception target (ap (λ o. handler_for (handlers_of o) f.position exception) (sym there) ∙ e) in
@@ -144,19 +144,19 @@ module _ (m : ModuleContents) (free : HasNoFault m) where
             callers = waiting;
           })
 
-  unwound_good : (s : State) (exception : ℕ) → Holds (program_of m).globals s.globals → (p : ProcedureContents) (callers : List Caller) → Callers m p callers → Good m (unwound (program_of m) s exception callers)
+  unwound_good : (s : State) (exception : ℕ) → Holds (machine_code m).globals s.globals → (p : ProcedureContents) (callers : List Caller) → Callers m p callers → Good m (unwound (machine_code m) s exception callers)
   unwound_good s exception globals _ _ (outermost p none) = over (Threw exception) s.sent
   unwound_good s exception globals _ _ (inner callee p c callers w more) =
       handled_good p s c.frame callers exception (Call w.number) w.kinds _ w.there w.calls w.flow w.slots globals more (unwound_good s exception globals p callers more)
 
-  pub raised_good : (p : ProcedureContents) (s : State) (i : Instruction) (kinds : List Kind) (exception : ℕ) → Stands m p s i kinds → Good m (raised (program_of m) s exception)
+  pub raised_good : (p : ProcedureContents) (s : State) (i : Instruction) (kinds : List Kind) (exception : ℕ) → Stands m p s i kinds → Good m (raised (machine_code m) s exception)
   raised_good p s i kinds exception st =
       handled_good p s s.frame s.callers exception i kinds _ st.there st.instruction st.flow st.slots st.globals st.callers (unwound_good s exception st.globals p s.callers st.callers)
 
   -- ---- returns
 
   -- a caller goes on behind its call
-  resumed_good : (s : State) (operands : List Cell) (callee p : ProcedureContents) (c : Caller) (callers : List Caller) → Holds (program_of m).globals s.globals → Waits m p callee c → Callers m p callers → map kind_of operands ≡ pushed callee.returned (map kind_of c.frame.operands) → Good m (Running (record s { frame = record c.frame { operands = operands; position = c.resume }; callers = callers }))
+  resumed_good : (s : State) (operands : List Cell) (callee p : ProcedureContents) (c : Caller) (callers : List Caller) → Holds (machine_code m).globals s.globals → Waits m p callee c → Callers m p callers → map kind_of operands ≡ pushed callee.returned (map kind_of c.frame.operands) → Good m (Running (record s { frame = record c.frame { operands = operands; position = c.resume }; callers = callers }))
   resumed_good s operands callee p c callers globals w more is =
       runs _ (record {
         procedure = p;
@@ -169,12 +169,12 @@ module _ (m : ModuleContents) (free : HasNoFault m) where
         callers = more;
       })
 
-  pub leaves_good : (s : State) → Holds (program_of m).globals s.globals → (p : ProcedureContents) (callers : List Caller) → p.returned ≡ None → Callers m p callers → Good m (leaves s callers)
+  pub leaves_good : (s : State) → Holds (machine_code m).globals s.globals → (p : ProcedureContents) (callers : List Caller) → p.returned ≡ None → Callers m p callers → Good m (leaves s callers)
   leaves_good s globals _ _ none (outermost p is) = over Finished s.sent
   leaves_good s globals _ _ none (inner callee p c callers w more) =
       resumed_good s c.frame.operands callee p c callers globals w more (ap (λ o. pushed o (map kind_of c.frame.operands)) (sym none))
 
-  pub value_good : (s : State) (x : Cell) → Holds (program_of m).globals s.globals → (p : ProcedureContents) (callers : List Caller) → p.returned ≡ Some (kind_of x) → Callers m p callers → Good m (leaves_value s x callers)
+  pub value_good : (s : State) (x : Cell) → Holds (machine_code m).globals s.globals → (p : ProcedureContents) (callers : List Caller) → p.returned ≡ Some (kind_of x) → Callers m p callers → Good m (leaves_value s x callers)
   value_good s x globals _ _ some (outermost p is) = absurd (let no : None ≡ Some (kind_of x) = sym is ∙ some in cc)
   value_good s x globals _ _ some (inner callee p c callers w more) =
       resumed_good s (x ∷ c.frame.operands) callee p c callers globals w more (ap (λ o. pushed o (map kind_of c.frame.operands)) (sym some))

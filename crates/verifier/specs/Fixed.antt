@@ -3,7 +3,7 @@
 use Rattle.std.specs.Prelude.{ℕ, ◌+◌, ◌==◌, nat_lt, Bool, true, false, ◌&&◌, ◌||◌, if◌then◌else◌, List, [], ◌∷◌, ◌++◌, slice_get, Option, Some, None, is_some}
 use Rattle.bytecode.specs.Contents.{ProcedureContents, ModuleContents}
 use Rattle.bytecode.specs.Code.{width_of, code_length, instruction_at}
-use Rattle.bytecode.specs.Machine.{program_of}
+use Rattle.bytecode.specs.Machine.{machine_code}
 use Rattle.bytecode.specs.declared.instruction.Instruction.{Instruction}
 use Rattle.bytecode.specs.declared.instruction.Instruction.TheVariants.{Push, PushBoolean, Pop, Load, Store, LoadGlobal, StoreGlobal, LoadElement, StoreElement, LoadGlobalElement, StoreGlobalElement, Clear, Compute, Negate, Not, Compare, SameBoolean, OtherBoolean, Jump, JumpIfFalse, Call, Return, ReturnValue, Receive, Send, Throw}
 use Rattle.bytecode.specs.declared.declaration.Slot.{Slot}
@@ -49,19 +49,19 @@ unless right wrong = if right then None else Some wrong
 abbrev pub instruction_defect : ModuleContents → ProcedureContents → Instruction → Option Defect
 instruction_defect m procedure (Load k) = unless (is_scalar (slice_get procedure.slots k)) defect.SlotOrIndex
 instruction_defect m procedure (Store k) = unless (is_scalar (slice_get procedure.slots k)) defect.SlotOrIndex
-instruction_defect m procedure (LoadGlobal k) = unless (is_scalar (slice_get (program_of m).globals k)) defect.SlotOrIndex
-instruction_defect m procedure (StoreGlobal k) = unless (is_scalar (slice_get (program_of m).globals k)) defect.SlotOrIndex
+instruction_defect m procedure (LoadGlobal k) = unless (is_scalar (slice_get (machine_code m).globals k)) defect.SlotOrIndex
+instruction_defect m procedure (StoreGlobal k) = unless (is_scalar (slice_get (machine_code m).globals k)) defect.SlotOrIndex
 instruction_defect m procedure (LoadElement k) = unless (is_array (slice_get procedure.slots k)) defect.SlotOrIndex
 instruction_defect m procedure (StoreElement k) = unless (is_array (slice_get procedure.slots k)) defect.SlotOrIndex
-instruction_defect m procedure (LoadGlobalElement k) = unless (is_array (slice_get (program_of m).globals k)) defect.SlotOrIndex
-instruction_defect m procedure (StoreGlobalElement k) = unless (is_array (slice_get (program_of m).globals k)) defect.SlotOrIndex
+instruction_defect m procedure (LoadGlobalElement k) = unless (is_array (slice_get (machine_code m).globals k)) defect.SlotOrIndex
+instruction_defect m procedure (StoreGlobalElement k) = unless (is_array (slice_get (machine_code m).globals k)) defect.SlotOrIndex
 instruction_defect m procedure (Clear k) = unless (is_array (slice_get procedure.slots k)) defect.SlotOrIndex
 instruction_defect m procedure (Jump target) = unless (is_start procedure target) defect.Jump
 instruction_defect m procedure (JumpIfFalse target) = unless (is_start procedure target) defect.Jump
 instruction_defect m procedure (Call callee) = unless (is_some (slice_get m.procedures callee)) defect.SlotOrIndex
-instruction_defect m procedure (Receive channel) = unless (is_input (slice_get (program_of m).directions channel)) defect.SlotOrIndex
-instruction_defect m procedure (Send channel) = unless (is_output (slice_get (program_of m).directions channel)) defect.SlotOrIndex
-instruction_defect m procedure (Throw exception) = unless (nat_lt exception (program_of m).exceptions) defect.SlotOrIndex
+instruction_defect m procedure (Receive channel) = unless (is_input (slice_get (machine_code m).directions channel)) defect.SlotOrIndex
+instruction_defect m procedure (Send channel) = unless (is_output (slice_get (machine_code m).directions channel)) defect.SlotOrIndex
+instruction_defect m procedure (Throw exception) = unless (nat_lt exception (machine_code m).exceptions) defect.SlotOrIndex
 instruction_defect m procedure (Push n) = None
 instruction_defect m procedure (PushBoolean b) = None
 instruction_defect m procedure Pop = None
@@ -89,7 +89,7 @@ has_right_offsets procedure handler =
 abbrev pub handler_defect : ModuleContents → ProcedureContents → Handler → Option Defect
 handler_defect m procedure handler =
     if has_right_offsets procedure handler
-    then unless (nat_lt handler.exception (program_of m).exceptions) defect.SlotOrIndex
+    then unless (nat_lt handler.exception (machine_code m).exceptions) defect.SlotOrIndex
     else Some defect.Jump
 
 -- the fault of a procedure at an offset, if there is one

@@ -6,7 +6,7 @@ use Rattle.std.specs.List.{Contains}
 use Rattle.bytecode.specs.Contents.{ProcedureContents, ModuleContents}
 use Rattle.bytecode.specs.Code.{width_of, code_length, instruction_at}
 use Rattle.bytecode.specs.Targets.{target_of}
-use Rattle.bytecode.specs.Machine.{header_of, program_of}
+use Rattle.bytecode.specs.Machine.{header_of, machine_code}
 use Rattle.bytecode.specs.Values.{is_same_kind}
 use Rattle.bytecode.specs.declared.instruction.Instruction.{Instruction}
 use Rattle.bytecode.specs.declared.instruction.Instruction.TheVariants.{Push, PushBoolean, Pop, Load, Store, LoadGlobal, StoreGlobal, LoadElement, StoreElement, LoadGlobalElement, StoreGlobalElement, Clear, Compute, Negate, Not, Compare, SameBoolean, OtherBoolean, Jump, JumpIfFalse, Call, Return, ReturnValue, Receive, Send, Throw}
@@ -38,7 +38,7 @@ abbrev pub kind_in : ProcedureContents → ℕ → Kind
 kind_in procedure k = slot_kind (slice_get procedure.slots k)
 
 abbrev pub global_kind : ModuleContents → ℕ → Kind
-global_kind m k = slot_kind (slice_get (program_of m).globals k)
+global_kind m k = slot_kind (slice_get (machine_code m).globals k)
 
 -- a call pops the arguments, the last one first, and its return pushes the value, if there is one
 abbrev pub called : Option ProcedureContents → Signature

@@ -12,7 +12,7 @@ use Rattle.resolved.specs.declared.statement.Exit.TheVariants.{Normal, Return, B
 use Rattle.resolved.specs.declared.tables.Direction.TheVariants.{Input}
 use Rattle.resolved.specs.Tree.{Expression, Statement, Assign, Clear, Store, Receive, Send, Call, If, While, Leave, ReturnWith, Try, Nested, Block, Empty, Then, Handlers, NoMore, Catch}
 use Rattle.resolved.specs.Program.{Program, ProcedureEntry, ResultEntry, SlotEntry}
-use Rattle.resolved.specs.Value.{Evaluated, Gives, Raises, base_of, checked_index, truth_in}
+use Rattle.resolved.specs.Value.{Evaluated, Yields, Raises, base_of, checked_index, truth_in}
 use Rattle.resolved.specs.SourceState.{SourceState, cells, assigned, stored, value_of, values_of, updated}
 use Rattle.resolved.specs.Meaning.{Outcome, Ended, Stopped, Calls, normally, after, evaluated, looped, turns, caught, received, kept_in, sending, leaving, returned_to, entering, calls_with, statement_meaning, block_meaning, handlers_meaning}
 use Rattle.resolved.specs.WellFormed.{VariableType, variable_type, scalar_by, array_by, has_length, has_base, has_result, same_base, target_by, statement_fits, block_fits, handlers_fit, channel_is, is_exception, call_matches, arguments_match, parameters_of, well_formed}
@@ -49,9 +49,9 @@ module _ (program : Program) (procedure : ProcedureEntry) (place : Exit) (result
   after_fits (Stopped stop s) next h k = h
 
   evaluated_fits : {A : Type 0} (first : Evaluated A) (s : SourceState) (next : A → Outcome) → StateFits program procedure s
-      → ((v : A) → first ≡ Gives v → OutcomeFits program procedure place result (next v))
+      → ((v : A) → first ≡ Yields v → OutcomeFits program procedure place result (next v))
       → OutcomeFits program procedure place result (evaluated first s next)
-  evaluated_fits (Gives v) s next state h = h v refl
+  evaluated_fits (Yields v) s next state h = h v refl
   evaluated_fits (Raises exception) s next state h = ended_fits (Throw exception) s state
 
   looped_fits : (outcome : Outcome) (again : SourceState → Outcome) → OutcomeFits program procedure place result outcome
@@ -164,18 +164,18 @@ module _ (program : Program) (procedure : ProcedureEntry) where
   returned_to_fits callee target (Stopped stop s) h k result = record { state = h.state; returned = tt }
 
 -- ---- the tree
-base_given : (base : Base) (result : Evaluated Value) (v : Value) → result ≡ Gives v → GivesBase base result → base_of v ≡ base
-base_given base (Gives w) v e h = ap base_of (sym (same_value w v e)) ∙ h
+base_given : (base : Base) (result : Evaluated Value) (v : Value) → result ≡ Yields v → GivesBase base result → base_of v ≡ base
+base_given base (Yields w) v e h = ap base_of (sym (same_value w v e)) ∙ h
   where
-    same_value : (w v : Value) → ◌≡◌ {A = Evaluated Value} (Gives w) (Gives v) → w ≡ v
+    same_value : (w v : Value) → ◌≡◌ {A = Evaluated Value} (Yields w) (Yields v) → w ≡ v
     same_value w v e = cc
 base_given base (Raises exception) v e h = cc
 
-match_given : (parameters : List SlotEntry) (result : Evaluated (List Value)) (values : List Value) → result ≡ Gives values
+match_given : (parameters : List SlotEntry) (result : Evaluated (List Value)) (values : List Value) → result ≡ Yields values
     → GivesMatch parameters result → ArgumentsFit parameters values
-match_given parameters (Gives others) values e h = subst (ArgumentsFit parameters) (same_values others values e) h
+match_given parameters (Yields others) values e h = subst (ArgumentsFit parameters) (same_values others values e) h
   where
-    same_values : (others values : List Value) → ◌≡◌ {A = Evaluated (List Value)} (Gives others) (Gives values) → others ≡ values
+    same_values : (others values : List Value) → ◌≡◌ {A = Evaluated (List Value)} (Yields others) (Yields values) → others ≡ values
     same_values others values e = cc
 match_given parameters (Raises exception) values e h = cc
 

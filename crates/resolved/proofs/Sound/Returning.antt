@@ -8,7 +8,7 @@ use Rattle.resolved.specs.declared.expression.Variable.{Variable}
 use Rattle.resolved.specs.declared.statement.Exit.TheVariants.{Normal, Return, Break, Continue, Throw}
 use Rattle.resolved.specs.Tree.{Statement, Assign, Clear, Store, Receive, Send, Call, If, While, Leave, ReturnWith, Try, Nested, Block, Empty, Then, Handlers, NoMore, Catch}
 use Rattle.resolved.specs.Program.{Program, ProcedureEntry, ResultEntry}
-use Rattle.resolved.specs.Value.{Evaluated, Gives, Raises, checked_index, truth_in}
+use Rattle.resolved.specs.Value.{Evaluated, Yields, Raises, checked_index, truth_in}
 use Rattle.resolved.specs.SourceState.{SourceState, value_of, values_of}
 use Rattle.resolved.specs.Meaning.{Outcome, Ended, Stopped, after, evaluated, looped, turns, caught, received, leaving, returned_to, calls_with, statement_meaning, block_meaning, handlers_meaning}
 use Rattle.resolved.specs.WellFormed.{has_base, statement_fits, block_fits, handlers_fit, is_exception}
@@ -32,7 +32,7 @@ after_some (Ended (Throw exception) returned s) next h each = tt
 after_some (Stopped stop s) next h each = tt
 
 evaluated_some : {A : Type 0} (first : Evaluated A) (s : SourceState) (next : A → Outcome) → ((v : A) → ReturnsSome (next v)) → ReturnsSome (evaluated first s next)
-evaluated_some (Gives v) s next each = each v
+evaluated_some (Yields v) s next each = each v
 evaluated_some (Raises exception) s next each = tt
 
 either_some : (test : Bool) (first second : Outcome) → ReturnsSome first → ReturnsSome second → ReturnsSome (if test then first else second)

@@ -16,7 +16,7 @@ use Rattle.resolved.specs.declared.expression.Operator.TheVariants.{Add, Subtrac
 use Rattle.resolved.specs.declared.expression.Connective.{Connective}
 use Rattle.resolved.specs.Tree.{Expression, Integer, Logical, Read, Element, Unary, Binary, Short}
 use Rattle.resolved.specs.Program.{Program, ProcedureEntry, SlotEntry}
-use Rattle.resolved.specs.Value.{Evaluated, Gives, Raises, then_with, base_of, operator_value, prefix_value, checked_index, number_in, in_range, position_of, is_zero, decides, bounds_exception}
+use Rattle.resolved.specs.Value.{Evaluated, Yields, Raises, then_with, base_of, operator_value, prefix_value, checked_index, number_in, in_range, position_of, is_zero, decides, bounds_exception}
 use Rattle.resolved.specs.SourceState.{SourceState, cells, cell_at, value_of, values_of}
 use Rattle.resolved.specs.WellFormed.{VariableType, variable_type, scalar_by, array_by, has_length, cell_count, same_base, prefix_base, result_base, has_base, arguments_match}
 use Rattle.resolved.specs.Kinds.{CellsFit, StateFits, GivesBase, ArgumentsFit}
@@ -42,7 +42,7 @@ prefix_keeps : (prefix : Prefix) (v : Value) → base_of (prefix_value prefix v)
 prefix_keeps Negate v = refl
 prefix_keeps Not v = refl
 
-unless_zero_gives : (test : Bool) (z : ℤ) → GivesBase Int (if test then Raises 0 else Gives (Number z))
+unless_zero_gives : (test : Bool) (z : ℤ) → GivesBase Int (if test then Raises 0 else Yields (Number z))
 unless_zero_gives true z = tt
 unless_zero_gives false z = refl
 
@@ -67,8 +67,8 @@ gives_at a b result e h = subst (λ base. GivesBase base result) e h
 
 -- what goes on with a value gives a base type if it does for each value of the first one's base type
 then_gives : {A : Type 0} (base : Base) (first : Evaluated A) (next : A → Evaluated Value)
-    → ((v : A) → first ≡ Gives v → GivesBase base (next v)) → GivesBase base (then_with first next)
-then_gives base (Gives v) next h = h v refl
+    → ((v : A) → first ≡ Yields v → GivesBase base (next v)) → GivesBase base (then_with first next)
+then_gives base (Yields v) next h = h v refl
 then_gives base (Raises exception) next h = tt
 
 cell_fits : (type : VariableType) (values : List Value) (i : ℕ)
@@ -77,30 +77,30 @@ cell_fits type values i fit below =
     All-get_or (λ v. base_of v ≡ type.base) values i (Number (pos 0)) (rw fit.count below) fit.kinds
 
 -- an index that was tested is below the length
-pub checked_below : (v : Value) (length i : ℕ) → checked_index v length ≡ Gives i → i < length
+pub checked_below : (v : Value) (length i : ℕ) → checked_index v length ≡ Yields i → i < length
 checked_below v length i h = go (number_in v) h
   where
     at : (n : ℕ) (test : Bool) → nat_lt n length ≡ test
-        → ◌≡◌ {A = Evaluated ℕ} (if test then Gives n else Raises bounds_exception) (Gives i) → i < length
+        → ◌≡◌ {A = Evaluated ℕ} (if test then Yields n else Raises bounds_exception) (Yields i) → i < length
     at n true e h =
         let same : n ≡ i = cc in
         grind (arith, nat_tests)
     at n false e h = cc
 
-    go : (z : ℤ) → ◌≡◌ {A = Evaluated ℕ} (if in_range z length then Gives (position_of z) else Raises bounds_exception) (Gives i) → i < length
+    go : (z : ℤ) → ◌≡◌ {A = Evaluated ℕ} (if in_range z length then Yields (position_of z) else Raises bounds_exception) (Yields i) → i < length
     go (pos n) h = at n (nat_lt n length) refl h
     go (negsuc n) h = cc
 
 -- the right operand of a connective where the left one does not decide
 right_gives : (base : Base) (test : Bool) (v : Value) (right : Evaluated Value)
-    → base_of v ≡ base → GivesBase base right → GivesBase base (if test then Gives v else right)
+    → base_of v ≡ base → GivesBase base right → GivesBase base (if test then Yields v else right)
 right_gives base true v right left h = left
 right_gives base false v right left h = h
 
 connective_gives : (base : Base) (connective : Connective) (left right : Evaluated Value) → Boolean ≡ base
     → GivesBase Boolean left → GivesBase Boolean right
-    → GivesBase base (then_with left (λ v. if decides connective v then Gives v else right))
-connective_gives base connective (Gives v) right same h k =
+    → GivesBase base (then_with left (λ v. if decides connective v then Yields v else right))
+connective_gives base connective (Yields v) right same h k =
     right_gives base (decides connective v) v right (h ∙ same) (gives_at Boolean base right same k)
 connective_gives base connective (Raises exception) right same h k = tt
 
@@ -169,14 +169,14 @@ module _ (program : Program) (procedure : ProcedureEntry) (s : SourceState) (sta
 
 -- the values of arguments, where they have them, fit the parameters
 abbrev pub GivesMatch : List SlotEntry → Evaluated (List Value) → Type 0
-GivesMatch parameters (Gives values) = ArgumentsFit parameters values
+GivesMatch parameters (Yields values) = ArgumentsFit parameters values
 GivesMatch parameters (Raises exception) = Unit {0}
 
 more_match : (parameter : SlotEntry) (parameters : List SlotEntry) (first : Evaluated Value) (rest : Evaluated (List Value))
     → GivesBase parameter.base first → GivesMatch parameters rest
-    → GivesMatch (parameter ∷ parameters) (then_with first (λ v. then_with rest (λ vs. Gives (v ∷ vs))))
-more_match parameter parameters (Gives v) (Gives vs) h k = (h, k)
-more_match parameter parameters (Gives v) (Raises exception) h k = tt
+    → GivesMatch (parameter ∷ parameters) (then_with first (λ v. then_with rest (λ vs. Yields (v ∷ vs))))
+more_match parameter parameters (Yields v) (Yields vs) h k = (h, k)
+more_match parameter parameters (Yields v) (Raises exception) h k = tt
 more_match parameter parameters (Raises exception) rest h k = tt
 
 pub values_match : (program : Program) (procedure : ProcedureEntry) (s : SourceState) → StateFits program procedure s
