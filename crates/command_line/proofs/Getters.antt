@@ -14,6 +14,6 @@ pub always_ok : {T E : Type 0} (r : Result T E) (P : Type 0) → P → IfOk r (�
 always_ok (Ok x) P p = p
 always_ok (Err e) P p = tt
 
--- an error where no kind comes is want of memory
+-- an error where no kind comes is out of memory
 pub memory_only : (kinds : Kinds) (error : Error) → HasKind kinds error → kinds ≡ [] → kind_of error ≡ OutOfMemory
 memory_only kinds error has none = ⊎_elim (λ memory. memory) (λ among. absurd among) (subst (λ ks. HasKind ks error) none has)

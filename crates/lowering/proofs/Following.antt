@@ -94,7 +94,7 @@ module _ (p : MachineCode) (aim : ℕ → ℕ → ℕ) (lands : (s : State) (ope
 
 -- ---- unconditional jumps are followed
 
--- where one is told, the instruction is that jump
+-- where one is reported, the instruction is that jump
 pub jump-is : (o : Option Instruction) (target : ℕ) → jump_of o ≡ Some target → o ≡ Some (Jump target)
 jump-is None target e = absurd (let no : None ≡ Some target = e in cc)
 jump-is (Some (Jump other)) target e = let same : Some other ≡ Some target = e in cc

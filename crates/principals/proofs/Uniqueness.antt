@@ -216,7 +216,7 @@ entries_fault text es (fault.DeclaredTwice at) says h = (es, says, h)
 entries_fault text es (fault.UnknownPrincipal at) says h = (es, says, h)
 entries_fault text es (fault.TooManyPrincipals at) says h = (es, says, h)
 
--- ---- what a reader owes
+-- ---- what a reader has to meet
 
 pub fault_cases : (text : List ℕ) (f : HierFault) → IsReadFault text f → (f ≡ fault.NoMemory) ⊎ IsRefusedText text f
 fault_cases text fault.NoMemory h = inl refl

@@ -74,7 +74,7 @@ impl Search {
     }
 }
 
-/// What the written element of this number reaches, each unknown once, with the way to it.
+/// What the written element of this number reaches, each unknown once, with the path to it.
 pub fn trace(alloc: Global, edges: &Edges, value: usize) -> Result<Vec<Found>, AllocError>
     requires value { value < length edges.now.written.items }
     requires inside { LeadsInside edges.now }
