@@ -10,6 +10,7 @@ mod index;
 mod inner;
 mod input;
 mod inside;
+mod landing;
 mod live;
 mod operation;
 pub mod run;
