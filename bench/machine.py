@@ -1,15 +1,17 @@
 #!/usr/bin/env python3
-"""How fast the machine runs code, beside Lua 5.4 in the same run.
+"""How fast the machine runs code, beside Lua 5.4 and an interpreter in Rust in the same run.
 
     bench/machine.py PROGRAM [LUA]
 
 PROGRAM is the built program (crates/flowc_main/out/flowc_main), LUA the interpreter (`lua5.4` if none is given). Four programs are
 written for both: a loop of 20,000,000 turns, a sieve of 65,536 cells that is run 40 times, fib(30) by calls, and a loop of
 2,000,000 turns that throws and catches. Each is there as a module that is assembled here from names of instructions and labels,
-and as a source that PROGRAM builds. All three are run ROUNDS times, in turn, and the least time counts; the time of a program that
-does nothing is taken off. All have to send the same number.
+and as a source that PROGRAM builds. Where there is a `rustc`, it compiles `bench/interpreter.rs`, an interpreter of module files
+that is written by hand, and this takes the assembled module too; else its columns are left out. All ways are run ROUNDS times, in
+turn, and the least time counts; the time of a program that does nothing is taken off. All have to send the same number.
 """
 
+import shutil
 import struct
 import subprocess
 import sys
@@ -18,6 +20,7 @@ import time
 from pathlib import Path
 
 ROUNDS = 5
+STEPS = "4000000000"
 NUMBER, BYTE = ">I", "B"
 OPCODES = {
     "Push": (0x01, ">i"), "PushBoolean": (0x02, BYTE), "Pop": (0x03, ""), "Load": (0x04, NUMBER), "Store": (0x05, NUMBER),
@@ -297,35 +300,64 @@ def build(program, folder, name):
     return module
 
 
+def interpreter(folder):
+    """The interpreter in Rust, compiled; none where there is no `rustc`."""
+    if not shutil.which("rustc"):
+        return None
+    built = folder / "interpreter"
+    subprocess.run(["rustc", "-O", Path(__file__).with_name("interpreter.rs"), "-o", built], check=True)
+    return built
+
+
+def ways(program, lua, rust, folder, name):
+    """The command of each way to run a program."""
+    code, text = PROGRAMS[name]
+    assembled, world = folder / name, folder / "world"
+    assembled.write_bytes(code)
+    world.write_text("")
+    (folder / f"{name}.lua").write_text(text)
+    commands = {"Lua": [lua, folder / f"{name}.lua"]}
+    if rust:
+        commands["Rust"] = [rust, assembled, STEPS]
+    for way, module in [("assembled", assembled), ("compiled", build(program, folder, name))]:
+        commands[way] = [program, "run", module, world, "--steps", STEPS]
+    return commands
+
+
+def least(name, commands):
+    """The least time of each way; all have to send the same number."""
+    best, sent = dict.fromkeys(commands, float("inf")), {}
+    for _ in range(ROUNDS):
+        for way, command in commands.items():
+            took, sent[way] = seconds(command)
+            best[way] = min(best[way], took)
+    if len(set(sent.values())) > 1:
+        sys.exit(f"{name}: {sent!r} differ")
+    return best
+
+
+def row(cells):
+    print("|", " | ".join(cells), "|", flush=True)
+
+
 def main():
     program, lua = sys.argv[1], sys.argv[2] if len(sys.argv) > 2 else "lua5.4"
     folder = Path(tempfile.mkdtemp())
-    (folder / "world").write_text("")
-    start = None
-    print("| Program | Lua | assembled | times as fast | compiled | times as fast |")
-    print("|---|---|---|---|---|---|")
-    for name, (code, text) in PROGRAMS.items():
-        (folder / name).write_bytes(code)
-        (folder / f"{name}.lua").write_text(text)
-        modules = folder / name, build(program, folder, name)
-        commands = [[lua, folder / f"{name}.lua"]]
-        commands += [[program, "run", module, folder / "world", "--steps", "4000000000"] for module in modules]
-        best = [float("inf")] * 3
-        sent = [None] * 3
-        for _ in range(ROUNDS):
-            for i, command in enumerate(commands):
-                took, sent[i] = seconds(command)
-                best[i] = min(best[i], took)
-        if len(set(sent)) > 1:
-            sys.exit(f"{name}: {sent!r} differ")
-        if start is None:
-            start = best
-            continue
-        theirs, assembled, compiled = (took - least for took, least in zip(best, start))
-        print(
-            f"| {name} | {theirs:.3f} s | {assembled:.3f} s | {theirs / assembled:.2f} "
-            f"| {compiled:.3f} s | {theirs / compiled:.2f} |"
-        )
+    rust = interpreter(folder)
+    others = ["Lua", "Rust"] if rust else ["Lua"]
+    heads = ["Program", *others]
+    for way in ["assembled", "compiled"]:
+        heads += [way, *(f"times as fast as {other}" for other in others)]
+    row(heads)
+    print("|---" * len(heads) + "|")
+    start = least("nothing", ways(program, lua, rust, folder, "nothing"))
+    for name in list(PROGRAMS)[1:]:
+        best = least(name, ways(program, lua, rust, folder, name))
+        took = {way: best[way] - start[way] for way in best}
+        cells = [name, *(f"{took[other]:.3f} s" for other in others)]
+        for way in ["assembled", "compiled"]:
+            cells += [f"{took[way]:.3f} s", *(f"{took[other] / took[way]:.2f}" for other in others)]
+        row(cells)
 
 
 if __name__ == "__main__":
