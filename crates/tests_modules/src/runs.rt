@@ -3,10 +3,10 @@
 use bytecode::{Cell, Instruction, Module};
 use channels::{Pair, World};
 use machine::{Machine, NewFault, Status};
-use module_file::decode;
+use module_file::{decode, encode};
 use std::alloc::Global;
 use std::test::Fail;
-use verifier::verify;
+use verifier::{LoadFault, load, verify};
 
 // One output `pub`, and one procedure: PUSH 7, SEND 0, RET.
 const SENDS: [u8; 76] = [
@@ -48,6 +48,49 @@ fn machine_of(alloc: Global) -> Option<Machine> {
         }
     }
     None
+}
+
+// Whether bytes are a module. Such a module has no other spelling, and its run takes the steps that are asked for or ends.
+fn is_module(alloc: Global, bytes: &[u8], steps: u64) -> Result<bool, Fail> {
+    let verified = match load(alloc, bytes) {
+        Ok(verified) => verified,
+        Err(LoadFault::NoMemory) => return None.ok_or("no memory")?,
+        Err(LoadFault::Bytes(..) | LoadFault::Code(_)) => return Ok(false),
+    };
+    let spelled = encode(alloc, verified.module()).ok().ok_or("no memory")?;
+    if spelled.as_slice() != bytes {
+        return None.ok_or("another spelling")?;
+    }
+    let world = World::read(alloc, verified.module(), "")
+        .ok()
+        .ok_or("no world")?;
+    let mut machine = Machine::new(alloc, verified, world)
+        .ok()
+        .ok_or("no machine")?;
+    match machine.run(steps) {
+        (taken, Status::Running) if taken < steps => None.ok_or("a step is missing")?,
+        (_, Status::NoMemory) => None.ok_or("no memory")?,
+        _ => Ok(true),
+    }
+}
+
+// Each byte of the first module is changed to each other value.
+#[test]
+fn a_changed_byte_is_refused_or_runs(rt: HostRuntime) -> Result<(), Fail> {
+    let mut accepted: u32 = 0;
+    for place in 0..SENDS.len() {
+        for other in 1..=255 {
+            let mut bytes = SENDS;
+            if let Some(byte) = bytes.get_mut(place) {
+                *byte ^= other;
+            }
+            if is_module(rt.alloc(), &bytes, 10_000)? {
+                accepted = accepted.wrapping_add(1);
+            }
+        }
+    }
+    assert_eq!(rt; accepted, 1199);
+    Ok(())
 }
 
 #[test]
