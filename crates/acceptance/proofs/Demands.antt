@@ -8,7 +8,7 @@ use Rattle.labels.proofs.FlowTests.{IsLattice-flows}
 use Rattle.principals.proofs.Closure.{Contains-later, Contains-first}
 use Rattle.resolved.specs.Program.{Program}
 use Rattle.resolved.specs.Labelled.{Unwritten, Demand, program_demands}
-use Rattle.resolved.specs.Flow.{AreLeast, IsRefused}
+use Rattle.resolved.specs.Flow.{AreLeast, IsProgramRefused}
 
 same_found : {X : Type 0} (test other : X → Bool) (xs : List X) → ((x : X) → Contains xs x → test x ≡ other x) → find test xs ≡ find other xs
 same_found test other [] same = refl
@@ -52,7 +52,7 @@ module _ (program : Program) (labels others : Unwritten → Label) (one : AreLea
           (holds_too program others labels other one d there to is) (holds_too program labels others one other d there to is))
 
 pub one_last : (program : Program) (policy other_policy : ReaderPolicy) (chain others : List Demand) (last other : Demand) →
-    IsRefused program policy chain last → IsRefused program other_policy others other → last ≡ other
+    IsProgramRefused program policy chain last → IsProgramRefused program other_policy others other → last ≡ other
 one_last program policy other_policy chain others last other one two =
     let found : Some last ≡ Some other = sym one.first
     ∙ (same_found _ _ (program_demands program) (same_test program one.labels two.labels one.least two.least) ∙ two.first) in

@@ -30,10 +30,10 @@ use Rattle.resolved.specs.EndFaults.{EndFault, end_faults}
 use Rattle.resolved.specs.Labelled.{Demand, Labelled}
 use Rattle.resolved.specs.Flow as flow
 use Rattle.resolved.proofs.Flow.{labelled-or_refused, chain-refuses}
-use Rattle.names.specs.Outcome.{Outcome, Fault}
+use Rattle.names.specs.Finding.{Finding, PlacedRefusal}
 use Rattle.names.specs.Resolution.{resolution}
 use Rattle.acceptance.specs.Accepted.{IsText, IsTreeOf, IsResolvedFrom, IsAccepted, HasHierarchy, StandFor}
-use Rattle.acceptance.specs.Refused.{IsNoText, TooLong, NotUtf8, IsHierarchyRefused, Unreadable, Wrong, IsSourceRefused, NoText, NoTokens, NoTree, WrongName, WrongEnd, WrongFlow, IsRefusedAt, Hierarchy, Source, hierarchy_refusal, lexical_refusal, parse_refusal, cause_of_name, cause_of_end}
+use Rattle.acceptance.specs.Refused.{IsNoText, TooLong, NotUtf8, IsHierarchyRefused, Unreadable, Wrong, IsSourceRefused, NoText, NoTokens, NoTree, WrongName, WrongEnd, WrongFlow, AreTextsRefusedAt, Hierarchy, Source, hierarchy_refusal, lexical_refusal, parse_refusal, cause_of_name, cause_of_end}
 use Rattle.acceptance.specs.Laws.{Verdict, Accepted, Refused, IsVerdict, HasVerdict, HasOneVerdict}
 use Rattle.acceptance.specs.declared.cause.Cause.{Cause}
 use Rattle.acceptance.specs.declared.cause.Cause.TheVariants as causes
@@ -75,13 +75,13 @@ readable bytes =
 
 -- ---- the source: what a phase let pass is not what an earlier one refused
 
-cut_refused : (source : List ℕ) (tokens : List Terminal) (fault : LexFault) → IsCut source tokens → lexer.IsRefused source fault → ⊥
+cut_refused : (source : List ℕ) (tokens : List Terminal) (fault : LexFault) → IsCut source tokens → lexer.IsTextRefused source fault → ⊥
 cut_refused source tokens fault cut refused = not_cut_and_refused source tokens fault cut refused
 
 same_tokens : (source : List ℕ) (tree : ProgramTree) (of : IsTreeOf source tree) (tokens : List Terminal) → IsCut source tokens → of.tokens ≡ tokens
 same_tokens source tree of tokens cut = has_one_cut source of.tokens tokens of.cut cut
 
-tree_refused : (source : List ℕ) (tree : ProgramTree) (tokens : List Terminal) (fault : ParseFault) → IsTreeOf source tree → IsCut source tokens → parser.IsRefused tokens fault → ⊥
+tree_refused : (source : List ℕ) (tree : ProgramTree) (tokens : List Terminal) (fault : ParseFault) → IsTreeOf source tree → IsCut source tokens → parser.AreTokensRefused tokens fault → ⊥
 tree_refused source tree tokens fault of cut refused =
     spelled_not_refused tokens tree fault (subst (λ ts. SpellsProgram ts tree) (same_tokens source tree of tokens cut) of.spelled) refused
 
@@ -90,13 +90,13 @@ same_tree source tree other one two =
     one_tree two.tokens tree other (subst (λ ts. SpellsProgram ts tree) (same_tokens source tree one two.tokens two.cut) one.spelled) two.spelled
 
 module _ (h : PrincipalHierarchy) (source : List ℕ) where
-  named_refused : (tree : ProgramTree) (fault : Fault) (program : Program) → IsTreeOf source tree → resolution h tree ≡ Err fault → IsResolvedFrom h source program → ⊥
+  named_refused : (tree : ProgramTree) (fault : PlacedRefusal) (program : Program) → IsTreeOf source tree → resolution h tree ≡ Err fault → IsResolvedFrom h source program → ⊥
   named_refused tree fault program of refused resolved =
       let same = same_tree source tree resolved.tree of resolved.tree_of in
       let both : Err fault ≡ Ok program = sym refused ∙ (ap (resolution h) same ∙ resolved.resolved) in
       cc
 
-  same_fault : (tree other : ProgramTree) (fault again : Fault) → IsTreeOf source tree → IsTreeOf source other → resolution h tree ≡ Err fault → resolution h other ≡ Err again → fault ≡ again
+  same_fault : (tree other : ProgramTree) (fault again : PlacedRefusal) → IsTreeOf source tree → IsTreeOf source other → resolution h tree ≡ Err fault → resolution h other ≡ Err again → fault ≡ again
   same_fault tree other fault again one two e f =
       let both : Err fault ≡ Err again = sym e ∙ (ap (resolution h) (same_tree source tree other one two) ∙ f) in cc
 
@@ -113,12 +113,12 @@ module _ (h : PrincipalHierarchy) (source : List ℕ) where
       let both : fault ∷ faults ≡ [] = sym e ∙ (ap end_faults same ∙ f) in cc
 
   same_flow : (program other : Program) (policy other_policy : ReaderPolicy) (chain others : List Demand) (last again : Demand) → program ≡ other →
-      flow.IsRefused program policy chain last → flow.IsRefused other other_policy others again → last ≡ again
+      flow.IsProgramRefused program policy chain last → flow.IsProgramRefused other other_policy others again → last ≡ again
   same_flow program other policy other_policy chain others last again same one two =
-      one_last other policy other_policy chain others last again (subst (λ p. flow.IsRefused p policy chain last) same one) two
+      one_last other policy other_policy chain others last again (subst (λ p. flow.IsProgramRefused p policy chain last) same one) two
 
   -- what an earlier phase refuses does not come to a later one
-  lexed_later : (fault : LexFault) → lexer.IsRefused source fault → (tree : ProgramTree) → IsTreeOf source tree → ⊥
+  lexed_later : (fault : LexFault) → lexer.IsTextRefused source fault → (tree : ProgramTree) → IsTreeOf source tree → ⊥
   lexed_later fault refused tree of = cut_refused source of.tokens fault of.cut refused
 
   source_once : (cause other : Cause) (at there : ℕ) → IsSourceRefused h source cause at → IsSourceRefused h source other there → Same cause at other there
@@ -140,7 +140,7 @@ module _ (h : PrincipalHierarchy) (source : List ℕ) where
   source_once cause other at there (NoTree _ _ _ tokens cut fault refused named) (NoTree _ _ _ others cut_too again refused_too named_too) =
       let same : tokens ≡ others = has_one_cut source tokens others cut cut_too in
       same_some cause other at there (parse_refusal fault) named
-      (ap parse_refusal (one_refusal others fault again (subst (λ ts. parser.IsRefused ts fault) same refused) refused_too) ∙ named_too)
+      (ap parse_refusal (one_refusal others fault again (subst (λ ts. parser.AreTokensRefused ts fault) same refused) refused_too) ∙ named_too)
   source_once cause _ at _ (NoTree _ _ _ tokens cut fault refused named) (WrongName tree of wrong e) = absurd (tree_refused source tree tokens fault of cut refused)
   source_once cause _ at _ (NoTree _ _ _ tokens cut fault refused named) (WrongEnd program from wrong others e) = absurd (tree_refused source from.tree tokens fault from.tree_of cut refused)
   source_once cause _ at _ (NoTree _ _ _ tokens cut fault refused named) (WrongFlow program from ended policy chain last unmet) = absurd (tree_refused source from.tree tokens fault from.tree_of cut refused)
@@ -149,7 +149,7 @@ module _ (h : PrincipalHierarchy) (source : List ℕ) where
   source_once _ other _ there (WrongName tree of wrong e) (NoTree _ _ _ tokens cut fault refused named) = absurd (tree_refused source tree tokens fault of cut refused)
   source_once _ _ _ _ (WrongName tree of wrong e) (WrongName other of_too again f) =
       let same : wrong ≡ again = same_fault tree other wrong again of of_too e f in
-      (ap (λ (fault : Fault). cause_of_name fault.refusal) same, ap (λ (fault : Fault). fault.at) same)
+      (ap (λ (fault : PlacedRefusal). cause_of_name fault.refusal) same, ap (λ (fault : PlacedRefusal). fault.at) same)
   source_once _ _ _ _ (WrongName tree of wrong e) (WrongEnd program from fault others f) = absurd (named_refused tree wrong program of e from)
   source_once _ _ _ _ (WrongName tree of wrong e) (WrongFlow program from ended policy chain last unmet) = absurd (named_refused tree wrong program of e from)
   source_once _ other _ there (WrongEnd program from wrong others e) (NoText _ _ two) = absurd (text_or_none source other there two from.tree_of.text)
@@ -198,11 +198,11 @@ module _ (h : PrincipalHierarchy) (source : List ℕ) where
           (labelled-or_refused program)
 
   named : (tree : ProgramTree) → IsTreeOf source tree → ((found : Program) × IsAccepted h source found) ⊎ Refusal
-  named tree of = by_outcome (resolution h tree) refl
+  named tree of = by_finding (resolution h tree) refl
     where
-      by_outcome : (outcome : Outcome Program) → resolution h tree ≡ outcome → ((found : Program) × IsAccepted h source found) ⊎ Refusal
-      by_outcome (Ok program) e = checked program (record { tree = tree; tree_of = of; resolved = e })
-      by_outcome (Err fault) e = inr (cause_of_name fault.refusal, fault.at, WrongName tree of fault e)
+      by_finding : (finding : Finding Program) → resolution h tree ≡ finding → ((found : Program) × IsAccepted h source found) ⊎ Refusal
+      by_finding (Ok program) e = checked program (record { tree = tree; tree_of = of; resolved = e })
+      by_finding (Err fault) e = inr (cause_of_name fault.refusal, fault.at, WrongName tree of fault e)
 
   parsed : (text : IsText source) (tokens : List Terminal) → IsCut source tokens → ((found : Program) × IsAccepted h source found) ⊎ Refusal
   parsed text tokens cut =
@@ -211,7 +211,7 @@ module _ (h : PrincipalHierarchy) (source : List ℕ) where
       (λ found. inr (by_fault found.0 found.1))
       (spelled_or_refused tokens (listed source tokens (IsUtf8-from_is_utf8 source text.characters) cut).terminated)
     where
-      by_fault : (fault : ParseFault) → parser.IsRefused tokens fault → Refusal
+      by_fault : (fault : ParseFault) → parser.AreTokensRefused tokens fault → Refusal
       by_fault syntactic.NoMemory refused = absurd refused
       by_fault (syntactic.Unexpected at) refused = (causes.UnexpectedToken, at, NoTree causes.UnexpectedToken at text tokens cut (syntactic.Unexpected at) refused refl)
       by_fault (syntactic.TooDeep at) refused = (causes.TooDeep, at, NoTree causes.TooDeep at text tokens cut (syntactic.TooDeep at) refused refl)
@@ -220,7 +220,7 @@ module _ (h : PrincipalHierarchy) (source : List ℕ) where
   lexed text =
       ⊎_elim (λ found. parsed text found.0 found.1) (λ found. inr (by_fault found.0 found.1)) (is_cut_or_refused source (IsUtf8-from_is_utf8 source text.characters))
     where
-      by_fault : (fault : LexFault) → lexer.IsRefused source fault → Refusal
+      by_fault : (fault : LexFault) → lexer.IsTextRefused source fault → Refusal
       by_fault lexical.NoMemory refused = absurd refused.stuck
       by_fault (lexical.NoToken at) refused = (causes.NoToken, at, NoTokens causes.NoToken at text (lexical.NoToken at) refused refl)
       by_fault (lexical.LiteralTooLarge at) refused = (causes.LiteralTooLarge, at, NoTokens causes.LiteralTooLarge at text (lexical.LiteralTooLarge at) refused refl)
@@ -286,7 +286,7 @@ module _ (laws : HierarchyLaws) where
   same_hierarchy text h other one two = laws.one_hierarchy text h other one.hierarchy_of two.hierarchy_of
 
   refused_once : (hierarchy source : List ℕ) (text again : Text) (cause other : Cause) (at there : ℕ) →
-      IsRefusedAt hierarchy source text cause at → IsRefusedAt hierarchy source again other there → Refused text cause at ≡ Refused again other there
+      AreTextsRefusedAt hierarchy source text cause at → AreTextsRefusedAt hierarchy source again other there → Refused text cause at ≡ Refused again other there
   refused_once hierarchy source _ _ cause other at there (Hierarchy _ _ one) (Hierarchy _ _ two) =
       let same = hierarchy_once hierarchy cause other at there one two in
       ap (λ c. Refused texts.Hierarchy c at) same.0 ∙ ap (Refused texts.Hierarchy other) same.1
@@ -297,7 +297,7 @@ module _ (laws : HierarchyLaws) where
       ap (λ c. Refused texts.Source c at) same.0 ∙ ap (Refused texts.Source other) same.1
 
   accepted_or_refused : (hierarchy source : List ℕ) (program : Program) (text : Text) (cause : Cause) (at : ℕ) →
-      StandFor hierarchy source program → IsRefusedAt hierarchy source text cause at → ⊥
+      StandFor hierarchy source program → AreTextsRefusedAt hierarchy source text cause at → ⊥
   accepted_or_refused hierarchy source program _ cause at stand (Hierarchy _ _ refused) = hierarchy_or_refused hierarchy stand.principals cause at stand.has refused
   accepted_or_refused hierarchy source program _ cause at stand (Source h has _ _ refused) =
       accepted_refused stand.principals source program cause at stand.accepted

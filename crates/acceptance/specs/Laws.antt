@@ -6,7 +6,7 @@ use Rattle.principals.specs.ActsFor.{PrincipalHierarchy}
 use Rattle.resolved.specs.Names.{HasNames}
 use Rattle.resolved.specs.Program.{Program}
 use Rattle.acceptance.specs.Accepted.{HasHierarchy, IsResolvedFrom, StandFor}
-use Rattle.acceptance.specs.Refused.{IsRefusedAt}
+use Rattle.acceptance.specs.Refused.{AreTextsRefusedAt}
 use Rattle.acceptance.specs.declared.cause.Cause.{Cause}
 use Rattle.acceptance.specs.declared.cause.Text.{Text}
 
@@ -17,7 +17,7 @@ pub data Verdict : Type 0 where
 
 abbrev pub IsVerdict : (hierarchy source : List ℕ) → Verdict → Type 0
 IsVerdict hierarchy source (Accepted program) = StandFor hierarchy source program
-IsVerdict hierarchy source (Refused text cause at) = IsRefusedAt hierarchy source text cause at
+IsVerdict hierarchy source (Refused text cause at) = AreTextsRefusedAt hierarchy source text cause at
 
 abbrev pub HasVerdict : Type 0
 HasVerdict = (hierarchy source : List ℕ) → (verdict : Verdict) × IsVerdict hierarchy source verdict

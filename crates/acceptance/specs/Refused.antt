@@ -22,10 +22,10 @@ use Rattle.resolved.specs.EndFaults.{EndRefusal, EndFault, end_faults}
 use Rattle.resolved.specs.EndFaults as ends
 use Rattle.resolved.specs.Labelled.{Demand}
 use Rattle.resolved.specs.Flow as flow
-use Rattle.names.specs.Outcome.{Fault}
+use Rattle.names.specs.Finding.{PlacedRefusal}
 use Rattle.names.specs.Resolution.{resolution}
-use Rattle.names.specs.declared.fault.Refusal.{Refusal}
-use Rattle.names.specs.declared.fault.Refusal.TheVariants as names
+use Rattle.names.specs.declared.fault.NameRefusal.{NameRefusal}
+use Rattle.names.specs.declared.fault.NameRefusal.TheVariants as names
 use Rattle.acceptance.specs.Accepted.{IsText, IsTreeOf, IsResolvedFrom, HasHierarchy}
 use Rattle.acceptance.specs.declared.cause.Cause.{Cause}
 use Rattle.acceptance.specs.declared.cause.Cause.TheVariants as causes
@@ -33,7 +33,7 @@ use Rattle.acceptance.specs.declared.cause.Text.{Text}
 use Rattle.acceptance.specs.declared.cause.Text.TheVariants as texts
 
 -- the causes of faults of names, types and sizes
-abbrev pub cause_of_name : Refusal → Cause
+abbrev pub cause_of_name : NameRefusal → Cause
 cause_of_name names.UnknownName = causes.UnknownName
 cause_of_name names.DeclaredTwice = causes.DeclaredTwice
 cause_of_name names.UnknownPrincipal = causes.UnknownPrincipalInLabel
@@ -88,21 +88,21 @@ pub data IsHierarchyRefused (text : List ℕ) : Cause → (at : ℕ) → Type 0 
 -- or the first demand that no labelling meets
 pub data IsSourceRefused (h : PrincipalHierarchy) (source : List ℕ) : Cause → (at : ℕ) → Type 0 where
   NoText : (cause : Cause) (at : ℕ) → IsNoText source cause at → IsSourceRefused h source cause at
-  NoTokens : (cause : Cause) (at : ℕ) → IsText source → (fault : LexFault) → lexer.IsRefused source fault
+  NoTokens : (cause : Cause) (at : ℕ) → IsText source → (fault : LexFault) → lexer.IsTextRefused source fault
       → lexical_refusal fault ≡ Some (cause, at) → IsSourceRefused h source cause at
   NoTree : (cause : Cause) (at : ℕ) → IsText source → (tokens : List Terminal) → IsCut source tokens → (fault : ParseFault)
-      → parser.IsRefused tokens fault → parse_refusal fault ≡ Some (cause, at) → IsSourceRefused h source cause at
-  WrongName : (tree : ProgramTree) → IsTreeOf source tree → (fault : Fault) → resolution h tree ≡ Err fault
+      → parser.AreTokensRefused tokens fault → parse_refusal fault ≡ Some (cause, at) → IsSourceRefused h source cause at
+  WrongName : (tree : ProgramTree) → IsTreeOf source tree → (fault : PlacedRefusal) → resolution h tree ≡ Err fault
       → IsSourceRefused h source (cause_of_name fault.refusal) fault.at
   WrongEnd : (program : Program) → IsResolvedFrom h source program → (fault : EndFault) (others : List EndFault)
       → end_faults program ≡ fault ∷ others → IsSourceRefused h source (cause_of_end fault.refusal) fault.at
   WrongFlow : (program : Program) → IsResolvedFrom h source program → end_faults program ≡ [] → (policy : ReaderPolicy)
-      (chain : List Demand) (last : Demand) → flow.IsRefused program policy chain last
+      (chain : List Demand) (last : Demand) → flow.IsProgramRefused program policy chain last
       → IsSourceRefused h source causes.FlowNotAllowed last.at
 
 -- the first of two texts that is wrong: the source is looked at where the other text has a hierarchy
-pub data IsRefusedAt (hierarchy source : List ℕ) : Text → Cause → (at : ℕ) → Type 0 where
+pub data AreTextsRefusedAt (hierarchy source : List ℕ) : Text → Cause → (at : ℕ) → Type 0 where
   Hierarchy : (cause : Cause) (at : ℕ) → IsHierarchyRefused hierarchy cause at
-      → IsRefusedAt hierarchy source texts.Hierarchy cause at
+      → AreTextsRefusedAt hierarchy source texts.Hierarchy cause at
   Source : (h : PrincipalHierarchy) → HasHierarchy hierarchy h → (cause : Cause) (at : ℕ) → IsSourceRefused h source cause at
-      → IsRefusedAt hierarchy source texts.Source cause at
+      → AreTextsRefusedAt hierarchy source texts.Source cause at

@@ -5,8 +5,8 @@ use Rattle.lexer.specs.declared.fault.LexFault.{LexFault}
 use Rattle.lexer.specs.declared.fault.LexFault.TheVariants as lexical
 use Rattle.parser.specs.declared.fault.ParseFault.{ParseFault}
 use Rattle.parser.specs.declared.fault.ParseFault.TheVariants as syntactic
-use Rattle.names.specs.declared.fault.Refusal.{Refusal}
-use Rattle.names.specs.declared.fault.Refusal.TheVariants as refusals
+use Rattle.names.specs.declared.fault.NameRefusal.{NameRefusal}
+use Rattle.names.specs.declared.fault.NameRefusal.TheVariants as refusals
 use Rattle.names.specs.declared.fault.TypeFault.{TypeFault}
 use Rattle.names.specs.declared.fault.TypeFault.TheVariants as names
 use Rattle.path_map.specs.declared.fault.EndsFault.{EndsFault}
@@ -38,7 +38,7 @@ pub early-names : (fault : TypeFault) → IsBeforeLabels (of_names fault)
 early-names names.NoMemory = tt
 early-names (names.Refused refusal at) = early-refusal refusal
   where
-    early-refusal : (refusal : Refusal) → cause_of_name refusal ≢ causes.FlowNotAllowed
+    early-refusal : (refusal : NameRefusal) → cause_of_name refusal ≢ causes.FlowNotAllowed
     early-refusal refusals.UnknownName = λ (e : causes.UnknownName ≡ causes.FlowNotAllowed). absurd (cc)
     early-refusal refusals.DeclaredTwice = λ (e : causes.DeclaredTwice ≡ causes.FlowNotAllowed). absurd (cc)
     early-refusal refusals.UnknownPrincipal = λ (e : causes.UnknownPrincipalInLabel ≡ causes.FlowNotAllowed). absurd (cc)

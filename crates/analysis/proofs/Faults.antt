@@ -15,10 +15,10 @@ use Rattle.syntax.specs.Tree.{ProgramTree}
 use Rattle.resolved.specs.Program.{Program}
 use Rattle.resolved.specs.EndFaults.{EndFault, end_faults}
 use Rattle.names.specs.Resolution.{resolution}
-use Rattle.names.specs.Views.{Fails}
+use Rattle.names.specs.Views.{ResolvingFails}
 use Rattle.names.specs.declared.fault.TypeFault.{TypeFault}
 use Rattle.names.specs.declared.fault.TypeFault.TheVariants as names
-use Rattle.path_map.specs.FirstFault.{IsFirst, first_of, fault_of}
+use Rattle.path_map.specs.FirstFault.{IsFirstEndFault, first_of, fault_of}
 use Rattle.path_map.specs.declared.fault.EndsFault.{EndsFault}
 use Rattle.path_map.specs.declared.fault.EndsFault.TheVariants as ends
 use Rattle.acceptance.specs.Accepted.{IsText, IsTreeOf, IsResolvedFrom}
@@ -27,7 +27,7 @@ use Rattle.acceptance.specs.declared.cause.Cause.TheVariants as causes
 use Rattle.analysis.specs.Reported as reported
 use Rattle.analysis.specs.Reported.{ReportsFault, of_names, of_ends}
 
-pub lexed : (h : PrincipalHierarchy) (source : List ℕ) (fault : LexFault) → IsText source → (fault ≡ lexical.NoMemory) ⊎ lexer.IsRefused source fault →
+pub lexed : (h : PrincipalHierarchy) (source : List ℕ) (fault : LexFault) → IsText source → (fault ≡ lexical.NoMemory) ⊎ lexer.IsTextRefused source fault →
     ReportsFault h source (reported.fault_of (lexical_refusal fault))
 lexed h source lexical.NoMemory text found = tt
 lexed h source (lexical.NoToken at) text (inl same) = let no : lexical.NoToken at ≡ lexical.NoMemory = same in absurd (cc)
@@ -45,12 +45,12 @@ parsed h source tokens (syntactic.Unexpected at) answer text cut e unexpected to
 parsed h source tokens (syntactic.TooDeep at) answer text cut e unexpected too_deep =
     NoTree causes.TooDeep at text tokens cut (syntactic.TooDeep at) (too_deep at e) refl
 
-pub named : (h : PrincipalHierarchy) (source : List ℕ) (tree : ProgramTree) (fault : TypeFault) → IsTreeOf source tree → Fails fault (resolution h tree) →
+pub named : (h : PrincipalHierarchy) (source : List ℕ) (tree : ProgramTree) (fault : TypeFault) → IsTreeOf source tree → ResolvingFails fault (resolution h tree) →
     ReportsFault h source (of_names fault)
 named h source tree names.NoMemory of found = tt
 named h source tree (names.Refused refusal at) of found = WrongName tree of (record { refusal = refusal; at = at }) found
 
-pub ended : (h : PrincipalHierarchy) (source : List ℕ) (program : Program) (fault : EndsFault) → IsResolvedFrom h source program → IsFirst (end_faults program) fault →
+pub ended : (h : PrincipalHierarchy) (source : List ℕ) (program : Program) (fault : EndsFault) → IsResolvedFrom h source program → IsFirstEndFault (end_faults program) fault →
     ReportsFault h source (of_ends fault)
 ended h source program ends.NoMemory from first = tt
 ended h source program (ends.Refused refusal) from first = by_faults (end_faults program) refl first

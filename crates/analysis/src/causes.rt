@@ -6,56 +6,56 @@ ghost use Rattle.analysis.specs.Reported.{fault_of, of_ends, of_names};
 ghost use Rattle.path_map.specs.FirstFault.{refusal_of};
 ghost use Rattle.std.specs.Prelude.{◌≡◌};
 
-use crate::fault::Fault;
+use crate::fault::AnalysisFault;
 use acceptance::Cause;
 use lexer::LexFault;
-use names::{Refusal, TypeFault};
+use names::{NameRefusal, TypeFault};
 use parser::ParseFault;
 use path_map::{EndDefect, EndRefusal, EndsFault};
 
-pub fn of_tokens(fault: LexFault) -> Fault
+pub fn of_tokens(fault: LexFault) -> AnalysisFault
     ensures { result ≡ fault_of (lexical_refusal fault) }
 {
     match fault {
-        LexFault::NoMemory => Fault::NoMemory,
-        LexFault::NoToken(at) => Fault::Refused(Cause::NoToken, at),
-        LexFault::LiteralTooLarge(at) => Fault::Refused(Cause::LiteralTooLarge, at),
-        LexFault::UnclosedComment(at) => Fault::Refused(Cause::OpenComment, at),
+        LexFault::NoMemory => AnalysisFault::NoMemory,
+        LexFault::NoToken(at) => AnalysisFault::Refused(Cause::NoToken, at),
+        LexFault::LiteralTooLarge(at) => AnalysisFault::Refused(Cause::LiteralTooLarge, at),
+        LexFault::UnclosedComment(at) => AnalysisFault::Refused(Cause::OpenComment, at),
     }
 }
 
-pub fn of_tree(fault: ParseFault) -> Fault
+pub fn of_tree(fault: ParseFault) -> AnalysisFault
     ensures { result ≡ fault_of (parse_refusal fault) }
 {
     match fault {
-        ParseFault::NoMemory => Fault::NoMemory,
-        ParseFault::Unexpected(at) => Fault::Refused(Cause::UnexpectedToken, at),
-        ParseFault::TooDeep(at) => Fault::Refused(Cause::TooDeep, at),
+        ParseFault::NoMemory => AnalysisFault::NoMemory,
+        ParseFault::Unexpected(at) => AnalysisFault::Refused(Cause::UnexpectedToken, at),
+        ParseFault::TooDeep(at) => AnalysisFault::Refused(Cause::TooDeep, at),
     }
 }
 
-fn cause_of_name(refusal: Refusal) -> Cause
+fn cause_of_name(refusal: NameRefusal) -> Cause
     ensures { result ≡ spec.cause_of_name refusal }
 {
     match refusal {
-        Refusal::UnknownName => Cause::UnknownName,
-        Refusal::DeclaredTwice => Cause::DeclaredTwice,
-        Refusal::UnknownPrincipal => Cause::UnknownPrincipalInLabel,
-        Refusal::NoProperMain => Cause::NoProperMain,
-        Refusal::WrongType => Cause::WrongType,
-        Refusal::WrongArgumentCount => Cause::WrongArgumentCount,
-        Refusal::WrongUse => Cause::WrongUse,
-        Refusal::ArraySize => Cause::ArraySize,
-        Refusal::TooManyCells => Cause::TooManyCells,
+        NameRefusal::UnknownName => Cause::UnknownName,
+        NameRefusal::DeclaredTwice => Cause::DeclaredTwice,
+        NameRefusal::UnknownPrincipal => Cause::UnknownPrincipalInLabel,
+        NameRefusal::NoProperMain => Cause::NoProperMain,
+        NameRefusal::WrongType => Cause::WrongType,
+        NameRefusal::WrongArgumentCount => Cause::WrongArgumentCount,
+        NameRefusal::WrongUse => Cause::WrongUse,
+        NameRefusal::ArraySize => Cause::ArraySize,
+        NameRefusal::TooManyCells => Cause::TooManyCells,
     }
 }
 
-pub fn of_name(fault: TypeFault) -> Fault
+pub fn of_name(fault: TypeFault) -> AnalysisFault
     ensures { result ≡ of_names fault }
 {
     match fault {
-        TypeFault::NoMemory => Fault::NoMemory,
-        TypeFault::Refused(refusal, at) => Fault::Refused(cause_of_name(refusal), at),
+        TypeFault::NoMemory => AnalysisFault::NoMemory,
+        TypeFault::Refused(refusal, at) => AnalysisFault::Refused(cause_of_name(refusal), at),
     }
 }
 
@@ -71,11 +71,14 @@ fn cause_of_end(defect: EndDefect) -> Cause
     }
 }
 
-pub fn of_end(fault: EndsFault) -> Fault
+pub fn of_end(fault: EndsFault) -> AnalysisFault
     ensures { result ≡ of_ends fault }
 {
     match fault {
-        EndsFault::NoMemory => Fault::NoMemory,
-        EndsFault::Refused(EndRefusal { defect, at }) => Fault::Refused(cause_of_end(defect), at),
+        EndsFault::NoMemory => AnalysisFault::NoMemory,
+        EndsFault::Refused(EndRefusal { defect, at }) => AnalysisFault::Refused(
+            cause_of_end(defect),
+            at,
+        ),
     }
 }

@@ -4,7 +4,7 @@ use acceptance::Cause;
 
 /// Why a source was not analysed.
 #[derive(Clone, Copy, Debug, PartialEq, Eq)]
-pub enum Fault {
+pub enum AnalysisFault {
     /// Memory ran out.
     NoMemory,
     /// The source is refused: why, and the byte at which that stands.

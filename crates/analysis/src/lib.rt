@@ -6,5 +6,5 @@ mod causes;
 pub mod fault;
 pub mod phases;
 
-pub use fault::Fault;
+pub use fault::AnalysisFault;
 pub use phases::{Analysed, analyse, text_of};

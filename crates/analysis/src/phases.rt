@@ -12,7 +12,7 @@ ghost use Rattle.std.specs.Prelude.{IfErr, IfOk, OnOk, [], map, ◌≡◌};
 ghost use Rattle.syntax.specs.Tree.{program_tree};
 
 use crate::causes::{of_end, of_name, of_tokens, of_tree};
-use crate::fault::Fault;
+use crate::fault::AnalysisFault;
 use acceptance::Cause;
 use lexer::lex;
 use names::resolve;
@@ -35,7 +35,11 @@ pub struct Analysed {
 /// # Errors
 ///
 /// The first fault of the source before its labels, with its byte; or out of memory.
-pub fn analyse(alloc: Global, hierarchy: &Hierarchy, source: &[u8]) -> Result<Analysed, Fault>
+pub fn analyse(
+    alloc: Global,
+    hierarchy: &Hierarchy,
+    source: &[u8],
+) -> Result<Analysed, AnalysisFault>
     // The program is the one that the source stands for, and has no fault of its ends.
     ensures resolved { IfOk result (λ found.
         IsResolvedFrom hierarchy.now source.now (program_of found.core)) }
@@ -51,7 +55,7 @@ pub fn analyse(alloc: Global, hierarchy: &Hierarchy, source: &[u8]) -> Result<An
 {
     let text = match text_of(source) {
         Ok(text) => text,
-        Err(cause) => return Err(Fault::Refused(cause, 0)),
+        Err(cause) => return Err(AnalysisFault::Refused(cause, 0)),
     };
     let tree = match read(alloc, text) {
         Ok(tree) => tree,
@@ -68,7 +72,7 @@ pub fn analyse(alloc: Global, hierarchy: &Hierarchy, source: &[u8]) -> Result<An
 }
 
 // The tree that a source spells.
-fn read(alloc: Global, source: &str) -> Result<syntax::Program, Fault>
+fn read(alloc: Global, source: &str) -> Result<syntax::Program, AnalysisFault>
     requires text { IsText source.now }
     ensures spelled { IfOk result (λ tree. IsTreeOf source.now (program_tree tree)) }
     ensures first_fault { IfErr result (λ fault. (h : PrincipalHierarchy) → ReportsFault h source.now fault) }

@@ -4,9 +4,9 @@
 use Rattle.std.specs.Prelude.{◌≡◌, ℕ, zero, suc, ◌-◌, ◌^◌, ◌<◌, Bool, true, List, [], ◌∷◌, ◌++◌, length, take, drop, Option, Some, None, Result, Ok, Err, nat_lt, ◌==◌, if◌then◌else◌}
 use Rattle.std.specs.Int.{w32, to_be_bytes, from_be_bytes}
 use Rattle.std.specs.List.{flat_map, AllByRecursion}
-use Rattle.bytecode.specs.declared.fault.Refusal.{Refusal}
-use Rattle.bytecode.specs.declared.fault.Stop.{Stop}
-use Rattle.bytecode.specs.declared.fault.Refusal.TheVariants.{Short, BadValue, Trailing}
+use Rattle.bytecode.specs.declared.fault.ModuleRefusal.{ModuleRefusal}
+use Rattle.bytecode.specs.declared.fault.ReadStop.{ReadStop}
+use Rattle.bytecode.specs.declared.fault.ModuleRefusal.TheVariants.{Short, BadValue, Trailing}
 
 -- how instructions are spelled: an opcode, which says how many bytes of operand follow (none where there is no such opcode),
 -- and the instruction that an opcode and an operand spell, if any
@@ -27,9 +27,9 @@ pub data Form : Type 0 → Type 1 where
   -- no byte at all, for one value
   Nothing : {A : Type 0} → A → Form A
   -- a given number in four bytes, whose absence is the given refusal, and then a value
-  Marked : {A : Type 0} → Refusal → ℕ → Form A → Form A
+  Marked : {A : Type 0} → ModuleRefusal → ℕ → Form A → Form A
   -- a value that passes a test, whose failure is the given refusal at the value's first byte
-  Checked : {A : Type 0} → Refusal → (A → Bool) → Form A → Form A
+  Checked : {A : Type 0} → ModuleRefusal → (A → Bool) → Form A → Form A
   -- a value, and then another one of a format that may depend on the first
   Then : {A B : Type 0} → Form A → (A → Form B) → Form (A × B)
   -- a count that passes a test, and then that many values, each of a format that may depend on those before it
@@ -98,21 +98,21 @@ Spells form x bytes = Fits form x × (bytes ≡ spelled form x)
 -- ---- reading, and the first refusal
 
 -- a refusal at the offset where these bytes are left
-abbrev pub stop_at : Refusal → List ℕ → Stop
+abbrev pub stop_at : ModuleRefusal → List ℕ → ReadStop
 stop_at refusal bytes = record { refusal = refusal; left = length bytes }
 
 -- the bytes end inside a field or before it: nothing is left at the end
-abbrev pub short : Stop
+abbrev pub short : ReadStop
 short = record { refusal = Short; left = 0 }
 
 infixl 10 ◌>>=◌
-abbrev pub ◌>>=◌ : {A B : Type 0} → Result A Stop → (A → Result B Stop) → Result B Stop
+abbrev pub ◌>>=◌ : {A B : Type 0} → Result A ReadStop → (A → Result B ReadStop) → Result B ReadStop
 (Ok x) >>= f = f x
 (Err stop) >>= f = Err stop
 
 -- a field gives a value and the bytes after it
 abbrev pub Read : Type 0 → Type 0
-Read A = Result (A × List ℕ) Stop
+Read A = Result (A × List ℕ) ReadStop
 
 abbrev pub byte_at : List ℕ → Read ℕ
 byte_at [] = Err short
@@ -187,7 +187,7 @@ read (Named make fields form) bytes = do
   Ok (make found.0, found.1)
 
 -- all of the bytes
-abbrev pub read_all : {A : Type 0} → Form A → List ℕ → Result A Stop
+abbrev pub read_all : {A : Type 0} → Form A → List ℕ → Result A ReadStop
 read_all form bytes = do
   found ← read form bytes
   if length found.1 == 0 then Ok found.0 else Err (stop_at Trailing found.1)

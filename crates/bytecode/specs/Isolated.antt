@@ -2,7 +2,7 @@
 -- Source: our own, for runs that may be stopped anywhere; noninterference after Volpano, Smith and Irvine 1996.
 use Rattle.std.specs.Prelude.{◌≡◌, ℕ, ◌⊎◌, List, [], slice_get, Option, Some, None, IsTrue, ℤ}
 use Rattle.labels.specs.Label.{Label, may_read}
-use Rattle.labels.specs.Sent.{IsPrefix, seen}
+use Rattle.labels.specs.Sent.{IsPrefix, pairs_for}
 use Rattle.labels.specs.declared.sent.Pair.{Pair}
 use Rattle.bytecode.specs.Contents.{ChannelContents, ModuleContents}
 use Rattle.bytecode.specs.Form.{Spells}
@@ -20,7 +20,7 @@ channel_label m k = label_in (slice_get m.channels k)
 
 -- what a principal sees of pairs that a module sent, under the module's own hierarchy and labels
 abbrev pub seen_of : ModuleContents → ℕ → List Pair → List Pair
-seen_of m p sent = seen m.hierarchy (channel_label m) p sent
+seen_of m p sent = pairs_for m.hierarchy (channel_label m) p sent
 
 -- a channel is an input of a module that a principal may read
 pub record ReadsInput (m : ModuleContents) (p k : ℕ) : Type 0 where

@@ -5,7 +5,7 @@ ghost use Rattle.std.specs.Prelude.{◌≡◌};
 
 /// Why bytes spell no module.
 #[derive(Clone, Copy, Debug, PartialEq, Eq)]
-pub enum Refusal {
+pub enum ModuleRefusal {
     /// They do not begin with `FLOB`.
     Magic,
     /// They are of another version of the format.
@@ -20,18 +20,18 @@ pub enum Refusal {
     Trailing,
 }
 
-impl Refusal {
+impl ModuleRefusal {
     /// The number that the refusal is reported by, 801 to 806.
     pub fn number(self) -> u32
         ensures { result ≡ refusal_number self }
     {
         match self {
-            Refusal::Magic => 801,
-            Refusal::Version => 802,
-            Refusal::Short => 803,
-            Refusal::BadValue => 804,
-            Refusal::NotCanonical => 805,
-            Refusal::Trailing => 806,
+            ModuleRefusal::Magic => 801,
+            ModuleRefusal::Version => 802,
+            ModuleRefusal::Short => 803,
+            ModuleRefusal::BadValue => 804,
+            ModuleRefusal::NotCanonical => 805,
+            ModuleRefusal::Trailing => 806,
         }
     }
 
@@ -40,19 +40,19 @@ impl Refusal {
         ensures { result.now ≡ refusal_words self }
     {
         match self {
-            Refusal::Magic => "magic",
-            Refusal::Version => "version",
-            Refusal::Short => "short",
-            Refusal::BadValue => "bad value",
-            Refusal::NotCanonical => "not canonical",
-            Refusal::Trailing => "trailing bytes",
+            ModuleRefusal::Magic => "magic",
+            ModuleRefusal::Version => "version",
+            ModuleRefusal::Short => "short",
+            ModuleRefusal::BadValue => "bad value",
+            ModuleRefusal::NotCanonical => "not canonical",
+            ModuleRefusal::Trailing => "trailing bytes",
         }
     }
 }
 
 /// A refusal, and where it stands, as how many bytes are left from there to the end.
 #[derive(Clone, Copy, Debug)]
-pub struct Stop {
-    pub refusal: Refusal,
+pub struct ReadStop {
+    pub refusal: ModuleRefusal,
     pub left: usize,
 }

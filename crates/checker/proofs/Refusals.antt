@@ -18,8 +18,8 @@ use Rattle.resolved.specs.Flow.{AreGathered, IsUncovered, reported_step}
 use Rattle.resolved.proofs.Flow.{gathered-refused}
 use Rattle.solver.specs.Broken.{written_at}
 use Rattle.solver.specs.Links.{AreBelow, InRange, IsBelow}
-use Rattle.solver.specs.System.{IsRefusal, Picks, atom_of, constraint_of, constraints_of}
-use Rattle.solver.specs.declared.fault.Refusal.{Refusal}
+use Rattle.solver.specs.System.{IsSolveRefusal, Picks, atom_of, constraint_of, constraints_of}
+use Rattle.solver.specs.declared.fault.SolveRefusal.{SolveRefusal}
 use Rattle.solver.specs.declared.system.Atom.{Atom}
 use Rattle.solver.specs.declared.system.Atom.TheVariants.{Unknown, Written}
 use Rattle.solver.specs.declared.system.Constraint.{Constraint}
@@ -95,7 +95,7 @@ written-is l table (Written n) v e = (n, refl, ap (written_or v) e)
 written-is l table (Unknown u) v e = absurd (cc)
 
 -- the stored constraint at which a refusal ends
-pub record EndsAt {T V : Type 0} (l : Lattice V) (system : System V T) (refusal : Refusal) : Type 0 where
+pub record EndsAt {T V : Type 0} (l : Lattice V) (system : System V T) (refusal : SolveRefusal) : Type 0 where
   pub some : 0 < length refusal.chain.items
   pub last : Constraint T
   pub at : slice_get system.constraints.items (last_of refusal.chain.items) ≡ Some last
@@ -103,7 +103,7 @@ pub record EndsAt {T V : Type 0} (l : Lattice V) (system : System V T) (refusal 
   pub right : last.right ≡ Written to
   pub not_below : IsFalse (l.leq (written_at l system.written.items refusal.from) (written_at l system.written.items to))
 
-pub ends-at : {T V : Type 0} (l : Lattice V) (system : System V T) (refusal : Refusal) → IsRefusal l system refusal → EndsAt l system refusal
+pub ends-at : {T V : Type 0} (l : Lattice V) (system : System V T) (refusal : SolveRefusal) → IsSolveRefusal l system refusal → EndsAt l system refusal
 ends-at {T} {V} l system refusal is =
     let chained = is.refused.chained in
     let picked = last-picked (constraints_of l system) (formal.Written (written_at l system.written.items refusal.from)) is.chain is.last chained.linked refusal.chain.items is.picked in
@@ -119,7 +119,7 @@ ends-at {T} {V} l system refusal is =
     }
 
 -- what is read there
-module _ {T V : Type 0} (l : Lattice V) (system : System V T) (refusal : Refusal) (is : IsRefusal l system refusal) where
+module _ {T V : Type 0} (l : Lattice V) (system : System V T) (refusal : SolveRefusal) (is : IsSolveRefusal l system refusal) where
   pub index-inside : (chain : List ℕ) (constraints : List (Constraint T)) → chain ≡ refusal.chain.items → constraints ≡ system.constraints.items →
       (0 < length chain) × (last_of chain < length constraints)
   index-inside chain constraints same all =
@@ -159,8 +159,8 @@ right-inside {T} system range i c at to is =
     system.constraints.items c range (at-contains system.constraints.items i c at)).1
 
 -- ---- what is reported of a program that is refused
-pub flow-reported : (core : Core) (system : System Label (Option Target)) (refusal : Refusal) →
-    AreGathered (program_of core) (constraints_of (label_lattice core.hierarchy) system) → (is : IsRefusal (label_lattice core.hierarchy) system refusal) →
+pub flow-reported : (core : Core) (system : System Label (Option Target)) (refusal : SolveRefusal) →
+    AreGathered (program_of core) (constraints_of (label_lattice core.hierarchy) system) → (is : IsSolveRefusal (label_lattice core.hierarchy) system refusal) →
     (c : Constraint (Option Target)) → slice_get system.constraints.items (last_of refusal.chain.items) ≡ Some c → (to : ℕ) → c.right ≡ Written to →
     (policy : ReaderPolicy) → Contains (written_at (label_lattice core.hierarchy) system.written.items refusal.from) policy →
     (¬ Covers core.hierarchy (written_at (label_lattice core.hierarchy) system.written.items to) policy) →

@@ -10,10 +10,10 @@ use Rattle.acceptance.specs.Refused.{WrongFlow}
 use Rattle.acceptance.specs.declared.cause.Cause.TheVariants as causes
 use Rattle.acceptance.proofs.Phases.{accepted_refused}
 use Rattle.analysis.specs.Reported as before
-use Rattle.analysis.specs.declared.fault.Fault as analysis
-use Rattle.analysis.specs.declared.fault.Fault.TheVariants as earlier
-use Rattle.checker.specs.declared.fault.Fault.{Fault}
-use Rattle.checker.specs.declared.fault.Fault.TheVariants.{NoMemory, Refused, FlowNotAllowed}
+use Rattle.analysis.specs.declared.fault.AnalysisFault as analysis
+use Rattle.analysis.specs.declared.fault.AnalysisFault.TheVariants as earlier
+use Rattle.checker.specs.declared.fault.CheckFault.{CheckFault}
+use Rattle.checker.specs.declared.fault.CheckFault.TheVariants.{NoMemory, Refused, FlowNotAllowed}
 use Rattle.checker.specs.Reported.{HasFlow, IsNotAccepted, RefusesProgram, ReportsFault, fault_of}
 
 -- a program that is kept stands for the source
@@ -26,12 +26,12 @@ accepted-from h source core kept same from ended labelled = record {
 }
 
 -- what is reported before labels
-pub reported-before : (h : PrincipalHierarchy) (source : List ℕ) (fault : analysis.Fault) → before.ReportsFault h source fault → ReportsFault h source (fault_of fault)
+pub reported-before : (h : PrincipalHierarchy) (source : List ℕ) (fault : analysis.AnalysisFault) → before.ReportsFault h source fault → ReportsFault h source (fault_of fault)
 reported-before h source earlier.NoMemory reported = tt
 reported-before h source (earlier.Refused cause at) reported = reported
 
 -- what is reported of the labels
-pub reported-labels : (h : PrincipalHierarchy) (source : List ℕ) (core : Core) (fault : Fault) → IsResolvedFrom h source (program_of core) → end_faults (program_of core) ≡ [] →
+pub reported-labels : (h : PrincipalHierarchy) (source : List ℕ) (core : Core) (fault : CheckFault) → IsResolvedFrom h source (program_of core) → end_faults (program_of core) ≡ [] →
     RefusesProgram core fault → ReportsFault h source fault
 reported-labels h source core NoMemory from ended refused = tt
 reported-labels h source core (Refused cause at) from ended refused = absurd refused
@@ -42,7 +42,7 @@ reported-labels h source core (FlowNotAllowed flow) from ended refused = record 
 }
 
 -- what is reported rules out that the source is accepted
-pub reported-refuses : (h : PrincipalHierarchy) (source : List ℕ) (fault : Fault) → ReportsFault h source fault → IsNotAccepted h source fault
+pub reported-refuses : (h : PrincipalHierarchy) (source : List ℕ) (fault : CheckFault) → ReportsFault h source fault → IsNotAccepted h source fault
 reported-refuses h source NoMemory reported = tt
 reported-refuses h source (Refused cause at) reported = λ program accepted. accepted_refused h source program cause at accepted reported
 reported-refuses h source (FlowNotAllowed flow) reported = λ program accepted.
@@ -50,11 +50,11 @@ reported-refuses h source (FlowNotAllowed flow) reported = λ program accepted.
     (WrongFlow (program_of flow.core) reported.resolved reported.ended flow.policy reported.reported.chain reported.reported.last reported.reported.refused)
 
 -- a refusal before labels is none for a flow, and one of the labels names its flow
-pub flow-before : (fault : analysis.Fault) → before.IsBeforeLabels fault → HasFlow (fault_of fault)
+pub flow-before : (fault : analysis.AnalysisFault) → before.IsBeforeLabels fault → HasFlow (fault_of fault)
 flow-before earlier.NoMemory early = tt
 flow-before (earlier.Refused cause at) early = early
 
-pub flow-labels : (core : Core) (fault : Fault) → RefusesProgram core fault → HasFlow fault
+pub flow-labels : (core : Core) (fault : CheckFault) → RefusesProgram core fault → HasFlow fault
 flow-labels core NoMemory refused = tt
 flow-labels core (Refused cause at) refused = absurd refused
 flow-labels core (FlowNotAllowed flow) refused = tt

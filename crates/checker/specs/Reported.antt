@@ -10,20 +10,20 @@ use Rattle.resolved.specs.CoreOf.{program_of}
 use Rattle.resolved.specs.Program.{Program}
 use Rattle.resolved.specs.EndFaults.{end_faults}
 use Rattle.resolved.specs.Labelled.{Demand}
-use Rattle.resolved.specs.Flow.{IsRefused, ReportedStep, reported_step}
+use Rattle.resolved.specs.Flow.{IsProgramRefused, ReportedStep, reported_step}
 use Rattle.solver.specs.declared.system.Constraint.{Constraint}
 use Rattle.acceptance.specs.Accepted.{IsAccepted, IsResolvedFrom}
 use Rattle.acceptance.specs.Refused.{IsSourceRefused}
 use Rattle.acceptance.specs.declared.cause.Cause.TheVariants as causes
-use Rattle.analysis.specs.declared.fault.Fault as before
-use Rattle.analysis.specs.declared.fault.Fault.TheVariants as earlier
-use Rattle.checker.specs.declared.fault.Fault.{Fault}
-use Rattle.checker.specs.declared.fault.Fault.TheVariants.{NoMemory, Refused, FlowNotAllowed}
+use Rattle.analysis.specs.declared.fault.AnalysisFault as before
+use Rattle.analysis.specs.declared.fault.AnalysisFault.TheVariants as earlier
+use Rattle.checker.specs.declared.fault.CheckFault.{CheckFault}
+use Rattle.checker.specs.declared.fault.CheckFault.TheVariants.{NoMemory, Refused, FlowNotAllowed}
 use Rattle.checker.specs.declared.fault.RefusedFlow.{RefusedFlow}
 use Rattle.checker.specs.declared.fault.Step.{Step}
 
 -- a fault of the phases before labels
-abbrev pub fault_of : before.Fault → Fault
+abbrev pub fault_of : before.AnalysisFault → CheckFault
 fault_of earlier.NoMemory = NoMemory
 fault_of (earlier.Refused cause at) = Refused cause at
 
@@ -47,12 +47,12 @@ report_at constraints index = report_of (slice_get constraints index)
 pub record ReportsFlow (flow : RefusedFlow) : Type 0 where
   pub chain : List Demand
   pub last : Demand
-  pub refused : IsRefused (program_of flow.core) flow.policy chain last
+  pub refused : IsProgramRefused (program_of flow.core) flow.policy chain last
   pub at_is : flow.at ≡ last.at
   pub steps_are : map reported_by flow.steps.items ≡ reported_steps reported_step chain
 
 -- what a fault reports of a program without a fault of its ends
-abbrev pub RefusesProgram : Core → Fault → Type 0
+abbrev pub RefusesProgram : Core → CheckFault → Type 0
 RefusesProgram core NoMemory = Unit {0}
 RefusesProgram core (Refused cause at) = ⊥
 RefusesProgram core (FlowNotAllowed flow) = (flow.core ≡ core) × ReportsFlow flow
@@ -64,19 +64,19 @@ pub record RefusesFlow (h : PrincipalHierarchy) (source : List ℕ) (flow : Refu
   pub reported : ReportsFlow flow
 
 -- the source is refused so; out of memory says nothing of it
-abbrev pub ReportsFault : PrincipalHierarchy → (source : List ℕ) → Fault → Type 0
+abbrev pub ReportsFault : PrincipalHierarchy → (source : List ℕ) → CheckFault → Type 0
 ReportsFault h source NoMemory = Unit {0}
 ReportsFault h source (Refused cause at) = IsSourceRefused h source cause at
 ReportsFault h source (FlowNotAllowed flow) = RefusesFlow h source flow
 
 -- no program is accepted of it
-abbrev pub IsNotAccepted : PrincipalHierarchy → (source : List ℕ) → Fault → Type 0
+abbrev pub IsNotAccepted : PrincipalHierarchy → (source : List ℕ) → CheckFault → Type 0
 IsNotAccepted h source NoMemory = Unit {0}
 IsNotAccepted h source (Refused cause at) = (program : Program) → ¬ IsAccepted h source program
 IsNotAccepted h source (FlowNotAllowed flow) = (program : Program) → ¬ IsAccepted h source program
 
 -- a source that is refused for a flow is reported with that flow
-abbrev pub HasFlow : Fault → Type 0
+abbrev pub HasFlow : CheckFault → Type 0
 HasFlow NoMemory = Unit {0}
 HasFlow (Refused cause at) = cause ≢ causes.FlowNotAllowed
 HasFlow (FlowNotAllowed flow) = Unit {0}

@@ -31,7 +31,7 @@ pub struct RefusedFlow {
 
 /// Why a source was not accepted.
 #[derive(Drop)]
-pub enum Fault {
+pub enum CheckFault {
     /// Memory ran out.
     NoMemory,
     /// The source has a fault before its labels: which, and the byte at which that stands.

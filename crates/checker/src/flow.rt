@@ -5,15 +5,15 @@ ghost use Rattle.labels.specs.Label.{Covers, flows};
 ghost use Rattle.resolved.specs.CoreOf.{program_of};
 ghost use Rattle.resolved.specs.Flow.{AreGathered, reported_step};
 ghost use Rattle.solver.specs.Links.{InRange};
-ghost use Rattle.solver.specs.System.{IsRefusal, Refuses, constraints_of};
+ghost use Rattle.solver.specs.System.{IsSolveRefusal, Refuses, constraints_of};
 ghost use Rattle.std.specs.Prelude.{Contains, IfOk, IsFalse, flat_map, length, map, ◌≡◌};
 
-use crate::fault::{Fault, RefusedFlow, Step};
+use crate::fault::{CheckFault, RefusedFlow, Step};
 use labels::{Label, Policy};
 use principals::Hierarchy;
 use resolved::program::Core;
 use resolved::target::Target;
-use solver::{Atom, Constraint, Refusal, SolveFault, System};
+use solver::{Atom, Constraint, SolveFault, SolveRefusal, System};
 use std::alloc::{AllocError, Global};
 
 /// The fault of a program whose constraints are not solved.
@@ -22,7 +22,7 @@ pub(crate) fn unsolved(
     core: Core,
     system: &System<Label, Option<Target>>,
     fault: SolveFault,
-) -> Fault
+) -> CheckFault
     requires gathered { AreGathered (program_of core)
         (constraints_of (label_lattice (program_of core).hierarchy) system.now) }
     requires in_range { InRange (length system.now.written.items) system.now.unknowns
@@ -31,10 +31,10 @@ pub(crate) fn unsolved(
     ensures { RefusesProgram core result }
 {
     match fault {
-        SolveFault::NoMemory => Fault::NoMemory,
+        SolveFault::NoMemory => CheckFault::NoMemory,
         SolveFault::Unmet(refusal) => match flow_of(alloc, core, system, &refusal) {
-            Ok(flow) => Fault::FlowNotAllowed(flow),
-            Err(_) => Fault::NoMemory,
+            Ok(flow) => CheckFault::FlowNotAllowed(flow),
+            Err(_) => CheckFault::NoMemory,
         },
     }
 }
@@ -44,13 +44,13 @@ fn flow_of(
     alloc: Global,
     core: Core,
     system: &System<Label, Option<Target>>,
-    refusal: &Refusal,
+    refusal: &SolveRefusal,
 ) -> Result<RefusedFlow, AllocError>
     requires gathered { AreGathered (program_of core)
         (constraints_of (label_lattice (program_of core).hierarchy) system.now) }
     requires in_range { InRange (length system.now.written.items) system.now.unknowns
         system.now.constraints.items }
-    requires refused { IsRefusal (label_lattice (program_of core).hierarchy) system.now
+    requires refused { IsSolveRefusal (label_lattice (program_of core).hierarchy) system.now
         refusal.now }
     ensures core { IfOk result (λ flow. flow.core ≡ core) }
     ensures reported { IfOk result (λ flow. ReportsFlow flow) }

@@ -12,7 +12,7 @@ ghost use Rattle.resolved.specs.Labelled.{Labelled};
 ghost use Rattle.std.specs.Prelude.{IfErr, IfOk, [], map, ◌≡◌};
 
 use crate::checked::Checked;
-use crate::fault::Fault;
+use crate::fault::CheckFault;
 use crate::flow::unsolved;
 use analysis::{Analysed, analyse};
 use constraints::gather;
@@ -29,7 +29,7 @@ use std::alloc::Global;
 /// # Errors
 ///
 /// The first fault of the source, with its byte; or out of memory.
-pub fn check(alloc: Global, hierarchy: &Hierarchy, source: &[u8]) -> Result<Checked, Fault>
+pub fn check(alloc: Global, hierarchy: &Hierarchy, source: &[u8]) -> Result<Checked, CheckFault>
     // The source stands for the program, and some labels allow its flows.
     ensures accepted { IfOk result (λ checked.
         IsAccepted hierarchy.now source.now (program_of checked.core)) }
@@ -56,17 +56,17 @@ pub fn check(alloc: Global, hierarchy: &Hierarchy, source: &[u8]) -> Result<Chec
 }
 
 // A fault of the phases before labels.
-fn before_labels(fault: analysis::Fault) -> Fault
+fn before_labels(fault: analysis::AnalysisFault) -> CheckFault
     ensures { result ≡ fault_of fault }
 {
     match fault {
-        analysis::Fault::NoMemory => Fault::NoMemory,
-        analysis::Fault::Refused(cause, at) => Fault::Refused(cause, at),
+        analysis::AnalysisFault::NoMemory => CheckFault::NoMemory,
+        analysis::AnalysisFault::Refused(cause, at) => CheckFault::Refused(cause, at),
     }
 }
 
 // A program without a fault of its ends, with its least labels if it is labelled.
-fn labelled(alloc: Global, core: Core, ends: &PathMap) -> Result<Checked, Fault>
+fn labelled(alloc: Global, core: Core, ends: &PathMap) -> Result<Checked, CheckFault>
     requires ended { end_faults (program_of core) ≡ [] }
     requires mapped { ends.now.entries.items ≡ map exits_of (program_paths (program_of core)) }
     ensures core { IfOk result (λ checked. checked.core ≡ core) }
@@ -76,7 +76,7 @@ fn labelled(alloc: Global, core: Core, ends: &PathMap) -> Result<Checked, Fault>
     ensures refused { IfErr result (RefusesProgram core) }
 {
     let Ok(system) = gather(alloc, &core, ends) else {
-        return Err(Fault::NoMemory);
+        return Err(CheckFault::NoMemory);
     };
     let lattice = LabelLattice {
         hierarchy: &core.hierarchy,

@@ -13,14 +13,14 @@ use Rattle.clap.specs.Faults.{check_fault, entered_fault, fault_of, level_fault,
 use Rattle.clap.proofs.OnLiterals.{clap_on_literals}
 use Rattle.clap.specs.declared.error.kind.ErrorKind.TheVariants.{InvalidSubcommand, UnknownArgument}
 use Rattle.command_line.specs.Command.{flowc_command}
-use Rattle.command_line.specs.Request.{HasNoOption, IsPlain, IsPlainRequest, Request, spelled, to_build, to_check, to_explain, to_list, to_run}
+use Rattle.command_line.specs.Request.{HasNoOption, IsNoOption, IsPlainRequest, Request, spelled, to_build, to_check, to_explain, to_list, to_run}
 use Rattle.command_line.proofs.Levels.{build_leaf, level_parts, list_leaf, run_leaf, texts_leaf}
 use Rattle.command_line.proofs.Plain.{Goes, at_name, goes_plain, named_walk, names, plain_or, plain_other, plain_turn_is, plain_walked, stays, stepped, top}
 use Rattle.command_line.proofs.Rows.{both_none, some_kind}
 
 -- ---- a plain word, where the walk passes
 
-module _ (s : Shape) (held : Held) (waiting : Waiting) (position : ℕ) (word : Text) (rest : List Text) (plain : IsPlain word) where
+module _ (s : Shape) (held : Held) (waiting : Waiting) (position : ℕ) (word : Text) (rest : List Text) (plain : IsNoOption word) where
   abbrev here : Walk
   here = record { held = held; waiting = waiting; position = position; is_trailing = false; stopped = None }
 
@@ -49,7 +49,7 @@ checked_after : (s : Shape) (words : List Text) (after : Walk) → Goes s (walk_
 checked_after s words after goes e = subst (λ (w : Walk). check_fault s (finished s.rules w.held) false ≡ []) goes.ends e
 
 texts_two : (name : Text) (rest : List Text) → AllPlain rest → level_fault (texts_leaf name) [] nothing_held rest false [] ≡ []
-    → (hierarchy : Text) × (source : Text) × IsPlain hierarchy × IsPlain source × (rest ≡ hierarchy ∷ source ∷ [])
+    → (hierarchy : Text) × (source : Text) × IsNoOption hierarchy × IsNoOption source × (rest ≡ hierarchy ∷ source ∷ [])
 unfolding clap_on_literals
 texts_two name [] plain e = absurd (some_kind _ _ (level_parts (texts_leaf name) [] [] false [] e).2)
 texts_two name (h ∷ []) plain e =
@@ -71,7 +71,7 @@ texts_two name (h ∷ s ∷ x ∷ more) plain e =
     absurd (some_kind _ _ (placed (texts_leaf name) two.held two.waiting two.position x more r.0 after_two))
 
 run_two : (rest : List Text) → AllPlain rest → level_fault run_leaf [] nothing_held rest false [] ≡ []
-    → (file : Text) × (world : Text) × IsPlain file × IsPlain world × (rest ≡ file ∷ world ∷ [])
+    → (file : Text) × (world : Text) × IsNoOption file × IsNoOption world × (rest ≡ file ∷ world ∷ [])
 unfolding clap_on_literals
 run_two [] plain e = absurd (some_kind _ _ (level_parts run_leaf [] [] false [] e).2)
 run_two (h ∷ []) plain e =
@@ -92,7 +92,7 @@ run_two (h ∷ s ∷ x ∷ more) plain e =
     let after_two = passed run_leaf one.held one.waiting one.position s (x ∷ more) q.0 after_one in
     absurd (some_kind _ _ (placed run_leaf two.held two.waiting two.position x more r.0 after_two))
 
-list_one : (rest : List Text) → AllPlain rest → level_fault list_leaf [] nothing_held rest false [] ≡ [] → (file : Text) × IsPlain file × (rest ≡ file ∷ [])
+list_one : (rest : List Text) → AllPlain rest → level_fault list_leaf [] nothing_held rest false [] ≡ [] → (file : Text) × IsNoOption file × (rest ≡ file ∷ [])
 unfolding clap_on_literals
 list_one [] plain e = absurd (some_kind _ _ (level_parts list_leaf [] [] false [] e).2)
 list_one (file ∷ []) plain e = (file, (or_parts _ _ plain).0, refl)
@@ -105,7 +105,7 @@ list_one (file ∷ x ∷ more) plain e =
     absurd (some_kind _ _ (placed list_leaf one.held one.waiting one.position x more q.0 after_one))
 
 build_three : (rest : List Text) → AllPlain rest → level_fault build_leaf [] nothing_held rest false [] ≡ []
-    → (hierarchy : Text) × (source : Text) × (out : Text) × IsPlain hierarchy × IsPlain source × IsPlain out × (rest ≡ hierarchy ∷ source ∷ out ∷ [])
+    → (hierarchy : Text) × (source : Text) × (out : Text) × IsNoOption hierarchy × IsNoOption source × IsNoOption out × (rest ≡ hierarchy ∷ source ∷ out ∷ [])
 unfolding clap_on_literals
 build_three [] plain e = absurd (some_kind _ _ (level_parts build_leaf [] [] false [] e).2)
 build_three (h ∷ []) plain e =
@@ -145,7 +145,7 @@ same_or a b = go (bytes_eq a b) refl
     go false e = inr e
 
 -- a plain word that is no subcommand is refused
-unknown_turn : (name : Text) → IsPlain name → find (answers_to name) names ≡ None → turn_fault top names (walk_from nothing_held) name ≡ UnknownArgument ∷ InvalidSubcommand ∷ []
+unknown_turn : (name : Text) → IsNoOption name → find (answers_to name) names ≡ None → turn_fault top names (walk_from nothing_held) name ≡ UnknownArgument ∷ InvalidSubcommand ∷ []
 unknown_turn name plain none =
     let met = ap (option_map (λ (s : Text × List Text). s.0)) none in
     ap₂ (λ a (m : Held × Step). or_else a (step_fault top 1 m.0 m.1))
@@ -208,7 +208,7 @@ at : (P : List Text → Type 0) (program name : Text) (rest : List Text) (known 
     → fault_of flowc_command (program ∷ name ∷ rest) ≡ [] → P (program ∷ name ∷ rest)
 at P program name rest known is holds = subst (λ n. fault_of flowc_command (program ∷ n ∷ rest) ≡ [] → P (program ∷ n ∷ rest)) is holds
 
-named : (program name : Text) (rest : List Text) → IsPlain name → AllPlain rest → fault_of flowc_command (program ∷ name ∷ rest) ≡ [] → IsSpelled (program ∷ name ∷ rest)
+named : (program name : Text) (rest : List Text) → IsNoOption name → AllPlain rest → fault_of flowc_command (program ∷ name ∷ rest) ≡ [] → IsSpelled (program ∷ name ∷ rest)
 named program name rest plain others e =
     go (same_or (codes "check") name) (same_or (codes "build") name) (same_or (codes "run") name) (same_or (codes "list") name) (same_or (codes "explain") name)
     (same_or (codes "help") name)

@@ -24,20 +24,20 @@ use Rattle.clap.proofs.ValueTestLemmas.{Accepts-accepts}
 use Rattle.command_line.specs.Command.{flowc_command, step_numbers}
 use Rattle.clap.specs.declared.error.kind.ErrorKind.TheVariants.{ValueValidation}
 use Rattle.command_line.specs.Task.{number_of}
-use Rattle.command_line.specs.Request.{IsPlain, IsPlainRequest, Request, observer_words, spelled, steps_words, to_build, to_check, to_explain, to_list, to_run}
+use Rattle.command_line.specs.Request.{IsNoOption, IsPlainRequest, Request, observer_words, spelled, steps_words, to_build, to_check, to_explain, to_list, to_run}
 use Rattle.command_line.proofs.Levels.{build_leaf, check_leaf, explain_leaf, list_leaf, run_leaf, texts_leaf}
 
 -- ---- a plain word
 
-not_long : (word : Text) → IsPlain word → long_of word ≡ None
+not_long : (word : Text) → IsNoOption word → long_of word ≡ None
 not_long [] plain = refl
 not_long (x ∷ xs) plain = ap (λ b. option_and_then long_of_rest (option_and_then (strip_byte 45) (cond b (Some xs) None))) plain
 
-not_short : (word : Text) → IsPlain word → short_of word ≡ None
+not_short : (word : Text) → IsNoOption word → short_of word ≡ None
 not_short [] plain = refl
 not_short (x ∷ xs) plain = ap (λ b. option_and_then short_of_rest (cond b (Some xs) None)) plain
 
-not_dashes : (word : Text) → IsPlain word → bytes_eq word (45 ∷ 45 ∷ []) ≡ false
+not_dashes : (word : Text) → IsNoOption word → bytes_eq word (45 ∷ 45 ∷ []) ≡ false
 not_dashes word plain = go (bytes_eq word (45 ∷ 45 ∷ [])) refl
   where
     go : (b : Bool) → bytes_eq word (45 ∷ 45 ∷ []) ≡ b → bytes_eq word (45 ∷ 45 ∷ []) ≡ false
@@ -46,24 +46,24 @@ not_dashes word plain = go (bytes_eq word (45 ∷ 45 ∷ [])) refl
         let same : word ≡ 45 ∷ 45 ∷ [] = (bytes_eq-Decides word (45 ∷ 45 ∷ [])).0 e in
         absurd (true≢false (sym (ap starts_with_minus same) ∙ plain))
 
-pub plain_or : (c : List Rule) (waiting : Waiting) (position : ℕ) (word : Text) (h : Held) → IsPlain word → subcommand_or_other c None waiting position word h ≡ plain_word c waiting word h
+pub plain_or : (c : List Rule) (waiting : Waiting) (position : ℕ) (word : Text) (h : Held) → IsNoOption word → subcommand_or_other c None waiting position word h ≡ plain_word c waiting word h
 plain_or c waiting position word h plain =
     ap (λ b. cond b (h, trailing position) (long_or_other c waiting word (long_of word) h)) (not_dashes word plain)
     ∙ ap (λ o. long_or_other c waiting word o h) (not_long word plain) ∙ ap (λ o. short_or_plain c waiting word o h) (not_short word plain)
 
-pub plain_met : (c : List Rule) (waiting : Waiting) (position : ℕ) (word : Text) (h : Held) → IsPlain word → word_met c [] false waiting position word h ≡ plain_word c waiting word h
+pub plain_met : (c : List Rule) (waiting : Waiting) (position : ℕ) (word : Text) (h : Held) → IsNoOption word → word_met c [] false waiting position word h ≡ plain_word c waiting word h
 plain_met c idle position word h plain = plain_or c idle position word h plain
 plain_met c (option id) position word h plain = plain_or c (option id) position word h plain
 plain_met c positional position word h plain = plain_or c positional position word h plain
 
-pub plain_other : (s : Shape) (word : Text) (h : Held) → IsPlain word
+pub plain_other : (s : Shape) (word : Text) (h : Held) → IsNoOption word
     → cond (bytes_eq word (45 ∷ 45 ∷ [])) [] (flag_word_fault s.rules s.args_override_self (long_of word) word h) ≡ []
 plain_other s word h plain =
     ap (λ b. cond b [] (flag_word_fault s.rules s.args_override_self (long_of word) word h)) (not_dashes word plain)
     ∙ ap (λ o. flag_word_fault s.rules s.args_override_self o word h) (not_long word plain)
     ∙ ap (λ o. option_map_or (λ flags. bundle_fault s.rules s.args_override_self flags h) o []) (not_short word plain)
 
-pub plain_passes : (s : Shape) (waiting : Waiting) (word : Text) (h : Held) → IsPlain word → word_fault s [] false waiting word h ≡ []
+pub plain_passes : (s : Shape) (waiting : Waiting) (word : Text) (h : Held) → IsNoOption word → word_fault s [] false waiting word h ≡ []
 plain_passes s idle word h plain = plain_other s word h plain
 plain_passes s (option id) word h plain = plain_other s word h plain
 plain_passes s positional word h plain = plain_other s word h plain
@@ -90,7 +90,7 @@ goes_on s w next word rest after is passed later = record {
 abbrev pub stepped : List Rule → Walk → Text → Walk
 stepped c w word = after_step c word w (plain_word c w.waiting word w.held).0 (plain_word c w.waiting word w.held).1
 
-pub plain_walked : (c : List Rule) (held : Held) (waiting : Waiting) (position : ℕ) (word : Text) → IsPlain word
+pub plain_walked : (c : List Rule) (held : Held) (waiting : Waiting) (position : ℕ) (word : Text) → IsNoOption word
     → walked c [] (record { held = held; waiting = waiting; position = position; is_trailing = false; stopped = None }) word
     ≡ stepped c (record { held = held; waiting = waiting; position = position; is_trailing = false; stopped = None }) word
 unfolding walked
@@ -98,13 +98,13 @@ plain_walked c held waiting position word plain =
     let w : Walk = record { held = held; waiting = waiting; position = position; is_trailing = false; stopped = None } in
     ap (λ (met : Held × Step). after_step c word w met.0 met.1) (plain_met c waiting position word held plain)
 
-pub plain_turn_is : (s : Shape) (held : Held) (waiting : Waiting) (position : ℕ) (word : Text) → IsPlain word
+pub plain_turn_is : (s : Shape) (held : Held) (waiting : Waiting) (position : ℕ) (word : Text) → IsNoOption word
     → turn_fault s [] (record { held = held; waiting = waiting; position = position; is_trailing = false; stopped = None }) word
     ≡ step_fault s position (plain_word s.rules waiting word held).0 (plain_word s.rules waiting word held).1
 plain_turn_is s held waiting position word plain =
     ap₂ (λ a (met : Held × Step). or_else a (step_fault s position met.0 met.1)) (plain_passes s waiting word held plain) (plain_met s.rules waiting position word held plain)
 
-pub goes_plain : (s : Shape) (held : Held) (waiting : Waiting) (position : ℕ) (word : Text) (rest : List Text) (after : Walk) → IsPlain word
+pub goes_plain : (s : Shape) (held : Held) (waiting : Waiting) (position : ℕ) (word : Text) (rest : List Text) (after : Walk) → IsNoOption word
     → step_fault s position (plain_word s.rules waiting word held).0 (plain_word s.rules waiting word held).1 ≡ []
     → Goes s (stepped s.rules (record { held = held; waiting = waiting; position = position; is_trailing = false; stopped = None }) word) rest after
     → Goes s (record { held = held; waiting = waiting; position = position; is_trailing = false; stopped = None }) (word ∷ rest) after
@@ -136,7 +136,7 @@ found_along s words after goes settles fills checks =
 abbrev pub row : Text → Text → Row
 row id word = record { id = id; values = word ∷ []; count = None; source = Some CommandLine; reading = AsWritten }
 
-pub texts_found : (name hierarchy source : Text) → IsPlain hierarchy → IsPlain source
+pub texts_found : (name hierarchy source : Text) → IsNoOption hierarchy → IsNoOption source
     → Finds (texts_leaf name) (hierarchy ∷ source ∷ []) (row (codes "HIER") hierarchy ∷ row (codes "SRC") source ∷ [])
 unfolding clap_on_literals
 texts_found name hierarchy source h s =
@@ -144,7 +144,7 @@ texts_found name hierarchy source h s =
     (goes_plain (texts_leaf name) _ _ _ hierarchy _ _ h refl (goes_plain (texts_leaf name) _ _ _ source _ _ s refl (stays (texts_leaf name) _)))
     refl refl refl
 
-pub build_found : (hierarchy source out : Text) → IsPlain hierarchy → IsPlain source → IsPlain out
+pub build_found : (hierarchy source out : Text) → IsNoOption hierarchy → IsNoOption source → IsNoOption out
     → Finds build_leaf (hierarchy ∷ source ∷ out ∷ []) (row (codes "HIER") hierarchy ∷ row (codes "SRC") source ∷ row (codes "OUT") out ∷ [])
 unfolding clap_on_literals
 build_found hierarchy source out h s o =
@@ -152,7 +152,7 @@ build_found hierarchy source out h s o =
     (goes_plain build_leaf _ _ _ hierarchy _ _ h refl (goes_plain build_leaf _ _ _ source _ _ s refl (goes_plain build_leaf _ _ _ out _ _ o refl (stays build_leaf _))))
     refl refl refl
 
-pub list_found : (file : Text) → IsPlain file → Finds list_leaf (file ∷ []) (row (codes "MODULE") file ∷ [])
+pub list_found : (file : Text) → IsNoOption file → Finds list_leaf (file ∷ []) (row (codes "MODULE") file ∷ [])
 unfolding clap_on_literals
 list_found file f = found_along list_leaf _ _ (goes_plain list_leaf _ _ _ file _ _ f refl (stays list_leaf _)) refl refl refl
 
@@ -165,7 +165,7 @@ steps_rows None = []
 steps_rows (Some steps) = row (codes "steps") (decimal steps) ∷ []
 
 -- a number is written plainly, and in the range if it is
-numeral_plain : (ds : List ℕ) → IsNumeral 10 ds → IsPlain ds
+numeral_plain : (ds : List ℕ) → IsNumeral 10 ds → IsNoOption ds
 numeral_plain [] h = absurd (omega arith)
 numeral_plain (d ∷ ds) h = ne_eqb _ _ (λ e. omega (arith, digit_from_value d h.1.0))
 
@@ -194,7 +194,7 @@ decimal_accepted n most =
 steps_settle : (word : Text) → accepts false step_numbers word ≡ true → or_else (cond (accepts false step_numbers word) [] (ValueValidation ∷ [])) [] ≡ []
 steps_settle word accepted = ap (λ b. or_else (cond b [] (ValueValidation ∷ [])) []) accepted
 
-pub run_found : (file world : Text) (observer : Option Text) (steps : Option ℕ) → IsPlain file → IsPlain world → IfSome observer IsPlain → IfSome steps (λ n. n ≤ 1000000000000)
+pub run_found : (file world : Text) (observer : Option Text) (steps : Option ℕ) → IsNoOption file → IsNoOption world → IfSome observer IsNoOption → IfSome steps (λ n. n ≤ 1000000000000)
     → Finds run_leaf (file ∷ world ∷ (observer_words observer ++ steps_words steps)) (row (codes "MODULE") file ∷ row (codes "WORLD") world ∷ (observer_rows observer ++ steps_rows steps))
 unfolding clap_on_literals
 run_found file world None None f w o n =

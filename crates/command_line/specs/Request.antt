@@ -40,18 +40,18 @@ spelled (to_list file) = codes "list" ∷ file ∷ []
 spelled (to_explain hierarchy source) = codes "explain" ∷ hierarchy ∷ source ∷ []
 
 -- the word does not look like an option
-abbrev pub IsPlain : Text → Type 0
-IsPlain word = starts_with_minus word ≡ false
+abbrev pub IsNoOption : Text → Type 0
+IsNoOption word = starts_with_minus word ≡ false
 
 -- each name is plain, and the number of steps is in the range
 abbrev pub IsPlainRequest : Request → Type 0
-IsPlainRequest (to_check hierarchy source) = IsPlain hierarchy × IsPlain source
-IsPlainRequest (to_build hierarchy source out) = IsPlain hierarchy × IsPlain source × IsPlain out
+IsPlainRequest (to_check hierarchy source) = IsNoOption hierarchy × IsNoOption source
+IsPlainRequest (to_build hierarchy source out) = IsNoOption hierarchy × IsNoOption source × IsNoOption out
 IsPlainRequest (to_run file world observer steps) =
-    IsPlain file × IsPlain world × IfSome observer IsPlain
+    IsNoOption file × IsNoOption world × IfSome observer IsNoOption
     × IfSome steps (λ n. n ≤ 1000000000000)
-IsPlainRequest (to_list file) = IsPlain file
-IsPlainRequest (to_explain hierarchy source) = IsPlain hierarchy × IsPlain source
+IsPlainRequest (to_list file) = IsNoOption file
+IsPlainRequest (to_explain hierarchy source) = IsNoOption hierarchy × IsNoOption source
 
 -- the task is the one that is asked for, with just these names; a run takes a million steps where
 -- no number is given

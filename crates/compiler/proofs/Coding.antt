@@ -17,11 +17,11 @@ use Rattle.verifier.specs.Safety.{IsNeverStuck}
 use Rattle.lowering.specs.Graphs.{graph_of}
 use Rattle.lowering.specs.Kept.{MeaningKept}
 use Rattle.lowering.proofs.Hierarchies.{pair_cmp-exact}
-use Rattle.compiler.specs.Compiled.{IsCodeOf, SameInterface}
+use Rattle.compiler.specs.Compiled.{IsCodeOf, HasInterfaceOf}
 use Rattle.compiler.proofs.Isolating.{isolated-module}
 
 -- the module shows what the program does
-same-interface : (program : Program) → SameInterface program (laid_out (graph_of program))
+same-interface : (program : Program) → HasInterfaceOf program (laid_out (graph_of program))
 same-interface program = record {
   names = refl;
   acts = λ a b. (

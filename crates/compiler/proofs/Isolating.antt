@@ -9,10 +9,10 @@ use Rattle.bytecode.specs.Contents.{ModuleContents}
 use Rattle.bytecode.specs.Isolated.{channel_label, seen_of, OneIsPrefix, IsIsolated}
 use Rattle.bytecode.specs.Machine.{after_steps, sent_after}
 use Rattle.lowering.specs.Kept.{MeaningKept}
-use Rattle.compiler.specs.Compiled.{SameInterface}
+use Rattle.compiler.specs.Compiled.{HasInterfaceOf}
 use Rattle.compiler.proofs.Readers.{seen-module, agree-module}
 
-pub isolated-module : (program : Program) (m : ModuleContents) → SameInterface program m → MeaningKept program (after_steps m) → Isolated program → IsIsolated m
+pub isolated-module : (program : Program) (m : ModuleContents) → HasInterfaceOf program m → MeaningKept program (after_steps m) → Isolated program → IsIsolated m
 isolated-module program m same kept isolated p first second agree i j =
     let xs : List Pair = sent_by program first i in
     let ys : List Pair = sent_by program second j in

@@ -6,7 +6,7 @@ use Rattle.principals.specs.ActsFor.{acts_for}
 use Rattle.principals.proofs.Closure.{acts_for-decides}
 use Rattle.labels.specs.declared.sent.Pair.{Pair}
 use Rattle.labels.specs.Label.{Label, may_read}
-use Rattle.labels.specs.Sent.{seen}
+use Rattle.labels.specs.Sent.{pairs_for}
 use Rattle.resolved.specs.declared.tables.Direction.TheVariants as channel
 use Rattle.resolved.specs.Isolated.{Agree}
 use Rattle.resolved.specs.Labelled.{channel_label}
@@ -15,7 +15,7 @@ use Rattle.resolved.specs.SourceState.{World}
 use Rattle.bytecode.specs.Contents.{ChannelContents, ModuleContents}
 use Rattle.bytecode.specs.Isolated.{label_in, channel_label as module_label, seen_of, AgreeOnInputs}
 use Rattle.lowering.specs.Interface.{direction_of, channel_contents}
-use Rattle.compiler.specs.Compiled.{SameInterface}
+use Rattle.compiler.specs.Compiled.{HasInterfaceOf}
 
 -- what stands in a module's table of channels is what stands in the program's
 label_at : (channels : List ChannelEntry) (n : ℕ) →
@@ -30,7 +30,7 @@ channel_there [] n none below = absurd (omega (arith, below))
 channel_there (entry ∷ channels) zero none below = refl
 channel_there (entry ∷ channels) (suc n) none below = channel_there channels n none (omega (arith, below))
 
-module _ (program : Program) (m : ModuleContents) (same : SameInterface program m) where
+module _ (program : Program) (m : ModuleContents) (same : HasInterfaceOf program m) where
   pub acts_for-module : (a b : ℕ) → acts_for m.hierarchy.pairs a b ≡ acts_for program.hierarchy.pairs a b
   acts_for-module a b =
       let left = acts_for-decides m.hierarchy.pairs a b in
@@ -45,7 +45,7 @@ module _ (program : Program) (m : ModuleContents) (same : SameInterface program 
   label-module n = ap (λ (all : List ChannelContents). label_in (slice_get all n)) same.channels ∙ label_at program.channels n
 
   -- what a principal sees by the module's hierarchy and labels is what it sees by the program's
-  pub seen-module : (p : ℕ) (list : List Pair) → seen_of m p list ≡ seen program.hierarchy (channel_label program) p list
+  pub seen-module : (p : ℕ) (list : List Pair) → seen_of m p list ≡ pairs_for program.hierarchy (channel_label program) p list
   seen-module p list =
       (λ i. filter (λ pair. may_read-module p (module_label m pair.channel) i) list)
       ∙ (λ i. filter (λ pair. may_read program.hierarchy p (label-module pair.channel i)) list)

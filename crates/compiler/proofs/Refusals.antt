@@ -15,13 +15,13 @@ use Rattle.acceptance.specs.declared.cause.Cause.TheVariants as causes
 use Rattle.acceptance.specs.declared.cause.Text.TheVariants as texts
 use Rattle.checker.specs.Reported as checked
 use Rattle.checker.specs.Reported.{HasFlow, RefusesFlow}
-use Rattle.checker.specs.declared.fault.Fault as checks
-use Rattle.checker.specs.declared.fault.Fault.TheVariants as check
+use Rattle.checker.specs.declared.fault.CheckFault as checks
+use Rattle.checker.specs.declared.fault.CheckFault.TheVariants as check
 use Rattle.checker.specs.declared.fault.RefusedFlow.{RefusedFlow}
 use Rattle.compiler.specs.Position.{place_at}
-use Rattle.compiler.specs.Reported.{AsksForFlow, IsFlowFault, IsRefusal, ReportsFault, not_accepted}
-use Rattle.compiler.specs.declared.fault.Fault.{Fault}
-use Rattle.compiler.specs.declared.fault.Fault.TheVariants as faults
+use Rattle.compiler.specs.Reported.{AsksForFlow, IsFlowFault, IsFaultOfTexts, ReportsFault, not_accepted}
+use Rattle.compiler.specs.declared.fault.CompileFault.{CompileFault}
+use Rattle.compiler.specs.declared.fault.CompileFault.TheVariants as faults
 
 pub in_hierarchy : (hierarchy source : List ℕ) (cause : Cause) (at : ℕ) → IsHierarchyRefused hierarchy cause at →
     ReportsFault hierarchy source (faults.Refused texts.Hierarchy cause (place_at hierarchy at))
@@ -66,7 +66,7 @@ not_too_long text fault e is_text found =
     found
 
 -- two texts with a first fault stand for no program
-pub stand_for_none : HasOneVerdict → (hierarchy source : List ℕ) (fault : Fault) → ReportsFault hierarchy source fault → IsRefusal fault → (program : Program) →
+pub stand_for_none : HasOneVerdict → (hierarchy source : List ℕ) (fault : CompileFault) → ReportsFault hierarchy source fault → IsFaultOfTexts fault → (program : Program) →
     ¬ StandFor hierarchy source program
 stand_for_none one hierarchy source (faults.Refused text cause place) first refusal program stand =
     let same : Accepted program ≡ Refused text cause first.at = one hierarchy source (Accepted program) (Refused text cause first.at) stand first.refused in
@@ -79,7 +79,7 @@ no_text_no_flow bytes cause at (TooLong long) = λ (e : causes.TextTooLong ≡ c
 no_text_no_flow bytes cause at (NotUtf8 short wrong) = λ (e : causes.NotUtf8 ≡ causes.FlowNotAllowed). absurd (cc)
 
 -- what the check of a source reports is the first fault of two texts
-pub first_of_check : (hierarchy source : List ℕ) (h : PrincipalHierarchy) → HasHierarchy hierarchy h → (fault : checks.Fault) → checked.ReportsFault h source fault →
+pub first_of_check : (hierarchy source : List ℕ) (h : PrincipalHierarchy) → HasHierarchy hierarchy h → (fault : checks.CheckFault) → checked.ReportsFault h source fault →
     ReportsFault hierarchy source (not_accepted source fault).fault
 first_of_check hierarchy source h has check.NoMemory reported = tt
 first_of_check hierarchy source h has (check.Refused cause at) reported = in_source hierarchy source h cause at has reported
@@ -87,13 +87,13 @@ first_of_check hierarchy source h has (check.FlowNotAllowed flow) reported =
     in_source hierarchy source h causes.FlowNotAllowed flow.at has (refused_flow h source flow reported)
 
 -- and there is a flow where one is not allowed
-pub flow_of_check : (source : List ℕ) (fault : checks.Fault) → HasFlow fault →
+pub flow_of_check : (source : List ℕ) (fault : checks.CheckFault) → HasFlow fault →
     IsFlowFault (not_accepted source fault).fault ↔ IsSome (not_accepted source fault).flow
 flow_of_check source check.NoMemory flow = ((λ no. absurd no), (λ no. absurd (cc)))
 flow_of_check source (check.Refused cause at) flow = ((λ is. absurd (flow is)), (λ no. absurd (cc)))
 flow_of_check source (check.FlowNotAllowed asked) flow = ((λ is. refl), (λ some. refl))
 
-pub asked_of_check : (hierarchy source : List ℕ) (h : PrincipalHierarchy) → HasHierarchy hierarchy h → (fault : checks.Fault) → checked.ReportsFault h source fault →
+pub asked_of_check : (hierarchy source : List ℕ) (h : PrincipalHierarchy) → HasHierarchy hierarchy h → (fault : checks.CheckFault) → checked.ReportsFault h source fault →
     IfSome (not_accepted source fault).flow (AsksForFlow hierarchy source (not_accepted source fault).fault)
 asked_of_check hierarchy source h has check.NoMemory reported = tt
 asked_of_check hierarchy source h has (check.Refused cause at) reported = tt

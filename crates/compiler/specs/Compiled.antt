@@ -18,7 +18,7 @@ use Rattle.acceptance.specs.Accepted.{StandFor}
 
 -- a module has the principals of a program with the same numbers, of whom the same act for each other, its channels with the same
 -- numbers, and the names of its declared exceptions with the same numbers
-pub record SameInterface (program : Program) (m : ModuleContents) : Type 0 where
+pub record HasInterfaceOf (program : Program) (m : ModuleContents) : Type 0 where
   pub names : m.hierarchy.names ≡ program.hierarchy.names
   pub acts : (a b : ℕ) → ActsFor m.hierarchy.pairs a b ↔ ActsFor program.hierarchy.pairs a b
   pub channels : m.channels ≡ map channel_contents program.channels
@@ -33,7 +33,7 @@ pub record IsCodeOf (program : Program) (code : List ℕ) : Type 0 where
   pub spelled : Spells module_file contents code
   pub faultless : HasNoFault contents
   pub never_stuck : IsNeverStuck contents
-  pub interface : SameInterface program contents
+  pub interface : HasInterfaceOf program contents
   pub kept : MeaningKept program (after_steps contents)
   pub isolated : IsIsolated contents
 

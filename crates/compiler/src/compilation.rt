@@ -4,7 +4,7 @@ ghost use Rattle.acceptance.specs.Accepted.{HasHierarchy, IsText, StandFor};
 ghost use Rattle.compiler.specs.Compiled.{IsCodeOf, IsCompiled};
 ghost use Rattle.checker.specs.Least.{least_label};
 ghost use Rattle.compiler.specs.Position.{place_at};
-ghost use Rattle.compiler.specs.Reported.{AsksForFlow, IsFlowFault, IsRefusal, ReportsFault, not_accepted};
+ghost use Rattle.compiler.specs.Reported.{AsksForFlow, IsFlowFault, IsFaultOfTexts, ReportsFault, not_accepted};
 ghost use Rattle.principals.specs.HierarchyText.{IsRefusedText};
 ghost use Rattle.resolved.specs.CoreOf.{program_of};
 ghost use Rattle.resolved.specs.EndFaults.{end_faults};
@@ -14,12 +14,12 @@ ghost use Rattle.resolved.specs.Names.{HasNames};
 ghost use Rattle.resolved.specs.Program.{Program};
 ghost use Rattle.std.specs.Prelude.{IfErr, IfOk, IfSome, IsSome, List, [], ℕ, ◌↔◌, ◌≡◌, ◌⊎◌};
 
-use crate::fault::{Fault, NotAccepted};
+use crate::fault::{CompileFault, NotAccepted};
 use crate::position::place_of;
 use acceptance::laws::{one_verdict, resolved_programs_have_names};
 use acceptance::{Cause, Text};
 use analysis::text_of;
-use checker::{Checked, Fault as CheckFault, check};
+use checker::{CheckFault, Checked, check};
 use layout::emit;
 use lowering::laws::{modules_are_never_stuck, modules_have_no_fault, modules_keep_meaning};
 use lowering::lower;
@@ -36,7 +36,7 @@ use std::alloc::{AllocError, Global};
 /// # Errors
 ///
 /// The first fault of the two texts, at its line and column; or out of memory.
-pub fn compile(alloc: Global, hierarchy: &[u8], source: &[u8]) -> Result<Vec<u8>, Fault>
+pub fn compile(alloc: Global, hierarchy: &[u8], source: &[u8]) -> Result<Vec<u8>, CompileFault>
     // The bytes are code of the program that the two texts stand for.
     ensures compiled { IfOk result (λ code. IsCompiled hierarchy.now source.now code.items) }
 
@@ -44,7 +44,7 @@ pub fn compile(alloc: Global, hierarchy: &[u8], source: &[u8]) -> Result<Vec<u8>
     ensures first_fault { IfErr result (ReportsFault hierarchy.now source.now) }
 
     // And two texts that are refused stand for no program.
-    ensures refused { IfErr result (λ fault. IsRefusal fault →
+    ensures refused { IfErr result (λ fault. IsFaultOfTexts fault →
         (program : Program) → ¬ StandFor hierarchy.now source.now program) }
 {
     one_verdict();
@@ -70,7 +70,7 @@ pub fn check_texts(alloc: Global, hierarchy: &[u8], source: &[u8]) -> Result<Che
     // A refusal is the first fault of the two texts, which stand for no program.
     ensures first_fault { IfErr result (λ refused.
         ReportsFault hierarchy.now source.now refused.fault) }
-    ensures refused { IfErr result (λ refused. IsRefusal refused.fault →
+    ensures refused { IfErr result (λ refused. IsFaultOfTexts refused.fault →
         (program : Program) → ¬ StandFor hierarchy.now source.now program) }
 
     // There is a flow exactly where one is not allowed, and it is the one that the source asks for.
@@ -88,7 +88,7 @@ pub fn check_texts(alloc: Global, hierarchy: &[u8], source: &[u8]) -> Result<Che
 }
 
 // The hierarchy of a text.
-fn principals_of(alloc: Global, bytes: &[u8]) -> Result<Hierarchy, Fault>
+fn principals_of(alloc: Global, bytes: &[u8]) -> Result<Hierarchy, CompileFault>
     ensures has { IfOk result (HasHierarchy bytes.now) }
     ensures first_fault { IfErr result (λ fault.
         (source : List ℕ) → ReportsFault bytes.now source fault) }
@@ -109,7 +109,7 @@ fn not_accepted(source: &[u8], fault: CheckFault) -> NotAccepted
     ensures { result ≡ not_accepted source.now fault }
 {
     match fault {
-        CheckFault::NoMemory => NotAccepted::from(Fault::NoMemory),
+        CheckFault::NoMemory => NotAccepted::from(CompileFault::NoMemory),
         CheckFault::Refused(cause, at) => {
             NotAccepted::from(fault_at(Text::Source, source, cause, at))
         }
@@ -139,10 +139,10 @@ fn code_of(alloc: Global, core: &Core) -> Result<Vec<u8>, AllocError>
 }
 
 // The fault of a text whose bytes are refused for a cause at one of them.
-fn fault_at(text: Text, bytes: &[u8], cause: Cause, at: usize) -> Fault
-    ensures { result ≡ Fault.Refused text cause (place_at bytes.now at) }
+fn fault_at(text: Text, bytes: &[u8], cause: Cause, at: usize) -> CompileFault
+    ensures { result ≡ CompileFault.Refused text cause (place_at bytes.now at) }
 {
-    Fault::Refused {
+    CompileFault::Refused {
         text,
         cause,
         at: place_of(bytes, at),
@@ -150,14 +150,14 @@ fn fault_at(text: Text, bytes: &[u8], cause: Cause, at: usize) -> Fault
 }
 
 // The fault that a refusal of a hierarchy text is.
-fn hierarchy_fault(bytes: &[u8], fault: HierFault) -> Fault
+fn hierarchy_fault(bytes: &[u8], fault: HierFault) -> CompileFault
     ensures first_fault { (source : List ℕ) → IsText bytes.now
         → (fault ≡ HierFault.NoMemory) ⊎ IsRefusedText bytes.now fault
         → ReportsFault bytes.now source result }
     ensures no_flow { ¬ IsFlowFault result }
 {
     match fault {
-        HierFault::NoMemory => Fault::NoMemory,
+        HierFault::NoMemory => CompileFault::NoMemory,
         HierFault::TooLong => fault_at(Text::Hierarchy, bytes, Cause::TextTooLong, 0),
         HierFault::Syntax(at) => fault_at(Text::Hierarchy, bytes, Cause::Syntax, at),
         HierFault::DeclaredTwice(at) => {

@@ -14,7 +14,7 @@ use Rattle.path_map.specs.Exits.{exits_of}
 use Rattle.gathering.specs.Names.{NamedAtom, NamedConstraint}
 use Rattle.gathering.specs.Walk.{block_constraints, flow, handler_count, single}
 use Rattle.solver.specs.declared.system.Atom.{Atom}
-use Rattle.constraints.specs.Added.{IsGathered}
+use Rattle.constraints.specs.Added.{IsGatheredAt}
 use Rattle.constraints.specs.LeftSides.{scope_of}
 use Rattle.constraints.specs.Takers.{AreLevelled, entry_in_try, no_entry, takers_of, undone}
 use Rattle.constraints.specs.Walked.{IsTried, IsWalked}
@@ -41,12 +41,12 @@ module _ (core : Core) (table : List Label) (entries : List Exits) where
   pub begun : (pc : Atom) (takers : Takers) (exits : Exits) (thrown : List Entry) (ends : List Exit) (old middle new : Progress)
       → drop old.index entries ≡ exits ∷ drop middle.index entries → middle ≡ record old { index = middle.index } → thrown ≡ middle.thrown.items
       → new.index ≡ middle.index → new.number ≡ middle.number → new.thrown.items ≡ middle.thrown.items
-      → (exits ≡ exits_of ends → IsGathered core table pc (λ named. single (one_end ends) named (takers_of takers thrown) ends) middle.constraints.items new.constraints.items)
+      → (exits ≡ exits_of ends → IsGatheredAt core table pc (λ named. single (one_end ends) named (takers_of takers thrown) ends) middle.constraints.items new.constraints.items)
       → IsWalked core table entries pc takers (ends ∷ []) (λ named. single (one_end ends) named (takers_of takers old.thrown.items) ends) 0 old new
   begun pc takers exits thrown ends old middle new found others lent index number thrown_is added = λ left before levelled.
       let both : exits ∷ drop middle.index entries ≡ exits_of ends ∷ left = sym found ∙ before in
-      let from : IsGathered core table pc (λ named. single (one_end ends) named (takers_of takers thrown) ends) old.constraints.items new.constraints.items =
-      subst (λ cs. IsGathered core table pc (λ named. single (one_end ends) named (takers_of takers thrown) ends) cs new.constraints.items)
+      let from : IsGatheredAt core table pc (λ named. single (one_end ends) named (takers_of takers thrown) ends) old.constraints.items new.constraints.items =
+      subst (λ cs. IsGatheredAt core table pc (λ named. single (one_end ends) named (takers_of takers thrown) ends) cs new.constraints.items)
       (ap (λ (p : Progress). p.constraints.items) others) (added (heads exits (exits_of ends) (drop middle.index entries) left both)) in
       passed-same core table entries pc (λ named. single (one_end ends) named (takers_of takers old.thrown.items) ends) (λ named. single (one_end ends) named (takers_of takers thrown) ends) 0 0 left old new
       (λ named. ap (λ t. single (one_end ends) named (takers_of takers t) ends) (sym (lent ∙ ap (λ (p : Progress). p.thrown.items) others))) refl
@@ -61,14 +61,14 @@ module _ (core : Core) (table : List Label) (entries : List Exits) where
   pub made-walked : (pc : Atom) (takers : Takers) (thrown : List Entry) (k first : ℕ) (gathered : List Entry → ℕ → NamedAtom → List NamedConstraint) (old middle new : Progress)
       → middle ≡ record old { number = old.number + k } → first ≡ old.number → thrown ≡ middle.thrown.items
       → new.index ≡ middle.index → new.number ≡ middle.number → new.thrown.items ≡ middle.thrown.items
-      → IsGathered core table pc (gathered thrown first) middle.constraints.items new.constraints.items
+      → IsGatheredAt core table pc (gathered thrown first) middle.constraints.items new.constraints.items
       → IsWalked core table entries pc takers [] (gathered old.thrown.items old.number) k old new
   made-walked pc takers thrown k first gathered old middle new made first_is lent index number thrown_is added = λ left before levelled.
       passed-same core table entries pc (gathered old.thrown.items old.number) (gathered thrown first) k k left old new
       (λ named. ap (λ t. gathered t old.number named) (sym (lent ∙ ap (λ (p : Progress). p.thrown.items) made)) ∙ ap (λ n. gathered thrown n named) (sym first_is)) refl
       (alone-passed core table entries pc (gathered thrown first) k left old new before
       (index ∙ ap (λ (p : Progress). p.index) made) (number ∙ ap (λ (p : Progress). p.number) made) (thrown_is ∙ ap (λ (p : Progress). p.thrown.items) made)
-      (subst (λ cs. IsGathered core table pc (gathered thrown first) cs new.constraints.items) (ap (λ (p : Progress). p.constraints.items) made) added))
+      (subst (λ cs. IsGatheredAt core table pc (gathered thrown first) cs new.constraints.items) (ap (λ (p : Progress). p.constraints.items) made) added))
 
   -- the end of a block that is not reached
   pub unreached : (procedure : ℕ) (reached : Bool) (pc : Atom) (takers : Takers) (n : ℕ) (old : Progress) → reached ≡ false
@@ -81,7 +81,7 @@ module _ (core : Core) (table : List Label) (entries : List Exits) where
   -- the end of one that is
   pub reached-walked : (procedure : ℕ) (reached : Bool) (pc : Atom) (takers : Takers) (n : ℕ) (old new : Progress) → reached ≡ true
       → new.index ≡ old.index → new.number ≡ old.number → new.thrown.items ≡ old.thrown.items
-      → IsGathered core table pc (λ named. flow (named ∷ []) takers.normal) old.constraints.items new.constraints.items
+      → IsGatheredAt core table pc (λ named. flow (named ∷ []) takers.normal) old.constraints.items new.constraints.items
       → IsWalked core table entries pc takers [] (λ named. block_constraints (scope_of core procedure) reached named (takers_of takers old.thrown.items) n Empty) 0 old new
   reached-walked procedure reached pc takers n old new is index number thrown added =
       alone-walked core table entries pc takers (λ named. block_constraints (scope_of core procedure) reached named (takers_of takers old.thrown.items) n Empty) 0 old new index (omega (arith, number)) thrown

@@ -25,7 +25,7 @@ use Rattle.gathering.specs.Walk.{at_end, constraints_from, end_constraints, end_
 use Rattle.solver.specs.declared.system.Atom.{Atom}
 use Rattle.constraints.specs.Added.{AreAdded, IsPart, Stored}
 use Rattle.constraints.specs.LeftSides.{scope_of}
-use Rattle.constraints.specs.Procedures.{AreDeclared, HasPassedProcedure, IsKept, IsOf, IsProcedureWalked, end_takers_of, number_in}
+use Rattle.constraints.specs.Procedures.{AreDeclaredTakers, HasPassedProcedure, StaysInPlace, IsOf, IsProcedureWalked, end_takers_of, number_in}
 use Rattle.constraints.specs.Takers.{AreLevelled, AreWithin, no_entry, takers_of}
 use Rattle.constraints.specs.Walked.{HasPassed, IsBlockWalked}
 use Rattle.constraints.specs.declared.progress.Progress.{Progress}
@@ -56,7 +56,7 @@ ends-none core table f n only constraints is one =
 
 pub ends-added : (core : Core) (table : List Label) (f n level : ℕ) (only : Bool) (procedure : Procedure) (throws : List Thrown) (had taken given : List Entry) (old middle new : List Stored)
     → IsOf core f procedure → only ≡ ends_one_way (scope_of core f) → only ≡ false
-    → AreDeclared (here (scope_of core f)).throws (suc n) level had taken → throws ≡ procedure.throws.items → given ≡ taken
+    → AreDeclaredTakers (here (scope_of core f)).throws (suc n) level had taken → throws ≡ procedure.throws.items → given ≡ taken
     → AreAdded core table (rule_constraint (scope_of core f) procedure.at 13 (inner_atom n ∷ []) (ToEnd f)) old middle
     → (procedure.at ≡ (here (scope_of core f)).at → AreAdded core table (thrown_constraints (scope_of core f) (number_in given) (map thrown_entry throws)) middle new)
     → AreAdded core table (end_constraints (scope_of core f) n) old new
@@ -85,11 +85,11 @@ pub procedure-passed : (core : Core) (table : List Label) (entries : List Exits)
     → takers ≡ end_takers_of old.number barrier level only
     → IsPart core table (renamed Real (label_of (program_of core) (ToBegin f))) pc
     → middle.index ≡ old.index → middle.number ≡ start + count → middle.constraints.items ≡ old.constraints.items
-    → ((b : ℕ) → b < level → AreWithin b old.thrown.items → AreDeclared (map thrown_entry throws) start level old.thrown.items middle.thrown.items)
+    → ((b : ℕ) → b < level → AreWithin b old.thrown.items → AreDeclaredTakers (map thrown_entry throws) start level old.thrown.items middle.thrown.items)
     → IsBlockWalked core table entries f pc takers (block_of block) middle walked
-    → IsKept walked new
+    → StaysInPlace walked new
     → ((l : ℕ) (had : List Entry) → IsOf core f procedure → only ≡ ends_one_way (scope_of core f)
-    → AreDeclared (here (scope_of core f)).throws (suc old.number) l had walked.thrown.items
+    → AreDeclaredTakers (here (scope_of core f)).throws (suc old.number) l had walked.thrown.items
     → AreAdded core table (end_constraints (scope_of core f) old.number) walked.constraints.items new.constraints.items)
     → HasPassedProcedure core table entries f (suc barrier) left old new
 procedure-passed core table entries f barrier level start count procedure throws block pc takers only left old middle walked new is goes within level_is start_is count_is throws_are block_is one takers_are stands index_is number_is constraints_are takes walks kept ended =
@@ -106,10 +106,10 @@ procedure-passed core table entries f barrier level start count procedure throws
     let below : barrier < level = omega (arith, level_is) in
     let below_suc : barrier < suc barrier = omega arith in
     let upto : barrier ≤ suc barrier = omega arith in
-    let taken : AreDeclared declared (suc n) (suc barrier) old.thrown.items middle.thrown.items =
-    subst (λ list. AreDeclared list (suc n) (suc barrier) old.thrown.items middle.thrown.items) declared_is
-    (subst (λ k. AreDeclared (map thrown_entry throws) k (suc barrier) old.thrown.items middle.thrown.items) start_suc
-    (subst (λ l. AreDeclared (map thrown_entry throws) start l old.thrown.items middle.thrown.items) level_suc (takes barrier below within))) in
+    let taken : AreDeclaredTakers declared (suc n) (suc barrier) old.thrown.items middle.thrown.items =
+    subst (λ list. AreDeclaredTakers list (suc n) (suc barrier) old.thrown.items middle.thrown.items) declared_is
+    (subst (λ k. AreDeclaredTakers (map thrown_entry throws) k (suc barrier) old.thrown.items middle.thrown.items) start_suc
+    (subst (λ l. AreDeclaredTakers (map thrown_entry throws) start l old.thrown.items middle.thrown.items) level_suc (takes barrier below within))) in
     let inside : AreWithin (suc barrier) middle.thrown.items = taken-within declared (suc n) barrier (suc barrier) old.thrown.items middle.thrown.items upto within taken in
     let takers_suc : takers ≡ end_takers_of n barrier (suc barrier) only = takers_are ∙ ap (λ l. end_takers_of n barrier l only) level_suc in
     let passed : HasPassed core table entries pc (λ named. inner_block scope named (takers_of takers middle.thrown.items) middle.number body) (made_by_block body) left middle walked =
@@ -137,7 +137,7 @@ procedure-passed core table entries f barrier level start count procedure throws
       added = added-then core table (inner_block scope begin (end_takers scope n) (suc n + length declared) (here scope).body) (end_constraints scope n)
           old.constraints.items walked.constraints.items new.constraints.items
           (subst (λ cs. AreAdded core table (inner_block scope begin (end_takers scope n) (suc n + length declared) (here scope).body) cs walked.constraints.items) constraints_are first)
-          (ended (suc barrier) old.thrown.items is one (subst (AreDeclared declared (suc n) (suc barrier) old.thrown.items) (sym passed.thrown_is) taken));
+          (ended (suc barrier) old.thrown.items is one (subst (AreDeclaredTakers declared (suc n) (suc barrier) old.thrown.items) (sym passed.thrown_is) taken));
       entries_left = ap (λ k. drop k entries) kept.index_is ∙ passed.entries_left;
       number_is = omega (arith, number_suc, made, walked_number, kept_number, own);
       within = subst (AreWithin (suc barrier)) (sym taken_is) inside;

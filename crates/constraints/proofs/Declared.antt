@@ -16,7 +16,7 @@ use Rattle.gathering.specs.Names.{NamedConstraint}
 use Rattle.gathering.specs.Walk.{at_end, declares, inner_atom, nowhere, rule_constraint, thrown_constraints, thrown_number}
 use Rattle.constraints.specs.Added.{AreAdded, Stored}
 use Rattle.constraints.specs.LeftSides.{scope_of}
-use Rattle.constraints.specs.Procedures.{AreDeclared, declared_entry, end_takers_of, number_in}
+use Rattle.constraints.specs.Procedures.{AreDeclaredTakers, declared_entry, end_takers_of, number_in}
 use Rattle.constraints.specs.Takers.{AreWithin, entry_after, no_entry, taker_of, takers_of}
 use Rattle.constraints.specs.declared.takers.Entry.{Entry}
 use Rattle.constraints.proofs.Added.{added-same, added-then}
@@ -94,7 +94,7 @@ declared-taker (x ∷ xs) n barrier level e old below within =
     go false rest = rest
 
 pub takers-at-end : (throws : List ThrownEntry) (n barrier level : ℕ) (only : Bool) (old new : List Entry) → barrier < level → AreWithin barrier old
-    → AreWithin level new → AreDeclared throws (suc n) level old new
+    → AreWithin level new → AreDeclaredTakers throws (suc n) level old new
     → takers_of (end_takers_of n barrier level only) new ≡ (if only then nowhere else at_end n throws)
 takers-at-end throws n barrier level true old new below within levelled taken = λ i exit. each exit i
   where
@@ -126,7 +126,7 @@ declared-within (x ∷ xs) n level e old within = go (e == x.exception) (declare
     go false rest = rest
 
 pub taken-within : (throws : List ThrownEntry) (n barrier level : ℕ) (old new : List Entry) → barrier ≤ level → AreWithin barrier old
-    → AreDeclared throws n level old new → AreWithin level new
+    → AreDeclaredTakers throws n level old new → AreWithin level new
 taken-within throws n barrier level old new below within taken = λ e.
     let had : (get_or old e no_entry).level ≤ barrier = within e in
     subst (λ (entry : Entry). entry.level ≤ level) (sym (taken e)) (declared-within throws n level e (get_or old e no_entry) (omega (arith, had, below)))
@@ -155,7 +155,7 @@ thrown-same scope f g (x ∷ xs) same =
     more true b is = refl
     more false b is = is
 
-pub thrown-numbers : (scope : Scope) (throws : List ThrownEntry) (n level : ℕ) (old new : List Entry) → AreDeclared throws n level old new
+pub thrown-numbers : (scope : Scope) (throws : List ThrownEntry) (n level : ℕ) (old new : List Entry) → AreDeclaredTakers throws n level old new
     → thrown_constraints scope (number_in new) throws ≡ thrown_constraints scope (λ x. thrown_number throws n x) throws
 thrown-numbers scope throws n level old new taken =
     thrown-same scope (number_in new) (λ x. thrown_number throws n x) throws

@@ -22,7 +22,7 @@ use Rattle.gathering.specs.Names.{NamedAtom, NamedConstraint, Real, named_atoms}
 use Rattle.gathering.specs.Walk as walk
 use Rattle.gathering.specs.Walk.{block_constraints, flow, handler_count, handler_number, handlers_constraints, in_loop, in_try, inner_atom, inner_block, inner_constraint, made_by_block, made_by_handlers, made_by_statement, raise_atoms, raised_flows, rule_constraint, single, statement_constraints, with_normal, within_single}
 use Rattle.solver.specs.declared.system.Atom.{Atom}
-use Rattle.constraints.specs.Added.{IsGathered, IsPart}
+use Rattle.constraints.specs.Added.{IsGatheredAt, IsPart}
 use Rattle.constraints.specs.LeftSides.{scope_of}
 use Rattle.constraints.specs.Takers.{AreLevelled, AreWithin, takers_of, undone}
 use Rattle.constraints.specs.Walks.{IsSimple, loop_head_constraints}
@@ -156,8 +156,8 @@ module _ (core : Core) (table : List Label) (entries : List Exits) (procedure : 
       (begins.taken levelled).levels_are (begins.taken levelled).takers_are
       (ap (λ i. drop i entries) begins.index_is ∙ paths-then (block_paths program block) (handlers_paths program handlers) (drop old.index entries) left before) walked in
       let one : HasPassed core table entries pc trying (count + made_by_block block) rest old after = record {
-        added = subst (λ cs. IsGathered core table pc trying cs after.constraints.items) (ap (λ (v : _). v.items) begins.constraints_are)
-            (subst (λ cs. IsGathered core table pc trying begun.constraints.items cs) (sym constraints_are) inner.added);
+        added = subst (λ cs. IsGatheredAt core table pc trying cs after.constraints.items) (ap (λ (v : _). v.items) begins.constraints_are)
+            (subst (λ cs. IsGatheredAt core table pc trying begun.constraints.items cs) (sym constraints_are) inner.added);
         entries_left = ap (λ i. drop i entries) index_is ∙ inner.entries_left;
         number_is = omega (arith, number_is, inner.number_is, begins.number_is);
         thrown_is = thrown_is ∙ (ap (undone tried.saved.items) inner.thrown_is ∙ begins.saved_is);

@@ -58,7 +58,7 @@ module _ (l : Lattice Label) (table : List Label) where
   constraints-are (c ∷ cs) [] is = absurd (cc)
 
 module _ (table : List Label) (count : ℕ) where
-  atom-below : (a : Atom) (b : formal.Atom ℕ Label) → part table a ≡ wanted b → walk.IsBelow count b → IsBelow (length table) count a
+  atom-below : (a : Atom) (b : formal.Atom ℕ Label) → part table a ≡ wanted b → walk.IsUnknownBelow count b → IsBelow (length table) count a
   atom-below (stored.Written n) (formal.Written label) is below =
       let there : slice_get table n ≡ Some label = cc in
       slice_get_within table n label there
@@ -67,7 +67,7 @@ module _ (table : List Label) (count : ℕ) where
   atom-below (stored.Unknown u) (formal.Written label) is below = absurd (cc)
 
   atoms-below : (xs : List Atom) (bs : List (formal.Atom ℕ Label)) → parts table xs ≡ map wanted bs
-      → ((b : formal.Atom ℕ Label) → Contains bs b → walk.IsBelow count b) → AreBelow (length table) count xs
+      → ((b : formal.Atom ℕ Label) → Contains bs b → walk.IsUnknownBelow count b) → AreBelow (length table) count xs
   atoms-below [] [] is below = All-nil (IsBelow (length table) count)
   atoms-below (a ∷ xs) (b ∷ bs) is below =
       let head : part table a ≡ wanted b = cc in
@@ -79,7 +79,7 @@ module _ (table : List Label) (count : ℕ) where
   abbrev fits : Stored → Type 0
   fits c = AreBelow (length table) count c.left.items × IsBelow (length table) count c.right
 
-  pub constraints-in-range : (cs : List Stored) (gs : List Gathered) → stand_for table cs ≡ map wanted_of gs → walk.AreBelow count gs
+  pub constraints-in-range : (cs : List Stored) (gs : List Gathered) → stand_for table cs ≡ map wanted_of gs → walk.AreUnknownsBelow count gs
       → InRange (length table) count cs
   constraints-in-range [] [] is below = All-nil fits
   constraints-in-range (c ∷ cs) (g ∷ gs) is below =

@@ -8,7 +8,7 @@ use Rattle.path_map.specs.declared.exits.Exits.{Exits}
 use Rattle.path_map.specs.Exits.{exits_of}
 use Rattle.gathering.specs.Names.{NamedAtom, NamedConstraint}
 use Rattle.solver.specs.declared.system.Atom.{Atom}
-use Rattle.constraints.specs.Added.{IsGathered, IsPart}
+use Rattle.constraints.specs.Added.{IsGatheredAt, IsPart}
 use Rattle.constraints.specs.Takers.{AreLevelled}
 use Rattle.constraints.specs.Walked.{HasPassed, IsWalked}
 use Rattle.constraints.specs.declared.progress.Progress.{Progress}
@@ -29,7 +29,7 @@ module _ (core : Core) (table : List Label) (entries : List Exits) where
   -- a piece that takes no entry of the path map
   pub alone-passed : (pc : Atom) (gathered : NamedAtom → List NamedConstraint) (made : ℕ) (left : List Exits) (old new : Progress)
       → drop old.index entries ≡ left → new.index ≡ old.index → new.number ≡ old.number + made → new.thrown.items ≡ old.thrown.items
-      → IsGathered core table pc gathered old.constraints.items new.constraints.items
+      → IsGatheredAt core table pc gathered old.constraints.items new.constraints.items
       → HasPassed core table entries pc gathered made left old new
   alone-passed pc gathered made left old new before index number thrown added = record {
     added = added;
@@ -40,7 +40,7 @@ module _ (core : Core) (table : List Label) (entries : List Exits) where
 
   pub alone-walked : (pc : Atom) (takers : Takers) (gathered : NamedAtom → List NamedConstraint) (made : ℕ) (old new : Progress)
       → new.index ≡ old.index → new.number ≡ old.number + made → new.thrown.items ≡ old.thrown.items
-      → IsGathered core table pc gathered old.constraints.items new.constraints.items
+      → IsGatheredAt core table pc gathered old.constraints.items new.constraints.items
       → IsWalked core table entries pc takers [] gathered made old new
   alone-walked pc takers gathered made old new index number thrown added =
       λ left before levelled. alone-passed pc gathered made left old new before index number thrown added

@@ -25,25 +25,25 @@ use Rattle.gathering.specs.Names.{Real, own_unknowns, unknowns_before}
 use Rattle.solver.specs.declared.system.Atom.{Atom}
 use Rattle.solver.specs.declared.system.Atom.TheVariants as stored
 use Rattle.constraints.specs.LeftSides.{Part, Unknown, Written, part, part_of, parts, wanted_part}
-use Rattle.constraints.specs.Rows.{Grows, Mean, Means, AreRows, IsRow, IsTable, label_among, slot_parts, thrown_parts, written_atom, written_part}
+use Rattle.constraints.specs.Rows.{TableGrows, Mean, Means, AreProcedureRows, IsRow, IsTable, label_among, slot_parts, thrown_parts, written_atom, written_part}
 use Rattle.constraints.specs.declared.rows.Row.{Row}
 use Rattle.constraints.specs.declared.rows.ThrownLabel.{ThrownLabel}
 
 -- a table that grew
-pub grows-none : (table : List Label) → Grows table table
+pub grows-none : (table : List Label) → TableGrows table table
 grows-none table = record { added = []; is = sym (append-nil table) }
 
-pub grows-then : (a b c : List Label) → Grows a b → Grows b c → Grows a c
+pub grows-then : (a b c : List Label) → TableGrows a b → TableGrows b c → TableGrows a c
 grows-then a b c first second = record {
   added = first.added ++ second.added;
   is = second.is ∙ (ap (λ t. t ++ second.added) first.is ∙ append_assoc a first.added second.added);
 }
 
 -- more behind a table that grew
-pub behind : (old new more : List Label) (grown : Grows old new) → new ++ more ≡ old ++ (grown.added ++ more)
+pub behind : (old new more : List Label) (grown : TableGrows old new) → new ++ more ≡ old ++ (grown.added ++ more)
 behind old new more grown = ap (λ t. t ++ more) grown.is ∙ append_assoc old grown.added more
 
-pub means-more : (old new : List Label) (atom : Atom) (m : Part) → Grows old new → Means old atom m → Means new atom m
+pub means-more : (old new : List Label) (atom : Atom) (m : Part) → TableGrows old new → Means old atom m → Means new atom m
 means-more old new atom m grown means = λ more.
     ap (λ t. part t atom) (behind old new more grown) ∙ means (grown.added ++ more)
 
@@ -55,12 +55,12 @@ means-listed table n label inside listed = λ more.
     (slice_get-get_or (table ++ more) n [] (let within : n < length (table ++ more) = omega (arith, inside, length-append table more) in within)
     ∙ ap (λ l. Some l) (get_or_append_left table more [] n inside ∙ listed []))
 
-pub mean-more : (old new : List Label) (atoms : List Atom) (ms : List Part) → Grows old new → Mean old atoms ms → Mean new atoms ms
+pub mean-more : (old new : List Label) (atoms : List Atom) (ms : List Part) → TableGrows old new → Mean old atoms ms → Mean new atoms ms
 mean-more old new atoms ms grown mean = λ more.
     ap (λ t. parts t atoms) (behind old new more grown) ∙ mean (grown.added ++ more)
 
 pub mean-step : (old new : List Label) (atoms : List Atom) (atom : Atom) (ms : List Part) (m : Part)
-    → Grows old new → Mean old atoms ms → Means new atom m → Mean new (atoms ++ atom ∷ []) (ms ++ m ∷ [])
+    → TableGrows old new → Mean old atoms ms → Means new atom m → Mean new (atoms ++ atom ∷ []) (ms ++ m ∷ [])
 mean-step old new atoms atom ms m grown mean means = λ more.
     map-append (part (new ++ more)) atoms (atom ∷ [])
     ∙ (ap (λ xs. xs ++ (part (new ++ more) atom ∷ [])) (mean-more old new atoms ms grown mean more)
@@ -73,7 +73,7 @@ next-of f xs i x inside is = map_more f xs i x inside ∙ ap (λ y. map f (take 
 
 -- written labels: one more
 pub written-next : {A : Type 0} (label : A → Label) (xs : List A) (i : ℕ) (x : A) (old new : List Label) (atoms atoms' : List Atom) (atom : Atom)
-    → i < length xs → x ≡ get_or xs i x → atoms' ≡ atoms ++ atom ∷ [] → Grows old new
+    → i < length xs → x ≡ get_or xs i x → atoms' ≡ atoms ++ atom ∷ [] → TableGrows old new
     → Mean old atoms (map (λ y. Written (label y)) (take i xs)) → Means new atom (Written (label x))
     → Mean new atoms' (map (λ y. Written (label y)) (take (i + 1) xs))
 written-next label xs i x old new atoms atoms' atom inside is pushed grown mean means = λ more.
@@ -95,7 +95,7 @@ exceptions-next throws i x labels labels' label inside is pushed before =
 
 pub labels-next : (throws : List Thrown) (i : ℕ) (x : Thrown) (old new : List Label) (labels labels' : List ThrownLabel) (label : Atom)
     → i < length throws → x ≡ get_or throws i x → labels' ≡ labels ++ record { exception = x.exception; label = label } ∷ []
-    → Grows old new
+    → TableGrows old new
     → ((more : List Label) → thrown_parts (old ++ more) labels
     ≡ map (λ (entry : ThrownEntry). Written entry.label) (map thrown_entry (take i throws)))
     → Means new label (Written x.label)
@@ -122,7 +122,7 @@ slots-append first (y ∷ xs) x =
 
 pub slots-next : (slots : List Slot) (i : ℕ) (x : Slot) (first number : ℕ) (old new : List Label) (atoms atoms' : List Atom) (atom : Atom)
     → i < length slots → x ≡ get_or slots i x → number ≡ first + i → atoms' ≡ atoms ++ atom ∷ []
-    → Grows old new → Mean old atoms (slot_parts first (map slot_entry (take i slots))) → Means new atom (written_part x.written number)
+    → TableGrows old new → Mean old atoms (slot_parts first (map slot_entry (take i slots))) → Means new atom (written_part x.written number)
     → Mean new atoms' (slot_parts first (map slot_entry (take (i + 1) slots)))
 slots-next slots i x first number old new atoms atoms' atom inside is counted pushed grown mean means = λ more.
     let before : List SlotEntry = map slot_entry (take i slots) in
@@ -134,23 +134,23 @@ slots-next slots i x first number old new atoms atoms' atom inside is counted pu
     ∙ ap (slot_parts first) (sym (next-of slot_entry slots i x inside is)))))
 
 -- rows
-pub row-more : (old new more : List Label) (first : ℕ) (procedure : ProcedureEntry) (row : Row) → Grows old new
+pub row-more : (old new more : List Label) (first : ℕ) (procedure : ProcedureEntry) (row : Row) → TableGrows old new
     → ((more : List Label) → IsRow (old ++ more) first procedure row) → IsRow (new ++ more) first procedure row
 row-more old new more first procedure row grown each =
     subst (λ table. IsRow table first procedure row) (sym (behind old new more grown)) (each (grown.added ++ more))
 
-pub rows-more : (old new more : List Label) (first : ℕ) (procedures : List ProcedureEntry) (rows : List Row) → Grows old new
-    → ((more : List Label) → AreRows (old ++ more) first procedures rows) → AreRows (new ++ more) first procedures rows
+pub rows-more : (old new more : List Label) (first : ℕ) (procedures : List ProcedureEntry) (rows : List Row) → TableGrows old new
+    → ((more : List Label) → AreProcedureRows (old ++ more) first procedures rows) → AreProcedureRows (new ++ more) first procedures rows
 rows-more old new more first procedures rows grown each =
-    subst (λ table. AreRows table first procedures rows) (sym (behind old new more grown)) (each (grown.added ++ more))
+    subst (λ table. AreProcedureRows table first procedures rows) (sym (behind old new more grown)) (each (grown.added ++ more))
 
 step-count : (first : ℕ) (p : ProcedureEntry) (procedures : List ProcedureEntry)
     → first + sum_by own_unknowns (p ∷ procedures) ≡ (first + own_unknowns p) + sum_by own_unknowns procedures
 step-count first p procedures = omega (arith, sum_by-cons own_unknowns p procedures)
 
 pub rows-append : (table : List Label) (first : ℕ) (procedures : List ProcedureEntry) (procedure : ProcedureEntry) (rows : List Row) (row : Row)
-    → AreRows table first procedures rows → IsRow table (first + sum_by own_unknowns procedures) procedure row
-    → AreRows table first (procedures ++ procedure ∷ []) (rows ++ row ∷ [])
+    → AreProcedureRows table first procedures rows → IsRow table (first + sum_by own_unknowns procedures) procedure row
+    → AreProcedureRows table first (procedures ++ procedure ∷ []) (rows ++ row ∷ [])
 rows-append table first [] procedure [] row are is =
     (subst (λ n. IsRow table n procedure row) (let e : first + 0 ≡ first = omega arith in e) is, tt)
 rows-append table first (p ∷ procedures) procedure (r ∷ rows) row are is = (
@@ -162,7 +162,7 @@ rows-append table first [] procedure (r ∷ rows) row are is = absurd are
 rows-append table first (p ∷ procedures) procedure [] row are is = absurd are
 
 pub row-made : (procedure : Procedure) (first : ℕ) (t1 t2 t3 t4 t5 : List Label) (begin end value : Atom) (slots : List Slot) (atoms : List Atom) (throws : List Thrown) (labels : List ThrownLabel) (count loops : ℕ)
-    → Grows t1 t2 → Grows t2 t3 → Grows t3 t4 → Grows t4 t5
+    → TableGrows t1 t2 → TableGrows t2 t3 → TableGrows t3 t4 → TableGrows t4 t5
     → Means t1 begin (Written procedure.begin_label) → Means t2 end (Written procedure.end_label)
     → Means t3 value (Written (result_label (result_entry procedure.result)))
     → slots ≡ procedure.slots.items → Mean t4 atoms (slot_parts first (map slot_entry slots))
@@ -192,15 +192,15 @@ row-made procedure first t1 t2 t3 t4 t5 begin end value slots atoms throws label
 }
 
 pub rows-next : (procedures : List Procedure) (i : ℕ) (p : Procedure) (old new : List Label) (rows rows' : List Row) (row : Row) (first : ℕ)
-    → i < length procedures → p ≡ get_or procedures i p → rows' ≡ rows ++ row ∷ [] → Grows old new
-    → ((more : List Label) → AreRows (old ++ more) 0 (map procedure_entry (take i procedures)) rows)
+    → i < length procedures → p ≡ get_or procedures i p → rows' ≡ rows ++ row ∷ [] → TableGrows old new
+    → ((more : List Label) → AreProcedureRows (old ++ more) 0 (map procedure_entry (take i procedures)) rows)
     → ((more : List Label) → IsRow (new ++ more) first (procedure_entry p) row)
     → first ≡ sum_by own_unknowns (map procedure_entry (take i procedures))
-    → (more : List Label) → AreRows (new ++ more) 0 (map procedure_entry (take (i + 1) procedures)) rows'
+    → (more : List Label) → AreProcedureRows (new ++ more) 0 (map procedure_entry (take (i + 1) procedures)) rows'
 rows-next procedures i p old new rows rows' row first inside is pushed grown are each counted more =
     let before : List ProcedureEntry = map procedure_entry (take i procedures) in
-    subst (λ all. AreRows (new ++ more) 0 all rows') (sym (next-of procedure_entry procedures i p inside is))
-    (subst (λ all. AreRows (new ++ more) 0 (before ++ procedure_entry p ∷ []) all) (sym pushed)
+    subst (λ all. AreProcedureRows (new ++ more) 0 all rows') (sym (next-of procedure_entry procedures i p inside is))
+    (subst (λ all. AreProcedureRows (new ++ more) 0 (before ++ procedure_entry p ∷ []) all) (sym pushed)
     (rows-append (new ++ more) 0 before (procedure_entry p) rows row
     (rows-more old new more 0 before rows grown (λ rest. are rest))
     (subst (λ n. IsRow (new ++ more) n (procedure_entry p) row)
@@ -216,7 +216,7 @@ looked-up f g (x ∷ xs) (y ∷ ys) zero d e same default = cc
 looked-up f g (x ∷ xs) (y ∷ ys) (suc n) d e same default = looked-up f g xs ys n d e (let tails : map f xs ≡ map g ys = cc in tails) default
 
 pub row-at : (table : List Label) (first : ℕ) (procedures : List ProcedureEntry) (rows : List Row) (f : ℕ) (empty : ProcedureEntry) (outside : Row)
-    → AreRows table first procedures rows → IsRow table (first + sum_by own_unknowns procedures) empty outside
+    → AreProcedureRows table first procedures rows → IsRow table (first + sum_by own_unknowns procedures) empty outside
     → IsRow table (first + sum_by own_unknowns (take f procedures)) (get_or procedures f empty) (get_or rows f outside)
 row-at table first [] [] zero empty outside are is = is
 row-at table first [] [] (suc f) empty outside are is = is
@@ -354,10 +354,10 @@ no_procedure = record {
 -- the parts of a whole program
 pub table-made : (core : Core) (t1 t2 t3 t4 : List Label) (nothing : Atom) (channels globals : List Atom) (rows : List Row) (outside : Row)
     (cs : List Channel) (gs : List GlobalVariable) (ps : List Procedure) (unknowns : ℕ)
-    → Grows t1 t2 → Grows t2 t3 → Grows t3 t4
+    → TableGrows t1 t2 → TableGrows t2 t3 → TableGrows t3 t4
     → Means t1 nothing (Written []) → Mean t2 channels (map (λ (channel : Channel). Written channel.label) cs)
     → Mean t3 globals (map (λ (variable : GlobalVariable). Written variable.label) gs)
-    → ((more : List Label) → AreRows (t4 ++ more) 0 (map procedure_entry ps) rows)
+    → ((more : List Label) → AreProcedureRows (t4 ++ more) 0 (map procedure_entry ps) rows)
     → unknowns ≡ sum_by own_unknowns (map procedure_entry ps)
     → cs ≡ core.channels.items → gs ≡ core.globals.items → ps ≡ core.procedures.items
     → outside.begin ≡ nothing → outside.end ≡ nothing → outside.value ≡ nothing → outside.slots.items ≡ [] → outside.throws.items ≡ []
@@ -368,9 +368,9 @@ table-made core t1 t2 t3 t4 nothing channels globals rows outside cs gs ps unkno
     let nil : t4 ++ [] ≡ t4 = append-nil t4 in
     let nothing-is : part t4 nothing ≡ Written [] =
     subst (λ t. part t nothing ≡ Written []) nil (means-more t1 t4 nothing (Written []) (grows-then t1 t2 t4 g2 (grows-then t2 t3 t4 g3 g4)) none []) in
-    let rows-here : AreRows t4 0 program.procedures rows =
-    subst (λ t. AreRows t 0 program.procedures rows) nil
-    (subst (λ list. AreRows (t4 ++ []) 0 (map procedure_entry list) rows) same-ps (are [])) in
+    let rows-here : AreProcedureRows t4 0 program.procedures rows =
+    subst (λ t. AreProcedureRows t 0 program.procedures rows) nil
+    (subst (λ list. AreProcedureRows (t4 ++ []) 0 (map procedure_entry list) rows) same-ps (are [])) in
     let total : unknowns ≡ sum_by own_unknowns program.procedures = counted ∙ ap (λ list. sum_by own_unknowns (map procedure_entry list)) same-ps in
     let all : 0 + sum_by own_unknowns program.procedures ≡ unknowns = omega (arith, total) in
     record {

@@ -65,8 +65,8 @@ AreAdded core table added old new =
     stand_for table new ≡ stand_for table old ++ map (wanted_constraint (program_of core)) added
 
 -- what is gathered at a pc was added
-abbrev pub IsGathered : Core → (table : List Label) → (pc : Atom) → (NamedAtom → List NamedConstraint) → (old new : List Stored) → Type 0
-IsGathered core table pc gathered old new =
+abbrev pub IsGatheredAt : Core → (table : List Label) → (pc : Atom) → (NamedAtom → List NamedConstraint) → (old new : List Stored) → Type 0
+IsGatheredAt core table pc gathered old new =
     (named : NamedAtom) → IsPart core table named pc → AreAdded core table (gathered named) old new
 
 -- a flow if a test holds

@@ -25,8 +25,8 @@ declared_entry [] n level x old = old
 declared_entry (entry ∷ rest) n level x old =
     if x == entry.exception then (record { number = n; level = level }) else declared_entry rest (suc n) level x old
 
-abbrev pub AreDeclared : List ThrownEntry → (n level : ℕ) → (old new : List Entry) → Type 0
-AreDeclared throws n level old new =
+abbrev pub AreDeclaredTakers : List ThrownEntry → (n level : ℕ) → (old new : List Entry) → Type 0
+AreDeclaredTakers throws n level old new =
     (x : ℕ) → slice_index_or new x no_entry ≡ declared_entry throws n level x (slice_index_or old x no_entry)
 
 -- the number of the taker of an exception
@@ -41,7 +41,7 @@ end_takers_of n barrier level false =
     record { normal = Some n; returns = Some n; breaks = None; continues = None; barrier = barrier; level = level }
 
 -- a walk that stays where it is, and keeps its takers
-pub record IsKept (old new : Progress) : Type 0 where
+pub record StaysInPlace (old new : Progress) : Type 0 where
   pub index_is : new.index ≡ old.index
   pub number_is : new.number ≡ old.number
   pub thrown_is : new.thrown.items ≡ old.thrown.items

@@ -41,12 +41,12 @@ pub record IsRow (table : List Label) (first : ℕ) (procedure : ProcedureEntry)
   pub loops_is : row.loops ≡ first + length procedure.slots
 
 -- rows for procedures in order
-abbrev pub AreRows : (table : List Label) → (first : ℕ) → List ProcedureEntry → List Row → Type 0
-AreRows table first [] [] = Unit {0}
-AreRows table first [] (row ∷ rows) = ⊥
-AreRows table first (procedure ∷ rest) [] = ⊥
-AreRows table first (procedure ∷ rest) (row ∷ rows) =
-    IsRow table first procedure row × AreRows table (first + own_unknowns procedure) rest rows
+abbrev pub AreProcedureRows : (table : List Label) → (first : ℕ) → List ProcedureEntry → List Row → Type 0
+AreProcedureRows table first [] [] = Unit {0}
+AreProcedureRows table first [] (row ∷ rows) = ⊥
+AreProcedureRows table first (procedure ∷ rest) [] = ⊥
+AreProcedureRows table first (procedure ∷ rest) (row ∷ rows) =
+    IsRow table first procedure row × AreProcedureRows table (first + own_unknowns procedure) rest rows
 
 -- an atom that is written, or else another one; and the label of an exception among declared ones, or else another one
 abbrev pub written_atom : Atom → (default : Atom) → Atom
@@ -66,7 +66,7 @@ abbrev pub Mean : (table : List Label) → List Atom → List Part → Type 0
 Mean table atoms meanings = (more : List Label) → parts (table ++ more) atoms ≡ meanings
 
 -- a table of written labels that grew
-pub record Grows (old new : List Label) : Type 0 where
+pub record TableGrows (old new : List Label) : Type 0 where
   pub added : List Label
   pub is : new ≡ old ++ added
 

@@ -17,7 +17,7 @@ use Rattle.gathering.specs.Names.{NamedAtom, NamedConstraint, named_atoms}
 use Rattle.gathering.specs.Walk as walk
 use Rattle.gathering.specs.Walk.{block_constraints, handler_count, handler_number, handlers_constraints, in_try, inner_block, inner_constraint, made_by_block, made_by_handlers, made_by_statement, raise_atoms, raised_flows, single, statement_constraints, with_normal, within_single}
 use Rattle.solver.specs.declared.system.Atom.{Atom}
-use Rattle.constraints.specs.Added.{IsGathered}
+use Rattle.constraints.specs.Added.{IsGatheredAt}
 use Rattle.constraints.specs.LeftSides.{scope_of}
 use Rattle.constraints.specs.Takers.{AreLevelled, takers_of, undone}
 use Rattle.constraints.specs.declared.pieces.Tried.{Tried}
@@ -26,7 +26,7 @@ use Rattle.constraints.specs.declared.takers.Takers.{Takers}
 
 -- a walk that came past what is gathered thus and makes so many inner unknowns, with these entries of the path map left
 pub record HasPassed (core : Core) (table : List Label) (entries : List Exits) (pc : Atom) (gathered : NamedAtom → List NamedConstraint) (made : ℕ) (left : List Exits) (old new : Progress) : Type 0 where
-  pub added : IsGathered core table pc gathered old.constraints.items new.constraints.items
+  pub added : IsGatheredAt core table pc gathered old.constraints.items new.constraints.items
   pub entries_left : drop new.index entries ≡ left
   pub number_is : new.number ≡ old.number + made
   pub thrown_is : new.thrown.items ≡ old.thrown.items

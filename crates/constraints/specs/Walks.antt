@@ -15,7 +15,7 @@ use Rattle.gathering.specs.Names.{NamedAtom, NamedConstraint, Real, named_atoms}
 use Rattle.gathering.specs.Walk as walk
 use Rattle.gathering.specs.Walk.{flow, inner_atom, inner_constraint, raise_atoms, raised_flows, rule_constraint, statement_constraints}
 use Rattle.solver.specs.declared.system.Atom.{Atom}
-use Rattle.constraints.specs.Added.{IsGathered, Stored}
+use Rattle.constraints.specs.Added.{IsGatheredAt, Stored}
 use Rattle.constraints.specs.LeftSides.{scope_of}
 
 -- a statement that works a value out and goes on at an end: what the value flows to, and its ends
@@ -28,7 +28,7 @@ valued_constraints scope pc takers at rule e target exit =
 -- what is gathered of a statement without inner unknowns was added
 abbrev pub IsSimple : Core → (table : List Label) → (procedure : ℕ) → (pc : Atom) → walk.Takers → Statement → (old new : List Stored) → Type 0
 IsSimple core table procedure pc takers statement old new =
-    (n : ℕ) → IsGathered core table pc (λ named. statement_constraints (scope_of core procedure) named takers n statement) old new
+    (n : ℕ) → IsGatheredAt core table pc (λ named. statement_constraints (scope_of core procedure) named takers n statement) old new
 
 -- what is gathered of a loop before its body
 abbrev pub loop_head_constraints : Scope → (pc : NamedAtom) → walk.Takers → (inner : ℕ) → (at loop : ℕ) → Expression → List NamedConstraint

@@ -1,5 +1,5 @@
 //! The pieces of what is gathered of statements with blocks.
-ghost use Rattle.constraints.specs.Added.{AreAdded, IsGathered};
+ghost use Rattle.constraints.specs.Added.{AreAdded, IsGatheredAt};
 ghost use Rattle.constraints.specs.LeftSides.{scope_of};
 ghost use Rattle.constraints.specs.Takers.{takers_of};
 ghost use Rattle.constraints.specs.Walks.{loop_head_constraints};
@@ -53,7 +53,7 @@ impl<'a> Walk<'a> {
         constraints: &mut Vec<Constraint<Option<Target>>>,
     ) -> Result<(), AllocError>
         ensures { OnOk result ((ends : List Exit) → exits ≡ exits_of ends →
-            IsGathered self.now.table.now.core.now self.now.table.now.written.items pc
+            IsGatheredAt self.now.table.now.core.now self.now.table.now.written.items pc
             (λ (named : NamedAtom).
             single (one_end ends) named (takers_of takers thrown.now) ends)
             constraints.old.items constraints.new.items) }
@@ -77,7 +77,7 @@ impl<'a> Walk<'a> {
         pc: Atom,
         constraints: &mut Vec<Constraint<Option<Target>>>,
     ) -> Result<(), AllocError>
-        ensures { OnOk result (IsGathered self.now.table.now.core.now
+        ensures { OnOk result (IsGatheredAt self.now.table.now.core.now
             self.now.table.now.written.items pc
             (λ (named : NamedAtom). inner_constraint (named ∷ named_atoms (value_label
             (scope_of self.now.table.now.core.now self.now.procedure)
@@ -100,7 +100,7 @@ impl<'a> Walk<'a> {
         thrown: &[Entry],
         constraints: &mut Vec<Constraint<Option<Target>>>,
     ) -> Result<(), AllocError>
-        ensures { OnOk result (IsGathered self.now.table.now.core.now
+        ensures { OnOk result (IsGatheredAt self.now.table.now.core.now
             self.now.table.now.written.items pc
             (λ (named : NamedAtom). raised_flows (named ∷ named_atoms (raise_atoms
             (scope_of self.now.table.now.core.now self.now.procedure)
@@ -125,7 +125,7 @@ impl<'a> Walk<'a> {
         pc: Atom,
         constraints: &mut Vec<Constraint<Option<Target>>>,
     ) -> Result<(), AllocError>
-        ensures { OnOk result (IsGathered self.now.table.now.core.now
+        ensures { OnOk result (IsGatheredAt self.now.table.now.core.now
             self.now.table.now.written.items pc
             (λ (named : NamedAtom). rule_constraint
             (scope_of self.now.table.now.core.now self.now.procedure) at 8 (named ∷ [])
@@ -150,7 +150,7 @@ impl<'a> Walk<'a> {
         thrown: &[Entry],
         constraints: &mut Vec<Constraint<Option<Target>>>,
     ) -> Result<(), AllocError>
-        ensures { OnOk result (IsGathered self.now.table.now.core.now
+        ensures { OnOk result (IsGatheredAt self.now.table.now.core.now
             self.now.table.now.written.items pc
             (λ (named : NamedAtom). loop_head_constraints
             (scope_of self.now.table.now.core.now self.now.procedure) named

@@ -1,5 +1,5 @@
 //! How the table of a program's labels is built.
-ghost use Rattle.constraints.specs.Rows.{AreRows, Grows, IsRow, Mean, Means, slot_parts, thrown_parts, written_part};
+ghost use Rattle.constraints.specs.Rows.{AreProcedureRows, TableGrows, IsRow, Mean, Means, slot_parts, thrown_parts, written_part};
 ghost use Rattle.gathering.specs.Names.{own_unknowns};
 ghost use Rattle.constraints.specs.LeftSides.{Written};
 ghost use Rattle.labels.specs.Label.{Label};
@@ -26,7 +26,7 @@ pub(crate) fn channel_parts(
     written: &mut Labels,
     channels: &[Channel],
 ) -> Result<Vec<Atom>, AllocError>
-    ensures grown { OnOk result (Grows written.old.list.items written.new.list.items) }
+    ensures grown { OnOk result (TableGrows written.old.list.items written.new.list.items) }
     ensures meaning { IfOk result (λ atoms. Mean written.new.list.items atoms.items
         (map (λ (channel : Channel). Written channel.label) channels.now)) }
 {
@@ -43,7 +43,7 @@ pub(crate) fn global_parts(
     written: &mut Labels,
     globals: &[GlobalVariable],
 ) -> Result<Vec<Atom>, AllocError>
-    ensures grown { OnOk result (Grows written.old.list.items written.new.list.items) }
+    ensures grown { OnOk result (TableGrows written.old.list.items written.new.list.items) }
     ensures meaning { IfOk result (λ atoms. Mean written.new.list.items atoms.items
         (map (λ (variable : GlobalVariable). Written variable.label) globals.now)) }
 {
@@ -56,7 +56,7 @@ pub(crate) fn global_parts(
 
 // The part of a slot's label, which is the unknown with this number if it is not written.
 fn slot_part(written: &mut Labels, label: &Option<Label>, number: u32) -> Result<Atom, AllocError>
-    ensures grown { OnOk result (Grows written.old.list.items written.new.list.items) }
+    ensures grown { OnOk result (TableGrows written.old.list.items written.new.list.items) }
     ensures meaning { IfOk result (λ atom. Means written.new.list.items atom
         (written_part label.now number)) }
 {
@@ -73,7 +73,7 @@ fn slot_parts(
     slots: &[Slot],
     first: u32,
 ) -> Result<Vec<Atom>, AllocError>
-    ensures grown { OnOk result (Grows written.old.list.items written.new.list.items) }
+    ensures grown { OnOk result (TableGrows written.old.list.items written.new.list.items) }
     ensures meaning { IfOk result (λ atoms. Mean written.new.list.items atoms.items
         (slot_parts first (map slot_entry slots.now))) }
 {
@@ -90,7 +90,7 @@ fn thrown_labels(
     written: &mut Labels,
     throws: &[Thrown],
 ) -> Result<Vec<ThrownLabel>, AllocError>
-    ensures grown { OnOk result (Grows written.old.list.items written.new.list.items) }
+    ensures grown { OnOk result (TableGrows written.old.list.items written.new.list.items) }
     ensures exceptions { IfOk result (λ labels.
         map (λ (thrown : ThrownLabel). thrown.exception) labels.items
         ≡ declared_by (map thrown_entry throws.now)) }
@@ -115,7 +115,7 @@ fn value_part(
     written: &mut Labels,
     value: &Option<ResultType>,
 ) -> Result<Atom, AllocError>
-    ensures grown { OnOk result (Grows written.old.list.items written.new.list.items) }
+    ensures grown { OnOk result (TableGrows written.old.list.items written.new.list.items) }
     ensures meaning { IfOk result (λ atom. Means written.new.list.items atom
         (Written (result_label (result_entry value.now)))) }
 {
@@ -132,7 +132,7 @@ fn row_of(
     procedure: &Procedure,
     first: u32,
 ) -> Result<Row, AllocError>
-    ensures grown { OnOk result (Grows written.old.list.items written.new.list.items) }
+    ensures grown { OnOk result (TableGrows written.old.list.items written.new.list.items) }
     ensures row { IfOk result (λ row. (more : List Label) →
         IsRow (written.new.list.items ++ more) first (procedure_entry procedure.now) row) }
 {
@@ -153,9 +153,9 @@ pub(crate) fn rows_of(
     written: &mut Labels,
     procedures: &[Procedure],
 ) -> Result<(Vec<Row>, u32), AllocError>
-    ensures grown { OnOk result (Grows written.old.list.items written.new.list.items) }
+    ensures grown { OnOk result (TableGrows written.old.list.items written.new.list.items) }
     ensures rows { IfOk result (λ found. (more : List Label) →
-        AreRows (written.new.list.items ++ more) 0
+        AreProcedureRows (written.new.list.items ++ more) 0
         (map procedure_entry procedures.now) found.0.items) }
     ensures count { IfOk result (λ found. found.1
         ≡ sum_by own_unknowns (map procedure_entry procedures.now)) }

@@ -1,5 +1,5 @@
 //! The constraints of calls.
-ghost use Rattle.constraints.specs.Added.{AreAdded, IsGathered, IsLeftFrom, IsPart, flow_if};
+ghost use Rattle.constraints.specs.Added.{AreAdded, IsGatheredAt, IsLeftFrom, IsPart, flow_if};
 ghost use Rattle.constraints.specs.LeftSides.{scope_of};
 ghost use Rattle.constraints.specs.Takers.{takers_of};
 ghost use Rattle.constraints.specs.declared.rows.ThrownLabel.{ThrownLabel};
@@ -99,7 +99,7 @@ impl<'a> Walk<'a> {
         thrown: &[Entry],
         constraints: &mut Vec<Constraint<Option<Target>>>,
     ) -> Result<(), AllocError>
-        ensures { OnOk result (IsGathered self.now.table.now.core.now
+        ensures { OnOk result (IsGatheredAt self.now.table.now.core.now
             self.now.table.now.written.items own
             (λ (named : NamedAtom). flow (named ∷ named_atoms (call_atoms
             (program_of self.now.table.now.core.now) callee (Throw exception)))
@@ -175,7 +175,7 @@ impl<'a> Walk<'a> {
         thrown: &[Entry],
         constraints: &mut Vec<Constraint<Option<Target>>>,
     ) -> Result<(), AllocError>
-        ensures { OnOk result (IsGathered self.now.table.now.core.now
+        ensures { OnOk result (IsGatheredAt self.now.table.now.core.now
             self.now.table.now.written.items own
             (λ (named : NamedAtom). flow_if test (named ∷ named_atoms (call_atoms
             (program_of self.now.table.now.core.now) callee (Throw exception)))
@@ -254,7 +254,7 @@ impl<'a> Walk<'a> {
         thrown: &[Entry],
         constraints: &mut Vec<Constraint<Option<Target>>>,
     ) -> Result<(), AllocError>
-        ensures { OnOk result (IsGathered self.now.table.now.core.now
+        ensures { OnOk result (IsGatheredAt self.now.table.now.core.now
             self.now.table.now.written.items pc
             (λ (named : NamedAtom). call_constraints
             (scope_of self.now.table.now.core.now self.now.procedure) named

@@ -1,7 +1,7 @@
 //! The constraints of procedures.
 ghost use Rattle.constraints.specs.Added.{AreAdded};
 ghost use Rattle.constraints.specs.LeftSides.{scope_of};
-ghost use Rattle.constraints.specs.Procedures.{AreDeclared, IsKept, IsOf, IsProcedureWalked, end_takers_of, number_in};
+ghost use Rattle.constraints.specs.Procedures.{AreDeclaredTakers, StaysInPlace, IsOf, IsProcedureWalked, end_takers_of, number_in};
 ghost use Rattle.constraints.specs.Takers.{AreWithin};
 ghost use Rattle.gathering.specs.Walk.{end_constraints, ends_one_way, made_from, program_constraints, thrown_constraints};
 ghost use Rattle.path_map.specs.Exits.{exits_of};
@@ -34,7 +34,7 @@ fn take_declared(
     thrown: &mut Vec<Entry>,
 ) -> Result<(), AllocError>
     ensures { OnOk result ((barrier : ℕ) → barrier < level → AreWithin barrier thrown.old.items →
-        AreDeclared (map thrown_entry throws.now) number level thrown.old.items thrown.new.items) }
+        AreDeclaredTakers (map thrown_entry throws.now) number level thrown.old.items thrown.new.items) }
 {
     // What was there is not put back: its level is not above the barrier of this procedure.
     let mut saved = Vec::new(alloc);
@@ -82,11 +82,11 @@ impl<'a> Walk<'a> {
         only: bool,
         progress: &mut Progress,
     ) -> Result<(), AllocError>
-        ensures kept { OnOk result (IsKept progress.old progress.new) }
+        ensures kept { OnOk result (StaysInPlace progress.old progress.new) }
         ensures added { OnOk result ((level : ℕ) (had : List Entry) →
             IsOf self.now.table.now.core.now self.now.procedure procedure.now →
             only ≡ ends_one_way (scope_of self.now.table.now.core.now self.now.procedure) →
-            AreDeclared (here (scope_of self.now.table.now.core.now self.now.procedure)).throws
+            AreDeclaredTakers (here (scope_of self.now.table.now.core.now self.now.procedure)).throws
             (suc number) level had progress.old.thrown.items →
             AreAdded self.now.table.now.core.now self.now.table.now.written.items
             (end_constraints (scope_of self.now.table.now.core.now self.now.procedure) number)

@@ -1,5 +1,5 @@
 //! The constraints of statements without blocks, but for calls.
-ghost use Rattle.constraints.specs.Added.{AreAdded, IsGathered, IsLeft};
+ghost use Rattle.constraints.specs.Added.{AreAdded, IsGatheredAt, IsLeft};
 ghost use Rattle.constraints.specs.LeftSides.{scope_of};
 ghost use Rattle.constraints.specs.Takers.{takers_of};
 ghost use Rattle.constraints.specs.Walks.{IsSimple, valued_constraints};
@@ -46,7 +46,7 @@ impl<'a> Walk<'a> {
         thrown: &[Entry],
         constraints: &mut Vec<Constraint<Option<Target>>>,
     ) -> Result<(), AllocError>
-        ensures { OnOk result (IsGathered self.now.table.now.core.now self.now.table.now.written.items pc
+        ensures { OnOk result (IsGatheredAt self.now.table.now.core.now self.now.table.now.written.items pc
             (λ (named : NamedAtom). valued_constraints
             (scope_of self.now.table.now.core.now self.now.procedure) named
             (takers_of takers thrown.now) at rule (expression_of value.now) target exit)

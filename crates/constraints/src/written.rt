@@ -1,5 +1,5 @@
 //! The table of written labels, in which each label stands once.
-ghost use Rattle.constraints.specs.Rows.{Grows, Means};
+ghost use Rattle.constraints.specs.Rows.{TableGrows, Means};
 ghost use Rattle.constraints.specs.LeftSides.{Written};
 ghost use Rattle.labels.specs.Label.{Label};
 ghost use Rattle.std.specs.Prelude.{IfOk, IfSome, OnOk, [], length, slice_index_or, ◌<◌, ◌≡◌, ◌≤◌};
@@ -69,7 +69,7 @@ fn number_at(list: &[Label], order: &[u32], at: usize, label: &Label) -> Option<
 
 // Adds a label behind the others, and gives its part.
 fn append(list: &mut Vec<Label>, label: &Label) -> Result<Atom, AllocError>
-    ensures grown { OnOk result (Grows list.old.items list.new.items) }
+    ensures grown { OnOk result (TableGrows list.old.items list.new.items) }
     ensures meaning { IfOk result (λ atom. Means list.new.items atom (Written label.now)) }
 {
     let Ok(number) = u32::try_from(list.len()) else {
@@ -81,7 +81,7 @@ fn append(list: &mut Vec<Label>, label: &Label) -> Result<Atom, AllocError>
 
 /// Adds a label to the table, unless it is there, and gives its part.
 pub(crate) fn add(written: &mut Labels, label: &Label) -> Result<Atom, AllocError>
-    ensures grown { OnOk result (Grows written.old.list.items written.new.list.items) }
+    ensures grown { OnOk result (TableGrows written.old.list.items written.new.list.items) }
     ensures meaning { IfOk result (λ atom.
         Means written.new.list.items atom (Written label.now)) }
 {

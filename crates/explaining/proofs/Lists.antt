@@ -17,7 +17,7 @@ use Rattle.checker.specs.Least.{least_label}
 use Rattle.checker.specs.declared.checked.Checked.{Checked}
 use Rattle.explaining.proofs.Kept.{kept, kept-above, kept-below, kept-canonical}
 use Rattle.explaining.specs.Text.{Writes, WritesPrefix}
-use Rattle.explaining.specs.Locals.{AreLines, IsLine, LocalEntry, if_unlabelled, local_line, local_of, locals_from, locals_in}
+use Rattle.explaining.specs.Locals.{AreLines, IsLocalLine, LocalEntry, if_unlabelled, local_line, local_of, locals_from, locals_in}
 use Rattle.explaining.specs.Locals.AreLines.{none, one_more}
 
 -- ---- the locals of one more slot, of one more procedure, and of the rest
@@ -116,7 +116,7 @@ module _ (source : List ℕ) (checked : Checked) where
 
   -- the line of a local that has no written label
   module _ (mid new : Option (List ℕ)) (local : LocalEntry) (written : Option Label) (unlabelled : is_some written ≡ false) (line : List ℕ)
-      (is : IsLine source checked local line) where
+      (is : IsLocalLine source checked local line) where
     alone : AreLines source checked (if_unlabelled local written) line
     alone = subst (λ (locals : List LocalEntry). AreLines source checked locals line) (sym (without_label local written unlabelled))
         (subst (λ (t : List ℕ). AreLines source checked (local ∷ []) t) (append-nil line) (one_more local [] line [] is none))

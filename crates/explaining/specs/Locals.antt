@@ -56,15 +56,15 @@ local_line source h local label =
     at_place source local.at (codes " " ++ (local.name ++ (codes " " ++ (printed_label h label ++ codes "\n"))))
 
 -- the line of a local, with a label that flows both ways with its least one, each policy once and in order
-abbrev pub IsLine : (source : List ℕ) → Checked → LocalEntry → (line : List ℕ) → Type 0
-IsLine source checked local line =
+abbrev pub IsLocalLine : (source : List ℕ) → Checked → LocalEntry → (line : List ℕ) → Type 0
+IsLocalLine source checked local line =
     (label : Label) × IsCanonicalLabel label × IsLeastLabel checked local label
     × (line ≡ local_line source (program_of checked.core).hierarchy local label)
 
 -- a line for each of these locals, in order
 pub data AreLines (source : List ℕ) (checked : Checked) : List LocalEntry → (text : List ℕ) → Type 0 where
   none : AreLines source checked [] []
-  one_more : (local : LocalEntry) (locals : List LocalEntry) (line text : List ℕ) → IsLine source checked local line
+  one_more : (local : LocalEntry) (locals : List LocalEntry) (line text : List ℕ) → IsLocalLine source checked local line
       → AreLines source checked locals text → AreLines source checked (local ∷ locals) (line ++ text)
 
 -- a line for each local without a written label was written, or a prefix of such lines

@@ -1,6 +1,6 @@
 //! The least labels of locals, as lines.
 
-ghost use Rattle.explaining.specs.Locals.{AreLines, IsLine, WritesLabels, WritesSomeLabels, if_unlabelled, local_of, locals_in};
+ghost use Rattle.explaining.specs.Locals.{AreLines, IsLocalLine, WritesLabels, WritesSomeLabels, if_unlabelled, local_of, locals_in};
 ghost use Rattle.explaining.specs.Text.{Writes, WritesPrefix};
 ghost use Rattle.gathering.specs.Names.{unknowns_before};
 ghost use Rattle.resolved.specs.CoreOf.{program_of};
@@ -108,7 +108,7 @@ fn line_of_local(
     slot: &Slot,
 ) -> Result<String, AllocError>
     requires { first ≡ unknowns_before (program_of checked.now.core) procedure }
-    ensures { IfOk result (λ line. IsLine marked.now.text.now checked.now
+    ensures { IfOk result (λ line. IsLocalLine marked.now.text.now checked.now
         (local_of procedure number (slot_entry slot.now)) (string_bytes line)) }
 {
     let label = checked.label_of_unknown(alloc, number_after(first, number)?)?;

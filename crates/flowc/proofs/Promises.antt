@@ -6,7 +6,7 @@ use Rattle.std.specs.String.{string_bytes}
 use Rattle.principals.specs.ActsFor.{PrincipalHierarchy, AllDifferent, HasName}
 use Rattle.principals.proofs.Names.{one_number}
 use Rattle.labels.specs.declared.sent.Pair.{Pair}
-use Rattle.labels.specs.Sent.{IsPrefix, seen}
+use Rattle.labels.specs.Sent.{IsPrefix, pairs_for}
 use Rattle.labels.proofs.Prefixes.{prefix-itself, prefixes-of-two, prefix-through, seen-prefix}
 use Rattle.resolved.specs.Labelled as labels
 use Rattle.resolved.specs.Meaning.{sent_by}
@@ -74,12 +74,12 @@ sent-ended m numbers n j ending ended h =
 shown-by : sessions.SessionsAreFreshRuns → (hierarchy source code : List ℕ) (compiled : IsCompiled hierarchy source code) (world : List InputNumbers)
     (p : ℕ) (sent pairs : List Pair) (shows : sessions.Shows code world p pairs)
     → IsPrefix sent (sent_after (module_in compiled) (numbers_of_channel (module_in compiled) world) (sessions.steps_of code world p pairs shows))
-    → IsPrefix (seen (program_in compiled).hierarchy (labels.channel_label (program_in compiled)) p sent) pairs
+    → IsPrefix (pairs_for (program_in compiled).hierarchy (labels.channel_label (program_in compiled)) p sent) pairs
 shown-by fresh said source code compiled world p sent pairs shows later =
     let m = module_in compiled in
     let numbers = numbers_of_channel m world in
     let n = sessions.steps_of code world p pairs shows in
-    subst (λ (list : List Pair). IsPrefix (seen (program_in compiled).hierarchy (labels.channel_label (program_in compiled)) p sent) list)
+    subst (λ (list : List Pair). IsPrefix (pairs_for (program_in compiled).hierarchy (labels.channel_label (program_in compiled)) p sent) list)
     (sym (fresh code world p pairs m compiled.code_of.spelled shows))
     (subst (λ (list : List Pair). IsPrefix list (seen_of m p (sent_after m numbers n)))
     (seen-module (program_in compiled) m compiled.code_of.interface p sent)

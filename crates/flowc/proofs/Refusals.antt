@@ -8,19 +8,19 @@ use Rattle.channels.specs.declared.defect.WorldFault.TheVariants.{Line}
 use Rattle.machine.specs.Run.{names_of}
 use Rattle.verifier.specs.Faults.{HasNoFault, IsReported, IsReportedAfter}
 use Rattle.verifier.specs.Fixed.{fixed_faults}
-use Rattle.verifier.specs.declared.fault.Fault.{Fault}
+use Rattle.verifier.specs.declared.fault.CodeFault.{CodeFault}
 use Rattle.flowc.specs.Stdout.{CannotRun, ShowsRun, ShowsSome}
 use Rattle.flowc.specs.Task.{status_of_fault}
 use Rattle.flowc.specs.declared.ended.Ended.{Ended}
 use Rattle.flowc.specs.declared.fault.PerformFault.{PerformFault}
 use Rattle.flowc.specs.declared.fault.PerformFault.TheVariants.{Refused, CannotWrite, NoMemory}
 
-reported_after : (m : ModuleContents) (faults : List Fault) (fault : Fault) → IsReportedAfter m faults fault → faults ≡ [] → ((other : Fault) → IsReportedAfter m [] other → ⊥) → ⊥
+reported_after : (m : ModuleContents) (faults : List CodeFault) (fault : CodeFault) → IsReportedAfter m faults fault → faults ≡ [] → ((other : CodeFault) → IsReportedAfter m [] other → ⊥) → ⊥
 reported_after m [] fault reported fixed flow = flow fault reported
 reported_after m (first ∷ more) fault reported fixed flow = cc
 
 -- a module with a fault that may be reported is not without one
-pub reported_is_fault : (m : ModuleContents) (fault : Fault) → IsReported m fault → HasNoFault m → ⊥
+pub reported_is_fault : (m : ModuleContents) (fault : CodeFault) → IsReported m fault → HasNoFault m → ⊥
 reported_is_fault m fault reported none = reported_after m (fixed_faults m) fault reported none.fixed none.flow
 
 -- a text with a wrong line is no world

@@ -8,7 +8,7 @@ use Rattle.std.specs.Result.{IsErrAnd}
 use Rattle.bytecode.specs.Contents.{ModuleContents}
 use Rattle.bytecode.specs.Form.{Spells}
 use Rattle.bytecode.specs.Format.{module_file}
-use Rattle.bytecode.specs.declared.fault.Refusal.{Refusal}
+use Rattle.bytecode.specs.declared.fault.ModuleRefusal.{ModuleRefusal}
 use Rattle.channels.specs.World.{input_names}
 use Rattle.channels.specs.WorldText.{IsFirstDefect, IsTextFault, IsWorldText, lines_of}
 use Rattle.channels.specs.declared.defect.WorldDefect.{WorldDefect}
@@ -18,7 +18,7 @@ use Rattle.verifier.specs.Faults.{HasNoFault}
 use Rattle.verifier.specs.Loaded.{CannotLoad}
 use Rattle.verifier.specs.declared.loading.LoadFault.{LoadFault}
 use Rattle.verifier.specs.declared.loading.LoadFault.TheVariants as load
-use Rattle.verifier.specs.declared.fault.Fault.{Fault}
+use Rattle.verifier.specs.declared.fault.CodeFault.{CodeFault}
 use Rattle.flowc.specs.Lines.{IsPerformFault, cannot_write, fault_line, line_of_fault, no_memory, refusal_line, world_line}
 use Rattle.flowc.specs.Task.{status_of_fault}
 use Rattle.flowc.specs.Messages.{IsEndLine, IsFaultLine, IsModuleLine, IsObserverLine, IsRefusedLine, IsRunLine, IsTextsLine, IsWorldLine, WroteLine}
@@ -76,13 +76,13 @@ observer_message outcome m h code_path text_path code text observer failed fault
 -- ---- refusals
 
 -- the first refusal of bytes
-pub first_refused : (path code line : List ℕ) (fault : LoadFault) (refusal : Refusal) (offset : ℕ) → fault ≡ load.Bytes refusal offset
+pub first_refused : (path code line : List ℕ) (fault : LoadFault) (refusal : ModuleRefusal) (offset : ℕ) → fault ≡ load.Bytes refusal offset
     → CannotLoad code fault → line ≡ refusal_line path refusal offset → IsModuleLine path code line
 first_refused path code line fault refusal offset is message says =
     refused refusal offset (subst (λ (f : LoadFault). CannotLoad code f) is message) says
 
 -- a fault of the code of the module that bytes spell
-pub faulty_code : (path code line : List ℕ) (answer : LoadFault) (fault : Fault) → answer ≡ load.Code fault
+pub faulty_code : (path code line : List ℕ) (answer : LoadFault) (fault : CodeFault) → answer ≡ load.Code fault
     → CannotLoad code answer → line ≡ fault_line path fault → IsModuleLine path code line
 faulty_code path code line answer fault is message says =
     let of_code = subst (λ (f : LoadFault). CannotLoad code f) is message in

@@ -7,8 +7,8 @@ use Rattle.channels.specs.Sink.{AppendsPrefix}
 use Rattle.checker.specs.Least.{least_label}
 use Rattle.checker.specs.declared.checked.Checked.{Checked}
 use Rattle.checker.specs.declared.fault.RefusedFlow.{RefusedFlow}
-use Rattle.compiler.specs.Reported.{AsksForFlow, IsFlowFault, IsRefusal, ReportsFault}
-use Rattle.compiler.specs.declared.fault.Fault.{Fault}
+use Rattle.compiler.specs.Reported.{AsksForFlow, IsFlowFault, IsFaultOfTexts, ReportsFault}
+use Rattle.compiler.specs.declared.fault.CompileFault.{CompileFault}
 use Rattle.explaining.specs.Flow.{flow_text}
 use Rattle.explaining.specs.Locals.{WritesLabels, WritesSomeLabels}
 use Rattle.resolved.specs.CoreOf.{program_of}
@@ -25,8 +25,8 @@ Explains hierarchy source old new =
     (checked : Checked) × IsCheckOf hierarchy source checked × WritesLabels checked source old new
 
 -- the first fault of two texts, with the flow where one is not allowed
-pub record IsRefusedFor (hierarchy source : List ℕ) (fault : Fault) (flow : Option RefusedFlow) : Type 0 where
-  pub refusal : IsRefusal fault
+pub record IsRefusedFor (hierarchy source : List ℕ) (fault : CompileFault) (flow : Option RefusedFlow) : Type 0 where
+  pub refusal : IsFaultOfTexts fault
   pub first : ReportsFault hierarchy source fault
   pub has_flow : IsFlowFault fault ↔ IsSome flow
   pub asked : IfSome flow (AsksForFlow hierarchy source fault)
@@ -38,7 +38,7 @@ ShowsChain source (Some flow) old new = Appends old new (flow_text source flow)
 
 abbrev pub ExplainsRefusal : (hierarchy source : List ℕ) → (old new : Option (List ℕ)) → Type 0
 ExplainsRefusal hierarchy source old new =
-    (fault : Fault) × (flow : Option RefusedFlow) × IsRefusedFor hierarchy source fault flow
+    (fault : CompileFault) × (flow : Option RefusedFlow) × IsRefusedFor hierarchy source fault flow
     × ShowsChain source flow old new
 
 -- where a stream failed or memory ran out: nothing was written, or a prefix of one of these
@@ -46,5 +46,5 @@ pub data ExplainsSome (hierarchy source : List ℕ) (old new : Option (List ℕ)
   nothing : old ≡ new → ExplainsSome hierarchy source old new
   labels : (checked : Checked) → IsCheckOf hierarchy source checked
       → WritesSomeLabels checked source old new → ExplainsSome hierarchy source old new
-  chain : (fault : Fault) (flow : RefusedFlow) → IsRefusedFor hierarchy source fault (Some flow)
+  chain : (fault : CompileFault) (flow : RefusedFlow) → IsRefusedFor hierarchy source fault (Some flow)
       → AppendsPrefix old new (flow_text source flow) → ExplainsSome hierarchy source old new

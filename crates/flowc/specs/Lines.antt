@@ -4,7 +4,7 @@ use Rattle.std.specs.Prelude.{ℕ, List, ◌++◌, codes, Bool, IsTrue}
 use Rattle.std.specs.Fmt.{decimal}
 use Rattle.std.specs.String.{string_bytes}
 use Rattle.bytecode.specs.Faults.{refusal_number, refusal_words}
-use Rattle.bytecode.specs.declared.fault.Refusal.{Refusal}
+use Rattle.bytecode.specs.declared.fault.ModuleRefusal.{ModuleRefusal}
 use Rattle.channels.specs.declared.defect.WorldDefect.{WorldDefect}
 use Rattle.channels.specs.Words.{world_number, world_words}
 use Rattle.acceptance.specs.declared.cause.Cause.{Cause}
@@ -14,7 +14,7 @@ use Rattle.resolved.specs.Exceptions.{exception_name}
 use Rattle.machine.specs.declared.status.Status.{Status}
 use Rattle.machine.specs.declared.status.Status.TheVariants as status
 use Rattle.verifier.specs.Words.{defect_number, defect_words}
-use Rattle.verifier.specs.declared.fault.Fault.{Fault}
+use Rattle.verifier.specs.declared.fault.CodeFault.{CodeFault}
 use Rattle.flowc.specs.declared.fault.PerformFault.{PerformFault}
 use Rattle.flowc.specs.declared.fault.PerformFault.TheVariants.{Refused, CannotWrite, NoMemory}
 
@@ -32,11 +32,11 @@ abbrev pub at_two : (path : List ℕ) → (first second : ℕ) → (rest : List 
 at_two path first second rest = at_one path first (codes ":" ++ (decimal second ++ rest))
 
 -- a refusal of a module's bytes, at a byte offset
-abbrev pub refusal_line : (path : List ℕ) → Refusal → (offset : ℕ) → List ℕ
+abbrev pub refusal_line : (path : List ℕ) → ModuleRefusal → (offset : ℕ) → List ℕ
 refusal_line path refusal offset = at_one path offset (saying (refusal_number refusal) (refusal_words refusal))
 
 -- a fault of a module's code, at a procedure and a byte offset
-abbrev pub fault_line : (path : List ℕ) → Fault → List ℕ
+abbrev pub fault_line : (path : List ℕ) → CodeFault → List ℕ
 fault_line path fault =
     at_two path fault.procedure fault.offset (saying (defect_number fault.defect) (defect_words fault.defect))
 

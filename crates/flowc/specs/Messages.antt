@@ -12,7 +12,7 @@ use Rattle.module_file.specs.Decoded.{first_refusal}
 use Rattle.bytecode.specs.Form.{Spells}
 use Rattle.bytecode.specs.Format.{module_file}
 use Rattle.bytecode.specs.Machine.{after_steps, machine_code}
-use Rattle.bytecode.specs.declared.fault.Refusal.{Refusal}
+use Rattle.bytecode.specs.declared.fault.ModuleRefusal.{ModuleRefusal}
 use Rattle.channels.specs.Sink.{AppendsPrefix}
 use Rattle.channels.specs.World.{input_names}
 use Rattle.channels.specs.WorldText.{IsFirstDefect, IsWorldText, lines_of}
@@ -25,7 +25,7 @@ use Rattle.machine.specs.Run.{ReportsStatus}
 use Rattle.machine.specs.declared.status.Status.{Status}
 use Rattle.verifier.specs.Faults as faults
 use Rattle.verifier.specs.Faults.{HasNoFault}
-use Rattle.verifier.specs.declared.fault.Fault.{Fault}
+use Rattle.verifier.specs.declared.fault.CodeFault.{CodeFault}
 use Rattle.command_line.specs.declared.request.Task.{Task}
 use Rattle.command_line.specs.declared.request.Task.TheVariants.{Check, Build, Run, Explain, List as ListModule}
 use Rattle.flowc.specs.Compiled.{bytes_at}
@@ -54,8 +54,8 @@ pub record IsTextsLine (hierarchy_path source_path hierarchy source line : List 
 
 -- the line reports the first refusal of the bytes of a module, or a fault of its code
 pub data IsModuleLine (path code line : List ℕ) : Type 0 where
-  refused : (refusal : Refusal) (offset : ℕ) → first_refusal code ≡ Some (refusal, offset) → line ≡ refusal_line path refusal offset → IsModuleLine path code line
-  faulty : (program : ModuleContents) (fault : Fault) → Spells module_file program code → faults.IsReported program fault → line ≡ fault_line path fault → IsModuleLine path code line
+  refused : (refusal : ModuleRefusal) (offset : ℕ) → first_refusal code ≡ Some (refusal, offset) → line ≡ refusal_line path refusal offset → IsModuleLine path code line
+  faulty : (program : ModuleContents) (fault : CodeFault) → Spells module_file program code → faults.IsReported program fault → line ≡ fault_line path fault → IsModuleLine path code line
 
 -- the line says that the bytes of a world are no text, or the first wrong line of the text for a module
 pub data IsWorldLine (program : ModuleContents) (path text line : List ℕ) : Type 0 where
@@ -120,19 +120,19 @@ IsRunLine code_path text_path code text observer steps status out_failed line =
     ⊎ (IsFailureLine status out_failed line ⊎ IsEndLine code text observer steps status line)
 
 -- the line with which a task ends with this status; a build writes nothing to standard output that could fail
-abbrev pub IsLine : Task → List (Vec ℕ Global) → (status : ℕ) → (out_failed : Bool) → (line : List ℕ) → Type 0
-IsLine (Check hierarchy source) files status out_failed line =
+abbrev pub IsTaskLine : Task → List (Vec ℕ Global) → (status : ℕ) → (out_failed : Bool) → (line : List ℕ) → Type 0
+IsTaskLine (Check hierarchy source) files status out_failed line =
     IsCompilingLine (string_bytes hierarchy) (string_bytes source) (bytes_at files 0) (bytes_at files 1) status out_failed line
-IsLine (Build hierarchy source out) files status out_failed line =
+IsTaskLine (Build hierarchy source out) files status out_failed line =
     IsCompilingLine (string_bytes hierarchy) (string_bytes source) (bytes_at files 0) (bytes_at files 1) status false line
-IsLine (Run file world observer steps) files status out_failed line =
+IsTaskLine (Run file world observer steps) files status out_failed line =
     IsRunLine (string_bytes file) (string_bytes world) (bytes_at files 0) (bytes_at files 1) (option_map string_bytes observer) steps status out_failed line
-IsLine (ListModule file) files status out_failed line =
+IsTaskLine (ListModule file) files status out_failed line =
     IsFaultLine (IsModuleLine (string_bytes file) (bytes_at files 0)) status out_failed line
-IsLine (Explain hierarchy source) files status out_failed line =
+IsTaskLine (Explain hierarchy source) files status out_failed line =
     IsCompilingLine (string_bytes hierarchy) (string_bytes source) (bytes_at files 0) (bytes_at files 1) status out_failed line
 
 -- what a task has written to standard error when it ends with this status, and standard output has failed or not
 abbrev pub WritesMessage : Task → List (Vec ℕ Global) → (status : ℕ) → (out_failed : Bool) → (old new : Option (List ℕ)) → (failed : Bool) → Type 0
 WritesMessage task files status out_failed old new failed =
-    (line : List ℕ) × IsLine task files status out_failed line × WroteLine line old new failed
+    (line : List ℕ) × IsTaskLine task files status out_failed line × WroteLine line old new failed

@@ -7,7 +7,7 @@ use Rattle.std.specs.declared.alloc.Global.{Global}
 use Rattle.std.specs.declared.vec.Vec.{Vec}
 use Rattle.principals.specs.ActsFor.{HasName}
 use Rattle.labels.specs.declared.sent.Pair.{Pair}
-use Rattle.labels.specs.Sent.{IsPrefix, seen}
+use Rattle.labels.specs.Sent.{IsPrefix, pairs_for}
 use Rattle.resolved.specs.Labelled.{channel_label}
 use Rattle.resolved.specs.Meaning.{frame_limit, run_within, sent_by}
 use Rattle.resolved.specs.Program.{Program}
@@ -26,11 +26,11 @@ use Rattle.command_line.specs.declared.request.Task.TheVariants.{Run}
 use Rattle.flowc.specs.Compiled.{bytes_at}
 use Rattle.flowc.specs.Stdout.{CanRun, IsShown, ShowsRun, numbers_in, text_shown}
 use Rattle.flowc.specs.Lines.{end_line}
-use Rattle.flowc.specs.Messages.{IsEndLine, IsLine, IsFailureLine}
+use Rattle.flowc.specs.Messages.{IsEndLine, IsTaskLine, IsFailureLine}
 
 -- what a principal sees of what a program sends on a world with so many turns, by the program's own hierarchy and labels
 abbrev pub seen_by : Program → (p : ℕ) → World → (turns : ℕ) → List Pair
-seen_by program p world turns = seen program.hierarchy (channel_label program) p (sent_by program world turns)
+seen_by program p world turns = pairs_for program.hierarchy (channel_label program) p (sent_by program world turns)
 
 -- the program that two compiled texts stand for, and the module that their bytes spell
 abbrev pub program_in : {hierarchy source code : List ℕ} → IsCompiled hierarchy source code → Program
@@ -147,5 +147,5 @@ abbrev pub StandardErrorIsFixed : Type 0
 StandardErrorIsFixed =
     (file world observer : String Global) (steps : ℕ) (files : List (Vec ℕ Global)) (program : ModuleContents) (principal : Option ℕ)
     → CanRun (bytes_at files 0) (bytes_at files 1) (Some (string_bytes observer)) program principal
-    → (status : ℕ) (out_failed : Bool) (line : List ℕ) → IsLine (Run file world (Some observer) steps) files status out_failed line
+    → (status : ℕ) (out_failed : Bool) (line : List ℕ) → IsTaskLine (Run file world (Some observer) steps) files status out_failed line
     → ((status ≡ 0) × (line ≡ [])) ⊎ IsFailureLine status out_failed line

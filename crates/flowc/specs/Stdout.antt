@@ -95,22 +95,22 @@ ListsSome code old new =
 
 -- what a task has written to standard output when it ends with this status; nothing where what it read is refused, and no more
 -- than a prefix where a stream failed or memory ran out
-abbrev pub Shows : Task → List (Vec ℕ Global) → ℕ → Option (List ℕ) → Option (List ℕ) → Type 0
-Shows (Check hierarchy source) files status old new =
+abbrev pub WritesStdout : Task → List (Vec ℕ Global) → ℕ → Option (List ℕ) → Option (List ℕ) → Type 0
+WritesStdout (Check hierarchy source) files status old new =
     ((status ≡ 1) × (old ≡ new))
     ⊎ (((status ≡ 3) × AppendsPrefix old new (codes "ok\n")) ⊎ ((status ≡ 0) × Appends old new (codes "ok\n")))
-Shows (Build hierarchy source out) files status old new = old ≡ new
-Shows (Run file world observer steps) files status old new =
+WritesStdout (Build hierarchy source out) files status old new = old ≡ new
+WritesStdout (Run file world observer steps) files status old new =
     let code = bytes_at files 0 in
     let text = bytes_at files 1 in
     let name = option_map string_bytes observer in
     ((status ≡ 1) × (old ≡ new) × CannotRun code text name)
     ⊎ (((status ≡ 3) × ShowsSome code text name steps old new) ⊎ ShowsRun code text name steps status old new)
-Shows (ListModule file) files status old new =
+WritesStdout (ListModule file) files status old new =
     let code = bytes_at files 0 in
     ((status ≡ 1) × (old ≡ new) × CannotList code)
     ⊎ (((status ≡ 3) × ListsSome code old new) ⊎ ((status ≡ 0) × Lists code old new))
-Shows (Explain hierarchy source) files status old new =
+WritesStdout (Explain hierarchy source) files status old new =
     let h = bytes_at files 0 in
     let s = bytes_at files 1 in
     ((status ≡ 1) × ExplainsRefusal h s old new)

@@ -5,7 +5,7 @@ ghost use Rattle.flowc.specs.Compiled.{AreAccepted};
 ghost use Rattle.flowc.specs.Lines.{IsPerformFault};
 ghost use Rattle.flowc.specs.Messages.{IsTextsLine};
 ghost use Rattle.flowc.specs.Task.{status_of_fault};
-ghost use Rattle.compiler.specs.Reported.{AsksForFlow, IsFlowFault, IsRefusal, ReportsFault};
+ghost use Rattle.compiler.specs.Reported.{AsksForFlow, IsFlowFault, IsFaultOfTexts, ReportsFault};
 ghost use Rattle.std.specs.Prelude.{[], ◌≡◌, ◌↔◌, IfErr, IfOk, IfSome, IsSome, OnErr, OnOk};
 ghost use Rattle.std.specs.String.{string_bytes};
 
@@ -63,7 +63,7 @@ fn explain_refusal<O: Sink>(
     requires flow { IsFlowFault refused.fault ↔ IsSome refused.flow }
     requires asked { IfSome refused.flow
         (AsksForFlow hierarchy.bytes.now source.bytes.now refused.fault) }
-    ensures refusal { status_of_fault result ≡ 1 → IsRefusal refused.fault }
+    ensures refusal { status_of_fault result ≡ 1 → IsFaultOfTexts refused.fault }
     ensures chain { status_of_fault result ≡ 1 → ExplainsRefusal
         hierarchy.entry.bytes.now source.entry.bytes.now (O.taken out.old) (O.taken out.new) }
     ensures some { ExplainsSome

@@ -14,12 +14,12 @@ mod texts;
 mod view;
 
 pub use acceptance::{Cause, Text};
-pub use bytecode::{Module, Refusal};
+pub use bytecode::{Module, ModuleRefusal};
 pub use channels::{Device, Pair, Sink, SinkFault, World, WorldDefect, WorldFault};
 pub use command_line::{MAX_STEPS, Task, TaskFault, USUAL_STEPS, task};
-pub use compiler::{Fault, NotAccepted, check_texts, compile};
+pub use compiler::{CompileFault, NotAccepted, check_texts, compile};
 pub use host::{Answer, Event, Host, HostFault, Id, MAX_SESSIONS};
 pub use machine::Status;
 pub use module_file::{FormatFault, decode};
-pub use tasks::{Outcome, perform};
-pub use verifier::{Defect, Fault as CodeFault, LoadFault, Verified, VerifyFault, load, verify};
+pub use tasks::{TaskResult, perform};
+pub use verifier::{CodeFault, Defect, LoadFault, Verified, VerifyFault, load, verify};

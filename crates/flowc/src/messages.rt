@@ -5,11 +5,11 @@ ghost use Rattle.std.specs.Prelude.{◌≡◌, IfOk};
 ghost use Rattle.std.specs.String.{string_bytes};
 
 use acceptance::Cause;
-use bytecode::Refusal;
+use bytecode::ModuleRefusal;
 use channels::WorldDefect;
 use lexer::Place;
 use std::alloc::{AllocError, Global};
-use verifier::Fault;
+use verifier::CodeFault;
 
 // The line that reports a number with its words, at one number that says where in a file.
 fn line_at(
@@ -44,7 +44,7 @@ fn line_at_two(
 pub fn refusal_line(
     alloc: Global,
     path: &str,
-    refusal: Refusal,
+    refusal: ModuleRefusal,
     offset: usize,
 ) -> Result<String, AllocError>
     ensures { IfOk result (λ line. string_bytes line ≡ lines.refusal_line path.now refusal offset) }
@@ -53,7 +53,7 @@ pub fn refusal_line(
 }
 
 /// The line that reports a fault of a module's code, at a procedure and a byte offset.
-pub fn fault_line(alloc: Global, path: &str, fault: Fault) -> Result<String, AllocError>
+pub fn fault_line(alloc: Global, path: &str, fault: CodeFault) -> Result<String, AllocError>
     ensures { IfOk result (λ line. string_bytes line ≡ lines.fault_line path.now fault) }
 {
     let (procedure, offset) = (fault.procedure as usize, fault.offset as usize);

@@ -1,6 +1,6 @@
 ghost use Rattle.flowc.specs.Compiled.{HoldsProgram, IsBuilt, bytes_at};
 ghost use Rattle.flowc.specs.Lines.{line_of_fault};
-ghost use Rattle.flowc.specs.Stdout.{Shows};
+ghost use Rattle.flowc.specs.Stdout.{WritesStdout};
 ghost use Rattle.flowc.specs.Task.{files_of, makes_file, may_end, reads_source, status_of_fault};
 ghost use Rattle.flowc.specs.Messages.{WritesMessage, WroteLine};
 ghost use Rattle.std.specs.Prelude.{[], ◌≡◌, ◌≤◌, ◌<◌, ◌↔◌, IfSome, IsSome, IsTrue, MatchResult, None, length, option_map};
@@ -19,7 +19,7 @@ use std::alloc::Global;
 
 /// What the program leaves to do: its exit status, and the bytes for the output file if it makes one.
 #[derive(Debug, Drop)]
-pub struct Outcome {
+pub struct TaskResult {
     pub status: u8,
     pub code: Option<Vec<u8>>,
 }
@@ -36,7 +36,7 @@ pub fn perform<O: Sink, E: Sink>(
     files: &[Vec<u8>],
     out: &mut O,
     err: &mut E,
-) -> Outcome
+) -> TaskResult
     requires files { length files.now ≡ files_of task.now }
     ensures small { result.status ≤ 6 }
     ensures status { IsTrue (may_end task.now result.status) }
@@ -45,7 +45,8 @@ pub fn perform<O: Sink, E: Sink>(
     ensures accepted { IsTrue (reads_source task.now) → result.status ≡ 0 → HoldsProgram files.now }
     ensures refused { IsTrue (reads_source task.now) → result.status ≡ 1 →
         ¬ HoldsProgram files.now }
-    ensures stdout { Shows task.now files.now result.status (O.taken out.old) (O.taken out.new) }
+    ensures stdout { WritesStdout task.now files.now result.status (O.taken out.old)
+        (O.taken out.new) }
     ensures message { WritesMessage task.now files.now result.status (O.has_failed out.new)
         (E.taken err.old) (E.taken err.new) (E.has_failed err.new) }
 {
@@ -98,7 +99,7 @@ fn file_at<'a>(path: &'a String, files: &'a [Vec<u8>], index: usize) -> File<'a>
 }
 
 // The end of a task that leaves nothing for a file. Where standard error fails too, there is nowhere left to report it.
-fn finish<E: Sink>(outcome: Result<Ended, PerformFault>, err: &mut E) -> Outcome
+fn finish<E: Sink>(outcome: Result<Ended, PerformFault>, err: &mut E) -> TaskResult
     ensures code { result.code ≡ None }
     ensures status { MatchResult outcome
         (λ ended. result.status ≡ ended.status) (λ fault. result.status ≡ status_of_fault fault) }
@@ -113,11 +114,11 @@ fn finish<E: Sink>(outcome: Result<Ended, PerformFault>, err: &mut E) -> Outcome
         Err(fault) => fault.report(),
     };
     let _ = write_all(err, line.as_bytes());
-    Outcome { status, code: None }
+    TaskResult { status, code: None }
 }
 
 // The end of a task that leaves bytes for a file.
-fn finish_build<E: Sink>(outcome: Result<Vec<u8>, PerformFault>, err: &mut E) -> Outcome
+fn finish_build<E: Sink>(outcome: Result<Vec<u8>, PerformFault>, err: &mut E) -> TaskResult
     ensures code { MatchResult outcome
         (λ code. result.code ≡ Some code) (λ _. result.code ≡ None) }
     ensures status { MatchResult outcome
@@ -128,14 +129,14 @@ fn finish_build<E: Sink>(outcome: Result<Vec<u8>, PerformFault>, err: &mut E) ->
         (E.taken err.old) (E.taken err.new) (E.has_failed err.new)) }
 {
     match outcome {
-        Ok(code) => Outcome {
+        Ok(code) => TaskResult {
             status: 0,
             code: Some(code),
         },
         Err(fault) => {
             let (status, line) = fault.report();
             let _ = write_all(err, line.as_bytes());
-            Outcome { status, code: None }
+            TaskResult { status, code: None }
         }
     }
 }

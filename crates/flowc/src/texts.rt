@@ -2,7 +2,7 @@
 
 ghost use Rattle.channels.specs.Sink.{AppendsPrefix};
 ghost use Rattle.compiler.specs.Compiled.{IsCompiled};
-ghost use Rattle.compiler.specs.Reported.{IsRefusal, ReportsFault};
+ghost use Rattle.compiler.specs.Reported.{IsFaultOfTexts, ReportsFault};
 ghost use Rattle.flowc.specs.Compiled.{AreAccepted};
 ghost use Rattle.flowc.specs.Lines.{IsPerformFault};
 ghost use Rattle.flowc.specs.Messages.{IsTextsLine};
@@ -17,7 +17,7 @@ use crate::messages::cause_line;
 use crate::reading::File;
 use acceptance::Text;
 use channels::{Sink, write_all};
-use compiler::{Fault, check_texts, compile};
+use compiler::{CompileFault, check_texts, compile};
 use std::alloc::Global;
 
 /// Checks a source under a hierarchy, and says so on standard output.
@@ -72,15 +72,15 @@ pub fn texts_fault(
     alloc: Global,
     hierarchy: File<'_>,
     source: File<'_>,
-    fault: Fault,
+    fault: CompileFault,
 ) -> PerformFault
     requires { ReportsFault hierarchy.bytes.now source.bytes.now fault }
-    ensures refusal { status_of_fault result ≡ 1 → IsRefusal fault }
+    ensures refusal { status_of_fault result ≡ 1 → IsFaultOfTexts fault }
     ensures message { (out_failed : Bool) → IsPerformFault (IsTextsLine
         hierarchy.entry.path.now source.entry.path.now
         hierarchy.entry.bytes.now source.entry.bytes.now) out_failed result }
 {
-    let Fault::Refused { text, cause, at } = fault else {
+    let CompileFault::Refused { text, cause, at } = fault else {
         return PerformFault::NoMemory;
     };
     let path = match text {

@@ -12,7 +12,7 @@ use Rattle.resolved.specs.Flow.{Gathered, AreGathered}
 use Rattle.resolved.specs.Labelled.{Unwritten, OfLocal, OfLoop, program_demands}
 use Rattle.resolved.specs.WellFormed.{well_formed}
 use Rattle.gathering.specs.Names.{Name, Real, Inner, is_inner_name, NamedAtom, NamedConstraint, own_unknowns, unknowns_before, real_unknowns, unwritten_number, unknown_number, IsUnwrittenOf, numbered, numbered_atom}
-use Rattle.gathering.specs.Walk.{program_constraints, made_from, gathered_constraints, unknown_count, IsBelow, AreBelow}
+use Rattle.gathering.specs.Walk.{program_constraints, made_from, gathered_constraints, unknown_count, IsUnknownBelow, AreUnknownsBelow}
 use Rattle.gathering.proofs.Programs.{gathered_by}
 use Rattle.gathering.proofs.Faultless.{faultless-gathers}
 use Rattle.gathering.proofs.Ranged.{InRange, Ranged}
@@ -137,18 +137,18 @@ numbered-numbers program formed none u =
     (λ a there. returns program bound a (in-range program bound (program_constraints program) ranged a there)) u
 
 -- and its unknowns have numbers below their count
-number-below : (program : Program) (a : NamedAtom) → InRange program (made_from program 0 program.procedures) a → IsBelow (unknown_count program) (numbered_atom program a)
+number-below : (program : Program) (a : NamedAtom) → InRange program (made_from program 0 program.procedures) a → IsUnknownBelow (unknown_count program) (numbered_atom program a)
 number-below program (Written v) h = tt
 number-below program (Unknown (Real u)) h = let below : unwritten_number program u < real_unknowns program = unwritten-below program u h in omega (arith, below)
 number-below program (Unknown (Inner k)) h = let below : k < made_from program 0 program.procedures = h in omega (arith, below)
 
-pub numbers-below : (program : Program) → IsTrue (well_formed program) → AreBelow (unknown_count program) (gathered_constraints program)
+pub numbers-below : (program : Program) → IsTrue (well_formed program) → AreUnknownsBelow (unknown_count program) (gathered_constraints program)
 numbers-below program formed c' h =
     let found = map-only (numbered program) (program_constraints program) c' h in
     let range = ranged-program program formed found.0 found.1 in
-    subst (λ (z : Gathered). ((atom : Atom ℕ Label) → Contains z.left atom → IsBelow (unknown_count program) atom) × IsBelow (unknown_count program) z.right) found.2
+    subst (λ (z : Gathered). ((atom : Atom ℕ Label) → Contains z.left atom → IsUnknownBelow (unknown_count program) atom) × IsUnknownBelow (unknown_count program) z.right) found.2
     (λ atom there. part found.0.left atom (map-only (numbered_atom program) found.0.left atom there) range.0, number-below program found.0.right range.1)
   where
     part : (left : List NamedAtom) (atom : Atom ℕ Label) → ((a : NamedAtom) × Contains left a × (numbered_atom program a ≡ atom)) →
-        ((a : NamedAtom) → Contains left a → InRange program (made_from program 0 program.procedures) a) → IsBelow (unknown_count program) atom
-    part left atom (a, k, is) each = subst (IsBelow (unknown_count program)) is (number-below program a (each a k))
+        ((a : NamedAtom) → Contains left a → InRange program (made_from program 0 program.procedures) a) → IsUnknownBelow (unknown_count program) atom
+    part left atom (a, k, is) each = subst (IsUnknownBelow (unknown_count program)) is (number-below program a (each a k))

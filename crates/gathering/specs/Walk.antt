@@ -335,10 +335,10 @@ gathered_constraints program = map (numbered program) (program_constraints progr
 abbrev pub unknown_count : Program → ℕ
 unknown_count program = real_unknowns program + made_from program 0 program.procedures
 
-abbrev pub IsBelow : (count : ℕ) → Atom ℕ Label → Type 0
-IsBelow count (Written label) = Unit {0}
-IsBelow count (Unknown u) = u < count
+abbrev pub IsUnknownBelow : (count : ℕ) → Atom ℕ Label → Type 0
+IsUnknownBelow count (Written label) = Unit {0}
+IsUnknownBelow count (Unknown u) = u < count
 
-abbrev pub AreBelow : (count : ℕ) → List Gathered → Type 0
-AreBelow count cs =
-    (c : Gathered) → Contains cs c → ((atom : Atom ℕ Label) → Contains c.left atom → IsBelow count atom) × IsBelow count c.right
+abbrev pub AreUnknownsBelow : (count : ℕ) → List Gathered → Type 0
+AreUnknownsBelow count cs =
+    (c : Gathered) → Contains cs c → ((atom : Atom ℕ Label) → Contains c.left atom → IsUnknownBelow count atom) × IsUnknownBelow count c.right

@@ -1,6 +1,6 @@
 //! Laws of the gathering, each the contract of a function that does nothing.
 ghost use Rattle.gathering.specs.Size.{declared_at_calls, size_of};
-ghost use Rattle.gathering.specs.Walk.{AreBelow, gathered_constraints, program_constraints, unknown_count};
+ghost use Rattle.gathering.specs.Walk.{AreUnknownsBelow, gathered_constraints, program_constraints, unknown_count};
 ghost use Rattle.labels.specs.Constraints.{IsGathered};
 ghost use Rattle.resolved.specs.EndFaults.{end_faults};
 ghost use Rattle.resolved.specs.Flow.{AreGathered};
@@ -23,7 +23,7 @@ pub fn programs_are_gathered()
 /// nodes of the program.
 pub fn unknowns_have_numbers_below_their_count()
     ensures below { (program : Program) → IsTrue (well_formed program) →
-        AreBelow (unknown_count program) (gathered_constraints program) }
+        AreUnknownsBelow (unknown_count program) (gathered_constraints program) }
     ensures count { (program : Program) → IsTrue (well_formed program) →
         unknown_count program ≤ 4 * program_nodes program }
 {}

@@ -2,11 +2,11 @@ ghost use Rattle.host.specs.Meaning.{fault_of_load, fault_of_new};
 ghost use Rattle.host.specs.Words.{fault_number, fault_words};
 ghost use Rattle.std.specs.Prelude.{◌≡◌, Some};
 
-use bytecode::Refusal;
+use bytecode::ModuleRefusal;
 use machine::NewFault;
 use std::error::Error;
 use std::fmt;
-use verifier::{Fault, LoadFault};
+use verifier::{CodeFault, LoadFault};
 
 /// An event was refused, and no session has changed.
 #[derive(Clone, Copy, Debug, PartialEq, Eq)]
@@ -22,9 +22,9 @@ pub enum HostFault {
     /// 852: the names of the world's inputs are not those of the module's inputs, in order.
     UnknownChannel,
     /// 801 to 806: the bytes spell no module. The first refusal, and its offset in the bytes.
-    Bytes(Refusal, usize),
+    Bytes(ModuleRefusal, usize),
     /// 811 to 815: the module has this fault in its code.
-    Code(Fault),
+    Code(CodeFault),
 }
 
 impl From<LoadFault> for HostFault {

@@ -17,7 +17,7 @@ use Rattle.resolved.specs.Meaning.{Stop, Outcome, Ended, Stopped, leaving, retur
 use Rattle.resolved.specs.Ends.{same_exit, has_end, one_end, thrown_ends, declared_by}
 use Rattle.resolved.specs.EndFaults.{may_end}
 use Rattle.resolved.specs.declared.target.Target.TheVariants.{ToEnd, ToThrown}
-use Rattle.resolved.specs.Labelled.{Labelling, ExitLabels, Demand, demand, Fits, label_if, any_of, one, label_of, join_under, Scope, here, as_one_end, end_demands, one}
+use Rattle.resolved.specs.Labelled.{Labelling, ExitLabels, Demand, demand, FitsDemands, label_if, any_of, one, label_of, join_under, Scope, here, as_one_end, end_demands, one}
 use Rattle.isolation.proofs.Grows.{Grows, grows-itself, grows-returned_to}
 use Rattle.isolation.proofs.Among.{Among, same-exit, same_exit-itself, all-has, raised_in, thrown-is}
 use Rattle.isolation.proofs.Observer.{LabelReader, under, Reader, View, view_of, shown, AgreeFor, agree-back, agree-through, agree-unread, agree-with_cells, unread-left, unread-right}
@@ -237,7 +237,7 @@ some-throws callee (first ∷ rest) exit declared h several = go (any_of callee.
 
 -- the label that is declared of an exception which is not read
 unread-thrown : {h : PrincipalHierarchy} {labelling : Labelling} (reader : Reader h labelling) (program : Program) (f at : ℕ) (x : ExitLabels) (throws : List ThrownEntry) (y : ℕ) →
-    Fits h labelling (flat_map (λ (entry : ThrownEntry). demand program at 13 (x (Throw entry.exception)) (ToThrown f entry.exception)) throws) →
+    FitsDemands h labelling (flat_map (λ (entry : ThrownEntry). demand program at 13 (x (Throw entry.exception)) (ToThrown f entry.exception)) throws) →
     raised_in (declared_by throws) y ≡ true → reader.reads (x (Throw y)) ≡ false → reader.reads (one (label_of program (ToThrown f y))) ≡ false
 unread-thrown reader program f at x [] y fits declared unread = let i : true ≡ false = sym declared in absurd (cc)
 unread-thrown {h} {labelling} reader program f at x (entry ∷ rest) y fits declared unread = go (y == entry.exception) refl
@@ -265,12 +265,12 @@ abbrev on_thrown : Scope → ExitLabels → List Demand
 on_thrown scope x = flat_map (λ (entry : ThrownEntry). demand scope.program (here scope).at 13 (x (Throw entry.exception)) (ToThrown scope.number entry.exception)) (here scope).throws
 
 several-demands : (h : PrincipalHierarchy) (labelling : Labelling) (scope : Scope) (ends : List Exit) (x : ExitLabels) →
-    one_end (map as_one_end ends) ≡ false → Fits h labelling (end_demands scope ends x) →
-    Fits h labelling (several scope x ++ on_thrown scope x)
+    one_end (map as_one_end ends) ≡ false → FitsDemands h labelling (end_demands scope ends x) →
+    FitsDemands h labelling (several scope x ++ on_thrown scope x)
 several-demands h labelling scope ends x more fits = rw more at fits
 
 module _ {h : PrincipalHierarchy} {labelling : Labelling} (reader : Reader h labelling) (scope : Scope) (ends : List Exit)
-    (declared : list_all (may_end (here scope)) ends ≡ true) (x : ExitLabels) (fits : Fits h labelling (end_demands scope ends x)) (back : SourceState → SourceState)
+    (declared : list_all (may_end (here scope)) ends ≡ true) (x : ExitLabels) (fits : FitsDemands h labelling (end_demands scope ends x)) (back : SourceState → SourceState)
     (value : Bool) where
   normal-unread : one_end (map as_one_end ends) ≡ false → (exit : Exit) → has_end ends exit ≡ true →
       reader.reads (x Normal ++ x Return) ≡ false → reader.reads (declared_label scope.program scope.number Normal) ≡ false
@@ -318,7 +318,7 @@ kept-leaving callee ends inner outer value exits s u o declared back among h = r
 }
 
 -- two runs of a body, seen by the caller
-pub related-leaving : {h : PrincipalHierarchy} {labelling : Labelling} (reader : Reader h labelling) (scope : Scope) (ends : List Exit) (x : ExitLabels) (inner outer : View) (value : Bool) (s t : SourceState) (o p : Outcome) → list_all (may_end (here scope)) ends ≡ true → Fits h labelling (end_demands scope ends x) → ((s' t' : SourceState) → AgreeFor inner s' t' → AgreeFor outer (home s s') (home t t')) → ((xs : List Pair) → shown inner xs ≡ shown outer xs) → Among ends o → Among ends p → Related inner value (read_exits reader x) o p → RelatedCall outer value (read_exits reader (declared_label scope.program scope.number)) (leaving (home s) o) (leaving (home t) p)
+pub related-leaving : {h : PrincipalHierarchy} {labelling : Labelling} (reader : Reader h labelling) (scope : Scope) (ends : List Exit) (x : ExitLabels) (inner outer : View) (value : Bool) (s t : SourceState) (o p : Outcome) → list_all (may_end (here scope)) ends ≡ true → FitsDemands h labelling (end_demands scope ends x) → ((s' t' : SourceState) → AgreeFor inner s' t' → AgreeFor outer (home s s') (home t t')) → ((xs : List Pair) → shown inner xs ≡ shown outer xs) → Among ends o → Among ends p → Related inner value (read_exits reader x) o p → RelatedCall outer value (read_exits reader (declared_label scope.program scope.number)) (leaving (home s) o) (leaving (home t) p)
 related-leaving reader scope ends x inner outer value s t o p declared fits back same_shown among among' (same_end Normal u w h) =
     same_call None None (home s u) (home t w) (back u w h) (λ e. refl)
 related-leaving reader scope ends x inner outer value s t o p declared fits back same_shown among among' (same_end Return u w h) =

@@ -21,7 +21,7 @@ use Rattle.resolved.specs.Meaning.{Stop, Outcome, Ended, Stopped, normally, afte
 use Rattle.resolved.specs.Ends.{same_exit, has_end, raises, thrown_ends, leaves_loop, handles, passes, statement_ends, block_ends, index_can_raise}
 use Rattle.resolved.specs.declared.target.Target.{Target}
 use Rattle.resolved.specs.declared.target.Target.TheVariants.{ToEnd, ToThrown, ToValue, ToVariable, ToChannel, ToBegin, ToValue, ToLoop}
-use Rattle.resolved.specs.Labelled.{chosen, Scope, ExitLabels, Demand, demand, join_under, label_under, Fits, variable_label, channel_label, result_label, value_label, raise_label, raise_labels, label_if, at_ends, own_label, raised_exits, call_exits, any_of, loop_exits, statement_rule, block_rule, handlers_rule, block_exits, target_demand, argument_demands, statement_demands, block_demands, handlers_demands, Labelling, Join, one, label_of, here, LabelAtom}
+use Rattle.resolved.specs.Labelled.{chosen, Scope, ExitLabels, Demand, demand, join_under, label_under, FitsDemands, variable_label, channel_label, result_label, value_label, raise_label, raise_labels, label_if, at_ends, own_label, raised_exits, call_exits, any_of, loop_exits, statement_rule, block_rule, handlers_rule, block_exits, target_demand, argument_demands, statement_demands, block_demands, handlers_demands, Labelling, Join, one, label_of, here, LabelAtom}
 use Rattle.labels.specs.Constraints.{holds, label_lattice}
 use Rattle.isolation.proofs.Among.{CallsAmong, expression-raises, thrown-among, statement-among, block-among}
 use Rattle.isolation.proofs.Observer.{Reader, View, view_of, AgreeFor, agree-itself, agree-through, agree-unread, agree-unread_input, agree-unread_sending, with_input, unread-left, unread-right, unread-flowing}
@@ -29,25 +29,25 @@ use Rattle.isolation.proofs.Kept.{hidden_end, hidden_return, Kept, LoopExits, ke
 use Rattle.isolation.proofs.Closed.{read_exits, kept-closed}
 
 -- demands that hold hold in both parts of their list
-pub fits-left : (h : PrincipalHierarchy) (labelling : Labelling) (xs ys : List Demand) → Fits h labelling (xs ++ ys) → Fits h labelling xs
+pub fits-left : (h : PrincipalHierarchy) (labelling : Labelling) (xs ys : List Demand) → FitsDemands h labelling (xs ++ ys) → FitsDemands h labelling xs
 fits-left h labelling xs ys fits =
     (and_parts (list_all (λ (d : Demand). holds (label_lattice h) (chosen labelling) d) xs) (list_all (λ (d : Demand). holds (label_lattice h) (chosen labelling) d) ys)
     (sym (list_all-append (λ (d : Demand). holds (label_lattice h) (chosen labelling) d) xs ys) ∙ fits)).0
 
-pub fits-right : (h : PrincipalHierarchy) (labelling : Labelling) (xs ys : List Demand) → Fits h labelling (xs ++ ys) → Fits h labelling ys
+pub fits-right : (h : PrincipalHierarchy) (labelling : Labelling) (xs ys : List Demand) → FitsDemands h labelling (xs ++ ys) → FitsDemands h labelling ys
 fits-right h labelling xs ys fits =
     (and_parts (list_all (λ (d : Demand). holds (label_lattice h) (chosen labelling) d) xs) (list_all (λ (d : Demand). holds (label_lattice h) (chosen labelling) d) ys)
     (sym (list_all-append (λ (d : Demand). holds (label_lattice h) (chosen labelling) d) xs ys) ∙ fits)).1
 
 pub fits-one : (h : PrincipalHierarchy) (labelling : Labelling) (program : Program) (at rule : ℕ) (left : Join) (target : Target) →
-    Fits h labelling (demand program at rule left target) →
+    FitsDemands h labelling (demand program at rule left target) →
     IsTrue (flows h (join_under labelling left) (label_under labelling (label_of program target)))
 fits-one h labelling program at rule left target fits =
     (and_parts (flows h (join_under labelling left) (label_under labelling (label_of program target))) true fits).0
 
 -- what an observer does not read flows only to what it does not read
 pub unread-demand : {h : PrincipalHierarchy} {labelling : Labelling} (reader : Reader h labelling) (program : Program) (at rule : ℕ) (left : Join) (target : Target) →
-    Fits h labelling (demand program at rule left target) → reader.reads left ≡ false → reader.reads (one (label_of program target)) ≡ false
+    FitsDemands h labelling (demand program at rule left target) → reader.reads left ≡ false → reader.reads (one (label_of program target)) ≡ false
 unread-demand {h} {labelling} reader program at rule left target fits unread =
     unread-flowing reader left (label_of program target) (fits-one h labelling program at rule left target fits) unread
 
@@ -104,7 +104,7 @@ kept-returned_to view result value exits more (Some x) o (call_stop stop t) weak
 
 -- a target that is demanded to be above an unread label is not read
 pub unread-target : {h : PrincipalHierarchy} {labelling : Labelling} (reader : Reader h labelling) (scope : Scope) (at rule : ℕ) (left : Join) (target : Option Variable) →
-    Fits h labelling (target_demand scope at rule left target) → reader.reads left ≡ false → (x : Variable) → target ≡ Some x →
+    FitsDemands h labelling (target_demand scope at rule left target) → reader.reads left ≡ false → (x : Variable) → target ≡ Some x →
     reader.reads (variable_label scope x) ≡ false
 unread-target reader scope at rule left None fits unread x e = absurd (cc)
 unread-target reader scope at rule left (Some y) fits unread x e =
@@ -143,7 +143,7 @@ unread-above reader a b flow unread = go (reader.reads (one b)) refl
 
 -- where the label of the way to a statement is not read, neither is its own
 pub own-unread : {h : PrincipalHierarchy} {labelling : Labelling} (reader : Reader h labelling) (scope : Scope) (pc : Join) (statement : Statement) →
-    Fits h labelling (statement_demands scope pc statement) → reader.reads pc ≡ false → reader.reads (own_label scope pc statement) ≡ false
+    FitsDemands h labelling (statement_demands scope pc statement) → reader.reads pc ≡ false → reader.reads (own_label scope pc statement) ≡ false
 own-unread reader scope pc (Assign at x e) fits unread = unread-left reader pc (raise_label scope e) unread
 own-unread reader scope pc (Clear at slot) fits unread = unread
 own-unread reader scope pc (Store at array len index e) fits unread =
@@ -204,7 +204,7 @@ unread-call reader program f q unread (Throw x) = unread-left reader q (one (lab
 
 module _ (h : PrincipalHierarchy) (labelling : Labelling) (reader : Reader h labelling) (scope : Scope) (calls : Calls) (k : ℕ) (confines : Confines reader scope calls) where
   mutual
-    pub statement-kept : (statement : Statement) (pc : Join) → Fits h labelling (statement_demands scope pc statement) →
+    pub statement-kept : (statement : Statement) (pc : Join) → FitsDemands h labelling (statement_demands scope pc statement) →
         reader.reads (own_label scope pc statement) ≡ false → (s : SourceState) →
         Kept (view_of reader scope) (reads_result reader (here scope)) (read_exits reader (statement_rule scope pc statement)) s
         (statement_meaning calls k statement s)
@@ -359,7 +359,7 @@ module _ (h : PrincipalHierarchy) (labelling : Labelling) (reader : Reader h lab
         (block-among block scope.program calls k confines.among s)
         (block-kept block pc fits unread s)
 
-    pub block-kept : (block : Block) (pc : Join) → Fits h labelling (block_demands scope pc block) → reader.reads pc ≡ false → (s : SourceState) →
+    pub block-kept : (block : Block) (pc : Join) → FitsDemands h labelling (block_demands scope pc block) → reader.reads pc ≡ false → (s : SourceState) →
         Kept (view_of reader scope) (reads_result reader (here scope)) (read_exits reader (block_rule scope pc block)) s
         (block_meaning calls k block s)
     block-kept Empty pc fits unread s = kept-end (view_of reader scope) (reads_result reader (here scope))
@@ -383,7 +383,7 @@ module _ (h : PrincipalHierarchy) (labelling : Labelling) (reader : Reader h lab
         (block-kept rest (x Normal) (fits-right h labelling (statement_demands scope pc statement) (block_demands scope (x Normal) rest) fits) m t)
         (λ exit n. unread-right reader (label_if (not (same_exit Normal exit)) (x exit)) (block_rule scope (x Normal) rest exit) n)))
 
-    pub handlers-kept : (handlers : Handlers) (x : ExitLabels) → Fits h labelling (handlers_demands scope x handlers) →
+    pub handlers-kept : (handlers : Handlers) (x : ExitLabels) → FitsDemands h labelling (handlers_demands scope x handlers) →
         (exception : ℕ) (s : SourceState) → reader.reads (x (Throw exception)) ≡ false → (more : Exit → Bool) →
         ((exit : Exit) → reader.reads (handlers_rule scope x handlers exit) ≡ false → more exit ≡ false) →
         (handles handlers exception ≡ false → more (Throw exception) ≡ false) →

@@ -13,10 +13,10 @@ use Rattle.resolved.specs.declared.tables.Direction.TheVariants.{Input, Output}
 use Rattle.resolved.specs.Tree.{Empty}
 use Rattle.resolved.specs.Program.{Program, ChannelEntry, ProcedureEntry, procedure_at, channel_at, slot_at}
 use Rattle.resolved.specs.SourceState.{SourceState, World, cells}
-use Rattle.resolved.specs.Meaning.{Deep, Outcome, leaving, Stopped, entering, slot_cells, block_meaning, calls_with, first_state, channel_numbers, numbers_by, run_within, state_after}
+use Rattle.resolved.specs.Meaning.{Deep, Outcome, leaving, Stopped, entering, first_cells_of_slots, block_meaning, calls_with, first_state, channel_numbers, numbers_by, run_within, state_after}
 use Rattle.resolved.specs.Ends.{block_ends}
 use Rattle.resolved.specs.declared.target.Target.TheVariants.{ToBegin}
-use Rattle.resolved.specs.Labelled.{parameter_label, Scope, OfLocal, Join, one, written_or, label_of, join_under, Labelling, Fits, channel_label, block_rule, block_exits, block_demands, end_demands, procedure_demands, demands_from, program_demands}
+use Rattle.resolved.specs.Labelled.{parameter_label, Scope, OfLocal, Join, one, written_or, label_of, join_under, Labelling, FitsDemands, channel_label, block_rule, block_exits, block_demands, end_demands, procedure_demands, demands_from, program_demands}
 use Rattle.labels.specs.Constraints.{Written}
 use Rattle.isolation.proofs.Grows.{calls-grow}
 use Rattle.isolation.proofs.Among.{EndsAsDeclared, calls-among, block-among}
@@ -30,13 +30,13 @@ use Rattle.isolation.proofs.Secure.{Secures, ParametersAlike, block-secure}
 -- a program with these labels, of which each procedure ends as it declares and meets its demands
 pub record Accepted (program : Program) (labelling : Labelling) : Type 0 where
   pub declared : EndsAsDeclared program
-  pub fits : (f : ℕ) → Fits program.hierarchy labelling (procedure_demands (record { program = program; number = f }))
+  pub fits : (f : ℕ) → FitsDemands program.hierarchy labelling (procedure_demands (record { program = program; number = f }))
 
 -- the demands of one procedure among those of all; a number that is none has none
 demands-at : (program : Program) (labelling : Labelling) →
     (procedures : List ProcedureEntry) (i f n : ℕ) → n ≡ i + f → f < length procedures →
-    Fits program.hierarchy labelling (demands_from program i procedures) →
-    Fits program.hierarchy labelling (procedure_demands (record { program = program; number = n }))
+    FitsDemands program.hierarchy labelling (demands_from program i procedures) →
+    FitsDemands program.hierarchy labelling (procedure_demands (record { program = program; number = n }))
 demands-at program labelling [] i f n e within fits = absurd (omega (arith, within))
 demands-at program labelling (procedure ∷ rest) i zero n e within fits =
     let same : n ≡ i = omega arith in
@@ -45,8 +45,8 @@ demands-at program labelling (procedure ∷ rest) i (suc f) n e within fits =
     demands-at program labelling rest (suc i) f n (omega arith) (omega (arith, within))
     (fits-right program.hierarchy labelling (procedure_demands (record { program = program; number = i })) (demands_from program (suc i) rest) fits)
 
-pub procedure-fits : (program : Program) (labelling : Labelling) → Fits program.hierarchy labelling (program_demands program) →
-    (f : ℕ) → Fits program.hierarchy labelling (procedure_demands (record { program = program; number = f }))
+pub procedure-fits : (program : Program) (labelling : Labelling) → FitsDemands program.hierarchy labelling (program_demands program) →
+    (f : ℕ) → FitsDemands program.hierarchy labelling (procedure_demands (record { program = program; number = f }))
 procedure-fits program labelling fits f = go (nat_lt f (length program.procedures)) refl
   where
     absent : (procedures : List ProcedureEntry) (i : ℕ) (none : ProcedureEntry) → length procedures ≤ i →
@@ -56,7 +56,7 @@ procedure-fits program labelling fits f = go (nat_lt f (length program.procedure
     absent (procedure ∷ rest) (suc i) none h = absent rest i none (omega (arith, h))
 
     go : (b : Bool) → nat_lt f (length program.procedures) ≡ b →
-        Fits program.hierarchy labelling (procedure_demands (record { program = program; number = f }))
+        FitsDemands program.hierarchy labelling (procedure_demands (record { program = program; number = f }))
     go true e = demands-at program labelling program.procedures 0 f f (omega arith) (grind (arith, e)) fits
     go false e =
         let none : procedure_at program f ≡ record {
@@ -88,7 +88,7 @@ agree-entering reader program caller callee labels inner vs ws s t agree same = 
     variables : (x : Variable) → (view_of (under reader inner) (record { program = program; number = callee })).variable x ≡ true →
         cells (entering (procedure_at program callee) vs s) x ≡ cells (entering (procedure_at program callee) ws t) x
     variables (Global n) e = agree.variables (Global n) e
-    variables (Local n) e = ap (λ v. slot_cells (slice_get (procedure_at program callee).slots n) v)
+    variables (Local n) e = ap (λ v. first_cells_of_slots (slice_get (procedure_at program callee).slots n) v)
         (same n (parameter (slot_at (procedure_at program callee) n).written n e))
 
 -- what is the same for the observer after the body of a procedure is the same for the caller
@@ -112,13 +112,13 @@ module _ (program : Program) (labelling : Labelling) (accepted : Accepted progra
   abbrev begin : ℕ → Join
   begin f = one (label_of program (ToBegin f))
 
-  body-fits : (f : ℕ) → Fits program.hierarchy labelling (block_demands (inside f) (begin f) (procedure_at program f).body)
+  body-fits : (f : ℕ) → FitsDemands program.hierarchy labelling (block_demands (inside f) (begin f) (procedure_at program f).body)
   body-fits f =
       fits-left program.hierarchy labelling (block_demands (inside f) (begin f) (procedure_at program f).body)
       (end_demands (inside f) (block_ends program (procedure_at program f).body)
       (block_exits (inside f) (begin f) (procedure_at program f).body)) (accepted.fits f)
 
-  ends-fit : (f : ℕ) → Fits program.hierarchy labelling (end_demands (inside f) (block_ends program (procedure_at program f).body) (block_exits (inside f) (begin f) (procedure_at program f).body))
+  ends-fit : (f : ℕ) → FitsDemands program.hierarchy labelling (end_demands (inside f) (block_ends program (procedure_at program f).body) (block_exits (inside f) (begin f) (procedure_at program f).body))
   ends-fit f =
       fits-right program.hierarchy labelling (block_demands (inside f) (begin f) (procedure_at program f).body)
       (end_demands (inside f) (block_ends program (procedure_at program f).body)

@@ -16,7 +16,7 @@ use Rattle.resolved.specs.Meaning.{Ended, normally, kept_in, received, sending, 
 use Rattle.resolved.specs.Ends.{same_exit, passes, statement_ends, block_ends, index_can_raise}
 use Rattle.resolved.specs.declared.target.Target.{Target}
 use Rattle.resolved.specs.declared.target.Target.TheVariants.{ToParameter, ToValue, ToVariable, ToChannel, ToBegin, ToValue, ToLoop}
-use Rattle.resolved.specs.Labelled.{Scope, ExitLabels, demand, Fits, variable_label, value_label, raise_label, raise_labels, label_if, at_ends, own_label, raised_exits, call_exits, statement_rule, block_rule, handlers_rule, target_demand, argument_demands, statement_demands, block_demands, handlers_demands, Labelling, Join, one, label_of, here}
+use Rattle.resolved.specs.Labelled.{Scope, ExitLabels, demand, FitsDemands, variable_label, value_label, raise_label, raise_labels, label_if, at_ends, own_label, raised_exits, call_exits, statement_rule, block_rule, handlers_rule, target_demand, argument_demands, statement_demands, block_demands, handlers_demands, Labelling, Join, one, label_of, here}
 use Rattle.isolation.proofs.Grows.{CallsGrow, block-grows, handlers-grow}
 use Rattle.isolation.proofs.Among.{statement-among, block-among}
 use Rattle.isolation.proofs.Observer.{Reader, View, view_of, AgreeFor, agree-with_cells, agree-with_input, agree-sending, with_input, read-left, read-right, unread-left, unread-right}
@@ -29,14 +29,14 @@ use Rattle.isolation.proofs.Calls.{RelatedCall, related-returned_to, declared_la
 
 -- what flows to a label that is read is read
 pub read-demand : {h : PrincipalHierarchy} {labelling : Labelling} (reader : Reader h labelling) (program : Program) (at rule : ℕ) (left : Join) (target : Target) →
-    Fits h labelling (demand program at rule left target) → reader.reads (one (label_of program target)) ≡ true → reader.reads left ≡ true
+    FitsDemands h labelling (demand program at rule left target) → reader.reads (one (label_of program target)) ≡ true → reader.reads left ≡ true
 read-demand {h} {labelling} reader program at rule left target fits e = reader.flowing left (label_of program target) (fits-one h labelling program at rule left target fits) e
 
 -- arguments that are the same where the label of their parameter is read
 abbrev pub ParametersAlike : {h : PrincipalHierarchy} {labelling : Labelling} → Reader h labelling → Program → (callee : ℕ) → List Value → List Value → Type 0
 ParametersAlike reader program callee vs ws = (n : ℕ) → reader.reads (one (label_of program (ToParameter callee n))) ≡ true → slice_get vs n ≡ slice_get ws n
 
-parameters-from : {h : PrincipalHierarchy} {labelling : Labelling} (reader : Reader h labelling) (scope : Scope) (at : ℕ) (q : Join) (callee i : ℕ) (es : List Expression) (vs ws : List Value) → Fits h labelling (argument_demands scope at q callee i es) → ArgumentsAlike reader scope es vs ws → (j n : ℕ) → n ≡ i + j → reader.reads (one (label_of scope.program (ToParameter callee n))) ≡ true → slice_get vs j ≡ slice_get ws j
+parameters-from : {h : PrincipalHierarchy} {labelling : Labelling} (reader : Reader h labelling) (scope : Scope) (at : ℕ) (q : Join) (callee i : ℕ) (es : List Expression) (vs ws : List Value) → FitsDemands h labelling (argument_demands scope at q callee i es) → ArgumentsAlike reader scope es vs ws → (j n : ℕ) → n ≡ i + j → reader.reads (one (label_of scope.program (ToParameter callee n))) ≡ true → slice_get vs j ≡ slice_get ws j
 parameters-from reader scope at q callee i es vs ws fits no_arguments j n e reads = refl
 parameters-from {h} {labelling} reader scope at q callee i es vs ws fits (one_more e rest v w vs' ws' same more) zero n f reads =
     let here : n ≡ i = omega arith in
@@ -75,7 +75,7 @@ unread-declared reader program callee q (Throw x) m = unread-right reader q (dec
 
 -- a target that is read has a read label demanded of what goes to it
 target-read : {h : PrincipalHierarchy} {labelling : Labelling} (reader : Reader h labelling) (scope : Scope) (at rule : ℕ) (left : Join) (target : Option Variable) →
-    Fits h labelling (target_demand scope at rule left target) → (x : Variable) → target ≡ Some x →
+    FitsDemands h labelling (target_demand scope at rule left target) → (x : Variable) → target ≡ Some x →
     reader.reads (variable_label scope x) ≡ true → reader.reads left ≡ true
 target-read reader scope at rule left None fits x e reads = absurd (cc)
 target-read reader scope at rule left (Some y) fits x e reads =
@@ -97,7 +97,7 @@ related-received view value exits channel target s t numbers (z ∷ rest) e agre
 module _ (h : PrincipalHierarchy) (labelling : Labelling) (reader : Reader h labelling) (scope : Scope) (calls further : Calls) (k m : ℕ)
     (secures : Secures reader scope calls further) where
   -- where the own label of a statement is not read nothing is seen of either run
-  both-hidden : (statement : Statement) (pc : Join) → Fits h labelling (statement_demands scope pc statement) → (s t : SourceState) →
+  both-hidden : (statement : Statement) (pc : Join) → FitsDemands h labelling (statement_demands scope pc statement) → (s t : SourceState) →
       AgreeFor (view_of reader scope) s t → reader.reads (own_label scope pc statement) ≡ false →
       Related (view_of reader scope) (reads_result reader (here scope)) (read_exits reader (statement_rule scope pc statement))
       (statement_meaning calls k statement s) (statement_meaning further m statement t)
@@ -108,7 +108,7 @@ module _ (h : PrincipalHierarchy) (labelling : Labelling) (reader : Reader h lab
       (statement-kept h labelling reader scope further m secures.second statement pc fits unread t)
 
   mutual
-    pub statement-secure : (statement : Statement) (pc : Join) → Fits h labelling (statement_demands scope pc statement) → (s t : SourceState) →
+    pub statement-secure : (statement : Statement) (pc : Join) → FitsDemands h labelling (statement_demands scope pc statement) → (s t : SourceState) →
         AgreeFor (view_of reader scope) s t →
         Related (view_of reader scope) (reads_result reader (here scope)) (read_exits reader (statement_rule scope pc statement))
         (statement_meaning calls k statement s) (statement_meaning further m statement t)
@@ -363,7 +363,7 @@ module _ (h : PrincipalHierarchy) (labelling : Labelling) (reader : Reader h lab
         (block-among block scope.program calls k secures.first.among s) (block-among block scope.program further m secures.second.among t)
         (block-secure block pc fits s t agree)
 
-    pub block-secure : (block : Block) (pc : Join) → Fits h labelling (block_demands scope pc block) → (s t : SourceState) →
+    pub block-secure : (block : Block) (pc : Join) → FitsDemands h labelling (block_demands scope pc block) → (s t : SourceState) →
         AgreeFor (view_of reader scope) s t →
         Related (view_of reader scope) (reads_result reader (here scope)) (read_exits reader (block_rule scope pc block))
         (block_meaning calls k block s) (block_meaning further m block t)
@@ -396,7 +396,7 @@ module _ (h : PrincipalHierarchy) (labelling : Labelling) (reader : Reader h lab
           grows_second = block-grows rest further m secures.grows_second;
         })
 
-    pub handlers-secure : (handlers : Handlers) (x : ExitLabels) → Fits h labelling (handlers_demands scope x handlers) →
+    pub handlers-secure : (handlers : Handlers) (x : ExitLabels) → FitsDemands h labelling (handlers_demands scope x handlers) →
         (exception : ℕ) (s t : SourceState) → AgreeFor (view_of reader scope) s t → (exits : Exit → Bool) →
         ((exit : Exit) → reader.reads (handlers_rule scope x handlers exit) ≡ false → exits exit ≡ false) →
         Related (view_of reader scope) (reads_result reader (here scope)) exits (handlers_meaning calls k handlers exception s)

@@ -11,7 +11,7 @@ use Rattle.resolved.specs.Tree.{Statement, Call, If, While, ReturnWith, Try, Nes
 use Rattle.resolved.specs.Ends.{same_exit, has_end, raises, thrown_ends, leaves_loop, passes, then_ends, statement_ends, block_ends, handlers_ends}
 use Rattle.resolved.specs.EndFaults.{OutsideLoop, Unreachable, NeverRaised, fault_unless, may_stand, inner_faults, block_faults, handlers_faults}
 use Rattle.resolved.specs.declared.target.Target.TheVariants.{ToLoop}
-use Rattle.resolved.specs.Labelled.{Scope, ExitLabels, demand, Fits, value_label, label_if, at_ends, own_label, raised_exits, loop_exits, statement_rule, block_rule, handlers_rule, statement_demands, block_demands, handlers_demands, Labelling, Join, one, label_of}
+use Rattle.resolved.specs.Labelled.{Scope, ExitLabels, demand, FitsDemands, value_label, label_if, at_ends, own_label, raised_exits, loop_exits, statement_rule, block_rule, handlers_rule, statement_demands, block_demands, handlers_demands, Labelling, Join, one, label_of}
 use Rattle.isolation.proofs.Among.{same-exit, end-filter}
 use Rattle.isolation.proofs.Declared.{append-empty, no_fault-test}
 use Rattle.isolation.proofs.Observer.{Reader, unread-left, unread-right}
@@ -63,7 +63,7 @@ module _ (h : PrincipalHierarchy) (labelling : Labelling) (reader : Reader h lab
 
   mutual
     pub statement-ends-unread : (statement : Statement) (pc : Join) (in_loop : Bool) →
-        inner_faults scope.program in_loop statement ≡ [] → Fits h labelling (statement_demands scope pc statement) →
+        inner_faults scope.program in_loop statement ≡ [] → FitsDemands h labelling (statement_demands scope pc statement) →
         reader.reads pc ≡ false → (exit : Exit) → has_end (statement_ends scope.program statement) exit ≡ true →
         reader.reads (statement_rule scope pc statement exit) ≡ false
     statement-ends-unread (Call at f arguments target) pc in_loop faults fits unread exit among =
@@ -140,7 +140,7 @@ module _ (h : PrincipalHierarchy) (labelling : Labelling) (reader : Reader h lab
     statement-ends-unread other pc in_loop faults fits unread exit among = own-unread reader scope pc other fits unread
 
     pub block-ends-unread : (block : Block) (pc : Join) (in_loop reached : Bool) →
-        block_faults scope.program in_loop reached block ≡ [] → Fits h labelling (block_demands scope pc block) → reader.reads pc ≡ false →
+        block_faults scope.program in_loop reached block ≡ [] → FitsDemands h labelling (block_demands scope pc block) → reader.reads pc ≡ false →
         (exit : Exit) → has_end (block_ends scope.program block) exit ≡ true → reader.reads (block_rule scope pc block exit) ≡ false
     block-ends-unread Empty pc in_loop reached faults fits unread exit among =
         ⊎_elim
@@ -169,7 +169,7 @@ module _ (h : PrincipalHierarchy) (labelling : Labelling) (reader : Reader h lab
         (then-cases ends (block_ends scope.program rest) exit among)
 
     pub handlers-ends-unread : (handlers : Handlers) (x : ExitLabels) (in_loop : Bool) (ends : List Exit) →
-        handlers_faults scope.program in_loop ends handlers ≡ [] → Fits h labelling (handlers_demands scope x handlers) →
+        handlers_faults scope.program in_loop ends handlers ≡ [] → FitsDemands h labelling (handlers_demands scope x handlers) →
         ((y : ℕ) → has_end ends (Throw y) ≡ true → reader.reads (x (Throw y)) ≡ false) → (exit : Exit) →
         has_end (handlers_ends scope.program handlers) exit ≡ true → reader.reads (handlers_rule scope x handlers exit) ≡ false
     handlers-ends-unread NoMore x in_loop ends faults fits unread exit among = let i : true ≡ false = sym among in absurd (cc)

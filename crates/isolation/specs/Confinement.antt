@@ -3,7 +3,7 @@
 use Rattle.std.specs.Prelude.{◌≡◌, ℕ, List, [], Bool, IsTrue, IsFalse}
 use Rattle.labels.specs.declared.sent.Pair.{Pair}
 use Rattle.labels.specs.Label.{Label, may_read}
-use Rattle.labels.specs.Sent.{seen}
+use Rattle.labels.specs.Sent.{pairs_for}
 use Rattle.resolved.specs.declared.expression.Variable.{Variable}
 use Rattle.resolved.specs.declared.statement.Exit.{Exit}
 use Rattle.resolved.specs.Tree.{Statement}
@@ -11,14 +11,14 @@ use Rattle.resolved.specs.SourceState.{SourceState, cells}
 use Rattle.resolved.specs.Meaning.{Outcome, Ended, Stopped, state_after, statement_meaning, calls_with}
 use Rattle.resolved.specs.Ends.{has_end, statement_ends}
 use Rattle.resolved.specs.EndFaults.{end_faults, inner_faults}
-use Rattle.resolved.specs.Labelled.{Scope, Labelling, Join, ExitLabels, Fits, Labelled, join_under, variable_label, channel_label, statement_demands, statement_exits}
+use Rattle.resolved.specs.Labelled.{Scope, Labelling, Join, ExitLabels, FitsDemands, Labelled, join_under, variable_label, channel_label, statement_demands, statement_exits}
 
 -- whether a principal may read a label, and what it sees in a state of what was sent, under the program's own hierarchy
 abbrev pub reads : Scope → (p : ℕ) → Label → Bool
 reads scope p label = may_read scope.program.hierarchy p label
 
 abbrev pub sees : Scope → (p : ℕ) → SourceState → List Pair
-sees scope p s = seen scope.program.hierarchy (channel_label scope.program) p s.sent
+sees scope p s = pairs_for scope.program.hierarchy (channel_label scope.program) p s.sent
 
 -- the same of a join under a labelling
 abbrev pub reads_under : Scope → Labelling → (p : ℕ) → Join → Bool
@@ -41,7 +41,7 @@ abbrev pub StatementsAreConfined : Scope → Labelling → Type 0
 StatementsAreConfined scope labelling =
     end_faults scope.program ≡ [] → Labelled scope.program
     → (p : ℕ) (pc : Join) → IsFalse (reads_under scope labelling p pc)
-    → (statement : Statement) → Fits scope.program.hierarchy labelling (statement_demands scope pc statement)
+    → (statement : Statement) → FitsDemands scope.program.hierarchy labelling (statement_demands scope pc statement)
     → (frames k : ℕ) (s : SourceState)
     → SameFor scope labelling p s (state_after (statement_meaning (calls_with scope.program k frames) k statement s))
     × UnreadEnd scope labelling p (statement_exits scope pc statement)
@@ -52,6 +52,6 @@ abbrev pub PossibleEndsAreUnread : Scope → Labelling → Type 0
 PossibleEndsAreUnread scope labelling =
     (p : ℕ) (pc : Join) → IsFalse (reads_under scope labelling p pc)
     → (in_loop : Bool) (statement : Statement) → inner_faults scope.program in_loop statement ≡ []
-    → Fits scope.program.hierarchy labelling (statement_demands scope pc statement)
+    → FitsDemands scope.program.hierarchy labelling (statement_demands scope pc statement)
     → (exit : Exit) → IsTrue (has_end (statement_ends scope.program statement) exit)
     → IsFalse (reads_under scope labelling p (statement_exits scope pc statement exit))

@@ -5,7 +5,7 @@ use Rattle.std.specs.Prelude.{ℕ, zero, suc, List, [], ◌∷◌, ℤ, Some, No
 use Rattle.principals.specs.ActsFor.{PrincipalHierarchy}
 use Rattle.labels.specs.declared.sent.Pair.{Pair}
 use Rattle.labels.specs.Label.{Label}
-use Rattle.labels.specs.Sent.{seen}
+use Rattle.labels.specs.Sent.{pairs_for}
 use Rattle.resolved.specs.declared.expression.Base.TheVariants.{Int}
 use Rattle.resolved.specs.declared.expression.Variable.TheVariants.{Local}
 use Rattle.resolved.specs.declared.expression.Operator.TheVariants.{GreaterThan}
@@ -75,4 +75,4 @@ sends z = record { channel = 1; number = z } ∷ []
 
 -- what Bob sees of the first k turns of the waiting program
 abbrev pub bob_sees : World → (k : ℕ) → List Pair
-bob_sees world k = seen two_principals (channel_label waiting) bob (sent_by waiting world k)
+bob_sees world k = pairs_for two_principals (channel_label waiting) bob (sent_by waiting world k)

@@ -6,7 +6,7 @@ use Rattle.resolved.specs.Tree.{Statement}
 use Rattle.resolved.specs.SourceState.{SourceState}
 use Rattle.resolved.specs.Meaning.{Outcome, Ended, Stopped, statement_meaning, calls_with}
 use Rattle.resolved.specs.EndFaults.{end_faults}
-use Rattle.resolved.specs.Labelled.{Scope, here, Labelling, Join, ExitLabels, Fits, Labelled, result_label, statement_demands, statement_exits}
+use Rattle.resolved.specs.Labelled.{Scope, here, Labelling, Join, ExitLabels, FitsDemands, Labelled, result_label, statement_demands, statement_exits}
 use Rattle.isolation.specs.Confinement.{reads, reads_under, sees, SameFor}
 
 -- what the principal sees in one state is a prefix of what it sees in another
@@ -31,7 +31,7 @@ OutcomesAgree scope labelling p exits (Stopped stop s) (Stopped other t) = SeesP
 abbrev pub StatementsAgree : Scope → Labelling → Type 0
 StatementsAgree scope labelling =
     end_faults scope.program ≡ [] → Labelled scope.program
-    → (p : ℕ) (pc : Join) (statement : Statement) → Fits scope.program.hierarchy labelling (statement_demands scope pc statement)
+    → (p : ℕ) (pc : Join) (statement : Statement) → FitsDemands scope.program.hierarchy labelling (statement_demands scope pc statement)
     → (frames k m : ℕ) (s t : SourceState) → SameFor scope labelling p s t
     → OutcomesAgree scope labelling p (statement_exits scope pc statement)
     (statement_meaning (calls_with scope.program k frames) k statement s)

@@ -4,7 +4,7 @@ use Rattle.std.proofs.lemmas.List.{append-nil}
 use Rattle.std.proofs.lemmas.List.Elements.{filter-append}
 use Rattle.labels.specs.declared.sent.Pair.{Pair}
 use Rattle.labels.specs.Label.{Label, may_read}
-use Rattle.labels.specs.Sent.{IsPrefix, seen}
+use Rattle.labels.specs.Sent.{IsPrefix, pairs_for}
 use Rattle.principals.specs.ActsFor.{PrincipalHierarchy}
 
 pub prefix-itself : {X : Type 0} (xs : List X) → IsPrefix xs xs
@@ -39,6 +39,6 @@ prefixes-of-two xs ys whole more first second related =
 
 -- what is seen of a prefix is a prefix of what is seen of the whole
 pub seen-prefix : (h : PrincipalHierarchy) (label_of : ℕ → Label) (p : ℕ) (xs ys : List Pair) → IsPrefix xs ys →
-    IsPrefix (seen h label_of p xs) (seen h label_of p ys)
+    IsPrefix (pairs_for h label_of p xs) (pairs_for h label_of p ys)
 seen-prefix h label_of p xs ys b =
-    (seen h label_of p b.0, sym (filter-append (λ (pair : Pair). may_read h p (label_of pair.channel)) xs b.0) ∙ ap (seen h label_of p) b.1)
+    (pairs_for h label_of p b.0, sym (filter-append (λ (pair : Pair). may_read h p (label_of pair.channel)) xs b.0) ∙ ap (pairs_for h label_of p) b.1)

@@ -15,6 +15,6 @@ abbrev pub IsRowOf : List ℕ → Row → Type 0
 IsRowOf numbers row = (number : ℕ) → IsTrue (has row number) ↔ ((number < 256) × Contains numbers number)
 
 -- the policy is canonical, and the row is that of its readers
-pub record IsKept (inside : Inside) : Type 0 where
+pub record IsKeptPolicy (inside : Inside) : Type 0 where
   pub canonical : IsCanonicalPolicy (policy_of inside)
   pub row : IsRowOf inside.readers.items inside.row

@@ -10,5 +10,5 @@ abbrev pub IsPrefix : {X : Type 0} → List X → List X → Type 0
 IsPrefix {X} xs ys = (rest : List X) × (xs ++ rest ≡ ys)
 
 -- what a principal sees of a list of sent pairs: those on channels whose label it may read, in order
-abbrev pub seen : PrincipalHierarchy → (ℕ → Label) → ℕ → List Pair → List Pair
-seen h label_of p sent = filter (λ pair. may_read h p (label_of pair.channel)) sent
+abbrev pub pairs_for : PrincipalHierarchy → (ℕ → Label) → ℕ → List Pair → List Pair
+pairs_for h label_of p sent = filter (λ pair. may_read h p (label_of pair.channel)) sent

@@ -27,11 +27,11 @@ impl Model for Policy {
 
     ghost Value = { ReaderPolicy };
 
-    ghost use Rattle.labels.specs.Inside.{policy_of, IsKept};
+    ghost use Rattle.labels.specs.Inside.{policy_of, IsKeptPolicy};
 
     ghost view = { policy_of };
 
-    ghost invariant = { IsKept };
+    ghost invariant = { IsKeptPolicy };
 }
 
 impl Policy {

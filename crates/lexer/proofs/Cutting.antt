@@ -3,7 +3,7 @@ use Rattle.std.proofs.Common.{◌≡◌, ℕ, ◌+◌, List, [], ◌∷◌, ◌+
 use Rattle.std.specs.Str.{chars}
 use Rattle.lexer.specs.Terminal.{Terminal}
 use Rattle.lexer.specs.Lexeme.{Lexeme, Word, Gap, LargeLiteral, OpenComment}
-use Rattle.lexer.specs.Cut.{Cuts, Nothing, Token, Between, IsNext, IsStuck, terminal_at, size}
+use Rattle.lexer.specs.Cut.{Cuts, Nothing, Token, Between, IsNextLexeme, IsStuck, terminal_at, size}
 use Rattle.lexer.specs.Laws.{HasOneCut, IsNotCutAndRefused, HasOneRefusal}
 use Rattle.lexer.specs.declared.token.Kind.{Kind}
 use Rattle.lexer.specs.declared.token.Kind.TheVariants.{End}
@@ -26,8 +26,8 @@ cuts_on start text tokens middle left others end rest (Between _ _ front l ts _ 
 
 -- no token and no gap begins the text
 pub record Halts (text : List ℕ) : Type 0 where
-  pub no_token : (kind : Kind) (front left : List ℕ) → IsNext text (Word kind) front left → ⊥
-  pub no_gap : (front left : List ℕ) → IsNext text Gap front left → ⊥
+  pub no_token : (kind : Kind) (front left : List ℕ) → IsNextLexeme text (Word kind) front left → ⊥
+  pub no_gap : (front left : List ℕ) → IsNextLexeme text Gap front left → ⊥
 
 -- the end of a cut: its tokens, and where it ends
 pub record Same (tokens others : List Terminal) (end place : ℕ) (rest left : List ℕ) : Type 0 where
@@ -79,7 +79,7 @@ one_way start text tokens end rest others place left (Between _ _ front l _ _ _ 
     one_way (start + size front) l tokens end rest others place left cuts h here k
 
 -- where no character is left, nothing begins
-front_nil : (lexeme : Lexeme) (text front left : List ℕ) → IsNext text lexeme front left → text ≡ [] → ⊥
+front_nil : (lexeme : Lexeme) (text front left : List ℕ) → IsNextLexeme text lexeme front left → text ≡ [] → ⊥
 front_nil lexeme text [] left next e = nonempty lexeme [] next.is refl
 front_nil lexeme text (c ∷ front) left next e = let both : [] ≡ c ∷ (front ++ left) = sym e ∙ next.text_is in cc
 
@@ -91,7 +91,7 @@ halts_nil = record {
 
 -- a text that goes on with a refused lexeme goes on with no other
 halts_at : (text front rest : List ℕ) (lexeme : Lexeme) → ((kind : Kind) → lexeme ≡ Word kind → ⊥)
-    → (lexeme ≡ Gap → ⊥) → IsNext text lexeme front rest → Halts text
+    → (lexeme ≡ Gap → ⊥) → IsNextLexeme text lexeme front rest → Halts text
 halts_at text front rest lexeme no_word no_gap next = record {
   no_token = λ kind back left other. no_word kind (one_next text front rest back left lexeme (Word kind) next other).0;
   no_gap = λ back left other. no_gap (one_next text front rest back left lexeme Gap next other).0;

@@ -6,7 +6,7 @@ use Rattle.std.specs.List.{list_all}
 use Rattle.std.specs.Prelude.{nat_le}
 use Rattle.std.specs.Str.Parse.{digits_value}
 use Rattle.lexer.specs.Words.{is_white_space, is_name, may_continue, keyword_of, keywords}
-use Rattle.lexer.specs.Lexeme.{Lexeme, Word, Gap, LargeLiteral, OpenComment, IsLexeme, Blank, LineComment, BlockComment, Unended, Keyword, Identifier, Literal, TooLarge, Sign, IsInLine, IsOpen, IsClosed, IsNumeral, sign_of, signs, greatest_literal}
+use Rattle.lexer.specs.Lexeme.{Lexeme, Word, Gap, LargeLiteral, OpenComment, IsLexeme, Blank, LineComment, BlockComment, Unended, Keyword, Identifier, Literal, TooLarge, Sign, IsInLine, HasNoCommentEnd, IsClosed, IsNumeral, sign_of, signs, greatest_literal}
 use Rattle.lexer.specs.declared.token.Kind.{Kind}
 use Rattle.lexer.specs.declared.token.Kind.TheVariants.{Slash, Name, Integer}
 use Rattle.lexer.proofs.Letters.{Class, White, Digit, Letter, Solidus, Other, class_of, class-White, class-Digit, class-Letter, class-Solidus, class-Other, is_sign_first, lowercase_begins, lowercase_continues}
@@ -25,7 +25,7 @@ pub data AfterSolidus : List ℕ → Lexeme → Type 0 where
   Alone : AfterSolidus [] (Word Slash)
   Line : (body : List ℕ) → IsInLine body → AfterSolidus (47 ∷ body) Gap
   Block : (body : List ℕ) → IsClosed body → AfterSolidus (42 ∷ body) Gap
-  Unclosed : (body : List ℕ) → IsOpen body → AfterSolidus (42 ∷ body) OpenComment
+  Unclosed : (body : List ℕ) → HasNoCommentEnd body → AfterSolidus (42 ∷ body) OpenComment
 
 -- the lexeme of the characters `c ∷ cs`, where c is of this class
 abbrev pub Front : Class → ℕ → List ℕ → Lexeme → Type 0

@@ -4,7 +4,7 @@ use Rattle.std.proofs.lemmas.Str.{encodes-chars, chars-nil}
 use Rattle.std.specs.Str.{chars, IsUtf8, encode_utf8_all}
 use Rattle.lexer.specs.Terminal.{Terminal}
 use Rattle.lexer.specs.Lexeme.{Lexeme, Word, Gap}
-use Rattle.lexer.specs.Cut.{Cuts, Nothing, Token, Between, IsNext, IsCut, IsRefused, IsStuck, terminal_at, size}
+use Rattle.lexer.specs.Cut.{Cuts, Nothing, Token, Between, IsNextLexeme, IsCut, IsTextRefused, IsStuck, terminal_at, size}
 use Rattle.lexer.specs.Scan.{Reads, lexeme_of}
 use Rattle.lexer.specs.declared.token.Kind.{Kind}
 use Rattle.lexer.specs.declared.token.Kind.TheVariants.{End}
@@ -29,7 +29,7 @@ record Goes (text rest left : List ℕ) (front : List ℕ) : Type 0 where
   place : length text - length rest + size front ≡ length text - length left
 
 goes : (text rest left : List ℕ) (lexeme : Lexeme) (front : List ℕ) → length rest ≤ length text → IsUtf8 rest → IsUtf8 left
-    → IsNext (chars rest) lexeme front (chars left) → Goes text rest left front
+    → IsNextLexeme (chars rest) lexeme front (chars left) → Goes text rest left front
 goes text rest left lexeme front within ok tail_ok next =
     let n : length rest ≡ size (chars rest) = ap length (sym (encodes-chars rest ok)) in
     let m : length left ≡ size (chars left) = ap length (sym (encodes-chars left tail_ok)) in
@@ -97,7 +97,7 @@ token text rest left bytes tokens kind ok tail_ok bytes_ok so_far (front, next) 
 
 -- a text that can't be cut further
 pub refused : (text rest : List ℕ) (tokens : List Terminal) (fault : LexFault) → IsCutSoFar text rest tokens
-    → IsStuck (length text - length rest) (chars rest) fault → IsRefused text fault
+    → IsStuck (length text - length rest) (chars rest) fault → IsTextRefused text fault
 refused text rest tokens fault so_far stuck = record {
   words = tokens;
   place = length text - length rest;

@@ -11,7 +11,7 @@ use Rattle.std.specs.Str.Parse.{digits_value}
 use Rattle.lexer.specs.Terminal.{Terminal, IsTerminated}
 use Rattle.lexer.specs.Words.{is_name, keyword_of, keywords}
 use Rattle.lexer.specs.Lexeme.{Lexeme, Word, Gap, IsLexeme, Keyword, Identifier, Literal, Sign, IsNumeral, sign_of, signs}
-use Rattle.lexer.specs.Cut.{Cuts, Nothing, Token, Between, IsNext, IsCut, IsRefused, IsStuck, terminal_at, size}
+use Rattle.lexer.specs.Cut.{Cuts, Nothing, Token, Between, IsNextLexeme, IsCut, IsTextRefused, IsStuck, terminal_at, size}
 use Rattle.lexer.specs.Listing.{IsInOrder, IsSliceOf, IsSpelled, SpellsToken, IsAtCharacter, IsFaultAtCharacter}
 use Rattle.lexer.specs.declared.fault.LexFault.{LexFault}
 use Rattle.lexer.specs.declared.fault.LexFault.TheVariants.{NoMemory, NoToken, LiteralTooLarge, UnclosedComment}
@@ -28,7 +28,7 @@ size-append xs ys = ap length (encodes-append xs ys) ∙ length-append (encode_u
 parts_size : (text front left : List ℕ) → text ≡ front ++ left → size text ≡ size front + size left
 parts_size text front left e = ap size e ∙ size-append front left
 
-pub front_some : (lexeme : Lexeme) (text front left : List ℕ) → IsNext text lexeme front left → 1 ≤ size front
+pub front_some : (lexeme : Lexeme) (text front left : List ℕ) → IsNextLexeme text lexeme front left → 1 ≤ size front
 front_some lexeme text [] left next = absurd (nonempty lexeme [] next.is refl)
 front_some lexeme text (c ∷ front) left next = let h = length-le-encodes (c ∷ front) in omega arith
 
@@ -140,7 +140,7 @@ cut_spelled start text ts end rest (Between _ _ front l _ _ _ next cuts) scalars
     cut_spelled (start + size front) l ts end rest cuts later
 
 -- no token that is cut off is an end marker
-no_marker : (kind : Kind) (text front left : List ℕ) → IsNext text (Word kind) front left → all_scalars front ≡ true
+no_marker : (kind : Kind) (text front left : List ℕ) → IsNextLexeme text (Word kind) front left → all_scalars front ≡ true
     → kind ≢ End
 no_marker kind text front left next scalars e =
     let none : encode_utf8_all front ≡ [] = subst (λ k. SpellsToken k (encode_utf8_all front)) e (spelled kind front next.is scalars) in
@@ -195,7 +195,7 @@ pub record Parted (source : List ℕ) (end : ℕ) (rest : List ℕ) : Type 0 whe
 
 -- what follows a front of what follows
 next_part : (source : List ℕ) (lexeme : Lexeme) (start : ℕ) (text front left : List ℕ) → Parted source start text
-    → IsNext text lexeme front left → Parted source (start + size front) left
+    → IsNextLexeme text lexeme front left → Parted source (start + size front) left
 next_part source lexeme start text front left parted next =
     let bytes = encode_utf8_all front in
     let parts : encode_utf8_all text ≡ bytes ++ encode_utf8_all left = ap encode_utf8_all next.text_is ∙ encodes-append front left in
@@ -238,7 +238,7 @@ at_start text ok = record {
 }
 
 -- a refusal stands where a character begins
-pub refused_at : (text : List ℕ) (fault : LexFault) → IsUtf8 text → IsRefused text fault → IsFaultAtCharacter text fault
+pub refused_at : (text : List ℕ) (fault : LexFault) → IsUtf8 text → IsTextRefused text fault → IsFaultAtCharacter text fault
 refused_at text fault ok h =
     let here = boundary text h.place h.rest (cut_parts text 0 (chars text) h.words h.place h.rest h.cuts (at_start text ok)) in
     fault_at text h.place h.rest fault here h.stuck

@@ -6,8 +6,8 @@ use Rattle.std.specs.List.{list_all}
 use Rattle.std.specs.Prelude.{nat_le}
 use Rattle.std.specs.Str.Parse.{digits_value}
 use Rattle.lexer.specs.Words.{is_white_space, is_identifier, may_begin, may_continue, keyword_of}
-use Rattle.lexer.specs.Lexeme.{Lexeme, Word, Gap, OpenComment, IsLexeme, Blank, LineComment, BlockComment, Unended, Keyword, Identifier, Literal, TooLarge, Sign, IsInLine, IsOpen, IsClosed, IsNumeral, sign_of, greatest_literal}
-use Rattle.lexer.specs.Cut.{IsNext, HasNoLexeme}
+use Rattle.lexer.specs.Lexeme.{Lexeme, Word, Gap, OpenComment, IsLexeme, Blank, LineComment, BlockComment, Unended, Keyword, Identifier, Literal, TooLarge, Sign, IsInLine, HasNoCommentEnd, IsClosed, IsNumeral, sign_of, greatest_literal}
+use Rattle.lexer.specs.Cut.{IsNextLexeme, HasNoLexeme}
 use Rattle.lexer.specs.Scan.{IsNoDouble}
 use Rattle.lexer.specs.declared.token.Kind.{Kind}
 use Rattle.lexer.specs.declared.token.Kind.TheVariants.{Slash, Name}
@@ -37,7 +37,7 @@ bounded k c cs most class bound other longer more h e =
     let short : length tail ≤ most = bound other tail more others front in
     omega arith
 
-pub next_white : (c : ℕ) (cs : List ℕ) → is_white_space c ≡ true → IsNext (c ∷ cs) Gap (c ∷ []) cs
+pub next_white : (c : ℕ) (cs : List ℕ) → is_white_space c ≡ true → IsNextLexeme (c ∷ cs) Gap (c ∷ []) cs
 next_white c cs white = record {
   text_is = refl;
   is = Blank c white;
@@ -55,7 +55,7 @@ literal_is cs numeral =
     ]
 
 pub next_literal : (c : ℕ) (cs rest : List ℕ) → is_ascii_digit c ≡ true → list_all is_ascii_digit cs ≡ true
-    → Stops is_ascii_digit rest → IsNext (c ∷ (cs ++ rest)) (literal_of (c ∷ cs)) (c ∷ cs) rest
+    → Stops is_ascii_digit rest → IsNextLexeme (c ∷ (cs ++ rest)) (literal_of (c ∷ cs)) (c ∷ cs) rest
 next_literal c cs rest digit digits stops = record {
   text_is = refl;
   is = literal_is (c ∷ cs) (record { nonempty = omega arith; digits = and_from _ _ digit digits });
@@ -72,7 +72,7 @@ word_is cs identifier = word_at (keyword_of cs) refl
     word_at (Some kind) e = Keyword cs kind e
 
 pub next_word : (c : ℕ) (cs rest : List ℕ) → may_begin c ≡ true → list_all may_continue cs ≡ true
-    → Stops may_continue rest → IsNext (c ∷ (cs ++ rest)) (Word (word_kind (c ∷ cs))) (c ∷ cs) rest
+    → Stops may_continue rest → IsNextLexeme (c ∷ (cs ++ rest)) (Word (word_kind (c ∷ cs))) (c ∷ cs) rest
 next_word c cs rest begins continues stops = record {
   text_is = refl;
   is = word_is (c ∷ cs) (and_from _ _ begins continues);
@@ -96,7 +96,7 @@ after_line cs rest stops lexeme tail more e (Block body closed) = absurd (parted
 after_line cs rest stops lexeme tail more e (Unclosed body unclosed) = absurd (parted _ _ e)
 
 pub next_line : (cs rest : List ℕ) → IsInLine cs → Stops (λ c. not (c == 10)) rest
-    → IsNext (47 ∷ 47 ∷ (cs ++ rest)) Gap (47 ∷ 47 ∷ cs) rest
+    → IsNextLexeme (47 ∷ 47 ∷ (cs ++ rest)) Gap (47 ∷ 47 ∷ cs) rest
 next_line cs rest line stops = record {
   text_is = refl;
   is = LineComment cs line;
@@ -131,14 +131,14 @@ after_block cs rest closed lexeme tail more e (Unclosed body unclosed) =
     let short : length body ≤ length cs = closed_shortest cs rest body more closed others (λ before after h. absurd (unclosed before after h)) in
     omega arith
 
-pub next_block : (cs rest : List ℕ) → IsClosed cs → IsNext (47 ∷ 42 ∷ (cs ++ rest)) Gap (47 ∷ 42 ∷ cs) rest
+pub next_block : (cs rest : List ℕ) → IsClosed cs → IsNextLexeme (47 ∷ 42 ∷ (cs ++ rest)) Gap (47 ∷ 42 ∷ cs) rest
 next_block cs rest closed = record {
   text_is = refl;
   is = BlockComment cs closed;
   longest = bounded Solidus 47 (42 ∷ (cs ++ rest)) (suc (length cs)) class-Solidus (after_block cs rest closed);
 }
 
-pub next_open : (cs : List ℕ) → IsOpen cs → IsNext (47 ∷ 42 ∷ cs) OpenComment (47 ∷ 42 ∷ cs) []
+pub next_open : (cs : List ℕ) → HasNoCommentEnd cs → IsNextLexeme (47 ∷ 42 ∷ cs) OpenComment (47 ∷ 42 ∷ cs) []
 next_open cs unclosed = record {
   text_is = sym (append-nil (47 ∷ 42 ∷ cs));
   is = Unended cs unclosed;
@@ -157,7 +157,7 @@ after_alone cs no_line no_block lexeme tail more e (Line body line) = absurd (su
 after_alone cs no_line no_block lexeme tail more e (Block body closed) = absurd (subst (IsNotFirst 42) e no_block refl)
 after_alone cs no_line no_block lexeme tail more e (Unclosed body unclosed) = absurd (subst (IsNotFirst 42) e no_block refl)
 
-pub next_solidus : (cs : List ℕ) → IsNotFirst 47 cs → IsNotFirst 42 cs → IsNext (47 ∷ cs) (Word Slash) (47 ∷ []) cs
+pub next_solidus : (cs : List ℕ) → IsNotFirst 47 cs → IsNotFirst 42 cs → IsNextLexeme (47 ∷ cs) (Word Slash) (47 ∷ []) cs
 next_solidus cs no_line no_block = record {
   text_is = refl;
   is = Sign (47 ∷ []) Slash refl;
@@ -165,7 +165,7 @@ next_solidus cs no_line no_block = record {
 }
 
 pub next_double : (c d : ℕ) (cs : List ℕ) (kind : Kind) → class_of c ≡ Other → sign_of (c ∷ d ∷ []) ≡ Some kind
-    → IsNext (c ∷ d ∷ cs) (Word kind) (c ∷ d ∷ []) cs
+    → IsNextLexeme (c ∷ d ∷ cs) (Word kind) (c ∷ d ∷ []) cs
 next_double c d cs kind class found = record {
   text_is = refl;
   is = Sign (c ∷ d ∷ []) kind found;
@@ -182,7 +182,7 @@ single c cs alone lexeme (d ∷ []) more e front =
 single c cs alone lexeme (d ∷ f ∷ tail) more e front = let short = front.1.1.1 in absurd (omega arith)
 
 pub next_single : (c : ℕ) (cs : List ℕ) (kind : Kind) → class_of c ≡ Other → sign_of (c ∷ []) ≡ Some kind
-    → IsNoDouble c cs → IsNext (c ∷ cs) (Word kind) (c ∷ []) cs
+    → IsNoDouble c cs → IsNextLexeme (c ∷ cs) (Word kind) (c ∷ []) cs
 next_single c cs kind class found alone = record {
   text_is = refl;
   is = Sign (c ∷ []) kind found;
@@ -237,8 +237,8 @@ one_lexeme (c ∷ cs) l m h k =
     one_front (class_of c) c cs l m (shape l (c ∷ cs) c cs h refl) (shape m (c ∷ cs) c cs k refl)
 
 -- a text has one next lexeme
-pub one_next : (text front rest other more : List ℕ) (l m : Lexeme) → IsNext text l front rest
-    → IsNext text m other more → (l ≡ m) × ((front ≡ other) × (rest ≡ more))
+pub one_next : (text front rest other more : List ℕ) (l m : Lexeme) → IsNextLexeme text l front rest
+    → IsNextLexeme text m other more → (l ≡ m) × ((front ≡ other) × (rest ≡ more))
 one_next text front rest other more l m h k =
     let e : front ++ rest ≡ other ++ more = sym h.text_is ∙ k.text_is in
     let below : length other ≤ length front = h.longest m other more k.is k.text_is in

@@ -15,8 +15,8 @@ use Rattle.std.proofs.lemmas.Str.{encodes-IsAscii, encodes-chars}
 use Rattle.std.proofs.lemmas.Str.Ascii.{IsAscii-nil, IsAscii-cons}
 use Rattle.std.proofs.lemmas.Str.Parse.{IsDigitsTest, numerals_by_value, parse_digits}
 use Rattle.lexer.specs.Words.{is_white_space, may_begin, may_continue}
-use Rattle.lexer.specs.Lexeme.{Lexeme, Word, Gap, LargeLiteral, OpenComment, IsOpen, IsClosed, greatest_literal}
-use Rattle.lexer.specs.Cut.{IsNext}
+use Rattle.lexer.specs.Lexeme.{Lexeme, Word, Gap, LargeLiteral, OpenComment, HasNoCommentEnd, IsClosed, greatest_literal}
+use Rattle.lexer.specs.Cut.{IsNextLexeme}
 use Rattle.lexer.specs.Scan.{after_run, after_close, IsTail, begins_sign}
 use Rattle.lexer.specs.declared.token.Kind.TheVariants.{Integer}
 use Rattle.lexer.proofs.Letters.{class_of, Other}
@@ -26,10 +26,10 @@ use Rattle.lexer.proofs.Runs.{Stops, same_before}
 
 -- a next lexeme, of equal texts
 pub moved : (text other : List ℕ) (l m : Lexeme) (front a rest b : List ℕ) → text ≡ other → l ≡ m → front ≡ a
-    → rest ≡ b → IsNext text l front rest → IsNext other m a b
+    → rest ≡ b → IsNextLexeme text l front rest → IsNextLexeme other m a b
 moved text other l m front a rest b e k f h next =
-    subst (λ r. IsNext other m a r) h
-    (subst (λ x. IsNext other m x rest) f (subst (λ x. IsNext other x front rest) k (subst (λ t. IsNext t l front rest) e next)))
+    subst (λ r. IsNextLexeme other m a r) h
+    (subst (λ x. IsNextLexeme other m x rest) f (subst (λ x. IsNextLexeme other x front rest) k (subst (λ t. IsNextLexeme t l front rest) e next)))
 
 -- the front that a run passes
 pub record IsRun (p : ℕ → Bool) (cs front : List ℕ) : Type 0 where
@@ -84,7 +84,7 @@ run_tail p cs c after rest e k = let h = run_front p cs c after rest e k in (c �
 
 -- a word
 pub word_read : (cs : List ℕ) (c : ℕ) (after rest front : List ℕ) → cs ≡ c ∷ after → rest ≡ after_run may_continue after
-    → may_begin c ≡ true → cs ≡ front ++ rest → IsNext cs (Word (word_kind front)) front rest
+    → may_begin c ≡ true → cs ≡ front ++ rest → IsNextLexeme cs (Word (word_kind front)) front rest
 word_read cs c after rest front e k begins parts =
     let h = run_front may_continue cs c after rest e k in
     let same : c ∷ h.others ≡ front = same_before (c ∷ h.others) front rest (sym h.whole ∙ parts) in
@@ -94,7 +94,7 @@ word_read cs c after rest front e k begins parts =
 -- an integer
 pub literal_read : (cs : List ℕ) (c : ℕ) (after rest front : List ℕ) → cs ≡ c ∷ after
     → rest ≡ after_run is_ascii_digit after → is_ascii_digit c ≡ true → cs ≡ front ++ rest
-    → IsNext cs (literal_of front) front rest × ((list_all is_ascii_digit front ≡ true) × (0 < length front))
+    → IsNextLexeme cs (literal_of front) front rest × ((list_all is_ascii_digit front ≡ true) × (0 < length front))
 literal_read cs c after rest front e k digit parts =
     let h = run_front is_ascii_digit cs c after rest e k in
     let same : c ∷ h.others ≡ front = same_before (c ∷ h.others) front rest (sym h.whole ∙ parts) in
@@ -115,7 +115,7 @@ literal_large cs large = cond-false (nat_le (digits_value 10 cs) greatest_litera
 
 -- a comment to the end of the line
 pub line_read : (cs body rest : List ℕ) → cs ≡ 47 ∷ 47 ∷ body → rest ≡ after_run (λ c. not (c == 10)) body
-    → (front : List ℕ) × IsNext cs Gap front rest
+    → (front : List ℕ) × IsNextLexeme cs Gap front rest
 line_read cs body rest e k =
     let h = run_front (λ c. not (c == 10)) (47 ∷ body) 47 body rest refl k in (
       47 ∷ 47 ∷ h.others,
@@ -127,7 +127,7 @@ line_read cs body rest e k =
 abbrev pub BeginsNoClose : ℕ → List ℕ → Type 0
 BeginsNoClose c cs = (after : List ℕ) → c ≡ 42 → cs ≡ 47 ∷ after → ⊥
 
-open_cons : (c : ℕ) (cs : List ℕ) → BeginsNoClose c cs → IsOpen cs → IsOpen (c ∷ cs)
+open_cons : (c : ℕ) (cs : List ℕ) → BeginsNoClose c cs → HasNoCommentEnd cs → HasNoCommentEnd (c ∷ cs)
 open_cons c cs none unclosed [] after e = none after (cc) (cc)
 open_cons c cs none unclosed (b ∷ before) after e = unclosed before after (cc)
 
@@ -149,15 +149,15 @@ abbrev pub behind : Bool → List ℕ → List ℕ
 behind true cs = 42 ∷ cs
 behind false cs = cs
 
-unstar_open : (b : Bool) (c : ℕ) (cs : List ℕ) → (c == 42) ≡ b → IsOpen (behind b cs) → IsOpen (c ∷ cs)
-unstar_open true c cs e h = subst (λ x. IsOpen (x ∷ cs)) (sym (eqb-true c 42 e)) h
+unstar_open : (b : Bool) (c : ℕ) (cs : List ℕ) → (c == 42) ≡ b → HasNoCommentEnd (behind b cs) → HasNoCommentEnd (c ∷ cs)
+unstar_open true c cs e h = subst (λ x. HasNoCommentEnd (x ∷ cs)) (sym (eqb-true c 42 e)) h
 unstar_open false c cs e h = open_cons c cs (λ after k m. eqb-false c 42 e k) h
 
 unstar_closed : (b : Bool) (c : ℕ) (cs : List ℕ) → (c == 42) ≡ b → IsClosed (behind b cs) → IsClosed (c ∷ cs)
 unstar_closed true c cs e h = subst (λ x. IsClosed (x ∷ cs)) (sym (eqb-true c 42 e)) h
 unstar_closed false c cs e h = closed_cons c cs (λ after k m. eqb-false c 42 e k) h
 
-star_open : (s : Bool) (c : ℕ) (cs : List ℕ) → (s && c == 47) ≡ false → IsOpen (c ∷ cs) → IsOpen (behind s (c ∷ cs))
+star_open : (s : Bool) (c : ℕ) (cs : List ℕ) → (s && c == 47) ≡ false → HasNoCommentEnd (c ∷ cs) → HasNoCommentEnd (behind s (c ∷ cs))
 star_open false c cs e h = h
 star_open true c cs e h = open_cons 42 (c ∷ cs) (λ after k m. let f : c ≡ 47 = cc in eqb-false c 47 e f) h
 
@@ -166,11 +166,11 @@ star_closed : (s : Bool) (c : ℕ) (cs : List ℕ) → (s && c == 47) ≡ false 
 star_closed false c cs e h = h
 star_closed true c cs e h = closed_cons 42 (c ∷ cs) (λ after k m. let f : c ≡ 47 = cc in eqb-false c 47 e f) h
 
-open_nil : IsOpen []
+open_nil : HasNoCommentEnd []
 open_nil [] after e = cc
 open_nil (b ∷ before) after e = cc
 
-open_end : (s : Bool) → IsOpen (behind s [])
+open_end : (s : Bool) → HasNoCommentEnd (behind s [])
 open_end false = open_nil
 open_end true = open_cons 42 [] (λ after k m. cc) open_nil
 
@@ -190,7 +190,7 @@ closed_end s c e =
     subst (λ t. IsClosed (behind t (c ∷ []))) (sym starred)
     (subst (λ x. IsClosed (behind true (x ∷ []))) (sym (eqb-true c 47 solidus)) pair)
 
-close_none : (s : Bool) (cs : List ℕ) → after_close s cs ≡ None → IsOpen (behind s cs)
+close_none : (s : Bool) (cs : List ℕ) → after_close s cs ≡ None → HasNoCommentEnd (behind s cs)
 close_none s [] e = open_end s
 close_none s (c ∷ cs) e =
     elim (cases_Bool (s && c == 47)) [
@@ -219,7 +219,7 @@ close_some s (c ∷ cs) rest e =
 
 -- a comment that ends, and one that does not
 pub block_read : (cs body rest : List ℕ) → cs ≡ 47 ∷ 42 ∷ body → after_close false body ≡ Some rest
-    → (front : List ℕ) × IsNext cs Gap front rest
+    → (front : List ℕ) × IsNextLexeme cs Gap front rest
 block_read cs body rest e k =
     let (inner, (parts, closed)) = close_some false body rest k in (
       47 ∷ 42 ∷ inner,
@@ -228,7 +228,7 @@ block_read cs body rest e k =
     )
 
 pub open_read : (cs body : List ℕ) → cs ≡ 47 ∷ 42 ∷ body → after_close false body ≡ None
-    → (front : List ℕ) × ((rest : List ℕ) × IsNext cs OpenComment front rest)
+    → (front : List ℕ) × ((rest : List ℕ) × IsNextLexeme cs OpenComment front rest)
 open_read cs body e k =
     (47 ∷ 42 ∷ body, ([], moved _ _ _ _ _ _ _ _ (sym e) refl refl refl (next_open body (close_none false body k))))
 

@@ -7,7 +7,7 @@ use Rattle.std.specs.Str.{chars, IsUtf8}
 use Rattle.lexer.specs.Terminal.{Terminal}
 use Rattle.lexer.specs.Words.{is_white_space, may_begin, may_continue}
 use Rattle.lexer.specs.Lexeme.{Lexeme, Word, Gap, LargeLiteral, OpenComment, sign_of}
-use Rattle.lexer.specs.Cut.{Cuts, Nothing, Token, Between, IsNext, IsCut, IsStuck, HasNoLexeme, terminal_at, size}
+use Rattle.lexer.specs.Cut.{Cuts, Nothing, Token, Between, IsNextLexeme, IsCut, IsStuck, HasNoLexeme, terminal_at, size}
 use Rattle.lexer.specs.Laws.{IsCutOrRefused}
 use Rattle.lexer.specs.Scan.{after_close, after_run, IsNoDouble}
 use Rattle.lexer.specs.declared.token.Kind.{Kind}
@@ -22,7 +22,7 @@ use Rattle.lexer.proofs.Listed.{cut_size}
 
 -- a text has a next lexeme, or none
 data Found (text : List ℕ) : Type 0 where
-  Next : (lexeme : Lexeme) (front rest : List ℕ) → IsNext text lexeme front rest → Found text
+  Next : (lexeme : Lexeme) (front rest : List ℕ) → IsNextLexeme text lexeme front rest → Found text
   Absent : HasNoLexeme text → Found text
 
 find_single : (c : ℕ) (cs : List ℕ) → class_of c ≡ Other → IsNoDouble c cs → (single : Option Kind)
@@ -97,14 +97,14 @@ record Cutting (start : ℕ) (text : List ℕ) : Type 0 where
 stuck : (start : ℕ) (text : List ℕ) (fault : LexFault) → IsStuck start text fault → Cutting start text
 stuck start text fault h = record { words = []; end = start; rest = text; cuts = Nothing start text; stops = inr (fault, h) }
 
-shorter : (lexeme : Lexeme) (text front rest : List ℕ) → IsNext text lexeme front rest → length rest < length text
+shorter : (lexeme : Lexeme) (text front rest : List ℕ) → IsNextLexeme text lexeme front rest → length rest < length text
 shorter lexeme text [] rest next = absurd (nonempty lexeme [] next.is refl)
 shorter lexeme text (c ∷ front) rest next =
     let n : length text ≡ suc (length (front ++ rest)) = ap length next.text_is in
     let m = length-append front rest in
     omega arith
 
-goes_on : (start : ℕ) (text : List ℕ) (kind : Kind) (front left : List ℕ) → IsNext text (Word kind) front left
+goes_on : (start : ℕ) (text : List ℕ) (kind : Kind) (front left : List ℕ) → IsNextLexeme text (Word kind) front left
     → Cutting (start + size front) left → Cutting start text
 goes_on start text kind front left next c = record {
   words = terminal_at start kind front ∷ c.words;
@@ -114,7 +114,7 @@ goes_on start text kind front left next c = record {
   stops = c.stops;
 }
 
-passes : (start : ℕ) (text front left : List ℕ) → IsNext text Gap front left → Cutting (start + size front) left
+passes : (start : ℕ) (text front left : List ℕ) → IsNextLexeme text Gap front left → Cutting (start + size front) left
     → Cutting start text
 passes start text front left next c = record {
   words = c.words;
@@ -125,7 +125,7 @@ passes start text front left next c = record {
 }
 
 -- the cut from a lexeme on, given the cut of what follows it
-from_next : (start : ℕ) (text : List ℕ) (lexeme : Lexeme) (front left : List ℕ) → IsNext text lexeme front left
+from_next : (start : ℕ) (text : List ℕ) (lexeme : Lexeme) (front left : List ℕ) → IsNextLexeme text lexeme front left
     → Cutting (start + size front) left → Cutting start text
 from_next start text (Word kind) front left next c = goes_on start text kind front left next c
 from_next start text Gap front left next c = passes start text front left next c

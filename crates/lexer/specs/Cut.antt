@@ -10,7 +10,7 @@ use Rattle.lexer.specs.declared.fault.LexFault.{LexFault}
 use Rattle.lexer.specs.declared.fault.LexFault.TheVariants.{NoMemory, NoToken, LiteralTooLarge, UnclosedComment}
 
 -- the text begins with the lexeme `front`, and with no longer one; `rest` follows
-pub record IsNext (text : List ℕ) (lexeme : Lexeme) (front rest : List ℕ) : Type 0 where
+pub record IsNextLexeme (text : List ℕ) (lexeme : Lexeme) (front rest : List ℕ) : Type 0 where
   pub text_is : text ≡ front ++ rest
   pub is : IsLexeme lexeme front
   pub longest : (other : Lexeme) (longer more : List ℕ) → IsLexeme other longer → text ≡ longer ++ more
@@ -30,11 +30,11 @@ pub data Cuts : ℕ → List ℕ → List Terminal → ℕ → List ℕ → Type
   Nothing : (start : ℕ) (text : List ℕ) → Cuts start text [] start text
   -- the next lexeme is a token, and the cut goes on behind it
   Token : (start : ℕ) (text : List ℕ) (kind : Kind) (front left : List ℕ) (tokens : List Terminal) (end : ℕ)
-      (rest : List ℕ) → IsNext text (Word kind) front left → Cuts (start + size front) left tokens end rest
+      (rest : List ℕ) → IsNextLexeme text (Word kind) front left → Cuts (start + size front) left tokens end rest
       → Cuts start text (terminal_at start kind front ∷ tokens) end rest
   -- the next lexeme gives no token, and the cut goes on behind it
   Between : (start : ℕ) (text front left : List ℕ) (tokens : List Terminal) (end : ℕ) (rest : List ℕ)
-      → IsNext text Gap front left → Cuts (start + size front) left tokens end rest → Cuts start text tokens end rest
+      → IsNextLexeme text Gap front left → Cuts (start + size front) left tokens end rest → Cuts start text tokens end rest
 
 -- the tokens of the whole text, with the end marker behind them
 pub record IsCut (text : List ℕ) (tokens : List Terminal) : Type 0 where
@@ -52,12 +52,12 @@ abbrev pub IsStuck : ℕ → List ℕ → LexFault → Type 0
 IsStuck start text NoMemory = ⊥
 IsStuck start text (NoToken at) = (at ≡ start) × HasNoLexeme text
 IsStuck start text (LiteralTooLarge at) =
-    (at ≡ start) × ((front : List ℕ) × (rest : List ℕ) × IsNext text LargeLiteral front rest)
+    (at ≡ start) × ((front : List ℕ) × (rest : List ℕ) × IsNextLexeme text LargeLiteral front rest)
 IsStuck start text (UnclosedComment at) =
-    (at ≡ start) × ((front : List ℕ) × (rest : List ℕ) × IsNext text OpenComment front rest)
+    (at ≡ start) × ((front : List ℕ) × (rest : List ℕ) × IsNextLexeme text OpenComment front rest)
 
 -- what stands before the fault is cut into tokens, and the fault is what comes then
-pub record IsRefused (text : List ℕ) (fault : LexFault) : Type 0 where
+pub record IsTextRefused (text : List ℕ) (fault : LexFault) : Type 0 where
   pub words : List Terminal
   pub place : ℕ
   pub rest : List ℕ

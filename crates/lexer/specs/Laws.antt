@@ -2,7 +2,7 @@
 -- Source: our own; that longest match leaves no choice is folklore.
 use Rattle.std.specs.Prelude.{◌≡◌, ◌⊎◌, ℕ, List}
 use Rattle.std.specs.Str.{IsUtf8}
-use Rattle.lexer.specs.Cut.{IsCut, IsRefused}
+use Rattle.lexer.specs.Cut.{IsCut, IsTextRefused}
 use Rattle.lexer.specs.Terminal.{Terminal}
 use Rattle.lexer.specs.declared.fault.LexFault.{LexFault}
 
@@ -12,14 +12,14 @@ HasOneCut = (text : List ℕ) (tokens others : List Terminal) → IsCut text tok
 
 -- a text that is cut is not refused
 abbrev pub IsNotCutAndRefused : Type 0
-IsNotCutAndRefused = (text : List ℕ) (tokens : List Terminal) (fault : LexFault) → IsCut text tokens → IsRefused text fault → ⊥
+IsNotCutAndRefused = (text : List ℕ) (tokens : List Terminal) (fault : LexFault) → IsCut text tokens → IsTextRefused text fault → ⊥
 
 -- a text is refused for one reason at most
 abbrev pub HasOneRefusal : Type 0
-HasOneRefusal = (text : List ℕ) (fault other : LexFault) → IsRefused text fault → IsRefused text other → fault ≡ other
+HasOneRefusal = (text : List ℕ) (fault other : LexFault) → IsTextRefused text fault → IsTextRefused text other → fault ≡ other
 
 -- a text is cut, or it is refused
 abbrev pub IsCutOrRefused : Type 0
 IsCutOrRefused =
     (text : List ℕ) → IsUtf8 text
-    → ((tokens : List Terminal) × IsCut text tokens) ⊎ ((fault : LexFault) × IsRefused text fault)
+    → ((tokens : List Terminal) × IsCut text tokens) ⊎ ((fault : LexFault) × IsTextRefused text fault)

@@ -38,8 +38,8 @@ abbrev pub IsInLine : List ℕ → Type 0
 IsInLine cs = IsTrue (list_all (λ c. not (c == 10)) cs)
 
 -- no `*/` stands in the characters
-abbrev pub IsOpen : List ℕ → Type 0
-IsOpen cs = (before after : List ℕ) → cs ≢ before ++ (codes "*/" ++ after)
+abbrev pub HasNoCommentEnd : List ℕ → Type 0
+HasNoCommentEnd cs = (before after : List ℕ) → cs ≢ before ++ (codes "*/" ++ after)
 
 -- the characters end with `*/`, and no other `*/` stands in them
 pub record IsClosed (cs : List ℕ) : Type 0 where
@@ -67,7 +67,7 @@ pub data IsLexeme : Lexeme → List ℕ → Type 0 where
   -- `/*` and what follows up to the first `*/`
   BlockComment : (cs : List ℕ) → IsClosed cs → IsLexeme Gap (codes "/*" ++ cs)
   -- `/*` and what follows, where no `*/` stands
-  Unended : (cs : List ℕ) → IsOpen cs → IsLexeme OpenComment (codes "/*" ++ cs)
+  Unended : (cs : List ℕ) → HasNoCommentEnd cs → IsLexeme OpenComment (codes "/*" ++ cs)
   -- a word of the table of keywords
   Keyword : (cs : List ℕ) (kind : Kind) → keyword_of cs ≡ Some kind → IsLexeme (Word kind) cs
   -- an identifier that is no keyword

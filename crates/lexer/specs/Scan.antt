@@ -4,7 +4,7 @@ use Rattle.std.specs.Prelude.{◌≡◌, ℕ, ◌==◌, ◌&&◌, ◌||◌, Bool
 use Rattle.std.specs.Char.{is_ascii_digit}
 use Rattle.lexer.specs.Words.{is_white_space, may_begin, may_continue}
 use Rattle.lexer.specs.Lexeme.{Lexeme, Word, Gap, sign_of}
-use Rattle.lexer.specs.Cut.{IsNext}
+use Rattle.lexer.specs.Cut.{IsNextLexeme}
 use Rattle.lexer.specs.declared.token.Kind.{Kind}
 use Rattle.lexer.specs.declared.pieces.Class.{Class}
 use Rattle.lexer.specs.declared.pieces.Class.TheVariants.{Digit, NamePart, InLine}
@@ -40,7 +40,7 @@ lexeme_of (Some kind) = Word kind
 
 -- the text begins with the lexeme of this kind, and `rest` follows
 abbrev pub Reads : List ℕ → Option Kind → List ℕ → Type 0
-Reads text kind rest = (front : List ℕ) × IsNext text (lexeme_of kind) front rest
+Reads text kind rest = (front : List ℕ) × IsNextLexeme text (lexeme_of kind) front rest
 
 -- the character and the first one of the list are no sign
 abbrev pub IsNoDouble : ℕ → List ℕ → Type 0

@@ -1,4 +1,4 @@
-ghost use Rattle.lexer.specs.Cut.{IsCut, IsRefused};
+ghost use Rattle.lexer.specs.Cut.{IsCut, IsTextRefused};
 ghost use Rattle.lexer.specs.Laws.{IsCutOrRefused, HasOneCut, IsNotCutAndRefused, HasOneRefusal};
 ghost use Rattle.lexer.specs.Listing.{IsAtCharacter, IsFaultAtCharacter, IsInOrder, IsSliceOf, IsSpelled};
 ghost use Rattle.lexer.specs.Terminal.{Terminal, terminals_of, IsTerminated};
@@ -19,8 +19,8 @@ pub fn lex(alloc: Global, src: &str) -> Result<Vec<Token<'_>>, LexFault>
     ensures only { (tokens : List Terminal) → IsCut src.now tokens → MatchResult result
         (λ found. terminals_of found.items ≡ tokens) (λ fault. fault ≡ LexFault.NoMemory) }
     ensures refused { IfErr result (λ fault.
-        (fault ≡ LexFault.NoMemory) ⊎ IsRefused src.now fault) }
-    ensures first { (fault : LexFault) → IsRefused src.now fault → MatchResult result
+        (fault ≡ LexFault.NoMemory) ⊎ IsTextRefused src.now fault) }
+    ensures first { (fault : LexFault) → IsTextRefused src.now fault → MatchResult result
         (λ _. ⊥) (λ found. (found ≡ fault) ⊎ (found ≡ LexFault.NoMemory)) }
     ensures terminated { IfOk result (λ tokens. IsTerminated (terminals_of tokens.items)) }
     ensures in_order { IfOk result (λ tokens.

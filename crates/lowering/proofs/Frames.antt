@@ -13,7 +13,7 @@ use Rattle.resolved.specs.declared.expression.Base.TheVariants as base
 use Rattle.resolved.specs.Program.{Program, ProcedureEntry, SlotEntry, GlobalEntry, ChannelEntry}
 use Rattle.resolved.specs.SourceState as source
 use Rattle.resolved.specs.Value.{base_of, zero_value}
-use Rattle.resolved.specs.Meaning.{cells_of as first_cells_of, slot_cells, frame_of}
+use Rattle.resolved.specs.Meaning.{cells_of as first_cells_of, first_cells_of_slots, frame_of}
 use Rattle.resolved.specs.WellFormed.{slot_type, global_type, first_fits, size_fits, label_fits, same_base, well_formed, parameters_of}
 use Rattle.resolved.specs.Kinds.{ArgumentsFit}
 use Rattle.resolved.proofs.Parts.{program_parts, passes_at}
@@ -176,7 +176,7 @@ argument_there (suc m) (entry ∷ slots) (w ∷ vs) zero v h e f = cc
 argument_there (suc m) (entry ∷ slots) (w ∷ vs) (suc n) v h e f = argument_there m slots vs n v h.1 e f
 
 slot_begins : (o : Option SlotEntry) (argument : Option Value) → ((v : Value) → o ≡ None → argument ≡ Some v → ⊥)
-    → first_slot (option_map cell_of argument) (option_map slot_contents o) ≡ cells_of (slot_cells o argument)
+    → first_slot (option_map cell_of argument) (option_map slot_contents o) ≡ cells_of (first_cells_of_slots o argument)
 slot_begins None None none = refl
 slot_begins None (Some v) none = absurd (none v refl refl)
 slot_begins (Some entry) None none = first_same entry.base entry.size

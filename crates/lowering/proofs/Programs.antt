@@ -18,7 +18,7 @@ use Rattle.resolved.specs.Value.{base_of}
 use Rattle.resolved.specs.Ends.{thrown_ends, declared_by}
 use Rattle.resolved.specs.EndFaults.{end_faults}
 use Rattle.resolved.specs.Meaning as meaning
-use Rattle.resolved.specs.Meaning.{Outcome, Ended, Stopped, Deep, OutOfTurns, leaving, entering, calls_with, block_meaning, state_after, global_cells, channel_numbers, numbers_by}
+use Rattle.resolved.specs.Meaning.{Outcome, Ended, Stopped, Deep, OutOfTurns, leaving, entering, calls_with, block_meaning, state_after, first_cells_of_globals, channel_numbers, numbers_by}
 use Rattle.resolved.specs.WellFormed.{well_formed, parameters_of, has_result, same_base, main_fits, first_fits, size_fits, label_fits, is_zero_value}
 use Rattle.resolved.specs.Kinds.{StateFits, OutcomeFits, ArgumentsFit}
 use Rattle.resolved.proofs.Parts.{ProcedureParts, procedure_at_is, program_parts, passes_at}
@@ -68,7 +68,7 @@ sized_begins entry (Some count) e h empty =
     rw e (ap (replicate count) (sym (zero_value_cell entry.first entry.base h is_zero_first)) ∙ sym (cells_replicated count entry.first))
 
 global_begins : (program : Program) → well_formed program ≡ true → (k : ℕ) (o : Option GlobalEntry) → slice_get program.globals k ≡ o
-    → machine.cells_of_global (option_map global_contents o) ≡ cells_of (global_cells o)
+    → machine.cells_of_global (option_map global_contents o) ≡ cells_of (first_cells_of_globals o)
 global_begins program formed k None e = refl
 global_begins program formed k (Some entry) e =
     let all_fit : list_all (λ (entry : GlobalEntry). size_fits entry.size && label_fits program.hierarchy entry.label && first_fits entry) program.globals ≡ true =
@@ -92,7 +92,7 @@ begins-so : (program : Program) (formed : well_formed program ≡ true) (world :
     (place (setting_of program formed world program.main main there []) 0 [] (entering main [] (meaning.first_state program world)))
 begins-so program formed world main there none =
     let graph = unthreaded_graph program in
-    let globals : (λ k. machine.cells_of_global (slice_get graph.globals k)) ≡ (λ n. cells_of (global_cells (slice_get program.globals n))) =
+    let globals : (λ k. machine.cells_of_global (slice_get graph.globals k)) ≡ (λ n. cells_of (first_cells_of_globals (slice_get program.globals n))) =
     fun_ext (λ n. ap machine.cells_of_global (slice_get-map global_contents program.globals n) ∙ global_begins program formed n (slice_get program.globals n) refl) in
     let slots : machine.first_slots (machine.slots_in (slice_get graph.procedures program.main)) [] ≡ (λ n. cells_of (meaning.frame_of main.slots [] n)) =
     ap (λ (o : Option ProcedureContents). machine.first_slots (machine.slots_in o) []) (procedure_there program program.main main there) ∙ slots-begin main [] none in
@@ -100,11 +100,11 @@ begins-so program formed world main there none =
     fun_ext (λ c. rest_begins (slice_get program.channels c) (world c)) in
     ap (λ (g : ℕ → List Cell). Running (record (machine.first_state graph world) { globals = g })) globals
     ∙ ap (λ (f : ℕ → List Cell). Running (record (machine.first_state graph world) {
-      globals = λ n. cells_of (global_cells (slice_get program.globals n));
+      globals = λ n. cells_of (first_cells_of_globals (slice_get program.globals n));
       frame = record { procedure = program.main; slots = f; operands = []; position = 0 };
     })) slots
     ∙ ap (λ (r : ℕ → List ℤ). Running (record (machine.first_state graph world) {
-      globals = λ n. cells_of (global_cells (slice_get program.globals n));
+      globals = λ n. cells_of (first_cells_of_globals (slice_get program.globals n));
       frame = record { procedure = program.main; slots = λ n. cells_of (meaning.frame_of main.slots [] n); operands = []; position = 0 };
       rest = r;
     })) rest

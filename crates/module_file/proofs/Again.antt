@@ -4,7 +4,7 @@ use Rattle.std.specs.Int.{w32, to_be_bytes}
 use Rattle.std.specs.List.{AllByRecursion}
 use Rattle.std.proofs.lemmas.Bool.{lt-ltb, eq-eqb}
 use Rattle.std.proofs.lemmas.List.{append-nil}
-use Rattle.bytecode.specs.declared.fault.Refusal.TheVariants.{BadValue}
+use Rattle.bytecode.specs.declared.fault.ModuleRefusal.TheVariants.{BadValue}
 use Rattle.bytecode.specs.Form.{number_at, stop_at, Coding, Form, Byte, Number, Text, Nothing, Marked, Checked, Then, Counted, Code, Named, spelled_each, spelled_instruction, spelled_code, spelled, FitEach, IsCoded, Fits, ◌>>=◌, Read, bytes_at, each_at, meant, operand_at, instruction_in, code_at, read}
 use Rattle.module_file.proofs.Steps.{bytes_again, number_again}
 use Rattle.module_file.proofs.Coherent.{Coherent}

@@ -15,9 +15,9 @@ use Rattle.module_file.specs.declared.reading.ReadError.{ReadError}
 use Rattle.module_file.specs.declared.reading.ReadError.TheVariants as errors
 use Rattle.bytecode.specs.Contents.{ChannelContents}
 use Rattle.bytecode.specs.Form.{Form, Named, Then, Counted, Checked, Text, Read, read, each_at, number_at}
-use Rattle.module_file.specs.Reading.{Fails}
+use Rattle.module_file.specs.Reading.{ReadingFails}
 use Rattle.module_file.proofs.Loop.{each_fails, each_goes_on}
-use Rattle.bytecode.specs.declared.fault.Refusal.TheVariants.{BadValue}
+use Rattle.bytecode.specs.declared.fault.ModuleRefusal.TheVariants.{BadValue}
 use Rattle.bytecode.specs.Format.{any, exceptions, channels, declared, is_built_in, channel_after, channel_names, direction, label, is_among, is_new_name, name_after}
 
 not_utf8 : (text : List ℕ) (b : Bool) → is_utf8 text ≡ b → ¬ IsUtf8 text → b ≡ false
@@ -79,10 +79,10 @@ names_go_on taken now count i before bytes name after total lt holds found so_fa
     each_goes_on (one_name taken) count i before bytes name after total lt (sym same ∙ found) so_far
 
 pub names_fails : (e : ReadError) (taken now : List ℕ → Bool) (count i : ℕ) (before : List (List ℕ)) (bytes : List ℕ) (total : Read (List (List ℕ))) → i < count → ((q : List ℕ) → now q ≡ (taken q || is_among before q))
-    → Fails e (read (name_after now []) bytes) → each_at (one_name taken) (count - i) before bytes ≡ total → Fails e total
+    → ReadingFails e (read (name_after now []) bytes) → each_at (one_name taken) (count - i) before bytes ≡ total → ReadingFails e total
 names_fails e taken now count i before bytes total lt holds found so_far =
     let same : read (name_after now []) bytes ≡ read (name_after taken before) bytes = ap (λ (form : Form (List ℕ)). read form bytes) (in_set taken now before holds) in
-    let P : Read (List ℕ) → Type 0 = λ r. Fails e r in
+    let P : Read (List ℕ) → Type 0 = λ r. ReadingFails e r in
     each_fails e (one_name taken) count i before bytes total lt (subst P same found) so_far
 
 -- where the same names are taken, the same names are read
@@ -122,10 +122,10 @@ channels_go_on principals taken now count i before bytes channel after total lt 
     each_goes_on (one_channel principals taken) count i before bytes channel after total lt (sym (same_channel principals taken now before bytes holds) ∙ found) so_far
 
 pub channels_fail : (e : ReadError) (principals : ℕ) (taken now : List ℕ → Bool) (count i : ℕ) (before : List ChannelContents) (bytes : List ℕ) (total : Read (List ChannelContents)) → i < count
-    → ((q : List ℕ) → now q ≡ (taken q || is_among (channel_names before) q)) → Fails e (one_channel principals now [] bytes)
-    → each_at (one_channel principals taken) (count - i) before bytes ≡ total → Fails e total
+    → ((q : List ℕ) → now q ≡ (taken q || is_among (channel_names before) q)) → ReadingFails e (one_channel principals now [] bytes)
+    → each_at (one_channel principals taken) (count - i) before bytes ≡ total → ReadingFails e total
 channels_fail e principals taken now count i before bytes total lt holds found so_far =
-    let P : Read ChannelContents → Type 0 = λ r. Fails e r in
+    let P : Read ChannelContents → Type 0 = λ r. ReadingFails e r in
     each_fails e (one_channel principals taken) count i before bytes total lt (subst P (same_channel principals taken now before bytes holds) found) so_far
 
 abbrev of_texts : List (List ℕ) → BTreeSet (String Global) → Type 0
@@ -157,7 +157,7 @@ declared-read count taken bytes names rest all after e same f =
     rw (e, found) refl
 
 pub declared-fails : (e : ReadError) (count : ℕ) (taken : List ℕ → Bool) (bytes : List ℕ) (names : List (List ℕ)) (rest : List ℕ) → read exceptions bytes ≡ Ok (names, rest)
-    → ((q : List ℕ) → taken q ≡ (is_built_in q || is_among names q)) → Fails e (counted_channels count taken rest) → Fails e (read (declared count) bytes)
+    → ((q : List ℕ) → taken q ≡ (is_built_in q || is_among names q)) → ReadingFails e (counted_channels count taken rest) → ReadingFails e (read (declared count) bytes)
 unfolding declared
 declared-fails errors.NoMemory count taken bytes names rest e same f = tt
 declared-fails (errors.Stop stop) count taken bytes names rest e same f =

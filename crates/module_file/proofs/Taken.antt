@@ -4,7 +4,7 @@ use Rattle.std.specs.Int.{w32, to_be_bytes}
 use Rattle.std.specs.List.{AllByRecursion}
 use Rattle.std.proofs.lemmas.Bool.{ltb-true, eqb-true}
 use Rattle.std.proofs.lemmas.List.{append-nil}
-use Rattle.bytecode.specs.declared.fault.Refusal.TheVariants.{BadValue}
+use Rattle.bytecode.specs.declared.fault.ModuleRefusal.TheVariants.{BadValue}
 use Rattle.bytecode.specs.Form.{Coding, Form, Byte, Number, Text, Nothing, Marked, Checked, Then, Counted, Code, Named, spelled_each, spelled_instruction, spelled_code, spelled, FitEach, IsCoded, Fits, stop_at, ◌>>=◌, number_at, bytes_at, each_at, meant, operand_at, instruction_in, code_at, read}
 use Rattle.module_file.proofs.Steps.{IsBytes, bytes_rest, step, passed, same_value, bytes_taken_at, number_taken_at}
 use Rattle.module_file.proofs.Coherent.{IsLawful, Coherent}

@@ -9,7 +9,7 @@ ghost use Rattle.std.specs.Prelude.{[], length};
 use crate::hierarchy::label;
 use crate::names::{built_in, exceptions, name, take};
 use crate::reading::{ReadError, byte, number, refused};
-use bytecode::Refusal;
+use bytecode::ModuleRefusal;
 use bytecode::channel::Channel;
 use bytecode::declaration::Direction;
 use principals::Hierarchy;
@@ -25,7 +25,7 @@ fn direction(bytes: &[u8]) -> Result<(Direction, &[u8]), ReadError>
     match direction {
         0 => Ok((Direction::Input, rest)),
         1 => Ok((Direction::Output, rest)),
-        _ => Err(refused(Refusal::BadValue, bytes)),
+        _ => Err(refused(ModuleRefusal::BadValue, bytes)),
     }
 }
 

@@ -7,7 +7,7 @@ ghost use Rattle.module_file.specs.Reading.{Decodes};
 ghost use Rattle.std.specs.Prelude.{[], IfOk, ◌≤◌};
 
 use crate::reading::{ReadError, byte, number, refused, text};
-use bytecode::Refusal;
+use bytecode::ModuleRefusal;
 use bytecode::instruction::Instruction;
 use bytecode::opcode::{spelled, width_after};
 use std::alloc::Global;
@@ -23,14 +23,14 @@ fn instruction(room: u32, bytes: &[u8]) -> Result<(Instruction, &[u8]), ReadErro
 {
     let (opcode, rest) = byte(bytes)?;
     let Some(width) = width_after(opcode) else {
-        return Err(refused(Refusal::BadValue, bytes));
+        return Err(refused(ModuleRefusal::BadValue, bytes));
     };
     if room as usize <= width {
-        return Err(refused(Refusal::BadValue, bytes));
+        return Err(refused(ModuleRefusal::BadValue, bytes));
     }
     let (operand, after) = text(width, rest)?;
     let Some(instruction) = spelled(opcode, operand) else {
-        return Err(refused(Refusal::BadValue, rest));
+        return Err(refused(ModuleRefusal::BadValue, rest));
     };
     Ok((instruction, after))
 }

@@ -13,7 +13,7 @@ use crate::globals::globals;
 use crate::hierarchy::hierarchy;
 use crate::procedures::procedures;
 use crate::reading::{ReadError, number, refused};
-use bytecode::Refusal;
+use bytecode::ModuleRefusal;
 use bytecode::channel::Channel;
 use bytecode::declaration::Global as Variable;
 use bytecode::module::Module;
@@ -57,7 +57,7 @@ fn main_procedure<'a>(
         Some(procedure) if procedure.parameters() == 0 && procedure.returned().is_none() => Ok((
             number, rest,
         )),
-        _ => Err(refused(Refusal::BadValue, bytes)),
+        _ => Err(refused(ModuleRefusal::BadValue, bytes)),
     }
 }
 
@@ -101,11 +101,11 @@ fn file(alloc: Global, bytes: &[u8]) -> Result<(Fields, &[u8]), ReadError>
 {
     let (magic, rest) = number(bytes)?;
     if magic != MAGIC {
-        return Err(refused(Refusal::Magic, bytes));
+        return Err(refused(ModuleRefusal::Magic, bytes));
     }
     let (version, after) = number(rest)?;
     if version != VERSION {
-        return Err(refused(Refusal::Version, rest));
+        return Err(refused(ModuleRefusal::Version, rest));
     }
     contents(alloc, after)
 }
@@ -116,7 +116,7 @@ fn all_of_file(alloc: Global, bytes: &[u8]) -> Result<Fields, ReadError>
 {
     let (fields, rest) = file(alloc, bytes)?;
     if !rest.is_empty() {
-        return Err(refused(Refusal::Trailing, rest));
+        return Err(refused(ModuleRefusal::Trailing, rest));
     }
     Ok(fields)
 }

@@ -2,7 +2,7 @@
 ghost use Rattle.module_file.specs.declared.fault.FormatFault.TheVariants.{NoMemory};
 ghost use Rattle.std.specs.Prelude.{◌≡◌};
 
-use bytecode::Refusal;
+use bytecode::ModuleRefusal;
 use std::alloc::{AllocError, AllocFailed};
 
 /// Why a module was not read.
@@ -11,7 +11,7 @@ pub enum FormatFault {
     /// Out of memory.
     NoMemory,
     /// The bytes spell no module: the first refusal in reading order, and the byte offset where it stands.
-    Refused(Refusal, usize),
+    Refused(ModuleRefusal, usize),
 }
 
 impl From<AllocError> for FormatFault {

@@ -7,7 +7,7 @@ ghost use Rattle.std.specs.Prelude.{◌<◌, ◌≡◌, ◌≤◌};
 
 use crate::limit::{cells_of_size, is_size};
 use crate::reading::{Element, ReadError, byte, each, number, refused};
-use bytecode::Refusal;
+use bytecode::ModuleRefusal;
 use bytecode::declaration::Global as Variable;
 use bytecode::value::Kind;
 use std::alloc::Global;
@@ -21,7 +21,7 @@ pub(crate) fn kind(bytes: &[u8]) -> Result<(Kind, &[u8]), ReadError>
     match kind {
         0 => Ok((Kind::Int, rest)),
         1 => Ok((Kind::Boolean, rest)),
-        _ => Err(refused(Refusal::BadValue, bytes)),
+        _ => Err(refused(ModuleRefusal::BadValue, bytes)),
     }
 }
 
@@ -37,7 +37,7 @@ fn first_value(kind: Kind, size: u32, bytes: &[u8]) -> Result<(u32, &[u8]), Read
         Kind::Int => Ok((value, rest)),
         Kind::Boolean => {
             if value > 1 {
-                return Err(refused(Refusal::BadValue, bytes));
+                return Err(refused(ModuleRefusal::BadValue, bytes));
             }
             Ok((value, rest))
         }
@@ -79,7 +79,7 @@ impl Element for GlobalField {
         let (kind, rest) = kind(bytes)?;
         let (size, after) = number(rest)?;
         if !is_size(*cells, size) {
-            return Err(refused(Refusal::BadValue, rest));
+            return Err(refused(ModuleRefusal::BadValue, rest));
         }
         let (first, after) = first_value(kind, size, after)?;
         *cells += cells_of_size(size);

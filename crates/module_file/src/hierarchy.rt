@@ -6,7 +6,7 @@ ghost use Rattle.module_file.specs.Reading.{Decodes, texts};
 
 use crate::names::first_names;
 use crate::reading::{Element, ReadError, each, number, refused};
-use bytecode::Refusal;
+use bytecode::ModuleRefusal;
 use labels::{Label, Policy};
 use principals::Hierarchy;
 use std::alloc::Global;
@@ -21,7 +21,7 @@ fn number_below(count: u32, bytes: &[u8]) -> Result<(u32, &[u8]), ReadError>
 {
     let (number, rest) = number(bytes)?;
     if number >= count {
-        return Err(refused(Refusal::BadValue, bytes));
+        return Err(refused(ModuleRefusal::BadValue, bytes));
     }
     Ok((number, rest))
 }
@@ -33,7 +33,7 @@ fn principals(alloc: Global, bytes: &[u8]) -> Result<(Vec<String>, &[u8]), ReadE
 {
     let (count, rest) = number(bytes)?;
     if count > MAX_PRINCIPALS {
-        return Err(refused(Refusal::BadValue, bytes));
+        return Err(refused(ModuleRefusal::BadValue, bytes));
     }
     first_names(alloc, count, rest)
 }
@@ -67,7 +67,7 @@ impl Element for PairField {
         if let Some(last) = before.last()
             && *last >= pair
         {
-            return Err(refused(Refusal::NotCanonical, bytes));
+            return Err(refused(ModuleRefusal::NotCanonical, bytes));
         }
         Ok((pair, rest))
     }
@@ -99,12 +99,12 @@ impl Element for ReaderField {
     ) -> Result<(u32, &'a [u8]), ReadError> {
         let (reader, rest) = number_below(self.principals, bytes)?;
         if reader == self.owner {
-            return Err(refused(Refusal::NotCanonical, bytes));
+            return Err(refused(ModuleRefusal::NotCanonical, bytes));
         }
         if let Some(last) = before.last()
             && *last >= reader
         {
-            return Err(refused(Refusal::NotCanonical, bytes));
+            return Err(refused(ModuleRefusal::NotCanonical, bytes));
         }
         Ok((reader, rest))
     }
@@ -140,7 +140,7 @@ impl Element for PolicyField {
         if let Some(last) = before.last()
             && *last >= policy
         {
-            return Err(refused(Refusal::NotCanonical, bytes));
+            return Err(refused(ModuleRefusal::NotCanonical, bytes));
         }
         Ok((policy, rest))
     }

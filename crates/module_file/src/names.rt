@@ -8,7 +8,7 @@ ghost use Rattle.std.specs.Prelude.{[], bytes_eq, false, IfOk, List, MatchOption
 ghost use Rattle.std.specs.String.{string_bytes};
 
 use crate::reading::{ReadError, number, refused, text};
-use bytecode::Refusal;
+use bytecode::ModuleRefusal;
 use lexer::is_name;
 use std::alloc::{AllocError, Global};
 use std::collections::BTreeSet;
@@ -40,7 +40,7 @@ pub(crate) fn name<'a>(
     let (size, rest) = number(bytes)?;
     let (name, rest) = text(size as usize, rest)?;
     let Some(name) = new_name(taken, name) else {
-        return Err(refused(Refusal::BadValue, bytes));
+        return Err(refused(ModuleRefusal::BadValue, bytes));
     };
     Ok((String::from_str(alloc, name)?, rest))
 }

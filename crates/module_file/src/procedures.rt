@@ -9,7 +9,7 @@ use crate::code::code;
 use crate::globals::kind;
 use crate::limit::{cells_of_size, is_size};
 use crate::reading::{Element, ReadError, byte, each, number, refused};
-use bytecode::Refusal;
+use bytecode::ModuleRefusal;
 use bytecode::declaration::{Handler, Slot};
 use bytecode::procedure::Procedure;
 use bytecode::value::Kind;
@@ -95,7 +95,7 @@ impl Element for SlotField {
         let (size, after) = number(rest)?;
         let may_be_array = self.parameters as usize <= before.len();
         if !(is_size(*cells, size) && (may_be_array || size == 0)) {
-            return Err(refused(Refusal::BadValue, rest));
+            return Err(refused(ModuleRefusal::BadValue, rest));
         }
         *cells += cells_of_size(size);
         Ok((slot_of(kind, size), after))
@@ -109,7 +109,7 @@ fn slots(alloc: Global, parameters: u32, bytes: &[u8]) -> Result<(Vec<Slot>, &[u
 {
     let (count, rest) = number(bytes)?;
     if count < parameters {
-        return Err(refused(Refusal::BadValue, bytes));
+        return Err(refused(ModuleRefusal::BadValue, bytes));
     }
     each(alloc, &SlotField { parameters }, 0, count, rest)
 }
@@ -124,7 +124,7 @@ fn returned(bytes: &[u8]) -> Result<(Option<Kind>, &[u8]), ReadError>
         0 => Ok((None, rest)),
         1 => Ok((Some(Kind::Int), rest)),
         2 => Ok((Some(Kind::Boolean), rest)),
-        _ => Err(refused(Refusal::BadValue, bytes)),
+        _ => Err(refused(ModuleRefusal::BadValue, bytes)),
     }
 }
 

@@ -5,7 +5,7 @@ ghost use Rattle.module_file.specs.Reading.{Decodes};
 ghost use Rattle.module_file.specs.declared.reading.ReadError.TheVariants.{NoMemory};
 ghost use Rattle.std.specs.Prelude.{[], IfOk, List, ℕ, ◌++◌, ◌∷◌, ◌≡◌};
 
-use bytecode::fault::{Refusal, Stop};
+use bytecode::fault::{ModuleRefusal, ReadStop};
 use byteorder::{BigEndian, ByteOrder};
 use std::alloc::{AllocError, AllocFailed, Global};
 
@@ -13,7 +13,7 @@ use std::alloc::{AllocError, AllocFailed, Global};
 #[derive(Debug, Drop)]
 pub(crate) enum ReadError {
     NoMemory,
-    Stop(Stop),
+    ReadStop(ReadStop),
 }
 
 impl From<AllocError> for ReadError {
@@ -33,18 +33,18 @@ impl<T: Drop> From<AllocFailed<T>> for ReadError {
 }
 
 /// The refusal of the field that `bytes` begin with.
-pub(crate) fn refused(refusal: Refusal, bytes: &[u8]) -> ReadError
+pub(crate) fn refused(refusal: ModuleRefusal, bytes: &[u8]) -> ReadError
     ensures { result ≡ ReadError.Stop (stop_at refusal bytes.now) }
 {
-    ReadError::Stop(Stop {
+    ReadError::ReadStop(ReadStop {
         refusal,
         left: bytes.len(),
     })
 }
 
 /// The end of the bytes inside a field or before it.
-pub(crate) const SHORT: Stop = Stop {
-    refusal: Refusal::Short,
+pub(crate) const SHORT: ReadStop = ReadStop {
+    refusal: ModuleRefusal::Short,
     left: 0,
 };
 
@@ -53,7 +53,7 @@ pub(crate) fn byte(bytes: &[u8]) -> Result<(u8, &[u8]), ReadError>
     ensures { Decodes (λ x. (x.0, x.1.now)) result (byte_at bytes.now) }
 {
     match bytes {
-        [] => Err(ReadError::Stop(SHORT)),
+        [] => Err(ReadError::ReadStop(SHORT)),
         [first, rest @ ..] => Ok((*first, rest)),
     }
 }
@@ -63,7 +63,7 @@ pub(crate) fn number(bytes: &[u8]) -> Result<(u32, &[u8]), ReadError>
     ensures { Decodes (λ x. (x.0, x.1.now)) result (number_at bytes.now) }
 {
     if bytes.len() < 4 {
-        return Err(ReadError::Stop(SHORT));
+        return Err(ReadError::ReadStop(SHORT));
     }
     let (front, rest) = bytes.split_at(4);
     Ok((BigEndian::read_u32(front), rest))
@@ -74,7 +74,7 @@ pub(crate) fn text(count: usize, bytes: &[u8]) -> Result<(&[u8], &[u8]), ReadErr
     ensures { Decodes (λ x. (x.0.now, x.1.now)) result (bytes_at count bytes.now) }
 {
     if bytes.len() < count {
-        return Err(ReadError::Stop(SHORT));
+        return Err(ReadError::ReadStop(SHORT));
     }
     Ok(bytes.split_at(count))
 }

@@ -7,13 +7,13 @@ use Rattle.labels.specs.Canonical.{IsCanonicalPolicy, IsCanonicalLabel}
 use Rattle.labels.proofs.Written.{IsCanonicalPolicy-written, IsCanonicalLabel-written}
 use Rattle.syntax.specs.Tree.{PolicyTree, LabelTree, ChannelTree, ItemTree, ChannelItem, ExceptionItem, GlobalItem, ProcedureItem, ProgramTree}
 use Rattle.resolved.specs.Program.{Program, ChannelEntry}
-use Rattle.names.specs.Outcome.{Outcome, along, put_last}
-use Rattle.names.specs.Labels.{principal_outcome, readers_outcome, policy_outcome, policies_outcome, label_outcome}
-use Rattle.names.specs.Resolution.{TopLevel, top_outcome, channel_outcome, global_outcome, procedure_entry_outcome, Tables, next_item, no_tables, items_outcome, main_outcome, global_cells_outcome, frames_outcome, resolution}
+use Rattle.names.specs.Finding.{Finding, along, put_last}
+use Rattle.names.specs.Labels.{principal_finding, readers_finding, policy_finding, policies_finding, label_finding}
+use Rattle.names.specs.Resolution.{TopLevel, top_finding, channel_finding, global_finding, procedure_entry_finding, Tables, next_item, no_tables, items_finding, main_finding, global_cells_finding, frames_finding, resolution}
 use Rattle.names.proofs.Passing.{then_finds, any_finds}
 
 -- what is found of each element is of one kind
-each_found : {X A : Type 0} (look : X → Outcome A) (P : A → Type 0) → ((x : X) → IfOk (look x) P) → (found : List A) (xs : List X) → All P found
+each_found : {X A : Type 0} (look : X → Finding A) (P : A → Type 0) → ((x : X) → IfOk (look x) P) → (found : List A) (xs : List X) → All P found
     → IfOk (along (put_last look) found xs) (All P)
 each_found look P h found [] all = all
 each_found look P h found (x ∷ xs) all =
@@ -28,34 +28,34 @@ abbrev HasCanonicalChannels : Tables → Type 0
 HasCanonicalChannels tables = All IsCanonicalEntry tables.channels
 
 module _ (h : PrincipalHierarchy) where
-  policy_canonical : (policy : PolicyTree) → IfOk (policy_outcome h policy) IsCanonicalPolicy
-  unfolding policy_outcome
+  policy_canonical : (policy : PolicyTree) → IfOk (policy_finding h policy) IsCanonicalPolicy
+  unfolding policy_finding
   policy_canonical policy =
-      then_finds (principal_outcome h policy.owner) _ (λ one. Unit {0}) _ (any_finds (principal_outcome h policy.owner)) (λ owner nothing.
-      then_finds (readers_outcome h policy.readers) _ (λ one. Unit {0}) _ (any_finds (readers_outcome h policy.readers)) (λ readers nothing.
+      then_finds (principal_finding h policy.owner) _ (λ one. Unit {0}) _ (any_finds (principal_finding h policy.owner)) (λ owner nothing.
+      then_finds (readers_finding h policy.readers) _ (λ one. Unit {0}) _ (any_finds (readers_finding h policy.readers)) (λ readers nothing.
       IsCanonicalPolicy-written owner readers))
 
-  label_canonical : (label : LabelTree) → IfOk (label_outcome h label) IsCanonicalLabel
-  unfolding label_outcome policies_outcome
+  label_canonical : (label : LabelTree) → IfOk (label_finding h label) IsCanonicalLabel
+  unfolding label_finding policies_finding
   label_canonical label =
-      then_finds (along (put_last (policy_outcome h)) [] label.policies) _ (All IsCanonicalPolicy) _
-      (each_found (policy_outcome h) IsCanonicalPolicy policy_canonical [] label.policies (All-nil IsCanonicalPolicy)) IsCanonicalLabel-written
+      then_finds (along (put_last (policy_finding h)) [] label.policies) _ (All IsCanonicalPolicy) _
+      (each_found (policy_finding h) IsCanonicalPolicy policy_canonical [] label.policies (All-nil IsCanonicalPolicy)) IsCanonicalLabel-written
 
-  channel_canonical : (channel : ChannelTree) → IfOk (channel_outcome h channel) IsCanonicalEntry
-  unfolding channel_outcome
+  channel_canonical : (channel : ChannelTree) → IfOk (channel_finding h channel) IsCanonicalEntry
+  unfolding channel_finding
   channel_canonical channel =
-      then_finds (label_outcome h channel.label) _ IsCanonicalLabel IsCanonicalEntry (label_canonical channel.label) (λ label is. is)
+      then_finds (label_finding h channel.label) _ IsCanonicalLabel IsCanonicalEntry (label_canonical channel.label) (λ label is. is)
 
   item_canonical : (top : TopLevel) (tables : Tables) (item : ItemTree) → HasCanonicalChannels tables → IfOk (next_item h top tables item) HasCanonicalChannels
   unfolding next_item
   item_canonical top tables (ChannelItem channel) kept =
-      then_finds (channel_outcome h channel) _ IsCanonicalEntry HasCanonicalChannels (channel_canonical channel)
+      then_finds (channel_finding h channel) _ IsCanonicalEntry HasCanonicalChannels (channel_canonical channel)
       (λ entry is. All-append IsCanonicalEntry tables.channels (entry ∷ []) kept (All-cons IsCanonicalEntry entry [] is (All-nil IsCanonicalEntry)))
   item_canonical top tables (ExceptionItem at name) kept = kept
   item_canonical top tables (GlobalItem global) kept =
-      then_finds (global_outcome h global) _ (λ one. Unit {0}) HasCanonicalChannels (any_finds (global_outcome h global)) (λ entry nothing. kept)
+      then_finds (global_finding h global) _ (λ one. Unit {0}) HasCanonicalChannels (any_finds (global_finding h global)) (λ entry nothing. kept)
   item_canonical top tables (ProcedureItem procedure) kept =
-      then_finds (procedure_entry_outcome h top procedure) _ (λ one. Unit {0}) HasCanonicalChannels (any_finds (procedure_entry_outcome h top procedure))
+      then_finds (procedure_entry_finding h top procedure) _ (λ one. Unit {0}) HasCanonicalChannels (any_finds (procedure_entry_finding h top procedure))
       (λ entry nothing. kept)
 
   items_canonical : (top : TopLevel) (tables : Tables) (items : List ItemTree) → HasCanonicalChannels tables
@@ -70,13 +70,13 @@ module _ (h : PrincipalHierarchy) where
     pub labels : All IsCanonicalEntry program.channels
 
   pub channels_kept : (written : ProgramTree) → IfOk (resolution h written) KeepsChannels
-  unfolding resolution items_outcome
+  unfolding resolution items_finding
   channels_kept written =
-      then_finds (top_outcome written.items) _ (λ one. Unit {0}) _ (any_finds (top_outcome written.items)) (λ top nothing.
+      then_finds (top_finding written.items) _ (λ one. Unit {0}) _ (any_finds (top_finding written.items)) (λ top nothing.
       then_finds (along (next_item h top) no_tables written.items) _ HasCanonicalChannels _
       (items_canonical top no_tables written.items (All-nil IsCanonicalEntry)) (λ tables kept.
-      then_finds (main_outcome (top.names (codes "main")) tables.procedures) _ (λ one. Unit {0}) _
-      (any_finds (main_outcome (top.names (codes "main")) tables.procedures)) (λ main nothing.
-      then_finds (global_cells_outcome written.items) _ (λ one. Unit {0}) _ (any_finds (global_cells_outcome written.items)) (λ cells nothing.
-      then_finds (frames_outcome tables.procedures) _ (λ one. Unit {0}) _ (any_finds (frames_outcome tables.procedures)) (λ done nothing.
+      then_finds (main_finding (top.names (codes "main")) tables.procedures) _ (λ one. Unit {0}) _
+      (any_finds (main_finding (top.names (codes "main")) tables.procedures)) (λ main nothing.
+      then_finds (global_cells_finding written.items) _ (λ one. Unit {0}) _ (any_finds (global_cells_finding written.items)) (λ cells nothing.
+      then_finds (frames_finding tables.procedures) _ (λ one. Unit {0}) _ (any_finds (frames_finding tables.procedures)) (λ done nothing.
       record { hierarchy = refl; labels = kept })))))

@@ -5,85 +5,85 @@ use Rattle.syntax.specs.Tree.{ExpressionTree, IfElseTree, IfTree, WhileTree, Try
 use Rattle.resolved.specs.declared.expression.Base.TheVariants.{Boolean}
 use Rattle.resolved.specs.Tree.{Expression, If, While, Try, Nested, Block, Empty, Handlers}
 use Rattle.names.specs.declared.fault.TypeFault.{TypeFault}
-use Rattle.names.specs.Expressions.{typed_outcome}
-use Rattle.names.specs.Statements.{Setting, Point, in_loop, statement_outcome, block_outcome, catches_outcome}
-use Rattle.names.specs.Views.{Fails}
+use Rattle.names.specs.Expressions.{typed_finding}
+use Rattle.names.specs.Statements.{Setting, Point, in_loop, statement_finding, block_finding, catches_finding}
+use Rattle.names.specs.Views.{ResolvingFails}
 use Rattle.names.proofs.Loops.{fails_later, fails_second, then_ok}
 
 -- ---- conditions
 
 pub condition_wrong : (setting : Setting) (point : Point) (at : ℕ) (condition : ExpressionTree) (body : BlockTree) (otherwise : Option BlockTree) (fault : TypeFault)
-    → Fails fault (typed_outcome point.names Boolean condition) → Fails fault (statement_outcome setting point (if_tree at condition body otherwise))
-unfolding statement_outcome
+    → ResolvingFails fault (typed_finding point.names Boolean condition) → ResolvingFails fault (statement_finding setting point (if_tree at condition body otherwise))
+unfolding statement_finding
 condition_wrong setting point at condition body None fault wrong = fails_later _ _ fault wrong
 condition_wrong setting point at condition body (Some otherwise) fault wrong = fails_later _ _ fault wrong
 
-module _ (setting : Setting) (point : Point) (at : ℕ) (condition : ExpressionTree) (e : Expression) (typed : typed_outcome point.names Boolean condition ≡ Ok e) where
+module _ (setting : Setting) (point : Point) (at : ℕ) (condition : ExpressionTree) (e : Expression) (typed : typed_finding point.names Boolean condition ≡ Ok e) where
   -- with one block
-  pub if_done : (body : BlockTree) (inside : Point) (block : Block) → block_outcome setting point body ≡ Ok (inside, block)
-      → statement_outcome setting point (IfTree at condition body) ≡ Ok (inside, If at e block Empty)
-  unfolding statement_outcome
+  pub if_done : (body : BlockTree) (inside : Point) (block : Block) → block_finding setting point body ≡ Ok (inside, block)
+      → statement_finding setting point (IfTree at condition body) ≡ Ok (inside, If at e block Empty)
+  unfolding statement_finding
   if_done body inside block done = then_ok _ _ e typed ∙ then_ok _ _ (inside, block) done
 
   -- with two
-  pub if_else_done : (body otherwise : BlockTree) (inside behind : Point) (block other : Block) → block_outcome setting point body ≡ Ok (inside, block)
-      → block_outcome setting inside otherwise ≡ Ok (behind, other)
-      → statement_outcome setting point (IfElseTree at condition body otherwise) ≡ Ok (behind, If at e block other)
-  unfolding statement_outcome
+  pub if_else_done : (body otherwise : BlockTree) (inside behind : Point) (block other : Block) → block_finding setting point body ≡ Ok (inside, block)
+      → block_finding setting inside otherwise ≡ Ok (behind, other)
+      → statement_finding setting point (IfElseTree at condition body otherwise) ≡ Ok (behind, If at e block other)
+  unfolding statement_finding
   if_else_done body otherwise inside behind block other first second =
       then_ok _ _ e typed ∙ then_ok _ _ (inside, block) first ∙ then_ok _ _ (behind, other) second
 
-  pub if_wrong : (body : BlockTree) (otherwise : Option BlockTree) (fault : TypeFault) → Fails fault (block_outcome setting point body)
-      → Fails fault (statement_outcome setting point (if_tree at condition body otherwise))
-  unfolding statement_outcome
+  pub if_wrong : (body : BlockTree) (otherwise : Option BlockTree) (fault : TypeFault) → ResolvingFails fault (block_finding setting point body)
+      → ResolvingFails fault (statement_finding setting point (if_tree at condition body otherwise))
+  unfolding statement_finding
   if_wrong body None fault wrong = fails_second _ _ e fault typed (fails_later _ _ fault wrong)
   if_wrong body (Some otherwise) fault wrong = fails_second _ _ e fault typed (fails_later _ _ fault wrong)
 
-  pub else_wrong : (body otherwise : BlockTree) (inside : Point) (block : Block) (fault : TypeFault) → block_outcome setting point body ≡ Ok (inside, block)
-      → Fails fault (block_outcome setting inside otherwise) → Fails fault (statement_outcome setting point (IfElseTree at condition body otherwise))
-  unfolding statement_outcome
+  pub else_wrong : (body otherwise : BlockTree) (inside : Point) (block : Block) (fault : TypeFault) → block_finding setting point body ≡ Ok (inside, block)
+      → ResolvingFails fault (block_finding setting inside otherwise) → ResolvingFails fault (statement_finding setting point (IfElseTree at condition body otherwise))
+  unfolding statement_finding
   else_wrong body otherwise inside block fault first wrong =
       fails_second _ _ e fault typed (fails_second _ _ (inside, block) fault first (fails_later _ _ fault wrong))
 
   -- ---- loops
 
-  pub while_done : (body : BlockTree) (inside : Point) (block : Block) → block_outcome setting (in_loop point) body ≡ Ok (inside, block)
-      → statement_outcome setting point (WhileTree at condition body) ≡ Ok (inside, While at point.loops e block)
-  unfolding statement_outcome
+  pub while_done : (body : BlockTree) (inside : Point) (block : Block) → block_finding setting (in_loop point) body ≡ Ok (inside, block)
+      → statement_finding setting point (WhileTree at condition body) ≡ Ok (inside, While at point.loops e block)
+  unfolding statement_finding
   while_done body inside block done = then_ok _ _ e typed ∙ then_ok _ _ (inside, block) done
 
-  pub while_wrong : (body : BlockTree) (fault : TypeFault) → Fails fault (block_outcome setting (in_loop point) body)
-      → Fails fault (statement_outcome setting point (WhileTree at condition body))
-  unfolding statement_outcome
+  pub while_wrong : (body : BlockTree) (fault : TypeFault) → ResolvingFails fault (block_finding setting (in_loop point) body)
+      → ResolvingFails fault (statement_finding setting point (WhileTree at condition body))
+  unfolding statement_finding
   while_wrong body fault wrong = fails_second _ _ e fault typed (fails_later _ _ fault wrong)
 
 -- ---- handlers, and blocks among statements
 
 module _ (setting : Setting) (point : Point) (at : ℕ) where
-  pub try_done : (body : BlockTree) (catches : CatchTrees) (inside behind : Point) (block : Block) (handlers : Handlers) → block_outcome setting point body ≡ Ok (inside, block)
-      → catches_outcome setting inside catches ≡ Ok (behind, handlers)
-      → statement_outcome setting point (TryTree at body catches) ≡ Ok (behind, Try at block handlers)
-  unfolding statement_outcome
+  pub try_done : (body : BlockTree) (catches : CatchTrees) (inside behind : Point) (block : Block) (handlers : Handlers) → block_finding setting point body ≡ Ok (inside, block)
+      → catches_finding setting inside catches ≡ Ok (behind, handlers)
+      → statement_finding setting point (TryTree at body catches) ≡ Ok (behind, Try at block handlers)
+  unfolding statement_finding
   try_done body catches inside behind block handlers first second = then_ok _ _ (inside, block) first ∙ then_ok _ _ (behind, handlers) second
 
-  pub try_wrong : (body : BlockTree) (catches : CatchTrees) (fault : TypeFault) → Fails fault (block_outcome setting point body)
-      → Fails fault (statement_outcome setting point (TryTree at body catches))
-  unfolding statement_outcome
+  pub try_wrong : (body : BlockTree) (catches : CatchTrees) (fault : TypeFault) → ResolvingFails fault (block_finding setting point body)
+      → ResolvingFails fault (statement_finding setting point (TryTree at body catches))
+  unfolding statement_finding
   try_wrong body catches fault wrong = fails_later _ _ fault wrong
 
-  pub handlers_wrong : (body : BlockTree) (catches : CatchTrees) (inside : Point) (block : Block) (fault : TypeFault) → block_outcome setting point body ≡ Ok (inside, block)
-      → Fails fault (catches_outcome setting inside catches) → Fails fault (statement_outcome setting point (TryTree at body catches))
-  unfolding statement_outcome
+  pub handlers_wrong : (body : BlockTree) (catches : CatchTrees) (inside : Point) (block : Block) (fault : TypeFault) → block_finding setting point body ≡ Ok (inside, block)
+      → ResolvingFails fault (catches_finding setting inside catches) → ResolvingFails fault (statement_finding setting point (TryTree at body catches))
+  unfolding statement_finding
   handlers_wrong body catches inside block fault first wrong = fails_second _ _ (inside, block) fault first (fails_later _ _ fault wrong)
 
-  pub nested_done : (statements : StatementTrees) (inside : Point) (block : Block) → block_outcome setting point (BlockOf at statements) ≡ Ok (inside, block)
-      → statement_outcome setting point (NestedTree (BlockOf at statements)) ≡ Ok (inside, Nested at block)
-  unfolding statement_outcome
+  pub nested_done : (statements : StatementTrees) (inside : Point) (block : Block) → block_finding setting point (BlockOf at statements) ≡ Ok (inside, block)
+      → statement_finding setting point (NestedTree (BlockOf at statements)) ≡ Ok (inside, Nested at block)
+  unfolding statement_finding
   nested_done statements inside block done = then_ok _ _ (inside, block) done
 
-  pub nested_wrong : (statements : StatementTrees) (fault : TypeFault) → Fails fault (block_outcome setting point (BlockOf at statements))
-      → Fails fault (statement_outcome setting point (NestedTree (BlockOf at statements)))
-  unfolding statement_outcome
+  pub nested_wrong : (statements : StatementTrees) (fault : TypeFault) → ResolvingFails fault (block_finding setting point (BlockOf at statements))
+      → ResolvingFails fault (statement_finding setting point (NestedTree (BlockOf at statements)))
+  unfolding statement_finding
   nested_wrong statements fault wrong = fails_later _ _ fault wrong
 
 -- the first block of a condition is within it

@@ -13,12 +13,12 @@ use Rattle.resolved.specs.Program.{Program, ChannelEntry, GlobalEntry, Procedure
 use Rattle.resolved.proofs.Parts.{both_back}
 use Rattle.names.specs.declared.scope.Meaning.{Meaning}
 use Rattle.names.specs.declared.scope.Meaning.TheVariants.{Exception}
-use Rattle.names.specs.Outcome.{along}
-use Rattle.names.specs.Environment.{Environment, declaring, fresh_outcome}
-use Rattle.names.specs.Labels.{label_outcome, optional_label_outcome}
+use Rattle.names.specs.Finding.{along}
+use Rattle.names.specs.Environment.{Environment, declaring, fresh_finding}
+use Rattle.names.specs.Labels.{label_finding, optional_label_finding}
 use Rattle.names.specs.Laws.{IsProperName, item_names}
-use Rattle.names.specs.Statements.{block_outcome}
-use Rattle.names.specs.Resolution.{TopLevel, built_in, item_name, item_meaning, next_name, top_outcome, channel_outcome, first_outcome, global_outcome, result_outcome, parameters_outcome, throws_outcome, procedure_entry_outcome, Tables, next_item, no_tables, items_outcome, main_outcome, global_cells_outcome, frames_outcome, resolution}
+use Rattle.names.specs.Statements.{block_finding}
+use Rattle.names.specs.Resolution.{TopLevel, built_in, item_name, item_meaning, next_name, top_finding, channel_finding, first_finding, global_finding, result_finding, parameters_finding, throws_finding, procedure_entry_finding, Tables, next_item, no_tables, items_finding, main_finding, global_cells_finding, frames_finding, resolution}
 use Rattle.names.proofs.Passing.{then_finds, any_finds}
 
 -- ---- lists
@@ -169,8 +169,8 @@ item_proper (ExceptionItem at name) is = (is.1.1, is.1.2)
 item_proper (GlobalItem global) is = (is.2.1, is.2.2)
 item_proper (ProcedureItem procedure) is = (is.name.1, is.name.2)
 
-fresh_is : (found : Option Meaning) (at : ℕ) → IfOk (fresh_outcome found at) (λ one. found ≡ None)
-unfolding fresh_outcome
+fresh_is : (found : Option Meaning) (at : ℕ) → IfOk (fresh_finding found at) (λ one. found ≡ None)
+unfolding fresh_finding
 fresh_is None at = refl
 fresh_is (Some meaning) at = tt
 
@@ -180,7 +180,7 @@ unfolding next_name
 names_kept named top [] all kept = kept
 names_kept named top (item ∷ items) all kept =
     then_finds (next_name top item) (λ next. along next_name next items) (λ next. NamesKept next.names (all_names (names_with named item))) _
-    (then_finds (fresh_outcome (top.names (item_name item).text) (item_name item).at) _ (λ one. top.names (item_name item).text ≡ None) _
+    (then_finds (fresh_finding (top.names (item_name item).text) (item_name item).at) _ (λ one. top.names (item_name item).text ≡ None) _
     (fresh_is (top.names (item_name item).text) (item_name item).at) (λ one fresh.
     names_inserted top.names (all_names named) (item_name item).text (all_names (names_with named item)) (item_meaning top item) kept
     (item_inserted named item) fresh (item_proper item (All-head (IsWrittenItem Anywhere longest_name) item items all))))
@@ -210,32 +210,32 @@ pub record TableNames (named : ItemNames) (tables : Tables) : Type 0 where
   pub globals : map global_name tables.globals ≡ named.globals
   pub procedures : map procedure_name tables.procedures ≡ named.procedures
 
-pub channel_named : (h : PrincipalHierarchy) (channel : ChannelTree) → IfOk (channel_outcome h channel) (λ (entry : ChannelEntry). entry.name ≡ channel.name.text)
-unfolding channel_outcome
-channel_named h channel = then_finds (label_outcome h channel.label) _ (λ one. Unit {0}) _ (any_finds (label_outcome h channel.label)) (λ one nothing. refl)
+pub channel_named : (h : PrincipalHierarchy) (channel : ChannelTree) → IfOk (channel_finding h channel) (λ (entry : ChannelEntry). entry.name ≡ channel.name.text)
+unfolding channel_finding
+channel_named h channel = then_finds (label_finding h channel.label) _ (λ one. Unit {0}) _ (any_finds (label_finding h channel.label)) (λ one nothing. refl)
 
-pub global_named : (h : PrincipalHierarchy) (global : GlobalTree) → IfOk (global_outcome h global) (λ (entry : GlobalEntry). entry.name ≡ global.name.text)
-unfolding global_outcome
+pub global_named : (h : PrincipalHierarchy) (global : GlobalTree) → IfOk (global_finding h global) (λ (entry : GlobalEntry). entry.name ≡ global.name.text)
+unfolding global_finding
 global_named h global =
-    then_finds (label_outcome h global.label) _ (λ one. Unit {0}) _ (any_finds (label_outcome h global.label)) (λ label nothing.
-    then_finds (first_outcome _ global.value) _ (λ one. Unit {0}) _ (any_finds (first_outcome _ global.value)) (λ value nothing. refl))
+    then_finds (label_finding h global.label) _ (λ one. Unit {0}) _ (any_finds (label_finding h global.label)) (λ label nothing.
+    then_finds (first_finding _ global.value) _ (λ one. Unit {0}) _ (any_finds (first_finding _ global.value)) (λ value nothing. refl))
 
 procedure_named : (h : PrincipalHierarchy) (top : TopLevel) (procedure : ProcedureTree)
-    → IfOk (procedure_entry_outcome h top procedure) (λ (entry : ProcedureEntry). entry.name ≡ procedure.name.text)
-unfolding procedure_entry_outcome
+    → IfOk (procedure_entry_finding h top procedure) (λ (entry : ProcedureEntry). entry.name ≡ procedure.name.text)
+unfolding procedure_entry_finding
 procedure_named h top procedure =
-    then_finds (result_outcome h procedure.outcome) _ (λ one. Unit {0}) _ (any_finds (result_outcome h procedure.outcome)) (λ result nothing.
-    then_finds (optional_label_outcome h procedure.begin) _ (λ one. Unit {0}) _ (any_finds (optional_label_outcome h procedure.begin)) (λ begin nothing.
-    then_finds (parameters_outcome h top.names procedure.parameters) _ (λ one. Unit {0}) _ (any_finds (parameters_outcome h top.names procedure.parameters)) (λ point nothing.
-    then_finds (optional_label_outcome h procedure.end) _ (λ one. Unit {0}) _ (any_finds (optional_label_outcome h procedure.end)) (λ end nothing.
-    then_finds (throws_outcome h top.names procedure.throws) _ (λ one. Unit {0}) _ (any_finds (throws_outcome h top.names procedure.throws)) (λ throws nothing.
-    then_finds (block_outcome _ point procedure.body) _ (λ one. Unit {0}) _ (any_finds (block_outcome _ point procedure.body)) (λ done nothing. refl))))))
+    then_finds (result_finding h procedure.result) _ (λ one. Unit {0}) _ (any_finds (result_finding h procedure.result)) (λ result nothing.
+    then_finds (optional_label_finding h procedure.begin) _ (λ one. Unit {0}) _ (any_finds (optional_label_finding h procedure.begin)) (λ begin nothing.
+    then_finds (parameters_finding h top.names procedure.parameters) _ (λ one. Unit {0}) _ (any_finds (parameters_finding h top.names procedure.parameters)) (λ point nothing.
+    then_finds (optional_label_finding h procedure.end) _ (λ one. Unit {0}) _ (any_finds (optional_label_finding h procedure.end)) (λ end nothing.
+    then_finds (throws_finding h top.names procedure.throws) _ (λ one. Unit {0}) _ (any_finds (throws_finding h top.names procedure.throws)) (λ throws nothing.
+    then_finds (block_finding _ point procedure.body) _ (λ one. Unit {0}) _ (any_finds (block_finding _ point procedure.body)) (λ done nothing. refl))))))
 
 item_named : (h : PrincipalHierarchy) (top : TopLevel) (named : ItemNames) (tables : Tables) (item : ItemTree) → TableNames named tables
     → IfOk (next_item h top tables item) (TableNames (names_with named item))
 unfolding next_item
 item_named h top named tables (ChannelItem channel) kept =
-    then_finds (channel_outcome h channel) _ (λ (entry : ChannelEntry). entry.name ≡ channel.name.text) _ (channel_named h channel) (λ entry same. record {
+    then_finds (channel_finding h channel) _ (λ (entry : ChannelEntry). entry.name ≡ channel.name.text) _ (channel_named h channel) (λ entry same. record {
       exceptions = kept.exceptions;
       channels = map_push channel_name tables.channels entry ∙ (λ i. kept.channels i ++ same i ∷ []);
       globals = kept.globals;
@@ -248,14 +248,14 @@ item_named h top named tables (ExceptionItem at name) kept = record {
   procedures = kept.procedures;
 }
 item_named h top named tables (GlobalItem global) kept =
-    then_finds (global_outcome h global) _ (λ (entry : GlobalEntry). entry.name ≡ global.name.text) _ (global_named h global) (λ entry same. record {
+    then_finds (global_finding h global) _ (λ (entry : GlobalEntry). entry.name ≡ global.name.text) _ (global_named h global) (λ entry same. record {
       exceptions = kept.exceptions;
       channels = kept.channels;
       globals = map_push global_name tables.globals entry ∙ (λ i. kept.globals i ++ same i ∷ []);
       procedures = kept.procedures;
     })
 item_named h top named tables (ProcedureItem procedure) kept =
-    then_finds (procedure_entry_outcome h top procedure) _ (λ (entry : ProcedureEntry). entry.name ≡ procedure.name.text) _ (procedure_named h top procedure)
+    then_finds (procedure_entry_finding h top procedure) _ (λ (entry : ProcedureEntry). entry.name ≡ procedure.name.text) _ (procedure_named h top procedure)
     (λ entry same. record {
       exceptions = kept.exceptions;
       channels = kept.channels;
@@ -293,16 +293,16 @@ each_item_name P named (item ∷ items) all each =
 -- what holds of the name of each item of a tree holds of the names of the program
 pub names_hold : (P : List ℕ → Type 0) (h : PrincipalHierarchy) (written : ProgramTree) → All (λ (item : ItemTree). P (item_name item).text) written.items
     → IfOk (resolution h written) (λ (program : Program). All P (item_names program))
-unfolding resolution items_outcome
+unfolding resolution items_finding
 names_hold P h written all =
     let named = names_all no_names written.items in
-    then_finds (top_outcome written.items) _ (λ one. Unit {0}) _ (any_finds (top_outcome written.items)) (λ top nothing.
+    then_finds (top_finding written.items) _ (λ one. Unit {0}) _ (any_finds (top_finding written.items)) (λ top nothing.
     then_finds (along (next_item h top) no_tables written.items) _ (TableNames named) _
     (items_named h top no_names no_tables written.items (record { exceptions = refl; channels = refl; globals = refl; procedures = refl })) (λ tables kept.
-    then_finds (main_outcome (top.names (codes "main")) tables.procedures) _ (λ one. Unit {0}) _
-    (any_finds (main_outcome (top.names (codes "main")) tables.procedures)) (λ main nothing.
-    then_finds (global_cells_outcome written.items) _ (λ one. Unit {0}) _ (any_finds (global_cells_outcome written.items)) (λ cells nothing.
-    then_finds (frames_outcome tables.procedures) _ (λ one. Unit {0}) _ (any_finds (frames_outcome tables.procedures)) (λ done nothing.
+    then_finds (main_finding (top.names (codes "main")) tables.procedures) _ (λ one. Unit {0}) _
+    (any_finds (main_finding (top.names (codes "main")) tables.procedures)) (λ main nothing.
+    then_finds (global_cells_finding written.items) _ (λ one. Unit {0}) _ (any_finds (global_cells_finding written.items)) (λ cells nothing.
+    then_finds (frames_finding tables.procedures) _ (λ one. Unit {0}) _ (any_finds (frames_finding tables.procedures)) (λ done nothing.
     subst (All P) (same_names named tables kept) (all_of_each P (all_names named) (each_item_name P no_names written.items all tt)))))))
 
 pub record ProgramNames (program : Program) : Type 0 where
@@ -310,17 +310,17 @@ pub record ProgramNames (program : Program) : Type 0 where
   pub different : AllDifferent (codes "Arith" ∷ codes "Bounds" ∷ codes "End" ∷ item_names program)
 
 pub program_names : (h : PrincipalHierarchy) (written : ProgramTree) → IsWritten Anywhere longest_name written → IfOk (resolution h written) ProgramNames
-unfolding resolution top_outcome items_outcome
+unfolding resolution top_finding items_finding
 program_names h written is =
     let named = names_all no_names written.items in
     then_finds (along next_name built_in written.items) _ (λ after. NamesKept after.names (all_names named)) _
     (names_kept no_names built_in written.items is built_in_kept) (λ top top_kept.
     then_finds (along (next_item h top) no_tables written.items) _ (TableNames named) _
     (items_named h top no_names no_tables written.items (record { exceptions = refl; channels = refl; globals = refl; procedures = refl })) (λ tables kept.
-    then_finds (main_outcome (top.names (codes "main")) tables.procedures) _ (λ one. Unit {0}) _
-    (any_finds (main_outcome (top.names (codes "main")) tables.procedures)) (λ main nothing.
-    then_finds (global_cells_outcome written.items) _ (λ one. Unit {0}) _ (any_finds (global_cells_outcome written.items)) (λ cells nothing.
-    then_finds (frames_outcome tables.procedures) _ (λ one. Unit {0}) _ (any_finds (frames_outcome tables.procedures)) (λ done nothing.
+    then_finds (main_finding (top.names (codes "main")) tables.procedures) _ (λ one. Unit {0}) _
+    (any_finds (main_finding (top.names (codes "main")) tables.procedures)) (λ main nothing.
+    then_finds (global_cells_finding written.items) _ (λ one. Unit {0}) _ (any_finds (global_cells_finding written.items)) (λ cells nothing.
+    then_finds (frames_finding tables.procedures) _ (λ one. Unit {0}) _ (any_finds (frames_finding tables.procedures)) (λ done nothing.
     let same = same_names named tables kept in
     record {
       proper = subst (All IsProperName) same (all_of_each IsProperName (all_names named) top_kept.proper);

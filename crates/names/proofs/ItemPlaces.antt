@@ -12,11 +12,11 @@ use Rattle.resolved.specs.Program.{Program, ProcedureEntry}
 use Rattle.resolved.proofs.Sound.Values.{both}
 use Rattle.names.specs.declared.scope.Meaning.{Meaning}
 use Rattle.names.specs.declared.scope.Meaning.TheVariants.{Input, Output, Exception, Procedure, Scalar, Array}
-use Rattle.names.specs.Outcome.{Outcome, give, along}
-use Rattle.names.specs.Environment.{Environment, declaring, fresh_outcome}
+use Rattle.names.specs.Finding.{Finding, give, along}
+use Rattle.names.specs.Environment.{Environment, declaring, fresh_finding}
 use Rattle.names.specs.Expressions.{base_of}
-use Rattle.names.specs.Laws.{HasName}
-use Rattle.names.specs.Resolution.{TopLevel, nothing_declared, built_in, item_name, channel_meaning, global_meaning, item_meaning, signature_of, counted, Tables, program_with, next_name, top_outcome, next_item, no_tables, items_outcome, main_entry_outcome, main_outcome, global_cells_outcome, frames_outcome, resolution}
+use Rattle.names.specs.Laws.{MeaningHasName}
+use Rattle.names.specs.Resolution.{TopLevel, nothing_declared, built_in, item_name, channel_meaning, global_meaning, item_meaning, signature_of, counted, Tables, program_with, next_name, top_finding, next_item, no_tables, items_finding, main_entry_finding, main_finding, global_cells_finding, frames_finding, resolution}
 use Rattle.names.proofs.Passing.{then_finds, if_finds, any_finds}
 use Rattle.names.proofs.Tables.{ok_inside}
 use Rattle.names.proofs.WellFormedPrograms.{last_is, still_is}
@@ -148,8 +148,8 @@ unfolding next_name
 places_kept named top [] kept = kept
 places_kept named top (item ∷ items) kept =
     then_finds (next_name top item) (λ next. along next_name next items) (PlacesKept (names_with named item)) _
-    (then_finds (fresh_outcome (top.names (item_name item).text) (item_name item).at) _ (λ one. Unit {0}) _
-    (any_finds (fresh_outcome (top.names (item_name item).text) (item_name item).at)) (λ one nothing.
+    (then_finds (fresh_finding (top.names (item_name item).text) (item_name item).at) _ (λ one. Unit {0}) _
+    (any_finds (fresh_finding (top.names (item_name item).text) (item_name item).at)) (λ one nothing.
     counted_placed named top item (declaring (item_name item).text (item_meaning top item) top.names) kept
     (placed_declaring (names_with named item) (item_name item).text (item_meaning top item) top.names (new_placed named top item kept)
     (λ name meaning e. placed_further named item meaning name (kept.names name meaning e)))))
@@ -170,16 +170,16 @@ built_in_placed = record {
 
 -- ---- the whole
 
-pub finds_itself : {A : Type 0} (looked : Outcome A) → IfOk looked (λ x. looked ≡ give x)
+pub finds_itself : {A : Type 0} (looked : Finding A) → IfOk looked (λ x. looked ≡ give x)
 finds_itself (Ok x) = refl
 finds_itself (Err fault) = tt
 
-main_named : (found : Option Meaning) (procedures : List ProcedureEntry) → IfOk (main_outcome found procedures) (λ main. found ≡ Some (Procedure main))
-unfolding main_outcome
+main_named : (found : Option Meaning) (procedures : List ProcedureEntry) → IfOk (main_finding found procedures) (λ main. found ≡ Some (Procedure main))
+unfolding main_finding
 main_named None procedures = tt
 main_named (Some (Procedure number)) procedures = go (slice_get procedures number)
   where
-    go : (entry : Option ProcedureEntry) → IfOk (main_entry_outcome number entry) (λ main. ◌≡◌ {A = Option Meaning} (Some (Procedure number)) (Some (Procedure main)))
+    go : (entry : Option ProcedureEntry) → IfOk (main_entry_finding number entry) (λ main. ◌≡◌ {A = Option Meaning} (Some (Procedure number)) (Some (Procedure main)))
     go None = tt
     go (Some procedure) =
         if_finds (procedure.parameters == 0 && is_none procedure.result) number _ procedure.at (λ main. ◌≡◌ {A = Option Meaning} (Some (Procedure number)) (Some (Procedure main))) (λ plain. refl)
@@ -189,12 +189,12 @@ main_named (Some (Exception n)) procedures = tt
 main_named (Some (Scalar variable base)) procedures = tt
 main_named (Some (Array variable base size)) procedures = tt
 
-both_find : {A : Type 0} (looked : Outcome A) (P Q : A → Type 0) → IfOk looked P → IfOk looked Q → IfOk looked (λ x. P x × Q x)
+both_find : {A : Type 0} (looked : Finding A) (P Q : A → Type 0) → IfOk looked P → IfOk looked Q → IfOk looked (λ x. P x × Q x)
 both_find (Ok x) P Q p q = (p, q)
 both_find (Err fault) P Q p q = tt
 
 placed_there : (h : PrincipalHierarchy) (tables : Tables) (main : ℕ) (named : ItemNames) → TableNames named tables → (meaning : Meaning) (name : List ℕ)
-    → PlacedIn named meaning name → HasName (program_with h tables main) meaning name
+    → PlacedIn named meaning name → MeaningHasName (program_with h tables main) meaning name
 placed_there h tables main named kept (Input n) name e = ap (λ one. slice_get one n) kept.channels ∙ e
 placed_there h tables main named kept (Output n) name e = ap (λ one. slice_get one n) kept.channels ∙ e
 placed_there h tables main named kept (Exception n) name e = ap (λ one. slice_get (built_in_names ++ one) n) kept.exceptions ∙ e
@@ -205,11 +205,11 @@ placed_there h tables main named kept (Array (Global n) base size) name e = ap (
 placed_there h tables main named kept (Array (Local n) base size) name e = e
 
 pub record ProgramPlaces (items : List ItemTree) (program : Program) : Type 0 where
-  pub names : (top : TopLevel) → top_outcome items ≡ give top → (name : List ℕ) (meaning : Meaning) → top.names name ≡ Some meaning → HasName program meaning name
-  pub main : HasName program (Procedure program.main) (codes "main")
+  pub names : (top : TopLevel) → top_finding items ≡ give top → (name : List ℕ) (meaning : Meaning) → top.names name ≡ Some meaning → MeaningHasName program meaning name
+  pub main : MeaningHasName program (Procedure program.main) (codes "main")
 
 pub program_places : (h : PrincipalHierarchy) (written : ProgramTree) → IfOk (resolution h written) (ProgramPlaces written.items)
-unfolding resolution top_outcome items_outcome
+unfolding resolution top_finding items_finding
 program_places h written =
     let named = names_all no_names written.items in
     let looked = along next_name built_in written.items in
@@ -217,10 +217,10 @@ program_places h written =
     (both_find looked (λ top. looked ≡ give top) (PlacesKept named) (finds_itself looked) (places_kept no_names built_in written.items built_in_placed)) (λ top top_parts.
     then_finds (along (next_item h top) no_tables written.items) _ (TableNames named) _
     (items_named h top no_names no_tables written.items (record { exceptions = refl; channels = refl; globals = refl; procedures = refl })) (λ tables kept.
-    then_finds (main_outcome (top.names (codes "main")) tables.procedures) _ (λ main. top.names (codes "main") ≡ Some (Procedure main)) _
+    then_finds (main_finding (top.names (codes "main")) tables.procedures) _ (λ main. top.names (codes "main") ≡ Some (Procedure main)) _
     (main_named (top.names (codes "main")) tables.procedures) (λ main main_is.
-    then_finds (global_cells_outcome written.items) _ (λ one. Unit {0}) _ (any_finds (global_cells_outcome written.items)) (λ cells nothing.
-    then_finds (frames_outcome tables.procedures) _ (λ one. Unit {0}) _ (any_finds (frames_outcome tables.procedures)) (λ done nothing.
+    then_finds (global_cells_finding written.items) _ (λ one. Unit {0}) _ (any_finds (global_cells_finding written.items)) (λ cells nothing.
+    then_finds (frames_finding tables.procedures) _ (λ one. Unit {0}) _ (any_finds (frames_finding tables.procedures)) (λ done nothing.
     record {
       names =
           λ other e name meaning means.

@@ -3,29 +3,29 @@ use Rattle.std.proofs.Common.{◌≡◌, ℕ, ◌+◌, ◌<◌, ◌≤◌, List,
 use Rattle.std.proofs.lemmas.List.{drop_more, drop_all}
 use Rattle.names.specs.declared.fault.TypeFault.{TypeFault}
 use Rattle.names.specs.declared.fault.TypeFault.TheVariants as type_faults
-use Rattle.names.specs.Outcome.{Fault}
-use Rattle.names.specs.Outcome.{and_then, along, put_last}
-use Rattle.names.specs.Views.{Fails}
+use Rattle.names.specs.Finding.{PlacedRefusal}
+use Rattle.names.specs.Finding.{and_then, along, put_last}
+use Rattle.names.specs.Views.{ResolvingFails}
 
 -- from this state and this element on, the check gives what the whole gives
-pub record GoesOn {S X Y : Type 0} (step : S → X → Result S Fault) (tree : Y → X) (xs : List Y) (whole : Result S Fault) (state : S) (i : ℕ) : Type 0 where
+pub record GoesOn {S X Y : Type 0} (step : S → X → Result S PlacedRefusal) (tree : Y → X) (xs : List Y) (whole : Result S PlacedRefusal) (state : S) (i : ℕ) : Type 0 where
   pub on : along step state (map tree (drop i xs)) ≡ whole
 
 -- a check that fails makes what it begins fail
-pub fails_later : {A B : Type 0} (checked : Result A Fault) (check : A → Result B Fault) (fault : TypeFault) → Fails fault checked → Fails fault (and_then checked check)
+pub fails_later : {A B : Type 0} (checked : Result A PlacedRefusal) (check : A → Result B PlacedRefusal) (fault : TypeFault) → ResolvingFails fault checked → ResolvingFails fault (and_then checked check)
 fails_later checked check type_faults.NoMemory h = tt
 fails_later checked check (type_faults.Refused refusal at) h = ap (λ one. and_then one check) h
 
-pub then_ok : {A B : Type 0} (checked : Result A Fault) (check : A → Result B Fault) (x : A) → checked ≡ Ok x → and_then checked check ≡ check x
+pub then_ok : {A B : Type 0} (checked : Result A PlacedRefusal) (check : A → Result B PlacedRefusal) (x : A) → checked ≡ Ok x → and_then checked check ≡ check x
 then_ok checked check x e = ap (λ one. and_then one check) e
 
-pub fails_second : {A B : Type 0} (checked : Result A Fault) (check : A → Result B Fault) (x : A) (fault : TypeFault) → checked ≡ Ok x → Fails fault (check x) → Fails fault (and_then checked check)
-fails_second checked check x fault e h = subst (Fails fault) (sym (then_ok checked check x e)) h
+pub fails_second : {A B : Type 0} (checked : Result A PlacedRefusal) (check : A → Result B PlacedRefusal) (x : A) (fault : TypeFault) → checked ≡ Ok x → ResolvingFails fault (check x) → ResolvingFails fault (and_then checked check)
+fails_second checked check x fault e h = subst (ResolvingFails fault) (sym (then_ok checked check x e)) h
 
-pub starts : {S X Y : Type 0} (step : S → X → Result S Fault) (tree : Y → X) (xs : List Y) (state begin : S) → state ≡ begin → GoesOn step tree xs (along step begin (map tree xs)) state 0
+pub starts : {S X Y : Type 0} (step : S → X → Result S PlacedRefusal) (tree : Y → X) (xs : List Y) (state begin : S) → state ≡ begin → GoesOn step tree xs (along step begin (map tree xs)) state 0
 starts step tree xs state begin e = record { on = ap (λ one. along step one (map tree xs)) e }
 
-module _ {S X Y : Type 0} {step : S → X → Result S Fault} {tree : Y → X} {xs : List Y} {whole : Result S Fault} {state : S} {i : ℕ} (goes : GoesOn step tree xs whole state i) where
+module _ {S X Y : Type 0} {step : S → X → Result S PlacedRefusal} {tree : Y → X} {xs : List Y} {whole : Result S PlacedRefusal} {state : S} {i : ℕ} (goes : GoesOn step tree xs whole state i) where
   one_step : (x : Y) → x ≡ get_or xs i x → i < length xs → and_then (step state (tree x)) (λ next. along step next (map tree (drop (i + 1) xs))) ≡ whole
   one_step x is within =
       ap (λ y. and_then (step state (tree y)) (λ next. along step next (map tree (drop (i + 1) xs)))) is
@@ -36,19 +36,19 @@ module _ {S X Y : Type 0} {step : S → X → Result S Fault} {tree : Y → X} {
     on = sym (ap (λ one. and_then one (λ next. along step next (map tree (drop (i + 1) xs)))) e) ∙ one_step x is within;
   }
 
-  pub goes_wrong : (x : Y) (fault : TypeFault) → x ≡ get_or xs i x → i < length xs → Fails fault (step state (tree x)) → Fails fault whole
+  pub goes_wrong : (x : Y) (fault : TypeFault) → x ≡ get_or xs i x → i < length xs → ResolvingFails fault (step state (tree x)) → ResolvingFails fault whole
   goes_wrong x fault is within h =
-      subst (Fails fault) (one_step x is within) (fails_later _ (λ next. along step next (map tree (drop (i + 1) xs))) fault h)
+      subst (ResolvingFails fault) (one_step x is within) (fails_later _ (λ next. along step next (map tree (drop (i + 1) xs))) fault h)
 
   pub goes_to_end : length xs ≤ i → whole ≡ Ok state
   goes_to_end all = sym goes.on ∙ ap (λ rest. along step state (map tree rest)) (drop_all i xs all)
 
 -- the same for a loop that collects
-module _ {X Y A : Type 0} (check : X → Result A Fault) {tree : Y → X} {xs : List Y} {whole : Result (List A) Fault} {done : List A} {i : ℕ} (goes : GoesOn (put_last check) tree xs whole done i) where
+module _ {X Y A : Type 0} (check : X → Result A PlacedRefusal) {tree : Y → X} {xs : List Y} {whole : Result (List A) PlacedRefusal} {done : List A} {i : ℕ} (goes : GoesOn (put_last check) tree xs whole done i) where
   pub collects : (x : Y) (made : A) → x ≡ get_or xs i x → i < length xs → check (tree x) ≡ Ok made → GoesOn (put_last check) tree xs whole (done ++ made ∷ []) (i + 1)
   collects x made is within e =
       goes_further goes x (done ++ made ∷ []) is within (ap (λ one. and_then one (λ made. Ok (done ++ made ∷ []))) e)
 
-  pub collects_wrong : (x : Y) (fault : TypeFault) → x ≡ get_or xs i x → i < length xs → Fails fault (check (tree x)) → Fails fault whole
+  pub collects_wrong : (x : Y) (fault : TypeFault) → x ≡ get_or xs i x → i < length xs → ResolvingFails fault (check (tree x)) → ResolvingFails fault whole
   collects_wrong x fault is within h =
       goes_wrong goes x fault is within (fails_later (check (tree x)) (λ made. Ok (done ++ made ∷ [])) fault h)

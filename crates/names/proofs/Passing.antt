@@ -1,28 +1,28 @@
--- What holds of whatever an outcome finds.
+-- What holds of whatever a finding holds.
 use Rattle.std.proofs.Common.{◌≡◌, refl, ℕ, Bool, true, false, Ok, Err}
 use Rattle.std.specs.Prelude.{IfOk}
-use Rattle.names.specs.declared.fault.Refusal.{Refusal}
-use Rattle.names.specs.Outcome.{Outcome, and_then, give_if, demand}
+use Rattle.names.specs.declared.fault.NameRefusal.{NameRefusal}
+use Rattle.names.specs.Finding.{Finding, and_then, give_if, demand}
 
-pub then_finds : {A B : Type 0} (looked : Outcome A) (next : A → Outcome B) (P : A → Type 0) (Q : B → Type 0)
+pub then_finds : {A B : Type 0} (looked : Finding A) (next : A → Finding B) (P : A → Type 0) (Q : B → Type 0)
     → IfOk looked P → ((x : A) → P x → IfOk (next x) Q) → IfOk (and_then looked next) Q
 then_finds (Ok x) next P Q h further = further x h
 then_finds (Err fault) next P Q h further = tt
 
-pub if_finds : {A : Type 0} (test : Bool) (x : A) (refusal : Refusal) (at : ℕ) (Q : A → Type 0) → (test ≡ true → Q x)
+pub if_finds : {A : Type 0} (test : Bool) (x : A) (refusal : NameRefusal) (at : ℕ) (Q : A → Type 0) → (test ≡ true → Q x)
     → IfOk (give_if test x refusal at) Q
 if_finds true x refusal at Q h = h refl
 if_finds false x refusal at Q h = tt
 
-pub demand_finds : (test : Bool) (refusal : Refusal) (at : ℕ) → IfOk (demand test refusal at) (λ one. test ≡ true)
+pub demand_finds : (test : Bool) (refusal : NameRefusal) (at : ℕ) → IfOk (demand test refusal at) (λ one. test ≡ true)
 demand_finds true refusal at = refl
 demand_finds false refusal at = tt
 
-pub finds_for_all : {A X : Type 0} (looked : Outcome A) (P : X → A → Type 0) → ((x : X) → IfOk looked (P x))
+pub finds_for_all : {A X : Type 0} (looked : Finding A) (P : X → A → Type 0) → ((x : X) → IfOk looked (P x))
     → IfOk looked (λ a. (x : X) → P x a)
 finds_for_all (Ok a) P h = h
 finds_for_all (Err fault) P h = tt
 
-pub any_finds : {A : Type 0} (looked : Outcome A) → IfOk looked (λ one. Unit {0})
+pub any_finds : {A : Type 0} (looked : Finding A) → IfOk looked (λ one. Unit {0})
 any_finds (Ok x) = tt
 any_finds (Err fault) = tt

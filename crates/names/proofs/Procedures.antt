@@ -13,30 +13,30 @@ use Rattle.resolved.specs.Tree.{Block}
 use Rattle.names.specs.declared.fault.TypeFault.{TypeFault}
 use Rattle.names.specs.declared.scope.Meaning.{Meaning}
 use Rattle.names.specs.declared.scope.Meaning.TheVariants.{Scalar}
-use Rattle.names.specs.Outcome.{give, along}
-use Rattle.names.specs.Environment.{Environment, fresh_outcome}
+use Rattle.names.specs.Finding.{give, along}
+use Rattle.names.specs.Environment.{Environment, fresh_finding}
 use Rattle.names.specs.Expressions.{base_of}
-use Rattle.names.specs.Labels.{label_outcome, optional_label_outcome}
-use Rattle.names.specs.Resolution.{TopLevel, begin_label_of, end_label_of, next_parameter, parameters_outcome, procedure_entry_outcome, result_base_of, result_outcome, throws_outcome}
-use Rattle.names.specs.Statements.{Point, with_local, scalar_slot, block_outcome}
-use Rattle.names.specs.Views.{Fails}
+use Rattle.names.specs.Labels.{label_finding, optional_label_finding}
+use Rattle.names.specs.Resolution.{TopLevel, begin_label_of, end_label_of, next_parameter, parameters_finding, procedure_entry_finding, result_base_of, result_finding, throws_finding}
+use Rattle.names.specs.Statements.{Point, with_local, scalar_slot, block_finding}
+use Rattle.names.specs.Views.{ResolvingFails}
 use Rattle.names.proofs.Loops.{then_ok, fails_later, fails_second}
 
 -- ---- parameters
 
 pub parameter_declared : (h : PrincipalHierarchy) (point after : Point) (parameter : ParameterTree) (label : Label) (found : Option Meaning) (base : Base) (number : ℕ) (slot : SlotEntry)
-    → label_outcome h parameter.label ≡ Ok label → found ≡ point.names parameter.name.text → fresh_outcome found parameter.name.at ≡ Ok tt → base ≡ base_of parameter.base
+    → label_finding h parameter.label ≡ Ok label → found ≡ point.names parameter.name.text → fresh_finding found parameter.name.at ≡ Ok tt → base ≡ base_of parameter.base
     → number ≡ length point.slots → slot ≡ scalar_slot parameter.at base (Some label) parameter.name.text → give (with_local point slot (Scalar (Local number) base)) ≡ give after
     → next_parameter h point parameter ≡ Ok after
 parameter_declared h point after parameter label found base number slot labelled looked new typed next entry declared =
-    then_ok _ _ label labelled ∙ then_ok _ _ tt (sym (ap (λ one. fresh_outcome one parameter.name.at) looked) ∙ new)
+    then_ok _ _ label labelled ∙ then_ok _ _ tt (sym (ap (λ one. fresh_finding one parameter.name.at) looked) ∙ new)
     ∙ ap (λ b. Ok (with_local point (scalar_slot parameter.at b (Some label) parameter.name.text) (Scalar (Local (length point.slots)) b))) (sym typed)
     ∙ ap (λ m. Ok (with_local point (scalar_slot parameter.at base (Some label) parameter.name.text) (Scalar (Local m) base))) (sym next)
     ∙ ap (λ one. Ok (with_local point one (Scalar (Local number) base))) (sym entry) ∙ declared
 
 pub parameters_are : (h g : PrincipalHierarchy) (names : Environment) (begin : Point) (parameters : List ParameterTree)
-    → g ≡ h → begin ≡ record { names = names; slots = []; loops = 0 } → along (next_parameter g) begin parameters ≡ parameters_outcome h names parameters
-unfolding parameters_outcome
+    → g ≡ h → begin ≡ record { names = names; slots = []; loops = 0 } → along (next_parameter g) begin parameters ≡ parameters_finding h names parameters
+unfolding parameters_finding
 parameters_are h g names begin parameters same first = λ i. along (next_parameter (same i)) (first i) parameters
 
 -- each parameter has a node of its own
@@ -47,35 +47,35 @@ parameters_few (parameter ∷ rest) = let few = parameters_few rest in omega (ar
 -- ---- a whole procedure
 
 module _ (h : PrincipalHierarchy) (top : TopLevel) (procedure : ProcedureTree) (result : Option ResultEntry) (begin : Option Label)
-    (valued : result_outcome h procedure.outcome ≡ Ok result) (begun : optional_label_outcome h procedure.begin ≡ Ok begin) where
-  pub parameters_wrong : (fault : TypeFault) → Fails fault (parameters_outcome h top.names procedure.parameters) → Fails fault (procedure_entry_outcome h top procedure)
-  unfolding procedure_entry_outcome
+    (valued : result_finding h procedure.result ≡ Ok result) (begun : optional_label_finding h procedure.begin ≡ Ok begin) where
+  pub parameters_wrong : (fault : TypeFault) → ResolvingFails fault (parameters_finding h top.names procedure.parameters) → ResolvingFails fault (procedure_entry_finding h top procedure)
+  unfolding procedure_entry_finding
   parameters_wrong fault wrong = fails_second _ _ result fault valued (fails_second _ _ begin fault begun (fails_later _ _ fault wrong))
 
-  module _ (point : Point) (declared : parameters_outcome h top.names procedure.parameters ≡ Ok point) where
-    pub end_wrong : (fault : TypeFault) → Fails fault (optional_label_outcome h procedure.end) → Fails fault (procedure_entry_outcome h top procedure)
-    unfolding procedure_entry_outcome
+  module _ (point : Point) (declared : parameters_finding h top.names procedure.parameters ≡ Ok point) where
+    pub end_wrong : (fault : TypeFault) → ResolvingFails fault (optional_label_finding h procedure.end) → ResolvingFails fault (procedure_entry_finding h top procedure)
+    unfolding procedure_entry_finding
     end_wrong fault wrong = fails_second _ _ result fault valued (fails_second _ _ begin fault begun (fails_second _ _ point fault declared (fails_later _ _ fault wrong)))
 
-    module _ (end : Option Label) (ended : optional_label_outcome h procedure.end ≡ Ok end) where
-      pub throws_wrong : (fault : TypeFault) → Fails fault (throws_outcome h top.names procedure.throws) → Fails fault (procedure_entry_outcome h top procedure)
-      unfolding procedure_entry_outcome
+    module _ (end : Option Label) (ended : optional_label_finding h procedure.end ≡ Ok end) where
+      pub throws_wrong : (fault : TypeFault) → ResolvingFails fault (throws_finding h top.names procedure.throws) → ResolvingFails fault (procedure_entry_finding h top procedure)
+      unfolding procedure_entry_finding
       throws_wrong fault wrong =
           fails_second _ _ result fault valued (fails_second _ _ begin fault begun (fails_second _ _ point fault declared (fails_second _ _ end fault ended (fails_later _ _ fault wrong))))
 
-      module _ (throws : List ThrownEntry) (thrown : throws_outcome h top.names procedure.throws ≡ Ok throws) where
+      module _ (throws : List ThrownEntry) (thrown : throws_finding h top.names procedure.throws ≡ Ok throws) where
         pub block_wrong : (fault : TypeFault)
-            → Fails fault (block_outcome (record { hierarchy = h; signatures = top.signatures; result = result_base_of procedure.outcome }) point procedure.body)
-            → Fails fault (procedure_entry_outcome h top procedure)
-        unfolding procedure_entry_outcome
+            → ResolvingFails fault (block_finding (record { hierarchy = h; signatures = top.signatures; result = result_base_of procedure.result }) point procedure.body)
+            → ResolvingFails fault (procedure_entry_finding h top procedure)
+        unfolding procedure_entry_finding
         block_wrong fault wrong =
             fails_second _ _ result fault valued (fails_second _ _ begin fault begun (fails_second _ _ point fault declared (fails_second _ _ end fault ended (fails_second _ _ throws fault thrown (fails_later _ _ fault wrong)))))
 
         pub procedure_found : (inside : Point) (body : Block)
-            → block_outcome (record { hierarchy = h; signatures = top.signatures; result = result_base_of procedure.outcome }) point procedure.body ≡ Ok (inside, body)
+            → block_finding (record { hierarchy = h; signatures = top.signatures; result = result_base_of procedure.result }) point procedure.body ≡ Ok (inside, body)
             → (name : List ℕ) (begin_label end_label : Label) (parameters : ℕ) → name ≡ procedure.name.text → begin_label ≡ begin_label_of begin
             → end_label ≡ end_label_of end begin_label throws → parameters ≡ length procedure.parameters
-            → procedure_entry_outcome h top procedure ≡ Ok (record {
+            → procedure_entry_finding h top procedure ≡ Ok (record {
               at = procedure.name.at;
               name = name;
               result = result;
@@ -87,7 +87,7 @@ module _ (h : PrincipalHierarchy) (top : TopLevel) (procedure : ProcedureTree) (
               loops = inside.loops;
               body = body;
             })
-        unfolding procedure_entry_outcome
+        unfolding procedure_entry_finding
         procedure_found inside body found name begin_label end_label parameters named began ends counted =
             then_ok _ _ result valued ∙ then_ok _ _ begin begun ∙ then_ok _ _ point declared ∙ then_ok _ _ end ended ∙ then_ok _ _ throws thrown ∙ then_ok _ _ (inside, body) found
             ∙ (λ i. Ok (record {

@@ -6,13 +6,13 @@ use Rattle.std.specs.Map.{lookup}
 use Rattle.std.specs.declared.alloc.Global.{Global}
 use Rattle.syntax.specs.Tree.{NameTree, ItemTree}
 use Rattle.names.specs.declared.scope.Meaning.{Meaning}
-use Rattle.names.specs.Outcome.{Outcome, give, and_then}
-use Rattle.names.specs.Environment.{Environment, declaring, fresh_outcome}
+use Rattle.names.specs.Finding.{Finding, give, and_then}
+use Rattle.names.specs.Environment.{Environment, declaring, fresh_finding}
 use Rattle.names.specs.Resolution.{TopLevel, item_name, item_meaning, counted, with_item, next_name}
 use Rattle.names.specs.Views.{found_in, or_else}
 
--- what stands in an outcome
-abbrev value_or : {A : Type 0} → A → Outcome A → A
+-- what stands in a finding
+abbrev value_or : {A : Type 0} → A → Finding A → A
 value_or d (Ok x) = x
 value_or d _ = d
 
@@ -37,13 +37,13 @@ inner_named inner outer found name meaning e = λ i other. (at other ∙ ap (λ 
 
 -- the next item, whose name was put into the table of the top level
 pub named : (top : TopLevel) (item : ItemTree) (found : Environment) (name : NameTree) (text again : List ℕ) (looked : Option Meaning) (meaning : Meaning)
-    → name ≡ item_name item → text ≡ name.text → again ≡ name.text → looked ≡ top.names text → fresh_outcome looked name.at ≡ Ok tt
+    → name ≡ item_name item → text ≡ name.text → again ≡ name.text → looked ≡ top.names text → fresh_finding looked name.at ≡ Ok tt
     → meaning ≡ item_meaning top item → give (declaring again meaning top.names) ≡ give found
     → next_name top item ≡ Ok (record (counted top item) { names = found })
 unfolding next_name
 named top item found name text again looked meaning n t u f fresh m e =
-    ap (λ (one : NameTree). and_then (fresh_outcome (top.names one.text) one.at) (λ _. give (with_item top item))) (sym n)
-    ∙ ap (λ one. and_then one (λ _. give (with_item top item))) (sym (ap (λ one. fresh_outcome one name.at) (f ∙ ap top.names t)) ∙ fresh)
+    ap (λ (one : NameTree). and_then (fresh_finding (top.names one.text) one.at) (λ _. give (with_item top item))) (sym n)
+    ∙ ap (λ one. and_then one (λ _. give (with_item top item))) (sym (ap (λ one. fresh_finding one name.at) (f ∙ ap top.names t)) ∙ fresh)
     ∙ ap (λ (names : Environment). Ok (record (counted top item) { names = names }))
     (ap (λ (one : NameTree). declaring one.text (item_meaning top item) top.names) (sym n)
     ∙ ap (λ one. declaring one (item_meaning top item) top.names) (sym u)

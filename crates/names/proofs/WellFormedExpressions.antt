@@ -18,9 +18,9 @@ use Rattle.resolved.proofs.Sound.Values.{same_base_is, same_base_itself}
 use Rattle.resolved.proofs.Parts.{both_back}
 use Rattle.names.specs.declared.scope.Meaning.{Meaning}
 use Rattle.names.specs.declared.scope.Meaning.TheVariants.{Input, Output, Exception, Procedure, Scalar, Array}
-use Rattle.names.specs.Outcome.{Outcome}
-use Rattle.names.specs.Environment.{Environment, ScalarUse, ArrayUse, declaring, scalar_outcome, array_outcome, input_outcome, output_outcome, exception_outcome, procedure_outcome}
-use Rattle.names.specs.Expressions.{prefix_of, use_of, Typed, of_base, wanting, operands_base, value_base, combined, expression_outcome, typed_outcome}
+use Rattle.names.specs.Finding.{Finding}
+use Rattle.names.specs.Environment.{Environment, ScalarUse, ArrayUse, declaring, scalar_finding, array_finding, input_finding, output_finding, exception_finding, procedure_finding}
+use Rattle.names.specs.Expressions.{prefix_of, use_of, Typed, of_base, wanting, operands_base, value_base, combined, expression_finding, typed_finding}
 use Rattle.names.specs.Statements.{Signature, signature_at}
 use Rattle.names.proofs.Passing.{then_finds, if_finds}
 
@@ -72,12 +72,12 @@ module _ (program : Program) (procedure : ProcedureEntry) (signatures : List Sig
   -- ---- uses
 
   pub scalar_found : (names : Environment) (name : NameTree)
-      → IfOk (scalar_outcome (names name.text) name.at) (λ (x : ScalarUse). Means names → variable_type program procedure x.variable ≡ scalar_type x.base)
-  unfolding scalar_outcome
+      → IfOk (scalar_finding (names name.text) name.at) (λ (x : ScalarUse). Means names → variable_type program procedure x.variable ≡ scalar_type x.base)
+  unfolding scalar_finding
   scalar_found names name = go (names name.text) refl
     where
       go : (found : Option Meaning) → names name.text ≡ found
-          → IfOk (scalar_outcome found name.at) (λ (x : ScalarUse). Means names → variable_type program procedure x.variable ≡ scalar_type x.base)
+          → IfOk (scalar_finding found name.at) (λ (x : ScalarUse). Means names → variable_type program procedure x.variable ≡ scalar_type x.base)
       go None e = tt
       go (Some (Scalar x base)) e = λ means. means name.text (Scalar x base) e
       go (Some (Array x base size)) e = tt
@@ -87,12 +87,12 @@ module _ (program : Program) (procedure : ProcedureEntry) (signatures : List Sig
       go (Some (Procedure number)) e = tt
 
   pub array_found : (names : Environment) (name : NameTree)
-      → IfOk (array_outcome (names name.text) name.at) (λ (a : ArrayUse). Means names → variable_type program procedure a.variable ≡ array_type a.base a.size)
-  unfolding array_outcome
+      → IfOk (array_finding (names name.text) name.at) (λ (a : ArrayUse). Means names → variable_type program procedure a.variable ≡ array_type a.base a.size)
+  unfolding array_finding
   array_found names name = go (names name.text) refl
     where
       go : (found : Option Meaning) → names name.text ≡ found
-          → IfOk (array_outcome found name.at) (λ (a : ArrayUse). Means names → variable_type program procedure a.variable ≡ array_type a.base a.size)
+          → IfOk (array_finding found name.at) (λ (a : ArrayUse). Means names → variable_type program procedure a.variable ≡ array_type a.base a.size)
       go None e = tt
       go (Some (Array x base size)) e = λ means. means name.text (Array x base size) e
       go (Some (Scalar x base)) e = tt
@@ -102,11 +102,11 @@ module _ (program : Program) (procedure : ProcedureEntry) (signatures : List Sig
       go (Some (Procedure number)) e = tt
 
   pub input_found : (names : Environment) (name : NameTree)
-      → IfOk (input_outcome (names name.text) name.at) (λ channel. Means names → Stands (Input channel))
-  unfolding input_outcome
+      → IfOk (input_finding (names name.text) name.at) (λ channel. Means names → Stands (Input channel))
+  unfolding input_finding
   input_found names name = go (names name.text) refl
     where
-      go : (found : Option Meaning) → names name.text ≡ found → IfOk (input_outcome found name.at) (λ channel. Means names → Stands (Input channel))
+      go : (found : Option Meaning) → names name.text ≡ found → IfOk (input_finding found name.at) (λ channel. Means names → Stands (Input channel))
       go None e = tt
       go (Some (Input channel)) e = λ means. means name.text (Input channel) e
       go (Some (Output channel)) e = tt
@@ -116,11 +116,11 @@ module _ (program : Program) (procedure : ProcedureEntry) (signatures : List Sig
       go (Some (Array x base size)) e = tt
 
   pub output_found : (names : Environment) (name : NameTree)
-      → IfOk (output_outcome (names name.text) name.at) (λ channel. Means names → Stands (Output channel))
-  unfolding output_outcome
+      → IfOk (output_finding (names name.text) name.at) (λ channel. Means names → Stands (Output channel))
+  unfolding output_finding
   output_found names name = go (names name.text) refl
     where
-      go : (found : Option Meaning) → names name.text ≡ found → IfOk (output_outcome found name.at) (λ channel. Means names → Stands (Output channel))
+      go : (found : Option Meaning) → names name.text ≡ found → IfOk (output_finding found name.at) (λ channel. Means names → Stands (Output channel))
       go None e = tt
       go (Some (Output channel)) e = λ means. means name.text (Output channel) e
       go (Some (Input channel)) e = tt
@@ -130,11 +130,11 @@ module _ (program : Program) (procedure : ProcedureEntry) (signatures : List Sig
       go (Some (Array x base size)) e = tt
 
   pub exception_found : (names : Environment) (name : NameTree)
-      → IfOk (exception_outcome (names name.text) name.at) (λ number. Means names → Stands (Exception number))
-  unfolding exception_outcome
+      → IfOk (exception_finding (names name.text) name.at) (λ number. Means names → Stands (Exception number))
+  unfolding exception_finding
   exception_found names name = go (names name.text) refl
     where
-      go : (found : Option Meaning) → names name.text ≡ found → IfOk (exception_outcome found name.at) (λ number. Means names → Stands (Exception number))
+      go : (found : Option Meaning) → names name.text ≡ found → IfOk (exception_finding found name.at) (λ number. Means names → Stands (Exception number))
       go None e = tt
       go (Some (Exception number)) e = λ means. means name.text (Exception number) e
       go (Some (Input channel)) e = tt
@@ -144,11 +144,11 @@ module _ (program : Program) (procedure : ProcedureEntry) (signatures : List Sig
       go (Some (Array x base size)) e = tt
 
   pub procedure_found : (names : Environment) (name : NameTree)
-      → IfOk (procedure_outcome (names name.text) name.at) (λ number. Means names → Stands (Procedure number))
-  unfolding procedure_outcome
+      → IfOk (procedure_finding (names name.text) name.at) (λ number. Means names → Stands (Procedure number))
+  unfolding procedure_finding
   procedure_found names name = go (names name.text) refl
     where
-      go : (found : Option Meaning) → names name.text ≡ found → IfOk (procedure_outcome found name.at) (λ number. Means names → Stands (Procedure number))
+      go : (found : Option Meaning) → names name.text ≡ found → IfOk (procedure_finding found name.at) (λ number. Means names → Stands (Procedure number))
       go None e = tt
       go (Some (Procedure number)) e = λ means. means name.text (Procedure number) e
       go (Some (Input channel)) e = tt
@@ -176,7 +176,7 @@ module _ (program : Program) (procedure : ProcedureEntry) (signatures : List Sig
         few = kept.few;
       })
 
-  wanting_keeps : (names : Environment) (base : Base) (at written : ℕ) (looked : Outcome Typed) → IfOk looked (ExpressionKept names written)
+  wanting_keeps : (names : Environment) (base : Base) (at written : ℕ) (looked : Finding Typed) → IfOk looked (ExpressionKept names written)
       → IfOk (wanting base at looked) (TypedKept names base written)
   wanting_keeps names base at written looked h =
       then_finds looked (of_base base at) (ExpressionKept names written) (TypedKept names base written) h
@@ -228,24 +228,24 @@ module _ (program : Program) (procedure : ProcedureEntry) (signatures : List Sig
 
   module _ (fits : ℕ → Type 0) (longest : ℕ) (names : Environment) where
     pub expression_keeps : (tree : ExpressionTree) → IsWrittenExpression fits longest tree
-        → IfOk (expression_outcome names tree) (ExpressionKept names (written_nodes tree))
-    unfolding expression_outcome
+        → IfOk (expression_finding names tree) (ExpressionKept names (written_nodes tree))
+    unfolding expression_finding
     expression_keeps (IntegerTree at value) written =
         record { fits = λ means. le-leb value literal_limit written.1; few = omega arith }
     expression_keeps (TruthTree at value) written = record { fits = λ means. refl; few = omega arith }
     expression_keeps (VariableTree name) written =
-        then_finds (scalar_outcome (names name.text) name.at) _
+        then_finds (scalar_finding (names name.text) name.at) _
         (λ (x : ScalarUse). Means names → variable_type program procedure x.variable ≡ scalar_type x.base) _
         (scalar_found names name) (λ x stands. record {
           fits = λ means. scalar_read (variable_type program procedure x.variable) x.base (stands means);
           few = omega arith;
         })
     expression_keeps (ElementTree array index) written =
-        then_finds (array_outcome (names array.text) array.at) _
+        then_finds (array_finding (names array.text) array.at) _
         (λ (a : ArrayUse). Means names → variable_type program procedure a.variable ≡ array_type a.base a.size) _
         (array_found names array) (λ a stands.
-        then_finds (wanting Int (expression_place index) (expression_outcome names index)) _ (TypedKept names Int (written_nodes index)) _
-        (wanting_keeps names Int (expression_place index) (written_nodes index) (expression_outcome names index) (expression_keeps index written.1))
+        then_finds (wanting Int (expression_place index) (expression_finding names index)) _ (TypedKept names Int (written_nodes index)) _
+        (wanting_keeps names Int (expression_place index) (written_nodes index) (expression_finding names index) (expression_keeps index written.1))
         (λ i kept. record {
           fits =
               λ means. both_back (array_by (variable_type program procedure a.variable) a.size (same_base a.base)) (has_base program procedure Int i)
@@ -254,18 +254,18 @@ module _ (program : Program) (procedure : ProcedureEntry) (signatures : List Sig
         }))
     expression_keeps (UnaryTree at operator operand) written =
         let base = prefix_base (prefix_of operator) in
-        then_finds (wanting base (expression_place operand) (expression_outcome names operand)) _ (TypedKept names base (written_nodes operand)) _
-        (wanting_keeps names base (expression_place operand) (written_nodes operand) (expression_outcome names operand) (expression_keeps operand written.1))
+        then_finds (wanting base (expression_place operand) (expression_finding names operand)) _ (TypedKept names base (written_nodes operand)) _
+        (wanting_keeps names base (expression_place operand) (written_nodes operand) (expression_finding names operand) (expression_keeps operand written.1))
         (λ e kept. record {
           fits = λ means. both_back (same_base base base) (has_base program procedure base e) (same_base_itself base) (kept.fits means);
           few = omega (arith, kept.few);
         })
     expression_keeps (BinaryTree at operator left right) written =
-        then_finds (expression_outcome names left) _ (ExpressionKept names (written_nodes left)) _ (expression_keeps left written.1) (λ l left_kept.
+        then_finds (expression_finding names left) _ (ExpressionKept names (written_nodes left)) _ (expression_keeps left written.1) (λ l left_kept.
         let base = operands_base (use_of operator) l.base in
         then_finds (of_base base (expression_place left) l) _ (TypedKept names base (written_nodes left)) _
         (of_base_keeps names base (expression_place left) (written_nodes left) l left_kept) (λ d d_kept.
-        then_finds (expression_outcome names right) _ (ExpressionKept names (written_nodes right)) _ (expression_keeps right written.2) (λ r right_kept.
+        then_finds (expression_finding names right) _ (ExpressionKept names (written_nodes right)) _ (expression_keeps right written.2) (λ r right_kept.
         then_finds (of_base base (expression_place right) r) _ (TypedKept names base (written_nodes right)) _
         (of_base_keeps names base (expression_place right) (written_nodes right) r right_kept) (λ e e_kept. record {
           fits = λ means. combined_fits operator l.base d e (d_kept.fits means) (e_kept.fits means);
@@ -273,7 +273,7 @@ module _ (program : Program) (procedure : ProcedureEntry) (signatures : List Sig
         }))))
 
     pub typed_keeps : (base : Base) (tree : ExpressionTree) → IsWrittenExpression fits longest tree
-        → IfOk (typed_outcome names base tree) (TypedKept names base (written_nodes tree))
-    unfolding typed_outcome
+        → IfOk (typed_finding names base tree) (TypedKept names base (written_nodes tree))
+    unfolding typed_finding
     typed_keeps base tree written =
-        wanting_keeps names base (expression_place tree) (written_nodes tree) (expression_outcome names tree) (expression_keeps tree written)
+        wanting_keeps names base (expression_place tree) (written_nodes tree) (expression_finding names tree) (expression_keeps tree written)

@@ -20,8 +20,8 @@ use Rattle.resolved.specs.Program.{ThrownEntry}
 use Rattle.resolved.specs.WellFormed.{policy_fits, label_fits, written_fits, label_nodes}
 use Rattle.resolved.proofs.Sound.Values.{both}
 use Rattle.resolved.proofs.Parts.{both_back}
-use Rattle.names.specs.Outcome.{Outcome, along, put_last}
-use Rattle.names.specs.Labels.{principal_found, principal_outcome, readers_outcome, policy_outcome, policies_outcome, label_outcome, optional_label_outcome}
+use Rattle.names.specs.Finding.{Finding, along, put_last}
+use Rattle.names.specs.Labels.{principal_found, principal_finding, readers_finding, policy_finding, policies_finding, label_finding, optional_label_finding}
 use Rattle.names.specs.Resolution.{joined_all}
 use Rattle.names.proofs.Passing.{then_finds}
 
@@ -87,7 +87,7 @@ filter_length {X = X} keep (x ∷ xs) = go (keep x) (filter_length keep xs)
 pub all_pushed : {X : Type 0} (test : X → Bool) (xs : List X) (x : X) → list_all test xs ≡ true → test x ≡ true → list_all test (xs ++ x ∷ []) ≡ true
 all_pushed test xs x e f = list_all-append test xs (x ∷ []) ∙ both_back (list_all test xs) (list_all test (x ∷ [])) e (both_back (test x) true f refl)
 
-each_passes : {X A : Type 0} (look : X → Outcome A) (test : A → Bool) (weight : A → ℕ) (written : X → ℕ)
+each_passes : {X A : Type 0} (look : X → Finding A) (test : A → Bool) (weight : A → ℕ) (written : X → ℕ)
     → ((x : X) → IfOk (look x) (λ a. (test a ≡ true) × (weight a ≤ written x))) → (found : List A) (xs : List X) → list_all test found ≡ true
     → IfOk (along (put_last look) found xs) (λ made. (list_all test made ≡ true) × (sum_by weight made ≤ sum_by weight found + sum_by written xs))
 each_passes look test weight written h found [] passed = (passed, omega arith)
@@ -115,8 +115,8 @@ module _ (h : PrincipalHierarchy) where
   abbrev is_there : ℕ → Bool
   is_there principal = nat_lt principal (length h.names)
 
-  principal_there : (name : NameTree) → IfOk (principal_outcome h name) (λ number. (is_there number ≡ true) × (1 ≤ 1))
-  unfolding principal_outcome
+  principal_there : (name : NameTree) → IfOk (principal_finding h name) (λ number. (is_there number ≡ true) × (1 ≤ 1))
+  unfolding principal_finding
   principal_there name = go (number_of h name.text) refl
     where
       go : (found : Option ℕ) → number_of h name.text ≡ found → IfOk (principal_found found name.at) (λ number. (is_there number ≡ true) × (1 ≤ 1))
@@ -126,13 +126,13 @@ module _ (h : PrincipalHierarchy) where
   abbrev policy_weight : ReaderPolicy → ℕ
   policy_weight policy = 1 + length policy.readers
 
-  policy_there : (policy : PolicyTree) → IfOk (policy_outcome h policy) (λ found. (policy_fits h found ≡ true) × (policy_weight found ≤ policy_nodes policy))
-  unfolding policy_outcome readers_outcome
+  policy_there : (policy : PolicyTree) → IfOk (policy_finding h policy) (λ found. (policy_fits h found ≡ true) × (policy_weight found ≤ policy_nodes policy))
+  unfolding policy_finding readers_finding
   policy_there policy =
-      then_finds (principal_outcome h policy.owner) _ (λ number. (is_there number ≡ true) × (1 ≤ 1)) _ (principal_there policy.owner) (λ owner owner_there.
-      then_finds (along (put_last (principal_outcome h)) [] policy.readers) _
+      then_finds (principal_finding h policy.owner) _ (λ number. (is_there number ≡ true) × (1 ≤ 1)) _ (principal_there policy.owner) (λ owner owner_there.
+      then_finds (along (put_last (principal_finding h)) [] policy.readers) _
       (λ readers. (list_all is_there readers ≡ true) × (sum_by one_of readers ≤ 0 + sum_by one_of policy.readers)) _
-      (each_passes (principal_outcome h) is_there one_of one_of principal_there [] policy.readers refl) (λ readers readers_there. (
+      (each_passes (principal_finding h) is_there one_of one_of principal_there [] policy.readers refl) (λ readers readers_there. (
         both_back (is_there owner) (list_all is_there (readers_beside owner readers)) owner_there.0
             (filter_all is_there (λ reader. not (reader == owner)) (ascending_set nat_cmp readers) (set_all is_there nat_cmp readers readers_there.0)),
         omega (
@@ -146,19 +146,19 @@ module _ (h : PrincipalHierarchy) where
         ),
       )))
 
-  pub label_there : (label : LabelTree) → IfOk (label_outcome h label) (λ found. (label_fits h found ≡ true) × (1 + label_nodes found ≤ written_nodes label))
-  unfolding label_outcome policies_outcome
+  pub label_there : (label : LabelTree) → IfOk (label_finding h label) (λ found. (label_fits h found ≡ true) × (1 + label_nodes found ≤ written_nodes label))
+  unfolding label_finding policies_finding
   label_there label =
-      then_finds (along (put_last (policy_outcome h)) [] label.policies) _
+      then_finds (along (put_last (policy_finding h)) [] label.policies) _
       (λ policies. (list_all (policy_fits h) policies ≡ true) × (sum_by policy_weight policies ≤ 0 + sum_by policy_nodes label.policies)) _
-      (each_passes (policy_outcome h) (policy_fits h) policy_weight policy_nodes policy_there [] label.policies refl)
+      (each_passes (policy_finding h) (policy_fits h) policy_weight policy_nodes policy_there [] label.policies refl)
       (λ policies there. (set_all (policy_fits h) policy_cmp policies there.0, omega (arith, set_sum policy_weight policy_cmp policies, there.1)))
 
-  pub optional_label_there : (label : Option LabelTree) → IfOk (optional_label_outcome h label) (λ found. written_fits h found ≡ true)
-  unfolding optional_label_outcome
+  pub optional_label_there : (label : Option LabelTree) → IfOk (optional_label_finding h label) (λ found. written_fits h found ≡ true)
+  unfolding optional_label_finding
   optional_label_there None = refl
   optional_label_there (Some label) =
-      then_finds (label_outcome h label) _ (λ found. (label_fits h found ≡ true) × (1 + label_nodes found ≤ written_nodes label)) _ (label_there label)
+      then_finds (label_finding h label) _ (λ found. (label_fits h found ≡ true) × (1 + label_nodes found ≤ written_nodes label)) _ (label_there label)
       (λ found there. there.0)
 
   pub joined_all_there : (label : Label) (throws : List ThrownEntry) → label_fits h label ≡ true

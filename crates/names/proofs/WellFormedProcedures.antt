@@ -10,7 +10,7 @@ use Rattle.std.proofs.Math.Seq.{take-append_seam}
 use Rattle.principals.specs.ActsFor.{PrincipalHierarchy}
 use Rattle.labels.specs.Label.{Label}
 use Rattle.syntax.specs.Nodes as tree
-use Rattle.syntax.specs.Tree.{OutcomeTree, NothingTree, ResultTree, ParameterTree, ThrownTree, ProcedureTree}
+use Rattle.syntax.specs.Tree.{WrittenResultTree, NothingTree, ResultTree, ParameterTree, ThrownTree, ProcedureTree}
 use Rattle.syntax.specs.Written.{IsWrittenProcedure}
 use Rattle.resolved.specs.declared.expression.Base.{Base}
 use Rattle.resolved.specs.declared.expression.Variable.TheVariants.{Local}
@@ -20,12 +20,12 @@ use Rattle.resolved.specs.WellFormed.{is_exception, label_fits, written_fits, re
 use Rattle.resolved.proofs.Sound.Values.{both}
 use Rattle.resolved.proofs.Parts.{both_back, procedure_from_parts}
 use Rattle.names.specs.declared.scope.Meaning.TheVariants.{Exception, Scalar}
-use Rattle.names.specs.Outcome.{demand, along}
-use Rattle.names.specs.Environment.{Environment, fresh_outcome, exception_outcome}
-use Rattle.names.specs.Labels.{label_outcome, optional_label_outcome}
+use Rattle.names.specs.Finding.{demand, along}
+use Rattle.names.specs.Environment.{Environment, fresh_finding, exception_finding}
+use Rattle.names.specs.Labels.{label_finding, optional_label_finding}
 use Rattle.names.specs.Expressions.{base_of}
-use Rattle.names.specs.Statements.{Signature, Setting, Point, scalar_slot, block_outcome}
-use Rattle.names.specs.Resolution.{TopLevel, result_base_of, signature_of, result_outcome, next_parameter, parameters_outcome, is_thrown, next_thrown, throws_outcome, begin_label_of, end_label_of, procedure_entry_outcome, frame_cells}
+use Rattle.names.specs.Statements.{Signature, Setting, Point, scalar_slot, block_finding}
+use Rattle.names.specs.Resolution.{TopLevel, result_base_of, signature_of, result_finding, next_parameter, parameters_finding, is_thrown, next_thrown, throws_finding, begin_label_of, end_label_of, procedure_entry_finding, frame_cells}
 use Rattle.names.proofs.Passing.{then_finds, demand_finds, any_finds, finds_for_all}
 use Rattle.names.proofs.WellFormedExpressions.{given_base, slot_base, Signed, Stands, Means, means_declaring, exception_found}
 use Rattle.names.proofs.WellFormedLabels.{label_there, optional_label_there, joined_all_there, all_pushed}
@@ -102,11 +102,11 @@ parameters_begin program procedure setting names bases all point (parameter ∷ 
     let base = parameter_base parameter in
     then_finds (next_parameter setting.hierarchy point parameter) (λ next. along (next_parameter setting.hierarchy) next parameters)
     (Begun program procedure setting names (bases ++ base ∷ [])) _
-    (then_finds (label_outcome setting.hierarchy parameter.label) _
+    (then_finds (label_finding setting.hierarchy parameter.label) _
     (λ found. (label_fits setting.hierarchy found ≡ true) × (1 + label_nodes found ≤ tree.label_nodes parameter.label)) _
     (label_there setting.hierarchy parameter.label) (λ label there.
-    then_finds (fresh_outcome (point.names parameter.name.text) parameter.name.at) _ (λ one. Unit {0}) _
-    (any_finds (fresh_outcome (point.names parameter.name.text) parameter.name.at)) (λ one nothing.
+    then_finds (fresh_finding (point.names parameter.name.text) parameter.name.at) _ (λ one. Unit {0}) _
+    (any_finds (fresh_finding (point.names parameter.name.text) parameter.name.at)) (λ one nothing.
     let slot = scalar_slot parameter.at base (Some label) parameter.name.text in
     record {
       slots_fit = all_pushed (slot_fits setting) point.slots slot begun.slots_fit (both_back true (label_fits setting.hierarchy label) refl there.0);
@@ -136,12 +136,12 @@ throws_keep program procedure signatures h names before nodes throws [] e kept =
 throws_keep program procedure signatures h names before nodes throws (thrown ∷ written) e kept =
     then_finds (next_thrown h names throws thrown) (λ next. along (next_thrown h names) next written)
     (ThrowsKept program procedure signatures h names (before + tree.thrown_nodes thrown)) _
-    (then_finds (exception_outcome (names thrown.name.text) thrown.name.at) _
+    (then_finds (exception_finding (names thrown.name.text) thrown.name.at) _
     (λ number. Means program procedure signatures names → Stands program procedure signatures (Exception number)) _
     (exception_found program procedure signatures names thrown.name) (λ exception stands.
     then_finds (demand (not (is_thrown throws exception)) _ thrown.name.at) _ (λ one. not (is_thrown throws exception) ≡ true) _
     (demand_finds (not (is_thrown throws exception)) _ thrown.name.at) (λ one absent.
-    then_finds (label_outcome h thrown.label) _ (λ found. (label_fits h found ≡ true) × (1 + label_nodes found ≤ tree.label_nodes thrown.label)) _
+    then_finds (label_finding h thrown.label) _ (λ found. (label_fits h found ≡ true) × (1 + label_nodes found ≤ tree.label_nodes thrown.label)) _
     (label_there h thrown.label) (λ label there.
     let new : ThrownEntry = record { exception = exception; label = label } in
     record {
@@ -159,12 +159,12 @@ throws_keep program procedure signatures h names before nodes throws (thrown ∷
     absent_is false e = refl
     absent_is true e = absurd (cc)
 
-result_there : (h : PrincipalHierarchy) (outcome : OutcomeTree)
-    → IfOk (result_outcome h outcome) (λ found. (result_fits h found ≡ true) × (given_base found ≡ result_base_of outcome))
-unfolding result_outcome
+result_there : (h : PrincipalHierarchy) (finding : WrittenResultTree)
+    → IfOk (result_finding h finding) (λ found. (result_fits h found ≡ true) × (given_base found ≡ result_base_of finding))
+unfolding result_finding
 result_there h NothingTree = (refl, refl)
 result_there h (ResultTree base label) =
-    then_finds (label_outcome h label) _ (λ found. (label_fits h found ≡ true) × (1 + label_nodes found ≤ tree.label_nodes label)) _ (label_there h label)
+    then_finds (label_finding h label) _ (λ found. (label_fits h found ≡ true) × (1 + label_nodes found ≤ tree.label_nodes label)) _ (label_there h label)
     (λ found there. (there.0, refl))
 
 begin_there : (h : PrincipalHierarchy) (written : Option Label) → written_fits h written ≡ true → label_fits h (begin_label_of written) ≡ true
@@ -197,16 +197,16 @@ record Place (h : PrincipalHierarchy) (top : TopLevel) (result : Option Base) : 
   pub value : given_base procedure.result ≡ result
 
 abbrev setting_for : PrincipalHierarchy → TopLevel → ProcedureTree → Setting
-setting_for h top written = record { hierarchy = h; signatures = top.signatures; result = result_base_of written.outcome }
+setting_for h top written = record { hierarchy = h; signatures = top.signatures; result = result_base_of written.result }
 
 -- what was found of the parts of a procedure
 record PartsKept (h : PrincipalHierarchy) (top : TopLevel) (written : ProcedureTree) (result : Option ResultEntry) (begin : Option Label) (point : Point) (end : Option Label) (throws : List ThrownEntry) (done : Point × Block) : Type 0 where
-  pub result_there : (result_fits h result ≡ true) × (given_base result ≡ result_base_of written.outcome)
+  pub result_there : (result_fits h result ≡ true) × (given_base result ≡ result_base_of written.result)
   pub begin_there : written_fits h begin ≡ true
-  pub begun : (place : Place h top (result_base_of written.outcome)) → Begun place.program place.procedure (setting_for h top written) top.names (map parameter_base written.parameters) point
+  pub begun : (place : Place h top (result_base_of written.result)) → Begun place.program place.procedure (setting_for h top written) top.names (map parameter_base written.parameters) point
   pub end_there : written_fits h end ≡ true
-  pub throws_kept : (place : Place h top (result_base_of written.outcome)) → ThrowsKept place.program place.procedure top.signatures h top.names (sum_by tree.thrown_nodes written.throws) throws
-  pub done_kept : (place : Place h top (result_base_of written.outcome)) → BlockKept place.program place.procedure (setting_for h top written) point (tree.block_nodes written.body) done
+  pub throws_kept : (place : Place h top (result_base_of written.result)) → ThrowsKept place.program place.procedure top.signatures h top.names (sum_by tree.thrown_nodes written.throws) throws
+  pub done_kept : (place : Place h top (result_base_of written.result)) → BlockKept place.program place.procedure (setting_for h top written) point (tree.block_nodes written.body) done
 
 abbrev entry_with : ProcedureTree → Option ResultEntry → Option Label → Option Label → List ThrownEntry → Point × Block → ProcedureEntry
 entry_with written result begin end throws done = record {
@@ -235,7 +235,7 @@ module _ (h : PrincipalHierarchy) (top : TopLevel) (written : ProcedureTree) (re
 
   parts_fit : (world : World h top) → nat_le (frame_cells done.0.slots) cell_limit ≡ true → procedure_fits world.program entry ≡ true
   parts_fit world few_cells =
-      let place : Place h top (result_base_of written.outcome) = record { program = world.program; procedure = entry; value = parts.result_there.1 } in
+      let place : Place h top (result_base_of written.result) = record { program = world.program; procedure = entry; value = parts.result_there.1 } in
       let begun = parts.begun place in
       let kept = parts.done_kept place in
       let thrown = parts.throws_kept place in
@@ -275,7 +275,7 @@ module _ (h : PrincipalHierarchy) (top : TopLevel) (written : ProcedureTree) (re
   -- the rest does not depend on the program
   parts_signed : (program : Program) → Signed entry (signature_of written)
   parts_signed program =
-      let place : Place h top (result_base_of written.outcome) = record { program = program; procedure = entry; value = parts.result_there.1 } in
+      let place : Place h top (result_base_of written.result) = record { program = program; procedure = entry; value = parts.result_there.1 } in
       let begun = parts.begun place in
       let kept = parts.done_kept place in
       let long : length (map slot_base point.slots) ≡ length (map parameter_base written.parameters) = ap length begun.bases_are in
@@ -287,7 +287,7 @@ module _ (h : PrincipalHierarchy) (top : TopLevel) (written : ProcedureTree) (re
 
   parts_few : (program : Program) → procedure_nodes entry ≤ tree.procedure_nodes written
   parts_few program =
-      let place : Place h top (result_base_of written.outcome) = record { program = program; procedure = entry; value = parts.result_there.1 } in
+      let place : Place h top (result_base_of written.result) = record { program = program; procedure = entry; value = parts.result_there.1 } in
       let begun = parts.begun place in
       let kept = parts.done_kept place in
       let thrown = parts.throws_kept place in
@@ -309,31 +309,31 @@ some_program : PrincipalHierarchy → Program
 some_program h = record { hierarchy = h; channels = []; exceptions = []; globals = []; procedures = []; main = 0 }
 
 pub procedure_keeps : (placed : ℕ → Type 0) (longest : ℕ) (h : PrincipalHierarchy) (top : TopLevel) (written : ProcedureTree) → IsWrittenProcedure placed longest written
-    → IfOk (procedure_entry_outcome h top written) (ProcedureKept h top written)
-unfolding procedure_entry_outcome parameters_outcome throws_outcome
+    → IfOk (procedure_entry_finding h top written) (ProcedureKept h top written)
+unfolding procedure_entry_finding parameters_finding throws_finding
 procedure_keeps placed longest h top written is =
     let setting = setting_for h top written in
-    let Here = Place h top (result_base_of written.outcome) in
+    let Here = Place h top (result_base_of written.result) in
     let begin_point : Point = record { names = top.names; slots = []; loops = 0 } in
-    then_finds (result_outcome h written.outcome) _ (λ found. (result_fits h found ≡ true) × (given_base found ≡ result_base_of written.outcome)) _
-    (result_there h written.outcome) (λ result result_is.
-    then_finds (optional_label_outcome h written.begin) _ (λ found. written_fits h found ≡ true) _ (optional_label_there h written.begin) (λ begin begin_is.
+    then_finds (result_finding h written.result) _ (λ found. (result_fits h found ≡ true) × (given_base found ≡ result_base_of written.result)) _
+    (result_there h written.result) (λ result result_is.
+    then_finds (optional_label_finding h written.begin) _ (λ found. written_fits h found ≡ true) _ (optional_label_there h written.begin) (λ begin begin_is.
     then_finds (along (next_parameter h) begin_point written.parameters) _
     (λ point. (place : Here) → Begun place.program place.procedure setting top.names (map parameter_base written.parameters) point) _
     (finds_for_all (along (next_parameter h) begin_point written.parameters)
     (λ (place : Here) point. Begun place.program place.procedure setting top.names (map parameter_base written.parameters) point)
     (λ place. parameters_begin place.program place.procedure setting top.names [] (map parameter_base written.parameters) begin_point written.parameters refl
     (record { slots_fit = refl; parameters_fit = refl; bases_are = refl; no_loops = refl; means = λ is means. means }))) (λ point begun.
-    then_finds (optional_label_outcome h written.end) _ (λ found. written_fits h found ≡ true) _ (optional_label_there h written.end) (λ end end_is.
+    then_finds (optional_label_finding h written.end) _ (λ found. written_fits h found ≡ true) _ (optional_label_there h written.end) (λ end end_is.
     then_finds (along (next_thrown h top.names) [] written.throws) _
     (λ throws. (place : Here) → ThrowsKept place.program place.procedure top.signatures h top.names (sum_by tree.thrown_nodes written.throws) throws) _
     (finds_for_all (along (next_thrown h top.names) [] written.throws)
     (λ (place : Here) throws. ThrowsKept place.program place.procedure top.signatures h top.names (sum_by tree.thrown_nodes written.throws) throws)
     (λ place. throws_keep place.program place.procedure top.signatures h top.names 0 (sum_by tree.thrown_nodes written.throws) [] written.throws (omega arith)
     (record { fit = λ same means. refl; labels = refl; few = omega arith }))) (λ throws throws_kept.
-    then_finds (block_outcome setting point written.body) _
+    then_finds (block_finding setting point written.body) _
     (λ done. (place : Here) → BlockKept place.program place.procedure setting point (tree.block_nodes written.body) done) _
-    (finds_for_all (block_outcome setting point written.body)
+    (finds_for_all (block_finding setting point written.body)
     (λ (place : Here) done. BlockKept place.program place.procedure setting point (tree.block_nodes written.body) done)
     (λ place. block_keeps place.program place.procedure setting placed longest place.value point written.body is.body)) (λ done done_kept.
     let parts : PartsKept h top written result begin point end throws done = record {

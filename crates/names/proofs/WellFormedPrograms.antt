@@ -26,12 +26,12 @@ use Rattle.resolved.proofs.Parts.{both_back, program_from_parts}
 use Rattle.resolved.proofs.Sound.Values.{both}
 use Rattle.names.specs.declared.scope.Meaning.{Meaning}
 use Rattle.names.specs.declared.scope.Meaning.TheVariants.{Input, Output, Exception, Procedure, Scalar, Array}
-use Rattle.names.specs.Outcome.{along, give_if}
-use Rattle.names.specs.Environment.{Environment, declaring, fresh_outcome}
-use Rattle.names.specs.Labels.{label_outcome}
+use Rattle.names.specs.Finding.{along, give_if}
+use Rattle.names.specs.Environment.{Environment, declaring, fresh_finding}
+use Rattle.names.specs.Labels.{label_finding}
 use Rattle.names.specs.Expressions.{base_of}
-use Rattle.names.specs.Statements.{Signature, signature_at, size_outcome}
-use Rattle.names.specs.Resolution.{TopLevel, nothing_declared, built_in, item_name, channel_meaning, global_meaning, item_meaning, signature_of, counted, next_name, top_outcome, direction_of, channel_outcome, constant_value, constant_base, constant_place, FirstValue, first_outcome, global_outcome, zero_of, Tables, next_item, no_tables, items_outcome, procedure_entry_outcome, main_entry_outcome, main_outcome, global_cells, next_global_cells, global_cells_outcome, frame_cells, next_frame, frames_outcome, program_with, resolution}
+use Rattle.names.specs.Statements.{Signature, signature_at, size_finding}
+use Rattle.names.specs.Resolution.{TopLevel, nothing_declared, built_in, item_name, channel_meaning, global_meaning, item_meaning, signature_of, counted, next_name, top_finding, direction_of, channel_finding, constant_value, constant_base, constant_place, FirstValue, first_finding, global_finding, zero_of, Tables, next_item, no_tables, items_finding, procedure_entry_finding, main_entry_finding, main_finding, global_cells, next_global_cells, global_cells_finding, frame_cells, next_frame, frames_finding, program_with, resolution}
 use Rattle.names.proofs.Passing.{then_finds, if_finds, demand_finds, any_finds}
 use Rattle.names.proofs.WellFormedExpressions.{given_base, slot_base, Signed, Stands}
 use Rattle.names.proofs.WellFormedLabels.{label_there, all_pushed}
@@ -235,8 +235,8 @@ counted_kept shape top (ProcedureItem procedure) names kept means = record {
 name_kept : (shape : Shape) (top : TopLevel) (item : ItemTree) → TopKept shape top → IfOk (next_name top item) (TopKept (shape_with shape item))
 unfolding next_name
 name_kept shape top item kept =
-    then_finds (fresh_outcome (top.names (item_name item).text) (item_name item).at) _ (λ one. Unit {0}) _
-    (any_finds (fresh_outcome (top.names (item_name item).text) (item_name item).at)) (λ one nothing.
+    then_finds (fresh_finding (top.names (item_name item).text) (item_name item).at) _ (λ one. Unit {0}) _
+    (any_finds (fresh_finding (top.names (item_name item).text) (item_name item).at)) (λ one nothing.
     counted_kept shape top item (declaring (item_name item).text (item_meaning top item) top.names) kept
     (means_in_declaring (shape_with shape item) (item_name item).text (item_meaning top item) top.names (new_stands shape top item kept)
     (λ name meaning e. stands_further shape item meaning (kept.names name meaning e))))
@@ -263,10 +263,10 @@ built_in_kept = record {
 -- ---- channels and globals
 
 channel_there : (h : PrincipalHierarchy) (channel : ChannelTree)
-    → IfOk (channel_outcome h channel) (λ (entry : ChannelEntry). (label_fits h entry.label ≡ true) × (entry.direction ≡ direction_of channel.direction) × (1 + label_nodes entry.label ≤ tree.label_nodes channel.label))
-unfolding channel_outcome
+    → IfOk (channel_finding h channel) (λ (entry : ChannelEntry). (label_fits h entry.label ≡ true) × (entry.direction ≡ direction_of channel.direction) × (1 + label_nodes entry.label ≤ tree.label_nodes channel.label))
+unfolding channel_finding
 channel_there h channel =
-    then_finds (label_outcome h channel.label) _ (λ found. (label_fits h found ≡ true) × (1 + label_nodes found ≤ tree.label_nodes channel.label)) _
+    then_finds (label_finding h channel.label) _ (λ found. (label_fits h found ≡ true) × (1 + label_nodes found ≤ tree.label_nodes channel.label)) _
     (label_there h channel.label) (λ label there. (there.0, refl, there.1))
 
 -- the first value is of the type, and that of an array is zero
@@ -283,14 +283,14 @@ zero_fits : (base : Base) → (same_base (value_base (zero_of base)) base && is_
 zero_fits Int = refl
 zero_fits Boolean = refl
 
-first_there : (base : Base) (value : GlobalValueTree) → IfOk (first_outcome base value) (FirstKept base value)
-unfolding first_outcome size_outcome
+first_there : (base : Base) (value : GlobalValueTree) → IfOk (first_finding base value) (FirstKept base value)
+unfolding first_finding size_finding
 first_there base (ScalarTree constant) =
     if_finds (same_base (constant_base constant) base) (record { size = None; first = constant_value constant }) _ (constant_place constant)
     (FirstKept base (ScalarTree constant)) (λ same.
     (refl, both_back (same_base (value_base (constant_value constant)) base) true (constant_of_base constant base same) refl, refl))
 first_there base (ArrayTree size) =
-    then_finds (size_outcome size) _ (λ long. (size_fits (Some long) ≡ true) × (long ≡ size.size)) _
+    then_finds (size_finding size) _ (λ long. (size_fits (Some long) ≡ true) × (long ≡ size.size)) _
     (if_finds (nat_lt 0 size.size && nat_le size.size array_limit) size.size _ size.at (λ long. (size_fits (Some long) ≡ true) × (long ≡ size.size)) (λ fit. (fit, refl)))
     (λ long there. (there.0, zero_fits base, ap some_size there.1))
   where
@@ -301,13 +301,13 @@ abbrev global_fits : PrincipalHierarchy → GlobalEntry → Bool
 global_fits h entry = size_fits entry.size && label_fits h entry.label && first_fits entry
 
 global_there : (h : PrincipalHierarchy) (global : GlobalTree)
-    → IfOk (global_outcome h global) (λ (entry : GlobalEntry). (global_fits h entry ≡ true) × (variable_of entry ≡ declared_variable global))
-unfolding global_outcome
+    → IfOk (global_finding h global) (λ (entry : GlobalEntry). (global_fits h entry ≡ true) × (variable_of entry ≡ declared_variable global))
+unfolding global_finding
 global_there h global =
     let base = base_of global.base in
-    then_finds (label_outcome h global.label) _ (λ found. (label_fits h found ≡ true) × (1 + label_nodes found ≤ tree.label_nodes global.label)) _
+    then_finds (label_finding h global.label) _ (λ found. (label_fits h found ≡ true) × (1 + label_nodes found ≤ tree.label_nodes global.label)) _
     (label_there h global.label) (λ label there.
-    then_finds (first_outcome base global.value) _ (FirstKept base global.value) _ (first_there base global.value) (λ value kept. (
+    then_finds (first_finding base global.value) _ (FirstKept base global.value) _ (first_there base global.value) (λ value kept. (
       both_back (size_fits value.size && label_fits h label) (same_base (value_base value.first) base && (is_none value.size || is_zero_value value.first))
           (both_back (size_fits value.size) (label_fits h label) kept.0 there.0) kept.1,
       (λ i. record { base = base; size = kept.2 i }),
@@ -350,7 +350,7 @@ module _ (placed : ℕ → Type 0) (longest : ℕ) (h : PrincipalHierarchy) (top
       → IfOk (next_item h top tables item) (TablesKept h top (shape_with shape item) (nodes + tree.item_nodes item))
   unfolding next_item
   item_kept shape nodes tables (ChannelItem channel) is kept =
-      then_finds (channel_outcome h channel) _
+      then_finds (channel_finding h channel) _
       (λ (entry : ChannelEntry). (label_fits h entry.label ≡ true) × (entry.direction ≡ direction_of channel.direction) × (1 + label_nodes entry.label ≤ tree.label_nodes channel.label)) _
       (channel_there h channel) (λ entry there. record {
         directions = map_push way_of tables.channels entry ∙ (λ i. kept.directions i ++ there.1 i ∷ []);
@@ -373,7 +373,7 @@ module _ (placed : ℕ → Type 0) (longest : ℕ) (h : PrincipalHierarchy) (top
     few = omega (arith, kept.few, length-append tables.exceptions (name.text ∷ []));
   }
   item_kept shape nodes tables (GlobalItem global) is kept =
-      then_finds (global_outcome h global) _ (λ (entry : GlobalEntry). (global_fits h entry ≡ true) × (variable_of entry ≡ declared_variable global)) _
+      then_finds (global_finding h global) _ (λ (entry : GlobalEntry). (global_fits h entry ≡ true) × (variable_of entry ≡ declared_variable global)) _
       (global_there h global) (λ entry there. record {
         directions = kept.directions;
         exceptions = kept.exceptions;
@@ -385,7 +385,7 @@ module _ (placed : ℕ → Type 0) (longest : ℕ) (h : PrincipalHierarchy) (top
         few = omega (arith, kept.few, length-append tables.globals (entry ∷ []));
       })
   item_kept shape nodes tables (ProcedureItem procedure) is kept =
-      then_finds (procedure_entry_outcome h top procedure) _ (ProcedureKept h top procedure) _ (procedure_keeps placed longest h top procedure is)
+      then_finds (procedure_entry_finding h top procedure) _ (ProcedureKept h top procedure) _ (procedure_keeps placed longest h top procedure is)
       (λ entry there. record {
         directions = kept.directions;
         exceptions = kept.exceptions;
@@ -469,13 +469,13 @@ all_fit h top world (procedure ∷ procedures) each frames =
 
 -- ---- main
 
-main_found : (found : Option Meaning) (procedures : List ProcedureEntry) → IfOk (main_outcome found procedures) (λ main. main_fits (slice_get procedures main) ≡ true)
-unfolding main_outcome
+main_found : (found : Option Meaning) (procedures : List ProcedureEntry) → IfOk (main_finding found procedures) (λ main. main_fits (slice_get procedures main) ≡ true)
+unfolding main_finding
 main_found None procedures = tt
 main_found (Some (Procedure number)) procedures = go (slice_get procedures number) refl
   where
     go : (entry : Option ProcedureEntry) → slice_get procedures number ≡ entry
-        → IfOk (main_entry_outcome number entry) (λ main. main_fits (slice_get procedures main) ≡ true)
+        → IfOk (main_entry_finding number entry) (λ main. main_fits (slice_get procedures main) ≡ true)
     go None e = tt
     go (Some procedure) e =
         if_finds (procedure.parameters == 0 && is_none procedure.result) number _ procedure.at (λ main. main_fits (slice_get procedures main) ≡ true)
@@ -565,7 +565,7 @@ module _ (h : PrincipalHierarchy) (top : TopLevel) (shape : Shape) (nodes : ℕ)
 
 pub resolution_keeps : (placed : ℕ → Type 0) (longest : ℕ) (h : PrincipalHierarchy) (written : ProgramTree) → IsHierarchy h → IsWritten placed longest written
     → tree.program_nodes written ≤ 1048577 → IfOk (resolution h written) (λ found. IsTrue (well_formed found))
-unfolding resolution top_outcome items_outcome global_cells_outcome frames_outcome
+unfolding resolution top_finding items_finding global_cells_finding frames_finding
 resolution_keeps placed longest h written hierarchy is few =
     let shape = shape_all no_items written.items in
     let nodes = sum_by tree.item_nodes written.items in
@@ -581,7 +581,7 @@ resolution_keeps placed longest h written hierarchy is few =
       procedures_fit = tt;
       few = omega arith;
     })) (λ tables kept.
-    then_finds (main_outcome (top.names (codes "main")) tables.procedures) _ (λ main. main_fits (slice_get tables.procedures main) ≡ true) _
+    then_finds (main_finding (top.names (codes "main")) tables.procedures) _ (λ main. main_fits (slice_get tables.procedures main) ≡ true) _
     (main_found (top.names (codes "main")) tables.procedures) (λ main main_is.
     then_finds (along next_global_cells 0 written.items) _ (λ all. (all ≡ sum_by variable_cells shape.variables) × (all ≤ cell_limit)) _
     (cells_kept no_items 0 written.items refl (omega arith)) (λ cells cells_are.

@@ -24,11 +24,11 @@ use Rattle.resolved.specs.WellFormed.{same_base, slot_type, variable_type, scala
 use Rattle.resolved.proofs.Sound.Values.{both, same_base_is, same_base_itself}
 use Rattle.resolved.proofs.Parts.{both_back}
 use Rattle.names.specs.declared.scope.Meaning.TheVariants.{Input, Output, Exception, Procedure, Scalar, Array}
-use Rattle.names.specs.Outcome.{Outcome, demand, along}
-use Rattle.names.specs.Environment.{Environment, ScalarUse, ArrayUse, fresh_outcome, scalar_outcome, array_outcome, input_outcome, output_outcome, exception_outcome, procedure_outcome}
-use Rattle.names.specs.Labels.{optional_label_outcome}
-use Rattle.names.specs.Expressions.{Typed, base_of, expression_outcome, typed_outcome}
-use Rattle.names.specs.Statements.{Setting, Point, signature_at, next_argument, arguments_outcome, CallUse, applied_outcome, call_outcome, gives_base, assigned_outcome, scalar_slot, array_slot, declare_outcome, size_outcome, declare_array_outcome, assign_outcome, store_outcome, call_statement_outcome, receive_outcome, send_outcome, throw_outcome, returned_outcome, return_outcome, staying, in_loop, behind_block, statement_outcome, block_outcome, statements_outcome, catches_outcome}
+use Rattle.names.specs.Finding.{Finding, demand, along}
+use Rattle.names.specs.Environment.{Environment, ScalarUse, ArrayUse, fresh_finding, scalar_finding, array_finding, input_finding, output_finding, exception_finding, procedure_finding}
+use Rattle.names.specs.Labels.{optional_label_finding}
+use Rattle.names.specs.Expressions.{Typed, base_of, expression_finding, typed_finding}
+use Rattle.names.specs.Statements.{Setting, Point, signature_at, next_argument, arguments_finding, CallUse, applied_finding, call_finding, gives_base, assigned_finding, scalar_slot, array_slot, declare_finding, size_finding, declare_array_finding, assign_finding, store_finding, call_statement_finding, receive_finding, send_finding, throw_finding, returned_finding, return_finding, staying, in_loop, behind_block, statement_finding, block_finding, statements_finding, catches_finding}
 use Rattle.names.proofs.Passing.{then_finds, if_finds, demand_finds, any_finds}
 use Rattle.names.proofs.WellFormedExpressions.{given_base, slot_base, scalar_type, array_type, Stands, Means, means_declaring, scalar_found, array_found, input_found, output_found, exception_found, procedure_found, TypedKept, ExpressionKept, expression_keeps, typed_keeps}
 use Rattle.names.proofs.WellFormedLabels.{optional_label_there}
@@ -212,7 +212,7 @@ module _ (program : Program) (procedure : ProcedureEntry) (setting : Setting) wh
         let same : wanted ≡ base = ap (λ one. slice_index_or one (length found) Int) e ∙ index_end bases base rest (length found) Int kept.long in
         then_finds (next_argument names parameters found argument) (λ next. along (next_argument names parameters) next arguments)
         (ArgumentsKept names (bases ++ base ∷ []) (before + tree.expression_nodes argument)) _
-        (then_finds (typed_outcome names wanted argument) _ (HasBase names wanted (tree.expression_nodes argument)) _
+        (then_finds (typed_finding names wanted argument) _ (HasBase names wanted (tree.expression_nodes argument)) _
         (typed_keeps program procedure setting.signatures placed longest names wanted argument (All-head (IsWrittenExpression placed longest) argument arguments all))
         (λ e kept_e. record {
           fit =
@@ -247,10 +247,10 @@ module _ (program : Program) (procedure : ProcedureEntry) (setting : Setting) wh
       pub few : 2 + sum_by expression_nodes made.arguments ≤ written
 
     call_keeps : (names : Environment) (call : CallTree) → IsWrittenCall placed longest call
-        → IfOk (call_outcome setting.signatures names call) (CallKept names (tree.call_nodes call))
-    unfolding call_outcome applied_outcome arguments_outcome
+        → IfOk (call_finding setting.signatures names call) (CallKept names (tree.call_nodes call))
+    unfolding call_finding applied_finding arguments_finding
     call_keeps names call written =
-        then_finds (procedure_outcome (names call.procedure.text) call.procedure.at) _
+        then_finds (procedure_finding (names call.procedure.text) call.procedure.at) _
         (λ number. MeansHere names → Stands program procedure setting.signatures (Procedure number)) _
         (procedure_found program procedure setting.signatures names call.procedure) (λ number stands.
         let signature = signature_at setting.signatures number in
@@ -311,11 +311,11 @@ module _ (program : Program) (procedure : ProcedureEntry) (setting : Setting) wh
         (target_by program procedure target (λ base. has_result callee.result (same_base base))) matched (takes callee given))
 
     assigned_keeps : (names : Environment) (at : ℕ) (target : Variable) (base : Base) (right : RightTree) → IsWrittenRight placed longest right
-        → IfOk (assigned_outcome setting.signatures names at target base right) (AssignedKept names target base (1 + tree.right_nodes right))
-    unfolding assigned_outcome
+        → IfOk (assigned_finding setting.signatures names at target base right) (AssignedKept names target base (1 + tree.right_nodes right))
+    unfolding assigned_finding
     assigned_keeps names at target base (ReceivedTree receive_at channel) written =
         then_finds (demand (same_base Int base) _ receive_at) _ (λ one. same_base Int base ≡ true) _ (demand_finds (same_base Int base) _ receive_at) (λ one same.
-        then_finds (input_outcome (names channel.text) channel.at) _
+        then_finds (input_finding (names channel.text) channel.at) _
         (λ number. MeansHere names → Stands program procedure setting.signatures (Input number)) _
         (input_found program procedure setting.signatures names channel) (λ number stands. record {
           fits =
@@ -325,7 +325,7 @@ module _ (program : Program) (procedure : ProcedureEntry) (setting : Setting) wh
           few = omega arith;
         }))
     assigned_keeps names at target base (CalledTree call) written =
-        then_finds (call_outcome setting.signatures names call) _ (CallKept names (tree.call_nodes call)) _ (call_keeps names call written) (λ made kept.
+        then_finds (call_finding setting.signatures names call) _ (CallKept names (tree.call_nodes call)) _ (call_keeps names call written) (λ made kept.
         if_finds (gives_base base made.result) (Call at made.procedure made.arguments (Some target)) _ call.procedure.at _ (λ given. record {
           fits =
               λ means e. call_passes made (Some target) (kept.there means) (λ callee same.
@@ -335,7 +335,7 @@ module _ (program : Program) (procedure : ProcedureEntry) (setting : Setting) wh
           few = omega (arith, kept.few);
         }))
     assigned_keeps names at target base (ValueTree value) written =
-        then_finds (typed_outcome names base value) _ (HasBase names base (tree.expression_nodes value)) _
+        then_finds (typed_finding names base value) _ (HasBase names base (tree.expression_nodes value)) _
         (typed_keeps program procedure setting.signatures placed longest names base value written) (λ e kept. record {
           fits = λ means same. scalar_passes target base (λ base. has_base program procedure base e) same (kept.fits means);
           no_loops = refl;
@@ -343,13 +343,13 @@ module _ (program : Program) (procedure : ProcedureEntry) (setting : Setting) wh
         })
 
     assign_keeps : (names : Environment) (target : NameTree) (right : RightTree) → IsWrittenRight placed longest right
-        → IfOk (assign_outcome setting.signatures names target right) (PlainKept names (2 + tree.right_nodes right))
-    unfolding assign_outcome
+        → IfOk (assign_finding setting.signatures names target right) (PlainKept names (2 + tree.right_nodes right))
+    unfolding assign_finding
     assign_keeps names target right written =
-        then_finds (scalar_outcome (names target.text) target.at) _
+        then_finds (scalar_finding (names target.text) target.at) _
         (λ (x : ScalarUse). MeansHere names → variable_type program procedure x.variable ≡ scalar_type x.base) _
         (scalar_found program procedure setting.signatures names target) (λ x stands.
-        IfOk-weaker (assigned_outcome setting.signatures names target.at x.variable x.base right)
+        IfOk-weaker (assigned_finding setting.signatures names target.at x.variable x.base right)
         (AssignedKept names x.variable x.base (1 + tree.right_nodes right)) (PlainKept names (2 + tree.right_nodes right))
         (λ statement kept. record {
           fits = λ means. kept.fits means (stands means);
@@ -360,15 +360,15 @@ module _ (program : Program) (procedure : ProcedureEntry) (setting : Setting) wh
 
     store_keeps : (names : Environment) (array : NameTree) (index right : ExpressionTree) → IsWrittenExpression placed longest index
         → IsWrittenExpression placed longest right
-        → IfOk (store_outcome names array index right) (PlainKept names (2 + (tree.expression_nodes index + tree.expression_nodes right)))
-    unfolding store_outcome
+        → IfOk (store_finding names array index right) (PlainKept names (2 + (tree.expression_nodes index + tree.expression_nodes right)))
+    unfolding store_finding
     store_keeps names array index right index_written right_written =
-        then_finds (array_outcome (names array.text) array.at) _
+        then_finds (array_finding (names array.text) array.at) _
         (λ (a : ArrayUse). MeansHere names → variable_type program procedure a.variable ≡ array_type a.base a.size) _
         (array_found program procedure setting.signatures names array) (λ a stands.
-        then_finds (typed_outcome names Int index) _ (HasBase names Int (tree.expression_nodes index)) _
+        then_finds (typed_finding names Int index) _ (HasBase names Int (tree.expression_nodes index)) _
         (typed_keeps program procedure setting.signatures placed longest names Int index index_written) (λ i kept_i.
-        then_finds (typed_outcome names a.base right) _ (HasBase names a.base (tree.expression_nodes right)) _
+        then_finds (typed_finding names a.base right) _ (HasBase names a.base (tree.expression_nodes right)) _
         (typed_keeps program procedure setting.signatures placed longest names a.base right right_written) (λ e kept_e. record {
           fits =
               λ means. both_back (array_by (variable_type program procedure a.variable) a.size (λ base. has_base program procedure base e)) (has_base program procedure Int i)
@@ -378,19 +378,19 @@ module _ (program : Program) (procedure : ProcedureEntry) (setting : Setting) wh
         })))
 
     call_statement_keeps : (names : Environment) (call : CallTree) → IsWrittenCall placed longest call
-        → IfOk (call_statement_outcome setting.signatures names call) (PlainKept names (1 + tree.call_nodes call))
-    unfolding call_statement_outcome
+        → IfOk (call_statement_finding setting.signatures names call) (PlainKept names (1 + tree.call_nodes call))
+    unfolding call_statement_finding
     call_statement_keeps names call written =
-        then_finds (call_outcome setting.signatures names call) _ (CallKept names (tree.call_nodes call)) _ (call_keeps names call written) (λ made kept. record {
+        then_finds (call_finding setting.signatures names call) _ (CallKept names (tree.call_nodes call)) _ (call_keeps names call written) (λ made kept. record {
           fits = λ means. call_passes made None (kept.there means) (λ callee same. refl);
           no_loops = refl;
           few = omega (arith, kept.few);
         })
 
-    receive_keeps : (names : Environment) (at : ℕ) (channel : NameTree) → IfOk (receive_outcome names at channel) (PlainKept names 2)
-    unfolding receive_outcome
+    receive_keeps : (names : Environment) (at : ℕ) (channel : NameTree) → IfOk (receive_finding names at channel) (PlainKept names 2)
+    unfolding receive_finding
     receive_keeps names at channel =
-        then_finds (input_outcome (names channel.text) channel.at) _
+        then_finds (input_finding (names channel.text) channel.at) _
         (λ number. MeansHere names → Stands program procedure setting.signatures (Input number)) _
         (input_found program procedure setting.signatures names channel) (λ number stands. record {
           fits = λ means. both_back (channel_is (slice_get program.channels number) directions.Input) true (stands means) refl;
@@ -399,13 +399,13 @@ module _ (program : Program) (procedure : ProcedureEntry) (setting : Setting) wh
         })
 
     send_keeps : (names : Environment) (at : ℕ) (channel : NameTree) (right : ExpressionTree) → IsWrittenExpression placed longest right
-        → IfOk (send_outcome names at channel right) (PlainKept names (2 + tree.expression_nodes right))
-    unfolding send_outcome
+        → IfOk (send_finding names at channel right) (PlainKept names (2 + tree.expression_nodes right))
+    unfolding send_finding
     send_keeps names at channel right written =
-        then_finds (output_outcome (names channel.text) channel.at) _
+        then_finds (output_finding (names channel.text) channel.at) _
         (λ number. MeansHere names → Stands program procedure setting.signatures (Output number)) _
         (output_found program procedure setting.signatures names channel) (λ number stands.
-        then_finds (typed_outcome names Int right) _ (HasBase names Int (tree.expression_nodes right)) _
+        then_finds (typed_finding names Int right) _ (HasBase names Int (tree.expression_nodes right)) _
         (typed_keeps program procedure setting.signatures placed longest names Int right written) (λ e kept. record {
           fits =
               λ means. both_back (channel_is (slice_get program.channels number) directions.Output) (has_base program procedure Int e)
@@ -414,10 +414,10 @@ module _ (program : Program) (procedure : ProcedureEntry) (setting : Setting) wh
           few = omega (arith, kept.few);
         }))
 
-    throw_keeps : (names : Environment) (at : ℕ) (exception : NameTree) → IfOk (throw_outcome names at exception) (PlainKept names 2)
-    unfolding throw_outcome
+    throw_keeps : (names : Environment) (at : ℕ) (exception : NameTree) → IfOk (throw_finding names at exception) (PlainKept names 2)
+    unfolding throw_finding
     throw_keeps names at exception =
-        then_finds (exception_outcome (names exception.text) exception.at) _
+        then_finds (exception_finding (names exception.text) exception.at) _
         (λ number. MeansHere names → Stands program procedure setting.signatures (Exception number)) _
         (exception_found program procedure setting.signatures names exception)
         (λ number stands. record { fits = stands; no_loops = refl; few = omega arith })
@@ -429,12 +429,12 @@ module _ (program : Program) (procedure : ProcedureEntry) (setting : Setting) wh
 
       returned_keeps : (names : Environment) (at value_at nodes : ℕ) (found : Typed)
           → ExpressionKept program procedure setting.signatures names nodes found
-          → IfOk (returned_outcome setting.result at value_at found) (PlainKept names (1 + nodes))
+          → IfOk (returned_finding setting.result at value_at found) (PlainKept names (1 + nodes))
       returned_keeps names at value_at nodes found kept =
           go procedure.result refl setting.result value
         where
           go : (entry : Option ResultEntry) → procedure.result ≡ entry → (result : Option Base) → given_base procedure.result ≡ result
-              → IfOk (returned_outcome result at value_at found) (PlainKept names (1 + nodes))
+              → IfOk (returned_finding result at value_at found) (PlainKept names (1 + nodes))
           go entry e None given = tt
           go None e (Some base) given = absurd (cc)
           go (Some entry) e (Some base) given =
@@ -451,8 +451,8 @@ module _ (program : Program) (procedure : ProcedureEntry) (setting : Setting) wh
               some_inside a b e = cc
 
       return_keeps : (names : Environment) (at : ℕ) (right : Option ExpressionTree) → IsWrittenOptionalExpression placed longest right
-          → IfOk (return_outcome setting.result names at right) (PlainKept names (1 + tree.optional_expression_nodes right))
-      unfolding return_outcome
+          → IfOk (return_finding setting.result names at right) (PlainKept names (1 + tree.optional_expression_nodes right))
+      unfolding return_finding
       return_keeps names at None written =
           if_finds (is_none setting.result) (ReturnWith at None) _ at _ (λ none. record {
             fits = λ means. no_value procedure.result (subst (λ one. is_none one ≡ true) (sym value) none);
@@ -460,7 +460,7 @@ module _ (program : Program) (procedure : ProcedureEntry) (setting : Setting) wh
             few = omega arith;
           })
       return_keeps names at (Some right) written =
-          then_finds (expression_outcome names right) _ (ExpressionKept program procedure setting.signatures names (tree.expression_nodes right)) _
+          then_finds (expression_finding names right) _ (ExpressionKept program procedure setting.signatures names (tree.expression_nodes right)) _
           (expression_keeps program procedure setting.signatures placed longest names right written)
           (λ found kept. returned_keeps names at (expression_place right) (tree.expression_nodes right) found kept)
 
@@ -480,20 +480,20 @@ module _ (program : Program) (procedure : ProcedureEntry) (setting : Setting) wh
         names = λ is means. means;
       }
 
-      staying_keeps : (point : Point) (nodes : ℕ) (looked : Outcome Statement) → IfOk looked (PlainKept point.names nodes)
+      staying_keeps : (point : Point) (nodes : ℕ) (looked : Finding Statement) → IfOk looked (PlainKept point.names nodes)
           → IfOk (staying point looked) (StatementKept point nodes)
       staying_keeps point nodes looked h =
           then_finds looked _ (PlainKept point.names nodes) _ h (λ statement kept. plain_keeps point nodes statement kept)
 
       declare_keeps : (point : Point) (at : ℕ) (base : Base) (label : Option LabelTree) (name : NameTree) (right : RightTree) → IsWrittenRight placed longest right
-          → IfOk (declare_outcome setting point at base label name right) (StatementKept point (2 + (tree.optional_label_nodes label + tree.right_nodes right)))
-      unfolding declare_outcome
+          → IfOk (declare_finding setting point at base label name right) (StatementKept point (2 + (tree.optional_label_nodes label + tree.right_nodes right)))
+      unfolding declare_finding
       declare_keeps point at base label name right written_right =
           let target = Local (length point.slots) in
-          then_finds (optional_label_outcome setting.hierarchy label) _ (λ found. written_fits setting.hierarchy found ≡ true) _
+          then_finds (optional_label_finding setting.hierarchy label) _ (λ found. written_fits setting.hierarchy found ≡ true) _
           (optional_label_there setting.hierarchy label) (λ written there.
-          then_finds (fresh_outcome (point.names name.text) name.at) _ (λ one. Unit {0}) _ (any_finds (fresh_outcome (point.names name.text) name.at)) (λ one nothing.
-          then_finds (assigned_outcome setting.signatures point.names at target base right) _ (AssignedKept point.names target base (1 + tree.right_nodes right)) _
+          then_finds (fresh_finding (point.names name.text) name.at) _ (λ one. Unit {0}) _ (any_finds (fresh_finding (point.names name.text) name.at)) (λ one nothing.
+          then_finds (assigned_finding setting.signatures point.names at target base right) _ (AssignedKept point.names target base (1 + tree.right_nodes right)) _
           (assigned_keeps point.names at target base right written_right) (λ statement kept.
           let slot = scalar_slot at base written name.text in
           record {
@@ -512,14 +512,14 @@ module _ (program : Program) (procedure : ProcedureEntry) (setting : Setting) wh
           })))
 
       declare_array_keeps : (point : Point) (at : ℕ) (base : Base) (label : Option LabelTree) (name : NameTree) (size : SizeTree)
-          → IfOk (declare_array_outcome setting point at base label name size) (StatementKept point (3 + tree.optional_label_nodes label))
-      unfolding declare_array_outcome size_outcome
+          → IfOk (declare_array_finding setting point at base label name size) (StatementKept point (3 + tree.optional_label_nodes label))
+      unfolding declare_array_finding size_finding
       declare_array_keeps point at base label name size =
           let target = Local (length point.slots) in
-          then_finds (optional_label_outcome setting.hierarchy label) _ (λ found. written_fits setting.hierarchy found ≡ true) _
+          then_finds (optional_label_finding setting.hierarchy label) _ (λ found. written_fits setting.hierarchy found ≡ true) _
           (optional_label_there setting.hierarchy label) (λ written there.
-          then_finds (fresh_outcome (point.names name.text) name.at) _ (λ one. Unit {0}) _ (any_finds (fresh_outcome (point.names name.text) name.at)) (λ one nothing.
-          then_finds (size_outcome size) _ (λ length_of. size_fits (Some length_of) ≡ true) _
+          then_finds (fresh_finding (point.names name.text) name.at) _ (λ one. Unit {0}) _ (any_finds (fresh_finding (point.names name.text) name.at)) (λ one nothing.
+          then_finds (size_finding size) _ (λ length_of. size_fits (Some length_of) ≡ true) _
           (if_finds (nat_lt 0 size.size && nat_le size.size array_limit) size.size _ size.at _ (λ fit. fit)) (λ length_of fit.
           let slot = array_slot at base written name.text length_of in
           record {
@@ -599,81 +599,81 @@ module _ (program : Program) (procedure : ProcedureEntry) (setting : Setting) wh
           (then_keeps (test_keeps (is_exception program number) there kept) kept_rest)
 
       mutual
-        unfolding statement_outcome block_outcome statements_outcome catches_outcome
+        unfolding statement_finding block_finding statements_finding catches_finding
 
         pub statement_keeps : (point : Point) (written : StatementTree) → IsWrittenStatement placed longest written
-            → IfOk (statement_outcome setting point written) (StatementKept point (tree.statement_nodes written))
+            → IfOk (statement_finding setting point written) (StatementKept point (tree.statement_nodes written))
         statement_keeps point (DeclareTree at base label name right) is = declare_keeps point at (base_of base) label name right is.3
         statement_keeps point (DeclareArrayTree at base label name size) is = declare_array_keeps point at (base_of base) label name size
         statement_keeps point (AssignTree target right) is =
-            staying_keeps point (2 + tree.right_nodes right) (assign_outcome setting.signatures point.names target right)
+            staying_keeps point (2 + tree.right_nodes right) (assign_finding setting.signatures point.names target right)
             (assign_keeps point.names target right is.1)
         statement_keeps point (AssignElementTree array index right) is =
-            staying_keeps point (2 + (tree.expression_nodes index + tree.expression_nodes right)) (store_outcome point.names array index right)
+            staying_keeps point (2 + (tree.expression_nodes index + tree.expression_nodes right)) (store_finding point.names array index right)
             (store_keeps point.names array index right is.1 is.2)
         statement_keeps point (CallTree' call) is =
-            staying_keeps point (1 + tree.call_nodes call) (call_statement_outcome setting.signatures point.names call)
+            staying_keeps point (1 + tree.call_nodes call) (call_statement_finding setting.signatures point.names call)
             (call_statement_keeps point.names call is)
         statement_keeps point (ReceiveTree at channel) is =
-            staying_keeps point 2 (receive_outcome point.names at channel) (receive_keeps point.names at channel)
+            staying_keeps point 2 (receive_finding point.names at channel) (receive_keeps point.names at channel)
         statement_keeps point (SendTree at channel right) is =
-            staying_keeps point (2 + tree.expression_nodes right) (send_outcome point.names at channel right) (send_keeps point.names at channel right is.2)
+            staying_keeps point (2 + tree.expression_nodes right) (send_finding point.names at channel right) (send_keeps point.names at channel right is.2)
         statement_keeps point (IfTree at condition body) is =
-            then_finds (typed_outcome point.names Boolean condition) _ (HasBase point.names Boolean (tree.expression_nodes condition)) _
+            then_finds (typed_finding point.names Boolean condition) _ (HasBase point.names Boolean (tree.expression_nodes condition)) _
             (typed_keeps program procedure setting.signatures placed longest point.names Boolean condition is.1) (λ e kept_e.
-            then_finds (block_outcome setting point body) _ (BlockKept point (tree.block_nodes body)) _ (block_keeps point body is.2)
+            then_finds (block_finding setting point body) _ (BlockKept point (tree.block_nodes body)) _ (block_keeps point body is.2)
             (λ done kept. if_keeps point at (tree.block_nodes body) e (tree.expression_nodes condition) kept_e done kept))
         statement_keeps point (IfElseTree at condition body otherwise) is =
-            then_finds (typed_outcome point.names Boolean condition) _ (HasBase point.names Boolean (tree.expression_nodes condition)) _
+            then_finds (typed_finding point.names Boolean condition) _ (HasBase point.names Boolean (tree.expression_nodes condition)) _
             (typed_keeps program procedure setting.signatures placed longest point.names Boolean condition is.1) (λ e kept_e.
-            then_finds (block_outcome setting point body) _ (BlockKept point (tree.block_nodes body)) _ (block_keeps point body is.2) (λ done kept.
-            then_finds (block_outcome setting done.0 otherwise) _ (BlockKept done.0 (tree.block_nodes otherwise)) _ (block_keeps done.0 otherwise is.3)
+            then_finds (block_finding setting point body) _ (BlockKept point (tree.block_nodes body)) _ (block_keeps point body is.2) (λ done kept.
+            then_finds (block_finding setting done.0 otherwise) _ (BlockKept done.0 (tree.block_nodes otherwise)) _ (block_keeps done.0 otherwise is.3)
             (λ other kept_other.
             if_else_keeps point at (tree.block_nodes body) (tree.block_nodes otherwise) e (tree.expression_nodes condition) kept_e done kept other kept_other)))
         statement_keeps point (WhileTree at condition body) is =
-            then_finds (typed_outcome point.names Boolean condition) _ (HasBase point.names Boolean (tree.expression_nodes condition)) _
+            then_finds (typed_finding point.names Boolean condition) _ (HasBase point.names Boolean (tree.expression_nodes condition)) _
             (typed_keeps program procedure setting.signatures placed longest point.names Boolean condition is.1) (λ e kept_e.
-            then_finds (block_outcome setting (in_loop point) body) _ (BlockKept (in_loop point) (tree.block_nodes body)) _ (block_keeps (in_loop point) body is.2)
+            then_finds (block_finding setting (in_loop point) body) _ (BlockKept (in_loop point) (tree.block_nodes body)) _ (block_keeps (in_loop point) body is.2)
             (λ done kept. while_keeps point at (tree.block_nodes body) e (tree.expression_nodes condition) kept_e done kept))
         statement_keeps point (BreakTree at) is = plain_keeps point 1 (Leave at exits.Break) (record { fits = λ means. refl; no_loops = refl; few = omega arith })
         statement_keeps point (ContinueTree at) is = plain_keeps point 1 (Leave at exits.Continue) (record { fits = λ means. refl; no_loops = refl; few = omega arith })
         statement_keeps point (ThrowTree at exception) is =
-            staying_keeps point 2 (throw_outcome point.names at exception) (throw_keeps point.names at exception)
+            staying_keeps point 2 (throw_finding point.names at exception) (throw_keeps point.names at exception)
         statement_keeps point (ReturnTree at right) is =
-            staying_keeps point (1 + tree.optional_expression_nodes right) (return_outcome setting.result point.names at right)
+            staying_keeps point (1 + tree.optional_expression_nodes right) (return_finding setting.result point.names at right)
             (return_keeps point.names at right is.1)
         statement_keeps point (TryTree at body catches) is =
-            then_finds (block_outcome setting point body) _ (BlockKept point (tree.block_nodes body)) _ (block_keeps point body is.1) (λ done kept.
-            then_finds (catches_outcome setting done.0 catches) _ (HandlersKept done.0 (tree.catches_nodes catches)) _ (catches_keep done.0 catches is.2)
+            then_finds (block_finding setting point body) _ (BlockKept point (tree.block_nodes body)) _ (block_keeps point body is.1) (λ done kept.
+            then_finds (catches_finding setting done.0 catches) _ (HandlersKept done.0 (tree.catches_nodes catches)) _ (catches_keep done.0 catches is.2)
             (λ handled kept_handlers. try_keeps point at (tree.block_nodes body) (tree.catches_nodes catches) done kept handled kept_handlers))
         statement_keeps point (NestedTree (BlockOf at statements)) is =
-            then_finds (block_outcome setting point (BlockOf at statements)) _ (BlockKept point (tree.block_nodes (BlockOf at statements))) _
+            then_finds (block_finding setting point (BlockOf at statements)) _ (BlockKept point (tree.block_nodes (BlockOf at statements))) _
             (block_keeps point (BlockOf at statements) is)
             (λ done kept. nested_keeps point at (tree.block_nodes (BlockOf at statements)) done kept)
 
         pub block_keeps : (point : Point) (written : BlockTree) → IsWrittenBlock placed longest written
-            → IfOk (block_outcome setting point written) (BlockKept point (tree.block_nodes written))
+            → IfOk (block_finding setting point written) (BlockKept point (tree.block_nodes written))
         block_keeps point (BlockOf at statements) is =
-            then_finds (statements_outcome setting point statements) _ (BlockKept point (tree.statements_nodes statements)) _
+            then_finds (statements_finding setting point statements) _ (BlockKept point (tree.statements_nodes statements)) _
             (statements_keep point statements is.1) (λ done kept. behind_keeps point (tree.statements_nodes statements) done kept)
 
         statements_keep : (point : Point) (written : StatementTrees) → AreWrittenStatements placed longest written
-            → IfOk (statements_outcome setting point written) (BlockKept point (tree.statements_nodes written))
+            → IfOk (statements_finding setting point written) (BlockKept point (tree.statements_nodes written))
         statements_keep point NoStatement is = nothing_keeps point
         statements_keep point (StatementThen statement rest) is =
-            then_finds (statement_outcome setting point statement) _ (StatementKept point (tree.statement_nodes statement)) _
+            then_finds (statement_finding setting point statement) _ (StatementKept point (tree.statement_nodes statement)) _
             (statement_keeps point statement is.0) (λ first kept.
-            then_finds (statements_outcome setting first.0 rest) _ (BlockKept first.0 (tree.statements_nodes rest)) _
+            then_finds (statements_finding setting first.0 rest) _ (BlockKept first.0 (tree.statements_nodes rest)) _
             (statements_keep first.0 rest is.1) (λ others kept_others. then_keeps kept kept_others))
 
         catches_keep : (point : Point) (written : CatchTrees) → AreWrittenCatches placed longest written
-            → IfOk (catches_outcome setting point written) (HandlersKept point (tree.catches_nodes written))
+            → IfOk (catches_finding setting point written) (HandlersKept point (tree.catches_nodes written))
         catches_keep point NoCatch is = nothing_keeps point
         catches_keep point (CatchThen at exception body rest) is =
-            then_finds (exception_outcome (point.names exception.text) exception.at) _
+            then_finds (exception_finding (point.names exception.text) exception.at) _
             (λ number. MeansHere point.names → Stands program procedure setting.signatures (Exception number)) _
             (exception_found program procedure setting.signatures point.names exception) (λ number there.
-            then_finds (block_outcome setting point body) _ (BlockKept point (tree.block_nodes body)) _ (block_keeps point body is.2) (λ done kept.
-            then_finds (catches_outcome setting done.0 rest) _ (HandlersKept done.0 (tree.catches_nodes rest)) _ (catches_keep done.0 rest is.3)
+            then_finds (block_finding setting point body) _ (BlockKept point (tree.block_nodes body)) _ (block_keeps point body is.2) (λ done kept.
+            then_finds (catches_finding setting done.0 rest) _ (HandlersKept done.0 (tree.catches_nodes rest)) _ (catches_keep done.0 rest is.3)
             (λ others kept_others.
             catch_keeps point exception.at number (tree.block_nodes body) (tree.catches_nodes rest) there done kept others kept_others)))

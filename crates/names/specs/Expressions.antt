@@ -17,11 +17,11 @@ use Rattle.resolved.specs.declared.expression.Operator.TheVariants as operators
 use Rattle.resolved.specs.declared.expression.Connective.TheVariants as connectives
 use Rattle.resolved.specs.Tree.{Expression, Integer, Logical, Read, Element, Unary, Binary, Short}
 use Rattle.resolved.specs.WellFormed.{same_base, prefix_base, result_base}
-use Rattle.names.specs.declared.fault.Refusal.TheVariants as refusals
+use Rattle.names.specs.declared.fault.NameRefusal.TheVariants as refusals
 use Rattle.names.specs.declared.operator.OperatorUse.{OperatorUse}
 use Rattle.names.specs.declared.operator.OperatorUse.TheVariants.{OfNumbers, OfEither, OfTruths}
-use Rattle.names.specs.Outcome.{Outcome, give, and_then, give_if, ◌>>=◌}
-use Rattle.names.specs.Environment.{Environment, scalar_outcome, array_outcome}
+use Rattle.names.specs.Finding.{Finding, give, and_then, give_if, ◌>>=◌}
+use Rattle.names.specs.Environment.{Environment, scalar_finding, array_finding}
 
 abbrev pub base_of : BaseType → Base
 base_of base_types.Int = Int
@@ -58,14 +58,14 @@ pub record Typed : Type 0 where
   pub expression : Expression
   pub base : Base
 
-abbrev pub typed : Expression → Base → Outcome Typed
+abbrev pub typed : Expression → Base → Finding Typed
 typed expression base = give (record { expression = expression; base = base })
 
 -- an expression whose values have to have a type
-unfoldable pub of_base : Base → (at : ℕ) → Typed → Outcome Expression
+unfoldable pub of_base : Base → (at : ℕ) → Typed → Finding Expression
 of_base base at found = give_if (same_base found.base base) found.expression refusals.WrongType at
 
-abbrev pub wanting : Base → (at : ℕ) → Outcome Typed → Outcome Expression
+abbrev pub wanting : Base → (at : ℕ) → Finding Typed → Finding Expression
 wanting base at looked = and_then looked (of_base base at)
 
 -- the type that the operands of an operator have to have, by that of the left one, and the type of its value
@@ -85,26 +85,26 @@ combined (OfNumbers operator) base d e = Binary operator d e
 combined (OfEither of_numbers of_truths) base d e = Binary (by_base base of_numbers of_truths) d e
 combined (OfTruths connective) base d e = Short connective d e
 
-unfoldable pub expression_outcome : Environment → ExpressionTree → Outcome Typed
-expression_outcome names (IntegerTree at value) = typed (Integer value) Int
-expression_outcome names (TruthTree at value) = typed (Logical value) Boolean
-expression_outcome names (VariableTree name) = do
-  x ← scalar_outcome (names name.text) name.at
+unfoldable pub expression_finding : Environment → ExpressionTree → Finding Typed
+expression_finding names (IntegerTree at value) = typed (Integer value) Int
+expression_finding names (TruthTree at value) = typed (Logical value) Boolean
+expression_finding names (VariableTree name) = do
+  x ← scalar_finding (names name.text) name.at
   typed (Read x.variable) x.base
-expression_outcome names (ElementTree array index) = do
-  a ← array_outcome (names array.text) array.at
-  i ← wanting Int (expression_place index) (expression_outcome names index)
+expression_finding names (ElementTree array index) = do
+  a ← array_finding (names array.text) array.at
+  i ← wanting Int (expression_place index) (expression_finding names index)
   typed (Element a.variable a.size i) a.base
-expression_outcome names (UnaryTree at operator operand) = do
-  e ← wanting (prefix_base (prefix_of operator)) (expression_place operand) (expression_outcome names operand)
+expression_finding names (UnaryTree at operator operand) = do
+  e ← wanting (prefix_base (prefix_of operator)) (expression_place operand) (expression_finding names operand)
   typed (Unary (prefix_of operator) e) (prefix_base (prefix_of operator))
-expression_outcome names (BinaryTree at operator left right) = do
-  l ← expression_outcome names left
+expression_finding names (BinaryTree at operator left right) = do
+  l ← expression_finding names left
   d ← of_base (operands_base (use_of operator) l.base) (expression_place left) l
-  r ← expression_outcome names right
+  r ← expression_finding names right
   e ← of_base (operands_base (use_of operator) l.base) (expression_place right) r
   typed (combined (use_of operator) l.base d e) (value_base (use_of operator))
 
 -- an expression at a place that wants a type
-unfoldable pub typed_outcome : Environment → Base → ExpressionTree → Outcome Expression
-typed_outcome names base tree = wanting base (expression_place tree) (expression_outcome names tree)
+unfoldable pub typed_finding : Environment → Base → ExpressionTree → Finding Expression
+typed_finding names base tree = wanting base (expression_place tree) (expression_finding names tree)

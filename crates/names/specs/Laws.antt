@@ -11,8 +11,8 @@ use Rattle.resolved.specs.WellFormed.{well_formed}
 use Rattle.resolved.specs.declared.expression.Variable.TheVariants.{Global, Local}
 use Rattle.names.specs.declared.scope.Meaning.{Meaning}
 use Rattle.names.specs.declared.scope.Meaning.TheVariants.{Input, Output, Exception, Procedure, Scalar, Array}
-use Rattle.names.specs.Outcome.{give}
-use Rattle.names.specs.Resolution.{TopLevel, item_name, top_outcome, resolution}
+use Rattle.names.specs.Finding.{give}
+use Rattle.names.specs.Resolution.{TopLevel, item_name, top_finding, resolution}
 
 -- the program that a tree stands for is well formed
 abbrev pub WhatIsFoundIsWellFormed : Type 0
@@ -75,23 +75,23 @@ ChannelLabelsAreCanonical =
 -- ---- numbers
 
 -- what a name means stands under its number and has that name
-abbrev pub HasName : Program → Meaning → List ℕ → Type 0
-HasName program (Input number) name = slice_get (channel_names program) number ≡ Some name
-HasName program (Output number) name = slice_get (channel_names program) number ≡ Some name
-HasName program (Exception number) name =
+abbrev pub MeaningHasName : Program → Meaning → List ℕ → Type 0
+MeaningHasName program (Input number) name = slice_get (channel_names program) number ≡ Some name
+MeaningHasName program (Output number) name = slice_get (channel_names program) number ≡ Some name
+MeaningHasName program (Exception number) name =
     slice_get (codes "Arith" ∷ codes "Bounds" ∷ codes "End" ∷ program.exceptions) number ≡ Some name
-HasName program (Procedure number) name = slice_get (procedure_names program) number ≡ Some name
-HasName program (Scalar (Global number) base) name = slice_get (global_names program) number ≡ Some name
-HasName program (Scalar (Local number) base) name = ⊥
-HasName program (Array (Global number) base size) name = slice_get (global_names program) number ≡ Some name
-HasName program (Array (Local number) base size) name = ⊥
+MeaningHasName program (Procedure number) name = slice_get (procedure_names program) number ≡ Some name
+MeaningHasName program (Scalar (Global number) base) name = slice_get (global_names program) number ≡ Some name
+MeaningHasName program (Scalar (Local number) base) name = ⊥
+MeaningHasName program (Array (Global number) base size) name = slice_get (global_names program) number ≡ Some name
+MeaningHasName program (Array (Local number) base size) name = ⊥
 
 -- each name in scope at the top level stands for the entry of that name
 abbrev pub NumbersReadAsNames : Type 0
 NumbersReadAsNames =
     (h : PrincipalHierarchy) (tree : ProgramTree) (program : Program) → resolution h tree ≡ give program
-    → (top : TopLevel) → top_outcome tree.items ≡ give top
-    → (name : List ℕ) (meaning : Meaning) → top.names name ≡ Some meaning → HasName program meaning name
+    → (top : TopLevel) → top_finding tree.items ≡ give top
+    → (name : List ℕ) (meaning : Meaning) → top.names name ≡ Some meaning → MeaningHasName program meaning name
 
 -- a run begins at the procedure that is called `main`
 abbrev pub RunsBeginAtMain : Type 0

@@ -24,7 +24,7 @@ use Rattle.resolved.specs.Names.{built_in_names}
 use Rattle.resolved.specs.Program.{Program, SlotEntry, ThrownEntry, ProcedureEntry}
 use Rattle.resolved.specs.Tree.{Expression, Integer, Logical, Read, Element, Unary, Binary, Short, Statement, Assign, Clear, Store, Receive, Send, Call, If, While, Leave, ReturnWith, Try, Nested, Block, Empty, Then, Handlers, NoMore, Catch}
 use Rattle.names.specs.Laws.{channel_names, global_names, procedure_names}
-use Rattle.names.specs.Outcome.{give}
+use Rattle.names.specs.Finding.{give}
 use Rattle.names.specs.Resolution.{resolution}
 
 -- ---- scopes
@@ -41,23 +41,23 @@ pub record Visible : Type 0 where
 
 -- at a place in a procedure: all parameters and locals that are declared before it, in the order of the text, by which they have
 -- their numbers, and those of them that are in scope, the innermost first
-pub record Scope : Type 0 where
+pub record NameScope : Type 0 where
   pub declared : List Declaration
   pub visible : List Visible
 
 -- outside of bodies
-abbrev pub top_scope : Scope
+abbrev pub top_scope : NameScope
 top_scope = record { declared = []; visible = [] }
 
 -- behind a declaration, which has the next number and is the innermost one
-abbrev pub with_declared : Scope → NameTree → (at : ℕ) → Scope
+abbrev pub with_declared : NameScope → NameTree → (at : ℕ) → NameScope
 with_declared scope name at = record {
   declared = scope.declared ++ record { name = name.text; at = at } ∷ [];
   visible = record { name = name.text; number = length scope.declared } ∷ scope.visible;
 }
 
 -- behind a block: what was in scope before it is in scope again, and the numbers go on
-abbrev pub leaving_block : (before inside : Scope) → Scope
+abbrev pub leaving_block : (before inside : NameScope) → NameScope
 leaving_block before inside = record { declared = inside.declared; visible = before.visible }
 
 -- the number of the innermost parameter or local of a name
@@ -69,20 +69,20 @@ innermost (one ∷ outer) name = if bytes_eq one.name name then Some one.number 
 
 -- the name is that of the entry with this number in a table of the top level, of which the names are these, and no parameter or
 -- local of that name is in scope
-abbrev pub IsItem : Scope → (names : List (List ℕ)) → NameTree → ℕ → Type 0
+abbrev pub IsItem : NameScope → (names : List (List ℕ)) → NameTree → ℕ → Type 0
 IsItem scope names name n = (innermost scope.visible name.text ≡ None) × (slice_get names n ≡ Some name.text)
 
-abbrev pub IsChannel : Program → Scope → NameTree → ℕ → Type 0
+abbrev pub IsChannel : Program → NameScope → NameTree → ℕ → Type 0
 IsChannel program scope name n = IsItem scope (channel_names program) name n
 
-abbrev pub IsException : Program → Scope → NameTree → ℕ → Type 0
+abbrev pub IsException : Program → NameScope → NameTree → ℕ → Type 0
 IsException program scope name n = IsItem scope (built_in_names ++ program.exceptions) name n
 
-abbrev pub IsProcedure : Program → Scope → NameTree → ℕ → Type 0
+abbrev pub IsProcedure : Program → NameScope → NameTree → ℕ → Type 0
 IsProcedure program scope name n = IsItem scope (procedure_names program) name n
 
 -- a variable or an array
-abbrev pub IsVariable : Program → Scope → NameTree → Variable → Type 0
+abbrev pub IsVariable : Program → NameScope → NameTree → Variable → Type 0
 IsVariable program scope name (Global n) = IsItem scope (global_names program) name n
 IsVariable program scope name (Local n) = innermost scope.visible name.text ≡ Some n
 
@@ -113,7 +113,7 @@ written_connective connectives.And = binary.And
 written_connective connectives.Or = binary.Or
 
 -- a written expression, and the resolved one
-pub data ReadsExpression (program : Program) (scope : Scope) : ExpressionTree → Expression → Type 0 where
+pub data ReadsExpression (program : Program) (scope : NameScope) : ExpressionTree → Expression → Type 0 where
   ReadInteger : {at value : ℕ} → ReadsExpression program scope (IntegerTree at value) (Integer value)
   ReadTruth : {at : ℕ} {value : Bool} → ReadsExpression program scope (TruthTree at value) (Logical value)
   ReadVariable : {name : NameTree} {x : Variable} → IsVariable program scope name x
@@ -132,7 +132,7 @@ pub data ReadsExpression (program : Program) (scope : Scope) : ExpressionTree �
       → ReadsExpression program scope (BinaryTree at operator left right) (Short made d e)
 
 -- arguments, one by one
-pub data ReadsArguments (program : Program) (scope : Scope) : List ExpressionTree → List Expression → Type 0 where
+pub data ReadsArguments (program : Program) (scope : NameScope) : List ExpressionTree → List Expression → Type 0 where
   ReadNoArgument : ReadsArguments program scope [] []
   ReadArgument : {argument : ExpressionTree} {e : Expression} {arguments : List ExpressionTree} {es : List Expression}
       → ReadsExpression program scope argument e → ReadsArguments program scope arguments es
@@ -141,7 +141,7 @@ pub data ReadsArguments (program : Program) (scope : Scope) : List ExpressionTre
 -- ---- statements
 
 -- a right side, and the statement that begins at this byte and assigns it to a variable
-pub data ReadsRight (program : Program) (scope : Scope) (at : ℕ) (x : Variable) : RightTree → Statement → Type 0 where
+pub data ReadsRight (program : Program) (scope : NameScope) (at : ℕ) (x : Variable) : RightTree → Statement → Type 0 where
   ReadReceived : {receive_at n : ℕ} {channel : NameTree} → IsChannel program scope channel n
       → ReadsRight program scope at x (ReceivedTree receive_at channel) (Receive at n (Some x))
   ReadCalled : {call : CallTree} {n : ℕ} {es : List Expression} → IsProcedure program scope call.procedure n
@@ -152,65 +152,65 @@ pub data ReadsRight (program : Program) (scope : Scope) (at : ℕ) (x : Variable
 -- from the scope before it to the one behind it: a written statement and the resolved one, and likewise blocks, what stands in
 -- them, and handlers. The right side of a declaration is read in the scope before it
 mutual
-  pub data ReadsStatement (program : Program) : Scope → StatementTree → Statement → Scope → Type 0 where
-    ReadDeclare : {scope : Scope} {at : ℕ} {base : BaseType} {label : Option LabelTree} {name : NameTree} {right : RightTree}
+  pub data ReadsStatement (program : Program) : NameScope → StatementTree → Statement → NameScope → Type 0 where
+    ReadDeclare : {scope : NameScope} {at : ℕ} {base : BaseType} {label : Option LabelTree} {name : NameTree} {right : RightTree}
         {s : Statement} → ReadsRight program scope at (Local (length scope.declared)) right s
         → ReadsStatement program scope (DeclareTree at base label name right) s (with_declared scope name at)
-    ReadDeclareArray : {scope : Scope} {at : ℕ} {base : BaseType} {label : Option LabelTree} {name : NameTree} {size : SizeTree}
+    ReadDeclareArray : {scope : NameScope} {at : ℕ} {base : BaseType} {label : Option LabelTree} {name : NameTree} {size : SizeTree}
         → ReadsStatement program scope (DeclareArrayTree at base label name size) (Clear at (length scope.declared))
         (with_declared scope name at)
-    ReadAssign : {scope : Scope} {name : NameTree} {x : Variable} {right : RightTree} {s : Statement}
+    ReadAssign : {scope : NameScope} {name : NameTree} {x : Variable} {right : RightTree} {s : Statement}
         → IsVariable program scope name x → ReadsRight program scope name.at x right s
         → ReadsStatement program scope (AssignTree name right) s scope
-    ReadStore : {scope : Scope} {array : NameTree} {a : Variable} {size : ℕ} {index value : ExpressionTree} {i e : Expression}
+    ReadStore : {scope : NameScope} {array : NameTree} {a : Variable} {size : ℕ} {index value : ExpressionTree} {i e : Expression}
         → IsVariable program scope array a → ReadsExpression program scope index i → ReadsExpression program scope value e
         → ReadsStatement program scope (AssignElementTree array index value) (Store array.at a size i e) scope
-    ReadCall : {scope : Scope} {call : CallTree} {n : ℕ} {es : List Expression} → IsProcedure program scope call.procedure n
+    ReadCall : {scope : NameScope} {call : CallTree} {n : ℕ} {es : List Expression} → IsProcedure program scope call.procedure n
         → ReadsArguments program scope call.arguments es
         → ReadsStatement program scope (CallTree' call) (Call call.procedure.at n es None) scope
-    ReadReceive : {scope : Scope} {at n : ℕ} {channel : NameTree} → IsChannel program scope channel n
+    ReadReceive : {scope : NameScope} {at n : ℕ} {channel : NameTree} → IsChannel program scope channel n
         → ReadsStatement program scope (ReceiveTree at channel) (Receive at n None) scope
-    ReadSend : {scope : Scope} {at n : ℕ} {channel : NameTree} {value : ExpressionTree} {e : Expression}
+    ReadSend : {scope : NameScope} {at n : ℕ} {channel : NameTree} {value : ExpressionTree} {e : Expression}
         → IsChannel program scope channel n → ReadsExpression program scope value e
         → ReadsStatement program scope (SendTree at channel value) (Send at n e) scope
-    ReadIf : {scope after : Scope} {at : ℕ} {condition : ExpressionTree} {e : Expression} {body : BlockTree} {b : Block}
+    ReadIf : {scope after : NameScope} {at : ℕ} {condition : ExpressionTree} {e : Expression} {body : BlockTree} {b : Block}
         → ReadsExpression program scope condition e → ReadsBlock program scope body b after
         → ReadsStatement program scope (IfTree at condition body) (If at e b Empty) after
-    ReadIfElse : {scope between after : Scope} {at : ℕ} {condition : ExpressionTree} {e : Expression} {body otherwise : BlockTree}
+    ReadIfElse : {scope between after : NameScope} {at : ℕ} {condition : ExpressionTree} {e : Expression} {body otherwise : BlockTree}
         {b c : Block} → ReadsExpression program scope condition e → ReadsBlock program scope body b between
         → ReadsBlock program between otherwise c after
         → ReadsStatement program scope (IfElseTree at condition body otherwise) (If at e b c) after
-    ReadWhile : {scope after : Scope} {at loop : ℕ} {condition : ExpressionTree} {e : Expression} {body : BlockTree} {b : Block}
+    ReadWhile : {scope after : NameScope} {at loop : ℕ} {condition : ExpressionTree} {e : Expression} {body : BlockTree} {b : Block}
         → ReadsExpression program scope condition e → ReadsBlock program scope body b after
         → ReadsStatement program scope (WhileTree at condition body) (While at loop e b) after
-    ReadBreak : {scope : Scope} {at : ℕ} → ReadsStatement program scope (BreakTree at) (Leave at exits.Break) scope
-    ReadContinue : {scope : Scope} {at : ℕ} → ReadsStatement program scope (ContinueTree at) (Leave at exits.Continue) scope
-    ReadThrow : {scope : Scope} {at n : ℕ} {exception : NameTree} → IsException program scope exception n
+    ReadBreak : {scope : NameScope} {at : ℕ} → ReadsStatement program scope (BreakTree at) (Leave at exits.Break) scope
+    ReadContinue : {scope : NameScope} {at : ℕ} → ReadsStatement program scope (ContinueTree at) (Leave at exits.Continue) scope
+    ReadThrow : {scope : NameScope} {at n : ℕ} {exception : NameTree} → IsException program scope exception n
         → ReadsStatement program scope (ThrowTree at exception) (Leave at (exits.Throw n)) scope
-    ReadReturn : {scope : Scope} {at : ℕ} → ReadsStatement program scope (ReturnTree at None) (ReturnWith at None) scope
-    ReadReturnValue : {scope : Scope} {at : ℕ} {value : ExpressionTree} {e : Expression} → ReadsExpression program scope value e
+    ReadReturn : {scope : NameScope} {at : ℕ} → ReadsStatement program scope (ReturnTree at None) (ReturnWith at None) scope
+    ReadReturnValue : {scope : NameScope} {at : ℕ} {value : ExpressionTree} {e : Expression} → ReadsExpression program scope value e
         → ReadsStatement program scope (ReturnTree at (Some value)) (ReturnWith at (Some e)) scope
-    ReadTry : {scope between after : Scope} {at : ℕ} {body : BlockTree} {b : Block} {catches : CatchTrees} {handlers : Handlers}
+    ReadTry : {scope between after : NameScope} {at : ℕ} {body : BlockTree} {b : Block} {catches : CatchTrees} {handlers : Handlers}
         → ReadsBlock program scope body b between → ReadsCatches program between catches handlers after
         → ReadsStatement program scope (TryTree at body catches) (Try at b handlers) after
-    ReadNested : {scope after : Scope} {at : ℕ} {statements : StatementTrees} {b : Block}
+    ReadNested : {scope after : NameScope} {at : ℕ} {statements : StatementTrees} {b : Block}
         → ReadsBlock program scope (BlockOf at statements) b after
         → ReadsStatement program scope (NestedTree (BlockOf at statements)) (Nested at b) after
 
-  pub data ReadsBlock (program : Program) : Scope → BlockTree → Block → Scope → Type 0 where
-    ReadBlock : {before inside : Scope} {at : ℕ} {statements : StatementTrees} {b : Block}
+  pub data ReadsBlock (program : Program) : NameScope → BlockTree → Block → NameScope → Type 0 where
+    ReadBlock : {before inside : NameScope} {at : ℕ} {statements : StatementTrees} {b : Block}
         → ReadsStatements program before statements b inside
         → ReadsBlock program before (BlockOf at statements) b (leaving_block before inside)
 
-  pub data ReadsStatements (program : Program) : Scope → StatementTrees → Block → Scope → Type 0 where
-    ReadNoStatement : {scope : Scope} → ReadsStatements program scope NoStatement Empty scope
-    ReadStatement : {before between after : Scope} {statement : StatementTree} {s : Statement} {rest : StatementTrees} {b : Block}
+  pub data ReadsStatements (program : Program) : NameScope → StatementTrees → Block → NameScope → Type 0 where
+    ReadNoStatement : {scope : NameScope} → ReadsStatements program scope NoStatement Empty scope
+    ReadStatement : {before between after : NameScope} {statement : StatementTree} {s : Statement} {rest : StatementTrees} {b : Block}
         → ReadsStatement program before statement s between → ReadsStatements program between rest b after
         → ReadsStatements program before (StatementThen statement rest) (Then s b) after
 
-  pub data ReadsCatches (program : Program) : Scope → CatchTrees → Handlers → Scope → Type 0 where
-    ReadNoCatch : {scope : Scope} → ReadsCatches program scope NoCatch NoMore scope
-    ReadCatch : {before between after : Scope} {at n : ℕ} {exception : NameTree} {body : BlockTree} {b : Block} {rest : CatchTrees}
+  pub data ReadsCatches (program : Program) : NameScope → CatchTrees → Handlers → NameScope → Type 0 where
+    ReadNoCatch : {scope : NameScope} → ReadsCatches program scope NoCatch NoMore scope
+    ReadCatch : {before between after : NameScope} {at n : ℕ} {exception : NameTree} {body : BlockTree} {b : Block} {rest : CatchTrees}
         {handlers : Handlers} → IsException program before exception n → ReadsBlock program before body b between
         → ReadsCatches program between rest handlers after
         → ReadsCatches program before (CatchThen at exception body rest) (Catch exception.at n b handlers) after
@@ -225,7 +225,7 @@ pub data ReadsThrows (program : Program) : List ThrownTree → List ThrownEntry 
       → ReadsThrows program (thrown ∷ rest) (entry ∷ entries)
 
 -- the scope in which a body begins
-abbrev pub with_parameters : Scope → List ParameterTree → Scope
+abbrev pub with_parameters : NameScope → List ParameterTree → NameScope
 with_parameters scope [] = scope
 with_parameters scope (parameter ∷ rest) = with_parameters (with_declared scope parameter.name parameter.at) rest
 
@@ -238,7 +238,7 @@ pub record ReadsProcedure (program : Program) (written : ProcedureTree) (entry :
   pub name : entry.name ≡ written.name.text
   pub throws : ReadsThrows program written.throws entry.throws
   pub parameters : entry.parameters ≡ length written.parameters
-  pub after : Scope
+  pub after : NameScope
   pub body : ReadsBlock program (with_parameters top_scope written.parameters) written.body entry.body after
   pub slots : map slot_declaration entry.slots ≡ after.declared
 

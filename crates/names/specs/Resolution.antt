@@ -8,7 +8,7 @@ use Rattle.labels.specs.Label.{Label}
 use Rattle.labels.specs.Canonical.{joined}
 use Rattle.syntax.specs.declared.tree.Direction.{Direction}
 use Rattle.syntax.specs.declared.tree.Direction.TheVariants as directions
-use Rattle.syntax.specs.Tree.{NameTree, ConstantTree, IntegerConstant, TruthConstant, GlobalValueTree, ScalarTree, ArrayTree, GlobalTree, ChannelTree, OutcomeTree, NothingTree, ResultTree, ParameterTree, ThrownTree, ProcedureTree, ItemTree, ChannelItem, ExceptionItem, GlobalItem, ProcedureItem, ProgramTree}
+use Rattle.syntax.specs.Tree.{NameTree, ConstantTree, IntegerConstant, TruthConstant, GlobalValueTree, ScalarTree, ArrayTree, GlobalTree, ChannelTree, WrittenResultTree, NothingTree, ResultTree, ParameterTree, ThrownTree, ProcedureTree, ItemTree, ChannelItem, ExceptionItem, GlobalItem, ProcedureItem, ProgramTree}
 use Rattle.resolved.specs.declared.expression.Base.{Base}
 use Rattle.resolved.specs.declared.expression.Base.TheVariants.{Int, Boolean}
 use Rattle.resolved.specs.declared.expression.Value.{Value}
@@ -18,14 +18,14 @@ use Rattle.resolved.specs.declared.tables.Direction.{Direction as ChannelDirecti
 use Rattle.resolved.specs.declared.tables.Direction.TheVariants as channel_directions
 use Rattle.resolved.specs.Program.{Program, ChannelEntry, GlobalEntry, SlotEntry, ResultEntry, ThrownEntry, ProcedureEntry}
 use Rattle.resolved.specs.WellFormed.{same_base, cell_count, cell_limit}
-use Rattle.names.specs.declared.fault.Refusal.TheVariants as refusals
+use Rattle.names.specs.declared.fault.NameRefusal.TheVariants as refusals
 use Rattle.names.specs.declared.scope.Meaning.{Meaning}
 use Rattle.names.specs.declared.scope.Meaning.TheVariants as meanings
-use Rattle.names.specs.Outcome.{Outcome, give, refuse, give_if, demand, along, ◌>>=◌}
-use Rattle.names.specs.Environment.{Environment, declaring, fresh_outcome, exception_outcome}
-use Rattle.names.specs.Labels.{label_outcome, optional_label_outcome}
+use Rattle.names.specs.Finding.{Finding, give, refuse, give_if, demand, along, ◌>>=◌}
+use Rattle.names.specs.Environment.{Environment, declaring, fresh_finding, exception_finding}
+use Rattle.names.specs.Labels.{label_finding, optional_label_finding}
 use Rattle.names.specs.Expressions.{base_of}
-use Rattle.names.specs.Statements.{Signature, Point, with_local, scalar_slot, size_outcome, block_outcome}
+use Rattle.names.specs.Statements.{Signature, Point, with_local, scalar_slot, size_finding, block_finding}
 
 -- ---- the names of the items
 
@@ -65,14 +65,14 @@ abbrev pub global_meaning : Base → (number : ℕ) → GlobalValueTree → Mean
 global_meaning base number (ScalarTree constant) = meanings.Scalar (Global number) base
 global_meaning base number (ArrayTree size) = meanings.Array (Global number) base size.size
 
-abbrev pub result_base_of : OutcomeTree → Option Base
+abbrev pub result_base_of : WrittenResultTree → Option Base
 result_base_of NothingTree = None
 result_base_of (ResultTree base label) = Some (base_of base)
 
 abbrev pub signature_of : ProcedureTree → Signature
 signature_of procedure = record {
   parameters = map (λ (parameter : ParameterTree). base_of parameter.base) procedure.parameters;
-  result = result_base_of procedure.outcome;
+  result = result_base_of procedure.result;
 }
 
 -- what the name of the next item stands for
@@ -93,13 +93,13 @@ counted top (ProcedureItem procedure) = record top { signatures = top.signatures
 abbrev pub with_item : TopLevel → ItemTree → TopLevel
 with_item top item = record (counted top item) { names = declaring (item_name item).text (item_meaning top item) top.names }
 
-unfoldable pub next_name : TopLevel → ItemTree → Outcome TopLevel
+unfoldable pub next_name : TopLevel → ItemTree → Finding TopLevel
 next_name top item = do
-  _ ← fresh_outcome (top.names (item_name item).text) (item_name item).at
+  _ ← fresh_finding (top.names (item_name item).text) (item_name item).at
   give (with_item top item)
 
-unfoldable pub top_outcome : List ItemTree → Outcome TopLevel
-top_outcome items = along next_name built_in items
+unfoldable pub top_finding : List ItemTree → Finding TopLevel
+top_finding items = along next_name built_in items
 
 -- ---- channels and globals
 
@@ -107,9 +107,9 @@ abbrev pub direction_of : Direction → ChannelDirection
 direction_of directions.Input = channel_directions.Input
 direction_of directions.Output = channel_directions.Output
 
-unfoldable pub channel_outcome : PrincipalHierarchy → ChannelTree → Outcome ChannelEntry
-channel_outcome h channel = do
-  label ← label_outcome h channel.label
+unfoldable pub channel_finding : PrincipalHierarchy → ChannelTree → Finding ChannelEntry
+channel_finding h channel = do
+  label ← label_finding h channel.label
   give (record { direction = direction_of channel.direction; name = channel.name.text; label = label })
 
 abbrev pub constant_value : ConstantTree → Value
@@ -134,18 +134,18 @@ pub record FirstValue : Type 0 where
   pub size : Option ℕ
   pub first : Value
 
-unfoldable pub first_outcome : Base → GlobalValueTree → Outcome FirstValue
-first_outcome base (ScalarTree constant) =
+unfoldable pub first_finding : Base → GlobalValueTree → Finding FirstValue
+first_finding base (ScalarTree constant) =
     give_if (same_base (constant_base constant) base) (record { size = None; first = constant_value constant })
     refusals.WrongType (constant_place constant)
-first_outcome base (ArrayTree size) = do
-  size_of ← size_outcome size
+first_finding base (ArrayTree size) = do
+  size_of ← size_finding size
   give (record { size = Some size_of; first = zero_of base })
 
-unfoldable pub global_outcome : PrincipalHierarchy → GlobalTree → Outcome GlobalEntry
-global_outcome h global = do
-  label ← label_outcome h global.label
-  value ← first_outcome (base_of global.base) global.value
+unfoldable pub global_finding : PrincipalHierarchy → GlobalTree → Finding GlobalEntry
+global_finding h global = do
+  label ← label_finding h global.label
+  value ← first_finding (base_of global.base) global.value
   give (record {
     name = global.name.text;
     base = base_of global.base;
@@ -159,10 +159,10 @@ global_outcome h global = do
 abbrev pub result_entry : Base → Label → Option ResultEntry
 result_entry base label = Some (record { base = base; label = label })
 
-unfoldable pub result_outcome : PrincipalHierarchy → OutcomeTree → Outcome (Option ResultEntry)
-result_outcome h NothingTree = give None
-result_outcome h (ResultTree base label) = do
-  written ← label_outcome h label
+unfoldable pub result_finding : PrincipalHierarchy → WrittenResultTree → Finding (Option ResultEntry)
+result_finding h NothingTree = give None
+result_finding h (ResultTree base label) = do
+  written ← label_finding h label
   give (result_entry (base_of base) written)
 
 -- a parameter, which takes the next slot and is in scope in the body
@@ -171,28 +171,28 @@ with_parameter point parameter label =
     with_local point (scalar_slot parameter.at (base_of parameter.base) (Some label) parameter.name.text)
     (meanings.Scalar (Local (length point.slots)) (base_of parameter.base))
 
-abbrev pub next_parameter : PrincipalHierarchy → Point → ParameterTree → Outcome Point
+abbrev pub next_parameter : PrincipalHierarchy → Point → ParameterTree → Finding Point
 next_parameter h point parameter = do
-  label ← label_outcome h parameter.label
-  _ ← fresh_outcome (point.names parameter.name.text) parameter.name.at
+  label ← label_finding h parameter.label
+  _ ← fresh_finding (point.names parameter.name.text) parameter.name.at
   give (with_parameter point parameter label)
 
-unfoldable pub parameters_outcome : PrincipalHierarchy → Environment → List ParameterTree → Outcome Point
-parameters_outcome h names parameters = along (next_parameter h) (record { names = names; slots = []; loops = 0 }) parameters
+unfoldable pub parameters_finding : PrincipalHierarchy → Environment → List ParameterTree → Finding Point
+parameters_finding h names parameters = along (next_parameter h) (record { names = names; slots = []; loops = 0 }) parameters
 
 -- an exception that a procedure may let out, which is none of those that it names before (302)
 abbrev pub is_thrown : List ThrownEntry → ℕ → Bool
 is_thrown throws exception = list_any (λ (thrown : ThrownEntry). thrown.exception == exception) throws
 
-abbrev pub next_thrown : PrincipalHierarchy → Environment → List ThrownEntry → ThrownTree → Outcome (List ThrownEntry)
+abbrev pub next_thrown : PrincipalHierarchy → Environment → List ThrownEntry → ThrownTree → Finding (List ThrownEntry)
 next_thrown h names throws thrown = do
-  exception ← exception_outcome (names thrown.name.text) thrown.name.at
+  exception ← exception_finding (names thrown.name.text) thrown.name.at
   _ ← demand (not (is_thrown throws exception)) refusals.DeclaredTwice thrown.name.at
-  label ← label_outcome h thrown.label
+  label ← label_finding h thrown.label
   give (throws ++ record { exception = exception; label = label } ∷ [])
 
-unfoldable pub throws_outcome : PrincipalHierarchy → Environment → List ThrownTree → Outcome (List ThrownEntry)
-throws_outcome h names throws = along (next_thrown h names) [] throws
+unfoldable pub throws_finding : PrincipalHierarchy → Environment → List ThrownTree → Finding (List ThrownEntry)
+throws_finding h names throws = along (next_thrown h names) [] throws
 
 -- a label joined by those of exceptions
 abbrev pub joined_all : Label → List ThrownEntry → Label
@@ -207,14 +207,14 @@ begin_label_of written = unwrap_or written []
 abbrev pub end_label_of : Option Label → Label → List ThrownEntry → Label
 end_label_of written begin throws = unwrap_or written (joined_all begin throws)
 
-unfoldable pub procedure_entry_outcome : PrincipalHierarchy → TopLevel → ProcedureTree → Outcome ProcedureEntry
-procedure_entry_outcome h top procedure = do
-  result ← result_outcome h procedure.outcome
-  begin ← optional_label_outcome h procedure.begin
-  point ← parameters_outcome h top.names procedure.parameters
-  end ← optional_label_outcome h procedure.end
-  throws ← throws_outcome h top.names procedure.throws
-  inner ← block_outcome (record { hierarchy = h; signatures = top.signatures; result = result_base_of procedure.outcome }) point procedure.body
+unfoldable pub procedure_entry_finding : PrincipalHierarchy → TopLevel → ProcedureTree → Finding ProcedureEntry
+procedure_entry_finding h top procedure = do
+  result ← result_finding h procedure.result
+  begin ← optional_label_finding h procedure.begin
+  point ← parameters_finding h top.names procedure.parameters
+  end ← optional_label_finding h procedure.end
+  throws ← throws_finding h top.names procedure.throws
+  inner ← block_finding (record { hierarchy = h; signatures = top.signatures; result = result_base_of procedure.result }) point procedure.body
   give (record {
     at = procedure.name.at;
     name = procedure.name.text;
@@ -237,45 +237,45 @@ pub record Tables : Type 0 where
   pub globals : List GlobalEntry
   pub procedures : List ProcedureEntry
 
-unfoldable pub next_item : PrincipalHierarchy → TopLevel → Tables → ItemTree → Outcome Tables
+unfoldable pub next_item : PrincipalHierarchy → TopLevel → Tables → ItemTree → Finding Tables
 next_item h top tables (ChannelItem channel) = do
-  entry ← channel_outcome h channel
+  entry ← channel_finding h channel
   give (record tables { channels = tables.channels ++ entry ∷ [] })
 next_item h top tables (ExceptionItem at name) = give (record tables { exceptions = tables.exceptions ++ name.text ∷ [] })
 next_item h top tables (GlobalItem global) = do
-  entry ← global_outcome h global
+  entry ← global_finding h global
   give (record tables { globals = tables.globals ++ entry ∷ [] })
 next_item h top tables (ProcedureItem procedure) = do
-  entry ← procedure_entry_outcome h top procedure
+  entry ← procedure_entry_finding h top procedure
   give (record tables { procedures = tables.procedures ++ entry ∷ [] })
 
 abbrev pub no_tables : Tables
 no_tables = record { channels = []; exceptions = []; globals = []; procedures = [] }
 
-unfoldable pub items_outcome : PrincipalHierarchy → TopLevel → List ItemTree → Outcome Tables
-items_outcome h top items = along (next_item h top) no_tables items
+unfoldable pub items_finding : PrincipalHierarchy → TopLevel → List ItemTree → Finding Tables
+items_finding h top items = along (next_item h top) no_tables items
 
 -- `main` is a procedure without parameters and a value; where it is none, the refusal stands at the begin of the text
-abbrev pub main_entry_outcome : (number : ℕ) → Option ProcedureEntry → Outcome ℕ
-main_entry_outcome number None = refuse refusals.NoProperMain 0
-main_entry_outcome number (Some procedure) =
+abbrev pub main_entry_finding : (number : ℕ) → Option ProcedureEntry → Finding ℕ
+main_entry_finding number None = refuse refusals.NoProperMain 0
+main_entry_finding number (Some procedure) =
     give_if (procedure.parameters == 0 && is_none procedure.result) number refusals.NoProperMain procedure.at
 
-unfoldable pub main_outcome : Option Meaning → List ProcedureEntry → Outcome ℕ
-main_outcome None procedures = refuse refusals.NoProperMain 0
-main_outcome (Some (meanings.Procedure number)) procedures = main_entry_outcome number (slice_get procedures number)
-main_outcome (Some (meanings.Input channel)) procedures = refuse refusals.NoProperMain 0
-main_outcome (Some (meanings.Output channel)) procedures = refuse refusals.NoProperMain 0
-main_outcome (Some (meanings.Exception number)) procedures = refuse refusals.NoProperMain 0
-main_outcome (Some (meanings.Scalar variable base)) procedures = refuse refusals.NoProperMain 0
-main_outcome (Some (meanings.Array variable base size)) procedures = refuse refusals.NoProperMain 0
+unfoldable pub main_finding : Option Meaning → List ProcedureEntry → Finding ℕ
+main_finding None procedures = refuse refusals.NoProperMain 0
+main_finding (Some (meanings.Procedure number)) procedures = main_entry_finding number (slice_get procedures number)
+main_finding (Some (meanings.Input channel)) procedures = refuse refusals.NoProperMain 0
+main_finding (Some (meanings.Output channel)) procedures = refuse refusals.NoProperMain 0
+main_finding (Some (meanings.Exception number)) procedures = refuse refusals.NoProperMain 0
+main_finding (Some (meanings.Scalar variable base)) procedures = refuse refusals.NoProperMain 0
+main_finding (Some (meanings.Array variable base size)) procedures = refuse refusals.NoProperMain 0
 
 -- the cells of the globals so far, with those of the next item
 abbrev pub global_cells : GlobalValueTree → ℕ
 global_cells (ScalarTree constant) = 1
 global_cells (ArrayTree size) = size.size
 
-abbrev pub next_global_cells : (cells : ℕ) → ItemTree → Outcome ℕ
+abbrev pub next_global_cells : (cells : ℕ) → ItemTree → Finding ℕ
 next_global_cells cells (GlobalItem global) =
     give_if (nat_le (cells + global_cells global.value) cell_limit) (cells + global_cells global.value)
     refusals.TooManyCells global.name.at
@@ -283,18 +283,18 @@ next_global_cells cells (ChannelItem channel) = give cells
 next_global_cells cells (ExceptionItem at name) = give cells
 next_global_cells cells (ProcedureItem procedure) = give cells
 
-unfoldable pub global_cells_outcome : List ItemTree → Outcome ℕ
-global_cells_outcome items = along next_global_cells 0 items
+unfoldable pub global_cells_finding : List ItemTree → Finding ℕ
+global_cells_finding items = along next_global_cells 0 items
 
 -- the cells of a frame
 abbrev pub frame_cells : List SlotEntry → ℕ
 frame_cells slots = sum_by (λ (slot : SlotEntry). cell_count slot.size) slots
 
-abbrev pub next_frame : Unit {0} → ProcedureEntry → Outcome (Unit {0})
+abbrev pub next_frame : Unit {0} → ProcedureEntry → Finding (Unit {0})
 next_frame _ procedure = demand (nat_le (frame_cells procedure.slots) cell_limit) refusals.TooManyCells procedure.at
 
-unfoldable pub frames_outcome : List ProcedureEntry → Outcome (Unit {0})
-frames_outcome procedures = along next_frame tt procedures
+unfoldable pub frames_finding : List ProcedureEntry → Finding (Unit {0})
+frames_finding procedures = along next_frame tt procedures
 
 abbrev pub program_with : PrincipalHierarchy → Tables → (main : ℕ) → Program
 program_with h tables main = record {
@@ -307,11 +307,11 @@ program_with h tables main = record {
 }
 
 -- the resolved program, or the first fault
-unfoldable pub resolution : PrincipalHierarchy → ProgramTree → Outcome Program
+unfoldable pub resolution : PrincipalHierarchy → ProgramTree → Finding Program
 resolution h program = do
-  top ← top_outcome program.items
-  tables ← items_outcome h top program.items
-  main ← main_outcome (top.names (codes "main")) tables.procedures
-  _ ← global_cells_outcome program.items
-  _ ← frames_outcome tables.procedures
+  top ← top_finding program.items
+  tables ← items_finding h top program.items
+  main ← main_finding (top.names (codes "main")) tables.procedures
+  _ ← global_cells_finding program.items
+  _ ← frames_finding tables.procedures
   give (program_with h tables main)

@@ -1,4 +1,4 @@
--- What the private functions work with, as the definitions see it, and what each of them gives: what the outcome finds, or the first
+-- What the private functions work with, as the definitions see it, and what each of them gives: what is found, or the first
 -- fault.
 -- Source: our own.
 use Rattle.std.specs.Prelude.{◌≡◌, ℕ, ◌+◌, List, length, map, take, Option, Some, None, Result, Ok, Err, String, Vec}
@@ -25,21 +25,21 @@ use Rattle.names.specs.declared.scope.FoundScalar.{FoundScalar}
 use Rattle.names.specs.declared.statement.UsedCall.{UsedCall}
 use Rattle.names.specs.declared.top.CodeSignature.{CodeSignature}
 use Rattle.names.specs.declared.top.TopNames.{TopNames}
-use Rattle.names.specs.Outcome.{Outcome}
+use Rattle.names.specs.Finding.{Finding}
 use Rattle.names.specs.Environment.{Environment, ScalarUse, ArrayUse}
 use Rattle.names.specs.Expressions.{Typed}
 use Rattle.names.specs.Statements.{Signature, Setting, Point, CallUse}
 use Rattle.names.specs.Resolution.{TopLevel, Tables, FirstValue}
 
 -- why a function failed, unless memory ran out
-abbrev pub Fails : {A : Type 0} → TypeFault → Outcome A → Type 0
-Fails faults.NoMemory outcome = Unit {0}
-Fails (faults.Refused refusal at) outcome = outcome ≡ Err (record { refusal = refusal; at = at })
+abbrev pub ResolvingFails : {A : Type 0} → TypeFault → Finding A → Type 0
+ResolvingFails faults.NoMemory finding = Unit {0}
+ResolvingFails (faults.Refused refusal at) finding = finding ≡ Err (record { refusal = refusal; at = at })
 
--- what a function gave is what the outcome finds, unless memory ran out
-abbrev pub Resolves : {X A : Type 0} → (X → A) → Result X TypeFault → Outcome A → Type 0
-Resolves view (Ok x) outcome = outcome ≡ Ok (view x)
-Resolves view (Err fault) outcome = Fails fault outcome
+-- what a function gave is what is found, unless memory ran out
+abbrev pub Resolves : {X A : Type 0} → (X → A) → Result X TypeFault → Finding A → Type 0
+Resolves view (Ok x) finding = finding ≡ Ok (view x)
+Resolves view (Err fault) finding = ResolvingFails fault finding
 
 abbrev pub itself : {A : Type 0} → A → A
 itself x = x

@@ -1,6 +1,6 @@
 //! Statements, and the blocks and handlers that they hold.
 
-ghost use Rattle.names.specs.Statements.{block_outcome, catches_outcome, statement_outcome, statements_outcome};
+ghost use Rattle.names.specs.Statements.{block_finding, catches_finding, statement_finding, statements_finding};
 ghost use Rattle.names.specs.Views.{Resolves, IsLater, at_point, block_view, handlers_view, point_of, setting_of, taken};
 ghost use Rattle.resolved.specs.TreeOf.{statement_of};
 ghost use Rattle.std.specs.Prelude.{OnOk, map, ◌+◌, ◌<◌, ◌≡◌, ◌≤◌};
@@ -19,11 +19,11 @@ use syntax::{Block, Catch};
 impl<'a> Body<'a> {
     /// A block, whose locals are in scope to its end.
     #[cycle(block)]
-    #[tactic(auto, unfolding(crate::specs::Statements::block_outcome))]
+    #[tactic(auto, unfolding(crate::specs::Statements::block_finding))]
     pub fn block(&mut self, written: &Block) -> Result<Vec<Statement>, TypeFault>
         requires room { taken self.old + block_nodes (block_tree written.now) < most_nodes }
         ensures made { Resolves (at_point self.new block_view) result
-            (block_outcome (setting_of self.old) (point_of self.old) (block_tree written.now)) }
+            (block_finding (setting_of self.old) (point_of self.old) (block_tree written.now)) }
         ensures later { OnOk result (IsLater self.old self.new) }
         ensures grows { OnOk result (taken self.new ≤
             taken self.old + block_nodes (block_tree written.now)) }
@@ -40,7 +40,7 @@ impl<'a> Body<'a> {
         requires room { taken self.old +
             statements_nodes (statements_of (map statement_tree written.now)) < most_nodes }
         ensures made { Resolves (at_point self.new block_view) result
-            (statements_outcome (setting_of self.old) (point_of self.old)
+            (statements_finding (setting_of self.old) (point_of self.old)
             (statements_of (map statement_tree written.now))) }
         ensures later { OnOk result (IsLater self.old self.new) }
         ensures grows { OnOk result (taken self.new ≤
@@ -59,7 +59,7 @@ impl<'a> Body<'a> {
         requires room { taken self.old + catches_nodes (catches_of (map catch_tree written.now)) <
             most_nodes }
         ensures made { Resolves (at_point self.new handlers_view) result
-            (catches_outcome (setting_of self.old) (point_of self.old)
+            (catches_finding (setting_of self.old) (point_of self.old)
             (catches_of (map catch_tree written.now))) }
         ensures later { OnOk result (IsLater self.old self.new) }
         ensures grows { OnOk result (taken self.new ≤
@@ -81,11 +81,11 @@ impl<'a> Body<'a> {
 
     /// A statement.
     #[cycle(block)]
-    #[tactic(auto, unfolding(crate::specs::Statements::statement_outcome))]
+    #[tactic(auto, unfolding(crate::specs::Statements::statement_finding))]
     fn statement(&mut self, written: &syntax::Statement) -> Result<Statement, TypeFault>
         requires room { taken self.old + statement_nodes (statement_tree written.now) < most_nodes }
         ensures made { Resolves (at_point self.new statement_of) result
-            (statement_outcome (setting_of self.old) (point_of self.old)
+            (statement_finding (setting_of self.old) (point_of self.old)
             (statement_tree written.now)) }
         ensures later { OnOk result (IsLater self.old self.new) }
         ensures grows { OnOk result (taken self.new ≤
@@ -148,7 +148,7 @@ impl<'a> Body<'a> {
             (expression_tree condition.now) (block_tree accepted.now)
             (optional_block_tree otherwise.now)) < most_nodes }
         ensures made { Resolves (at_point self.new statement_of) result
-            (statement_outcome (setting_of self.old) (point_of self.old)
+            (statement_finding (setting_of self.old) (point_of self.old)
             (if_tree at (expression_tree condition.now) (block_tree accepted.now)
             (optional_block_tree otherwise.now))) }
         ensures later { OnOk result (IsLater self.old self.new) }
@@ -169,7 +169,7 @@ impl<'a> Body<'a> {
 
     /// A loop.
     #[cycle(block)]
-    #[tactic(auto, unfolding(crate::specs::Statements::statement_outcome))]
+    #[tactic(auto, unfolding(crate::specs::Statements::statement_finding))]
     fn repeat(
         &mut self,
         at: usize,
@@ -179,7 +179,7 @@ impl<'a> Body<'a> {
         requires room { taken self.old + statement_nodes (WhileTree at
             (expression_tree condition.now) (block_tree body.now)) < most_nodes }
         ensures made { Resolves (at_point self.new statement_of) result
-            (statement_outcome (setting_of self.old) (point_of self.old)
+            (statement_finding (setting_of self.old) (point_of self.old)
             (WhileTree at (expression_tree condition.now) (block_tree body.now))) }
         ensures later { OnOk result (IsLater self.old self.new) }
         ensures grows { OnOk result (taken self.new ≤
@@ -204,7 +204,7 @@ impl<'a> Body<'a> {
         requires room { taken self.old + statement_nodes (TryTree at (block_tree body.now)
             (catches_of (map catch_tree catches.now))) < most_nodes }
         ensures made { Resolves (at_point self.new statement_of) result
-            (statement_outcome (setting_of self.old) (point_of self.old)
+            (statement_finding (setting_of self.old) (point_of self.old)
             (TryTree at (block_tree body.now) (catches_of (map catch_tree catches.now)))) }
         ensures later { OnOk result (IsLater self.old self.new) }
         ensures grows { OnOk result (taken self.new ≤
@@ -222,7 +222,7 @@ impl<'a> Body<'a> {
         requires room { taken self.old + statement_nodes (NestedTree (block_tree block.now)) <
             most_nodes }
         ensures made { Resolves (at_point self.new statement_of) result
-            (statement_outcome (setting_of self.old) (point_of self.old)
+            (statement_finding (setting_of self.old) (point_of self.old)
             (NestedTree (block_tree block.now))) }
         ensures later { OnOk result (IsLater self.old self.new) }
         ensures grows { OnOk result (taken self.new ≤

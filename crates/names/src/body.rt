@@ -1,6 +1,6 @@
 //! A point of the body of a procedure.
 
-ghost use Rattle.names.specs.Outcome.{give};
+ghost use Rattle.names.specs.Finding.{give};
 ghost use Rattle.names.specs.Statements.{with_local};
 ghost use Rattle.names.specs.Views.{Resolves, IsLater, found_in, names_of, point_of, setting_of, signature_view, taken};
 ghost use Rattle.resolved.specs.ProgramOf.{slot_entry};

@@ -1,14 +1,14 @@
 //! How many cells the globals have, and each frame.
 
-ghost use Rattle.names.specs.Outcome.{demand};
-ghost use Rattle.names.specs.Resolution.{frame_cells, frames_outcome, global_cells, global_cells_outcome, next_global_cells};
+ghost use Rattle.names.specs.Finding.{demand};
+ghost use Rattle.names.specs.Resolution.{frame_cells, frames_finding, global_cells, global_cells_finding, next_global_cells};
 ghost use Rattle.names.specs.Views.{Resolves, itself};
 ghost use Rattle.resolved.specs.ProgramOf.{procedure_entry, slot_entry};
 ghost use Rattle.resolved.specs.WellFormed.{cell_count, cell_limit};
 ghost use Rattle.std.specs.Prelude.{IfOk, map, nat_le, ◌≡◌, ◌≤◌};
 ghost use Rattle.syntax.specs.Tree.{global_value_tree, item_tree};
 
-use crate::fault::{Refusal, TypeFault};
+use crate::fault::{NameRefusal, TypeFault};
 use resolved::tables::{Procedure, Slot};
 use syntax::{GlobalValue, Item};
 
@@ -37,16 +37,16 @@ fn add_global(cells: u32, item: &Item) -> Result<u32, TypeFault>
             if more <= MAX_CELLS - cells {
                 Ok(cells + more)
             } else {
-                Err(TypeFault::Refused(Refusal::TooManyCells, global.name.at))
+                Err(TypeFault::Refused(NameRefusal::TooManyCells, global.name.at))
             }
         }
     }
 }
 
 /// How many cells the globals of these items have, which are refused where they are too many.
-#[tactic(auto, unfolding(crate::specs::Resolution::global_cells_outcome))]
+#[tactic(auto, unfolding(crate::specs::Resolution::global_cells_finding))]
 pub fn cells_of_globals(items: &[Item]) -> Result<u32, TypeFault>
-    ensures { Resolves itself result (global_cells_outcome (map item_tree items.now)) }
+    ensures { Resolves itself result (global_cells_finding (map item_tree items.now)) }
 {
     let mut cells = 0;
     for item in items {
@@ -80,13 +80,13 @@ fn fits(slots: &[Slot]) -> bool
 }
 
 /// Refuses the first procedure whose frame has too many cells.
-#[tactic(auto, unfolding(crate::specs::Resolution::frames_outcome))]
+#[tactic(auto, unfolding(crate::specs::Resolution::frames_finding))]
 pub fn limit_frames(procedures: &[Procedure]) -> Result<(), TypeFault>
-    ensures { Resolves (λ _. tt) result (frames_outcome (map procedure_entry procedures.now)) }
+    ensures { Resolves (λ _. tt) result (frames_finding (map procedure_entry procedures.now)) }
 {
     for procedure in procedures {
         if !fits(procedure.slots.as_slice()) {
-            return Err(TypeFault::Refused(Refusal::TooManyCells, procedure.at));
+            return Err(TypeFault::Refused(NameRefusal::TooManyCells, procedure.at));
         }
     }
     Ok(())

@@ -1,13 +1,13 @@
 //! Expressions and the types of their values.
 
-ghost use Rattle.names.specs.Expressions.{expression_outcome, of_base, typed_outcome};
+ghost use Rattle.names.specs.Expressions.{expression_finding, of_base, typed_finding};
 ghost use Rattle.names.specs.Views.{Resolves, names_of, typed_view};
 ghost use Rattle.resolved.specs.TreeOf.{expression_of};
 ghost use Rattle.std.specs.Prelude.{ℕ, ◌≡◌};
 ghost use Rattle.syntax.specs.Tree.{BinaryTree, ElementTree, UnaryTree, expression_tree, name_tree};
 
 use crate::body::Body;
-use crate::fault::{Refusal, TypeFault};
+use crate::fault::{NameRefusal, TypeFault};
 use crate::operator::{
     base_of_prefix, combine, is_same, operands_base, prefix_of, use_of, value_base,
 };
@@ -38,7 +38,7 @@ impl TypedExpression {
         if is_same(self.base, base) {
             Ok(self.expression)
         } else {
-            Err(TypeFault::Refused(Refusal::WrongType, at))
+            Err(TypeFault::Refused(NameRefusal::WrongType, at))
         }
     }
 }
@@ -46,10 +46,10 @@ impl TypedExpression {
 impl<'a> Body<'a> {
     /// An expression, and the type of its values.
     #[cycle(expression)]
-    #[tactic(auto, unfolding(crate::specs::Expressions::expression_outcome))]
+    #[tactic(auto, unfolding(crate::specs::Expressions::expression_finding))]
     pub fn expression(&self, written: &syntax::Expression) -> Result<TypedExpression, TypeFault>
         ensures { Resolves typed_view result
-            (expression_outcome (names_of self.now) (expression_tree written.now)) }
+            (expression_finding (names_of self.now) (expression_tree written.now)) }
     {
         match written {
             syntax::Expression::Integer { value, .. } => {
@@ -79,9 +79,9 @@ impl<'a> Body<'a> {
 
     /// An element of an array.
     #[cycle(expression)]
-    #[tactic(auto, unfolding(crate::specs::Expressions::expression_outcome))]
+    #[tactic(auto, unfolding(crate::specs::Expressions::expression_finding))]
     fn element(&self, name: &Name, index: &syntax::Expression) -> Result<TypedExpression, TypeFault>
-        ensures { Resolves typed_view result (expression_outcome (names_of self.now)
+        ensures { Resolves typed_view result (expression_finding (names_of self.now)
             (ElementTree (name_tree name.now) (expression_tree index.now))) }
     {
         let found = array(self.meaning(name), name.at)?;
@@ -93,13 +93,13 @@ impl<'a> Body<'a> {
 
     /// An operator before its operand.
     #[cycle(expression)]
-    #[tactic(auto, unfolding(crate::specs::Expressions::expression_outcome))]
+    #[tactic(auto, unfolding(crate::specs::Expressions::expression_finding))]
     fn unary(
         &self,
         operator: UnaryOperator,
         operand: &syntax::Expression,
     ) -> Result<TypedExpression, TypeFault>
-        ensures { (at : ℕ) → Resolves typed_view result (expression_outcome (names_of self.now)
+        ensures { (at : ℕ) → Resolves typed_view result (expression_finding (names_of self.now)
             (UnaryTree at operator (expression_tree operand.now))) }
     {
         let prefix = prefix_of(operator);
@@ -111,14 +111,14 @@ impl<'a> Body<'a> {
 
     /// An operator between its operands.
     #[cycle(expression)]
-    #[tactic(auto, unfolding(crate::specs::Expressions::expression_outcome))]
+    #[tactic(auto, unfolding(crate::specs::Expressions::expression_finding))]
     fn binary(
         &self,
         operator: BinaryOperator,
         left: &syntax::Expression,
         right: &syntax::Expression,
     ) -> Result<TypedExpression, TypeFault>
-        ensures { (at : ℕ) → Resolves typed_view result (expression_outcome (names_of self.now)
+        ensures { (at : ℕ) → Resolves typed_view result (expression_finding (names_of self.now)
             (BinaryTree at operator (expression_tree left.now) (expression_tree right.now))) }
     {
         let used = use_of(operator);
@@ -132,10 +132,10 @@ impl<'a> Body<'a> {
     }
 
     /// An expression at a place that wants a type.
-    #[tactic(auto, unfolding(crate::specs::Expressions::typed_outcome))]
+    #[tactic(auto, unfolding(crate::specs::Expressions::typed_finding))]
     pub fn typed(&self, base: Base, written: &syntax::Expression) -> Result<Expression, TypeFault>
         ensures { Resolves expression_of result
-            (typed_outcome (names_of self.now) base (expression_tree written.now)) }
+            (typed_finding (names_of self.now) base (expression_tree written.now)) }
     {
         self.expression(written)?.of_base(base, written.place())
     }

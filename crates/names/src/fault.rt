@@ -6,7 +6,7 @@ use thiserror::Error;
 
 /// What can be wrong with the names, types and sizes of a program.
 #[derive(Clone, Copy, Debug, PartialEq, Eq, Drop, Error)]
-pub enum Refusal {
+pub enum NameRefusal {
     /// 301: a name that is not declared, or not in scope.
     #[error("unknown name")]
     UnknownName,
@@ -44,7 +44,7 @@ pub enum TypeFault {
     NoMemory,
     /// The tree has a fault: what it is, and the byte at which it stands.
     #[error("{0}")]
-    Refused(Refusal, usize),
+    Refused(NameRefusal, usize),
 }
 
 impl From<AllocError> for TypeFault {

@@ -1,7 +1,7 @@
 //! Channels and globals.
 
 ghost use Rattle.names.specs.Resolution as spec;
-ghost use Rattle.names.specs.Resolution.{channel_outcome, first_outcome, global_outcome};
+ghost use Rattle.names.specs.Resolution.{channel_finding, first_finding, global_finding};
 ghost use Rattle.names.specs.Views.{Resolves, first_view};
 ghost use Rattle.resolved.specs.ProgramOf.{channel_entry, global_entry};
 ghost use Rattle.std.specs.Prelude.{◌≡◌};
@@ -9,7 +9,7 @@ ghost use Rattle.syntax.specs.Tree.{channel_tree, constant_tree, global_tree, gl
 ghost use Rattle.syntax.specs.Written.{Anywhere, IsWrittenConstant, IsWrittenGlobalValue};
 ghost use Rattle.syntax.specs.Limits.{longest_name};
 
-use crate::fault::{Refusal, TypeFault};
+use crate::fault::{NameRefusal, TypeFault};
 use crate::label::label;
 use crate::operator::{base_of, is_same};
 use crate::statement::length_of;
@@ -20,14 +20,14 @@ use std::alloc::Global;
 use syntax::{Constant, GlobalValue};
 
 /// A channel.
-#[tactic(auto, unfolding(crate::specs::Resolution::channel_outcome))]
+#[tactic(auto, unfolding(crate::specs::Resolution::channel_finding))]
 pub fn channel(
     alloc: Global,
     hierarchy: &Hierarchy,
     written: &syntax::Channel,
 ) -> Result<Channel, TypeFault>
     ensures { Resolves channel_entry result
-        (channel_outcome hierarchy.now (channel_tree written.now)) }
+        (channel_finding hierarchy.now (channel_tree written.now)) }
 {
     let label = label(alloc, hierarchy, &written.label)?;
     Ok(Channel {
@@ -81,10 +81,10 @@ fn zero_of(base: Base) -> Value
 }
 
 /// The length of a global that is an array, and what its cells hold at first.
-#[tactic(auto, unfolding(crate::specs::Resolution::first_outcome))]
+#[tactic(auto, unfolding(crate::specs::Resolution::first_finding))]
 fn first(base: Base, value: &GlobalValue) -> Result<(Option<u32>, Value), TypeFault>
     requires small { IsWrittenGlobalValue Anywhere longest_name (global_value_tree value.now) }
-    ensures { Resolves first_view result (first_outcome base (global_value_tree value.now)) }
+    ensures { Resolves first_view result (first_finding base (global_value_tree value.now)) }
 {
     match value {
         GlobalValue::Scalar(constant) => {
@@ -92,7 +92,7 @@ fn first(base: Base, value: &GlobalValue) -> Result<(Option<u32>, Value), TypeFa
             if is_same(given, base) {
                 Ok((None, value))
             } else {
-                Err(TypeFault::Refused(Refusal::WrongType, place_of(*constant)))
+                Err(TypeFault::Refused(NameRefusal::WrongType, place_of(*constant)))
             }
         }
         GlobalValue::Array(size) => Ok((Some(length_of(*size)?), zero_of(base))),
@@ -100,7 +100,7 @@ fn first(base: Base, value: &GlobalValue) -> Result<(Option<u32>, Value), TypeFa
 }
 
 /// A global.
-#[tactic(auto, unfolding(crate::specs::Resolution::global_outcome))]
+#[tactic(auto, unfolding(crate::specs::Resolution::global_finding))]
 pub fn global(
     alloc: Global,
     hierarchy: &Hierarchy,
@@ -109,7 +109,7 @@ pub fn global(
     requires small { IsWrittenGlobalValue Anywhere longest_name
         (global_value_tree written.now.value) }
     ensures { Resolves global_entry result
-        (global_outcome hierarchy.now (global_tree written.now)) }
+        (global_finding hierarchy.now (global_tree written.now)) }
 {
     let label = label(alloc, hierarchy, &written.label)?;
     let base = base_of(written.base);

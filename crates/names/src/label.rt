@@ -3,30 +3,30 @@
 ghost use Rattle.std.specs.Prelude.{All, IfOk, map};
 ghost use Rattle.labels.specs.Canonical.{IsCanonicalPolicy};
 ghost use Rattle.syntax.specs.Tree.{label_tree, name_tree, optional_label_tree, policy_tree};
-ghost use Rattle.names.specs.Labels.{label_outcome, policies_outcome, policy_outcome, principal_outcome, readers_outcome, optional_label_outcome};
+ghost use Rattle.names.specs.Labels.{label_finding, policies_finding, policy_finding, principal_finding, readers_finding, optional_label_finding};
 ghost use Rattle.names.specs.Views.{Resolves, itself};
 
-use crate::fault::{Refusal, TypeFault};
+use crate::fault::{NameRefusal, TypeFault};
 use labels::{Label, Policy};
 use principals::Hierarchy;
 use std::alloc::Global;
 use syntax::{Name, WrittenLabel, WrittenPolicy};
 
 /// The number of a principal.
-#[tactic(auto, unfolding(crate::specs::Labels::principal_outcome))]
+#[tactic(auto, unfolding(crate::specs::Labels::principal_finding))]
 fn principal(hierarchy: &Hierarchy, name: &Name) -> Result<u32, TypeFault>
-    ensures { Resolves itself result (principal_outcome hierarchy.now (name_tree name.now)) }
+    ensures { Resolves itself result (principal_finding hierarchy.now (name_tree name.now)) }
 {
     match hierarchy.find(name.text.as_str()) {
         Some(number) => Ok(number),
-        None => Err(TypeFault::Refused(Refusal::UnknownPrincipal, name.at)),
+        None => Err(TypeFault::Refused(NameRefusal::UnknownPrincipal, name.at)),
     }
 }
 
 /// The numbers of readers.
 fn readers(alloc: Global, hierarchy: &Hierarchy, names: &[Name]) -> Result<Vec<u32>, TypeFault>
     ensures { Resolves (λ numbers. numbers.items) result
-        (readers_outcome hierarchy.now (map name_tree names.now)) }
+        (readers_finding hierarchy.now (map name_tree names.now)) }
 {
     let mut numbers = Vec::new(alloc);
     for name in names {
@@ -36,13 +36,13 @@ fn readers(alloc: Global, hierarchy: &Hierarchy, names: &[Name]) -> Result<Vec<u
 }
 
 /// A policy.
-#[tactic(auto, unfolding(crate::specs::Labels::policy_outcome))]
+#[tactic(auto, unfolding(crate::specs::Labels::policy_finding))]
 fn policy(
     alloc: Global,
     hierarchy: &Hierarchy,
     written: &WrittenPolicy,
 ) -> Result<Policy, TypeFault>
-    ensures made { Resolves itself result (policy_outcome hierarchy.now (policy_tree written.now)) }
+    ensures made { Resolves itself result (policy_finding hierarchy.now (policy_tree written.now)) }
     ensures canonical { IfOk result IsCanonicalPolicy }
 {
     let owner = principal(hierarchy, &written.owner)?;
@@ -57,7 +57,7 @@ fn policies(
     written: &[WrittenPolicy],
 ) -> Result<Vec<Policy>, TypeFault>
     ensures made { Resolves (λ policies. policies.items) result
-        (policies_outcome hierarchy.now (map policy_tree written.now)) }
+        (policies_finding hierarchy.now (map policy_tree written.now)) }
     ensures canonical { IfOk result (λ policies. All IsCanonicalPolicy policies.items) }
 {
     let mut policies = Vec::new(alloc);
@@ -68,27 +68,27 @@ fn policies(
 }
 
 /// A label.
-#[tactic(auto, unfolding(crate::specs::Labels::label_outcome))]
+#[tactic(auto, unfolding(crate::specs::Labels::label_finding))]
 pub fn label(
     alloc: Global,
     hierarchy: &Hierarchy,
     written: &WrittenLabel,
 ) -> Result<Label, TypeFault>
-    ensures { Resolves itself result (label_outcome hierarchy.now (label_tree written.now)) }
+    ensures { Resolves itself result (label_finding hierarchy.now (label_tree written.now)) }
 {
     let policies = policies(alloc, hierarchy, written.policies.as_slice())?;
     Ok(Label::written(policies))
 }
 
 /// A label that may be left out.
-#[tactic(auto, unfolding(crate::specs::Labels::optional_label_outcome))]
+#[tactic(auto, unfolding(crate::specs::Labels::optional_label_finding))]
 pub fn optional_label(
     alloc: Global,
     hierarchy: &Hierarchy,
     written: &Option<WrittenLabel>,
 ) -> Result<Option<Label>, TypeFault>
     ensures { Resolves itself result
-        (optional_label_outcome hierarchy.now (optional_label_tree written.now)) }
+        (optional_label_finding hierarchy.now (optional_label_tree written.now)) }
 {
     match written {
         None => Ok(None),

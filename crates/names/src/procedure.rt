@@ -2,17 +2,17 @@
 
 ghost use Rattle.indexmap.specs.IndexSet.{contains};
 ghost use Rattle.labels.specs.Canonical.{IsCanonicalLabel, IsCanonicalPolicy};
-ghost use Rattle.names.specs.Outcome.{along};
-ghost use Rattle.names.specs.Resolution.{begin_label_of, end_label_of, is_thrown, joined_all, next_parameter, next_thrown, procedure_entry_outcome, result_outcome, throws_outcome};
+ghost use Rattle.names.specs.Finding.{along};
+ghost use Rattle.names.specs.Resolution.{begin_label_of, end_label_of, is_thrown, joined_all, next_parameter, next_thrown, procedure_entry_finding, result_finding, throws_finding};
 ghost use Rattle.names.specs.Views.{Resolves, IsLater, found_in, point_of, taken, throws_view, top_view};
 ghost use Rattle.resolved.specs.ProgramOf.{procedure_entry, result_entry, thrown_entry};
 ghost use Rattle.std.specs.Prelude.{All, IfOk, OnOk, length, map, nat_eq, ◌++◌, ◌+◌, ◌<◌, ◌≡◌, ℕ};
 ghost use Rattle.syntax.specs.Limits.{most_nodes};
 ghost use Rattle.syntax.specs.Nodes.{procedure_nodes};
-ghost use Rattle.syntax.specs.Tree.{outcome_tree, parameter_tree, procedure_tree, thrown_tree};
+ghost use Rattle.syntax.specs.Tree.{written_result_tree, parameter_tree, procedure_tree, thrown_tree};
 
 use crate::body::Body;
-use crate::fault::{Refusal, TypeFault};
+use crate::fault::{NameRefusal, TypeFault};
 use crate::label::{label, optional_label};
 use crate::operator::base_of;
 use crate::scope::{Meaning, exception, find, fresh};
@@ -23,21 +23,21 @@ use principals::Hierarchy;
 use resolved::expression::Variable;
 use resolved::tables::{Procedure, ResultType, Thrown};
 use std::alloc::{AllocError, Global};
-use syntax::{Outcome, Parameter};
+use syntax::{Parameter, WrittenResult};
 
 /// The value of a procedure, if it gives one, with its label.
-#[tactic(auto, unfolding(crate::specs::Resolution::result_outcome))]
+#[tactic(auto, unfolding(crate::specs::Resolution::result_finding))]
 fn result_type(
     alloc: Global,
     hierarchy: &Hierarchy,
-    written: &Outcome,
+    written: &WrittenResult,
 ) -> Result<Option<ResultType>, TypeFault>
     ensures { Resolves result_entry result
-        (result_outcome hierarchy.now (outcome_tree written.now)) }
+        (result_finding hierarchy.now (written_result_tree written.now)) }
 {
     match written {
-        Outcome::Nothing => Ok(None),
-        Outcome::Value {
+        WrittenResult::Nothing => Ok(None),
+        WrittenResult::Value {
             base,
             label: written,
         } => {
@@ -105,7 +105,7 @@ fn add_thrown(
     let name = &written.name;
     let number = exception(find(&top.names, name.text.as_str()), name.at)?;
     if !seen.insert(number)? {
-        return Err(TypeFault::Refused(Refusal::DeclaredTwice, name.at));
+        return Err(TypeFault::Refused(NameRefusal::DeclaredTwice, name.at));
     }
     let label = label(alloc, hierarchy, &written.label)?;
     throws.push(Thrown {
@@ -116,7 +116,7 @@ fn add_thrown(
 }
 
 /// The exceptions that a procedure may let out.
-#[tactic(auto, unfolding(crate::specs::Resolution::throws_outcome))]
+#[tactic(auto, unfolding(crate::specs::Resolution::throws_finding))]
 fn throws(
     alloc: Global,
     hierarchy: &Hierarchy,
@@ -124,7 +124,7 @@ fn throws(
     written: &[syntax::Thrown],
 ) -> Result<Vec<Thrown>, TypeFault>
     ensures { Resolves throws_view result
-        (throws_outcome hierarchy.now (found_in top.now.names) (map thrown_tree written.now)) }
+        (throws_finding hierarchy.now (found_in top.now.names) (map thrown_tree written.now)) }
 {
     let mut seen = IndexSet::new(alloc);
     let mut throws = Vec::new(alloc);
@@ -187,7 +187,7 @@ fn end_label(
 }
 
 /// A procedure, with its body.
-#[tactic(auto, unfolding(crate::specs::Resolution::procedure_entry_outcome))]
+#[tactic(auto, unfolding(crate::specs::Resolution::procedure_entry_finding))]
 pub fn resolve_procedure<'a>(
     alloc: Global,
     hierarchy: &'a Hierarchy,
@@ -195,12 +195,12 @@ pub fn resolve_procedure<'a>(
     written: &syntax::Procedure,
 ) -> Result<Procedure, TypeFault>
     requires room { procedure_nodes (procedure_tree written.now) < most_nodes }
-    ensures { Resolves procedure_entry result (procedure_entry_outcome hierarchy.now
+    ensures { Resolves procedure_entry result (procedure_entry_finding hierarchy.now
         (top_view top.now) (procedure_tree written.now)) }
 {
-    let value = result_type(alloc, hierarchy, &written.outcome)?;
+    let value = result_type(alloc, hierarchy, &written.result)?;
     let begin = optional_label(alloc, hierarchy, &written.begin)?;
-    let mut body = Body::new(alloc, hierarchy, top, result_of(&written.outcome));
+    let mut body = Body::new(alloc, hierarchy, top, result_of(&written.result));
     body.parameters(&written.parameters)?;
     let end = optional_label(alloc, hierarchy, &written.end)?;
     let throws = throws(alloc, hierarchy, top, &written.throws)?;

@@ -1,8 +1,8 @@
 //! Whole programs: their tables, and the procedure at which a run begins.
 
-ghost use Rattle.names.specs.Outcome.{give};
-ghost use Rattle.names.specs.Resolution.{items_outcome, main_outcome, next_item, no_tables, program_with, resolution};
-ghost use Rattle.names.specs.Views.{Fails, Resolves, itself, tables_view, top_view};
+ghost use Rattle.names.specs.Finding.{give};
+ghost use Rattle.names.specs.Resolution.{items_finding, main_finding, next_item, no_tables, program_with, resolution};
+ghost use Rattle.names.specs.Views.{ResolvingFails, Resolves, itself, tables_view, top_view};
 ghost use Rattle.resolved.specs.CoreOf.{program_of};
 ghost use Rattle.resolved.specs.ProgramOf.{procedure_entry};
 ghost use Rattle.std.specs.Prelude.{All, IfErr, IfOk, map, sum_by, ◌<◌, ◌≡◌};
@@ -12,7 +12,7 @@ ghost use Rattle.syntax.specs.Tree.{item_tree, program_tree};
 ghost use Rattle.syntax.specs.Written.{Anywhere, IsWrittenItem};
 
 use crate::cells::{cells_of_globals, limit_frames};
-use crate::fault::{Refusal, TypeFault};
+use crate::fault::{NameRefusal, TypeFault};
 use crate::item::{channel, global};
 use crate::procedure::resolve_procedure;
 use crate::scope::{Meaning, find};
@@ -75,7 +75,7 @@ impl ItemTables {
     }
 
     /// The tables of these items, each kind in the order of the text.
-    #[tactic(auto, unfolding(crate::specs::Resolution::items_outcome))]
+    #[tactic(auto, unfolding(crate::specs::Resolution::items_finding))]
     pub fn of(
         alloc: Global,
         hierarchy: &Hierarchy,
@@ -85,7 +85,7 @@ impl ItemTables {
         requires written { All (IsWrittenItem Anywhere longest_name) (map item_tree items.now) }
         requires room { sum_by item_nodes (map item_tree items.now) < most_nodes }
         ensures { Resolves tables_view result
-            (items_outcome hierarchy.now (top_view top.now) (map item_tree items.now)) }
+            (items_finding hierarchy.now (top_view top.now) (map item_tree items.now)) }
     {
         let mut tables = ItemTables::empty(alloc);
         for item in items {
@@ -96,20 +96,20 @@ impl ItemTables {
 }
 
 /// The number of the procedure at which a run begins.
-#[tactic(auto, unfolding(crate::specs::Resolution::main_outcome))]
+#[tactic(auto, unfolding(crate::specs::Resolution::main_finding))]
 pub fn main_number(found: Option<Meaning>, procedures: &[Procedure]) -> Result<u32, TypeFault>
-    ensures { Resolves itself result (main_outcome found (map procedure_entry procedures.now)) }
+    ensures { Resolves itself result (main_finding found (map procedure_entry procedures.now)) }
 {
     let Some(Meaning::Procedure(number)) = found else {
-        return Err(TypeFault::Refused(Refusal::NoProperMain, 0));
+        return Err(TypeFault::Refused(NameRefusal::NoProperMain, 0));
     };
     let Some(procedure) = procedures.get(number as usize) else {
-        return Err(TypeFault::Refused(Refusal::NoProperMain, 0));
+        return Err(TypeFault::Refused(NameRefusal::NoProperMain, 0));
     };
     if procedure.parameters == 0 && procedure.result.is_none() {
         Ok(number)
     } else {
-        Err(TypeFault::Refused(Refusal::NoProperMain, procedure.at))
+        Err(TypeFault::Refused(NameRefusal::NoProperMain, procedure.at))
     }
 }
 
@@ -151,7 +151,7 @@ pub fn resolve(
 
     // A refusal is the first fault, and stands where that stands.
     ensures refused { IfErr result (λ fault.
-        Fails fault (resolution hierarchy.now (program_tree program.now))) }
+        ResolvingFails fault (resolution hierarchy.now (program_tree program.now))) }
 {
     prove!(hierarchy.count() <= 256);
     let (tables, main) = tables_of(alloc, hierarchy, program.items())?;

@@ -1,11 +1,11 @@
 //! What names stand for, and the uses that places make of them.
 
-ghost use Rattle.names.specs.Environment.{array_outcome, declaring, exception_outcome, fresh_outcome, input_outcome, output_outcome, procedure_outcome, scalar_outcome};
-ghost use Rattle.names.specs.Outcome.{give};
+ghost use Rattle.names.specs.Environment.{array_finding, declaring, exception_finding, fresh_finding, input_finding, output_finding, procedure_finding, scalar_finding};
+ghost use Rattle.names.specs.Finding.{give};
 ghost use Rattle.names.specs.Views.{Resolves, array_use, found_in, itself, scalar_use};
 ghost use Rattle.std.specs.Prelude.{OnOk, List, length, take, ◌≡◌, None, ℕ};
 
-use crate::fault::{Refusal, TypeFault};
+use crate::fault::{NameRefusal, TypeFault};
 use indexmap::IndexMap;
 use resolved::expression::{Base, Variable};
 use std::alloc::Global;
@@ -64,89 +64,89 @@ pub fn insert(
 }
 
 /// Refuses the declaration of a name that stands for something already.
-#[tactic(auto, unfolding(crate::specs::Environment::fresh_outcome))]
+#[tactic(auto, unfolding(crate::specs::Environment::fresh_finding))]
 pub fn fresh(found: Option<Meaning>, at: usize) -> Result<(), TypeFault>
-    ensures made { Resolves (λ _. tt) result (fresh_outcome found at) }
+    ensures made { Resolves (λ _. tt) result (fresh_finding found at) }
     ensures none { OnOk result (found ≡ None) }
 {
     match found {
         None => Ok(()),
-        Some(_) => Err(TypeFault::Refused(Refusal::DeclaredTwice, at)),
+        Some(_) => Err(TypeFault::Refused(NameRefusal::DeclaredTwice, at)),
     }
 }
 
 /// A scalar variable.
-#[tactic(auto, unfolding(crate::specs::Environment::scalar_outcome))]
+#[tactic(auto, unfolding(crate::specs::Environment::scalar_finding))]
 pub fn scalar(found: Option<Meaning>, at: usize) -> Result<FoundScalar, TypeFault>
-    ensures { Resolves scalar_use result (scalar_outcome found at) }
+    ensures { Resolves scalar_use result (scalar_finding found at) }
 {
     match found {
-        None => Err(TypeFault::Refused(Refusal::UnknownName, at)),
+        None => Err(TypeFault::Refused(NameRefusal::UnknownName, at)),
         Some(Meaning::Scalar(variable, base)) => Ok(FoundScalar { variable, base }),
-        Some(_) => Err(TypeFault::Refused(Refusal::WrongUse, at)),
+        Some(_) => Err(TypeFault::Refused(NameRefusal::WrongUse, at)),
     }
 }
 
 /// An array.
-#[tactic(auto, unfolding(crate::specs::Environment::array_outcome))]
+#[tactic(auto, unfolding(crate::specs::Environment::array_finding))]
 pub fn array(found: Option<Meaning>, at: usize) -> Result<FoundArray, TypeFault>
-    ensures { Resolves array_use result (array_outcome found at) }
+    ensures { Resolves array_use result (array_finding found at) }
 {
     match found {
-        None => Err(TypeFault::Refused(Refusal::UnknownName, at)),
+        None => Err(TypeFault::Refused(NameRefusal::UnknownName, at)),
         Some(Meaning::Array(variable, base, size)) => Ok(FoundArray {
             variable,
             base,
             size,
         }),
-        Some(_) => Err(TypeFault::Refused(Refusal::WrongUse, at)),
+        Some(_) => Err(TypeFault::Refused(NameRefusal::WrongUse, at)),
     }
 }
 
 /// The number of an input.
-#[tactic(auto, unfolding(crate::specs::Environment::input_outcome))]
+#[tactic(auto, unfolding(crate::specs::Environment::input_finding))]
 pub fn input(found: Option<Meaning>, at: usize) -> Result<u32, TypeFault>
-    ensures { Resolves itself result (input_outcome found at) }
+    ensures { Resolves itself result (input_finding found at) }
 {
     match found {
-        None => Err(TypeFault::Refused(Refusal::UnknownName, at)),
+        None => Err(TypeFault::Refused(NameRefusal::UnknownName, at)),
         Some(Meaning::Input(channel)) => Ok(channel),
-        Some(_) => Err(TypeFault::Refused(Refusal::WrongUse, at)),
+        Some(_) => Err(TypeFault::Refused(NameRefusal::WrongUse, at)),
     }
 }
 
 /// The number of an output.
-#[tactic(auto, unfolding(crate::specs::Environment::output_outcome))]
+#[tactic(auto, unfolding(crate::specs::Environment::output_finding))]
 pub fn output(found: Option<Meaning>, at: usize) -> Result<u32, TypeFault>
-    ensures { Resolves itself result (output_outcome found at) }
+    ensures { Resolves itself result (output_finding found at) }
 {
     match found {
-        None => Err(TypeFault::Refused(Refusal::UnknownName, at)),
+        None => Err(TypeFault::Refused(NameRefusal::UnknownName, at)),
         Some(Meaning::Output(channel)) => Ok(channel),
-        Some(_) => Err(TypeFault::Refused(Refusal::WrongUse, at)),
+        Some(_) => Err(TypeFault::Refused(NameRefusal::WrongUse, at)),
     }
 }
 
 /// The number of an exception.
-#[tactic(auto, unfolding(crate::specs::Environment::exception_outcome))]
+#[tactic(auto, unfolding(crate::specs::Environment::exception_finding))]
 pub fn exception(found: Option<Meaning>, at: usize) -> Result<u32, TypeFault>
-    ensures { Resolves itself result (exception_outcome found at) }
+    ensures { Resolves itself result (exception_finding found at) }
 {
     match found {
-        None => Err(TypeFault::Refused(Refusal::UnknownName, at)),
+        None => Err(TypeFault::Refused(NameRefusal::UnknownName, at)),
         Some(Meaning::Exception(number)) => Ok(number),
-        Some(_) => Err(TypeFault::Refused(Refusal::WrongUse, at)),
+        Some(_) => Err(TypeFault::Refused(NameRefusal::WrongUse, at)),
     }
 }
 
 /// The number of a procedure.
-#[tactic(auto, unfolding(crate::specs::Environment::procedure_outcome))]
+#[tactic(auto, unfolding(crate::specs::Environment::procedure_finding))]
 pub fn procedure(found: Option<Meaning>, at: usize) -> Result<u32, TypeFault>
-    ensures { Resolves itself result (procedure_outcome found at) }
+    ensures { Resolves itself result (procedure_finding found at) }
 {
     match found {
-        None => Err(TypeFault::Refused(Refusal::UnknownName, at)),
+        None => Err(TypeFault::Refused(NameRefusal::UnknownName, at)),
         Some(Meaning::Procedure(number)) => Ok(number),
-        Some(_) => Err(TypeFault::Refused(Refusal::WrongUse, at)),
+        Some(_) => Err(TypeFault::Refused(NameRefusal::WrongUse, at)),
     }
 }

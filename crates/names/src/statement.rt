@@ -1,7 +1,7 @@
 //! Statements that hold no others.
 
 ghost use Rattle.names.specs.Statements as spec;
-ghost use Rattle.names.specs.Statements.{arguments_outcome, assign_outcome, assigned_outcome, call_outcome, call_statement_outcome, declare_array_outcome, declare_outcome, receive_outcome, return_outcome, send_outcome, size_outcome, store_outcome, throw_outcome};
+ghost use Rattle.names.specs.Statements.{arguments_finding, assign_finding, assigned_finding, call_finding, call_statement_finding, declare_array_finding, declare_finding, receive_finding, return_finding, send_finding, size_finding, store_finding, throw_finding};
 ghost use Rattle.names.specs.Views.{Resolves, IsLater, at_point, call_use, expressions_of, itself, names_of, point_of, setting_of, signatures_of, taken};
 ghost use Rattle.resolved.specs.ProgramOf.{slot_entry};
 ghost use Rattle.resolved.specs.TreeOf.{statement_of};
@@ -10,7 +10,7 @@ ghost use Rattle.syntax.specs.Limits.{most_nodes};
 ghost use Rattle.syntax.specs.Tree.{call_tree, expression_tree, name_tree, optional_expression_tree, optional_label_tree, right_tree, size_tree};
 
 use crate::body::Body;
-use crate::fault::{Refusal, TypeFault};
+use crate::fault::{NameRefusal, TypeFault};
 use crate::label::optional_label;
 use crate::operator::is_same;
 use crate::scope::{Meaning, array, exception, fresh, input, output, procedure, scalar};
@@ -33,27 +33,27 @@ pub struct UsedCall {
 }
 
 /// The length of an array.
-#[tactic(auto, unfolding(crate::specs::Statements::size_outcome))]
+#[tactic(auto, unfolding(crate::specs::Statements::size_finding))]
 pub fn length_of(size: Size) -> Result<u32, TypeFault>
-    ensures { Resolves itself result (size_outcome (size_tree size)) }
+    ensures { Resolves itself result (size_finding (size_tree size)) }
 {
     if 0 < size.size && size.size <= MAX_LENGTH {
         Ok(size.size)
     } else {
-        Err(TypeFault::Refused(Refusal::ArraySize, size.at))
+        Err(TypeFault::Refused(NameRefusal::ArraySize, size.at))
     }
 }
 
 impl<'a> Body<'a> {
     /// The arguments of a call, at places that want the types of the parameters.
-    #[tactic(auto, unfolding(crate::specs::Statements::arguments_outcome))]
+    #[tactic(auto, unfolding(crate::specs::Statements::arguments_finding))]
     fn arguments(
         &self,
         parameters: &[Base],
         written: &[syntax::Expression],
     ) -> Result<Vec<Expression>, TypeFault>
         ensures { Resolves expressions_of result
-            (arguments_outcome (names_of self.now) parameters.now
+            (arguments_finding (names_of self.now) parameters.now
             (map expression_tree written.now)) }
     {
         let mut arguments = Vec::new(self.alloc);
@@ -68,16 +68,16 @@ impl<'a> Body<'a> {
     }
 
     /// A call.
-    #[tactic(auto, unfolding(crate::specs::Statements::call_outcome, crate::specs::Statements::applied_outcome))]
+    #[tactic(auto, unfolding(crate::specs::Statements::call_finding, crate::specs::Statements::applied_finding))]
     fn call(&self, written: &Call) -> Result<UsedCall, TypeFault>
         ensures { Resolves call_use result
-            (call_outcome (signatures_of self.now) (names_of self.now) (call_tree written.now)) }
+            (call_finding (signatures_of self.now) (names_of self.now) (call_tree written.now)) }
     {
         let name = &written.procedure;
         let number = procedure(self.meaning(name), name.at)?;
         let (parameters, value) = self.top.signature(number);
         if parameters.len() != written.arguments.len() {
-            return Err(TypeFault::Refused(Refusal::WrongArgumentCount, name.at));
+            return Err(TypeFault::Refused(NameRefusal::WrongArgumentCount, name.at));
         }
         let arguments = self.arguments(parameters, &written.arguments)?;
         Ok(UsedCall {
@@ -88,7 +88,7 @@ impl<'a> Body<'a> {
     }
 
     /// The assignment of a right side to a variable of a type, by a statement that begins at a byte.
-    #[tactic(auto, unfolding(crate::specs::Statements::assigned_outcome))]
+    #[tactic(auto, unfolding(crate::specs::Statements::assigned_finding))]
     fn assigned(
         &self,
         at: usize,
@@ -97,7 +97,7 @@ impl<'a> Body<'a> {
         value: &RightSide,
     ) -> Result<Statement, TypeFault>
         ensures { Resolves statement_of result
-            (assigned_outcome (signatures_of self.now) (names_of self.now) at target base
+            (assigned_finding (signatures_of self.now) (names_of self.now) at target base
             (right_tree value.now)) }
     {
         match value {
@@ -106,7 +106,7 @@ impl<'a> Body<'a> {
                 channel,
             } => {
                 if !is_same(Base::Int, base) {
-                    return Err(TypeFault::Refused(Refusal::WrongType, *receive_at));
+                    return Err(TypeFault::Refused(NameRefusal::WrongType, *receive_at));
                 }
                 let number = input(self.meaning(channel), channel.at)?;
                 Ok(Statement::Receive(at, number, Some(target)))
@@ -114,7 +114,7 @@ impl<'a> Body<'a> {
             RightSide::Call(call) => {
                 let made = self.call(call)?;
                 if !gives(base, made.result) {
-                    return Err(TypeFault::Refused(Refusal::WrongType, call.procedure.at));
+                    return Err(TypeFault::Refused(NameRefusal::WrongType, call.procedure.at));
                 }
                 Ok(Statement::Call(at, made.procedure, made.arguments, Some(target)))
             }
@@ -150,7 +150,7 @@ impl<'a> Body<'a> {
     }
 
     /// The declaration of a local with its first value.
-    #[tactic(auto, unfolding(crate::specs::Statements::declare_outcome))]
+    #[tactic(auto, unfolding(crate::specs::Statements::declare_finding))]
     pub fn declare_scalar(
         &mut self,
         at: usize,
@@ -161,7 +161,7 @@ impl<'a> Body<'a> {
     ) -> Result<Statement, TypeFault>
         requires room { taken self.old < most_nodes }
         ensures made { Resolves (at_point self.new statement_of) result
-            (declare_outcome (setting_of self.old) (point_of self.old) at base
+            (declare_finding (setting_of self.old) (point_of self.old) at base
             (optional_label_tree label.now) (name_tree name.now) (right_tree value.now)) }
         ensures later { OnOk result (IsLater self.old self.new) }
         ensures grows { OnOk result (taken self.new ≡ taken self.old + 1) }
@@ -176,7 +176,7 @@ impl<'a> Body<'a> {
     }
 
     /// The declaration of a local that is an array.
-    #[tactic(auto, unfolding(crate::specs::Statements::declare_array_outcome))]
+    #[tactic(auto, unfolding(crate::specs::Statements::declare_array_finding))]
     pub fn declare_array(
         &mut self,
         at: usize,
@@ -187,7 +187,7 @@ impl<'a> Body<'a> {
     ) -> Result<Statement, TypeFault>
         requires room { taken self.old < most_nodes }
         ensures made { Resolves (at_point self.new statement_of) result
-            (declare_array_outcome (setting_of self.old) (point_of self.old) at base
+            (declare_array_finding (setting_of self.old) (point_of self.old) at base
             (optional_label_tree written.now) (name_tree name.now) (size_tree size)) }
         ensures later { OnOk result (IsLater self.old self.new) }
         ensures grows { OnOk result (taken self.new ≡ taken self.old + 1) }
@@ -201,17 +201,17 @@ impl<'a> Body<'a> {
         Ok(Statement::Clear(at, number))
     }
 
-    #[tactic(auto, unfolding(crate::specs::Statements::assign_outcome))]
+    #[tactic(auto, unfolding(crate::specs::Statements::assign_finding))]
     pub fn assign(&self, target: &Name, value: &RightSide) -> Result<Statement, TypeFault>
         ensures { Resolves statement_of result
-            (assign_outcome (signatures_of self.now) (names_of self.now) (name_tree target.now)
+            (assign_finding (signatures_of self.now) (names_of self.now) (name_tree target.now)
             (right_tree value.now)) }
     {
         let found = scalar(self.meaning(target), target.at)?;
         self.assigned(target.at, found.variable, found.base, value)
     }
 
-    #[tactic(auto, unfolding(crate::specs::Statements::store_outcome))]
+    #[tactic(auto, unfolding(crate::specs::Statements::store_finding))]
     pub fn store(
         &self,
         name: &Name,
@@ -219,7 +219,7 @@ impl<'a> Body<'a> {
         value: &syntax::Expression,
     ) -> Result<Statement, TypeFault>
         ensures { Resolves statement_of result
-            (store_outcome (names_of self.now) (name_tree name.now) (expression_tree index.now)
+            (store_finding (names_of self.now) (name_tree name.now) (expression_tree index.now)
             (expression_tree value.now)) }
     {
         let found = array(self.meaning(name), name.at)?;
@@ -228,26 +228,26 @@ impl<'a> Body<'a> {
         Ok(Statement::Store(name.at, found.variable, found.size, index, value))
     }
 
-    #[tactic(auto, unfolding(crate::specs::Statements::call_statement_outcome))]
+    #[tactic(auto, unfolding(crate::specs::Statements::call_statement_finding))]
     pub fn call_statement(&self, call: &Call) -> Result<Statement, TypeFault>
         ensures { Resolves statement_of result
-            (call_statement_outcome (signatures_of self.now) (names_of self.now)
+            (call_statement_finding (signatures_of self.now) (names_of self.now)
             (call_tree call.now)) }
     {
         let made = self.call(call)?;
         Ok(Statement::Call(call.procedure.at, made.procedure, made.arguments, None))
     }
 
-    #[tactic(auto, unfolding(crate::specs::Statements::receive_outcome))]
+    #[tactic(auto, unfolding(crate::specs::Statements::receive_finding))]
     pub fn receive(&self, at: usize, channel: &Name) -> Result<Statement, TypeFault>
         ensures { Resolves statement_of result
-            (receive_outcome (names_of self.now) at (name_tree channel.now)) }
+            (receive_finding (names_of self.now) at (name_tree channel.now)) }
     {
         let number = input(self.meaning(channel), channel.at)?;
         Ok(Statement::Receive(at, number, None))
     }
 
-    #[tactic(auto, unfolding(crate::specs::Statements::send_outcome))]
+    #[tactic(auto, unfolding(crate::specs::Statements::send_finding))]
     pub fn send(
         &self,
         at: usize,
@@ -255,46 +255,46 @@ impl<'a> Body<'a> {
         value: &syntax::Expression,
     ) -> Result<Statement, TypeFault>
         ensures { Resolves statement_of result
-            (send_outcome (names_of self.now) at (name_tree channel.now)
+            (send_finding (names_of self.now) at (name_tree channel.now)
             (expression_tree value.now)) }
     {
         let number = output(self.meaning(channel), channel.at)?;
         Ok(Statement::Send(at, number, self.typed(Base::Int, value)?))
     }
 
-    #[tactic(auto, unfolding(crate::specs::Statements::throw_outcome))]
+    #[tactic(auto, unfolding(crate::specs::Statements::throw_finding))]
     pub fn throw(&self, at: usize, name: &Name) -> Result<Statement, TypeFault>
         ensures { Resolves statement_of result
-            (throw_outcome (names_of self.now) at (name_tree name.now)) }
+            (throw_finding (names_of self.now) at (name_tree name.now)) }
     {
         let number = exception(self.meaning(name), name.at)?;
         Ok(Statement::Leave(at, Exit::Throw(number)))
     }
 
-    #[tactic(auto, unfolding(crate::specs::Statements::return_outcome))]
+    #[tactic(auto, unfolding(crate::specs::Statements::return_finding))]
     pub fn return_value(
         &self,
         at: usize,
         value: &Option<syntax::Expression>,
     ) -> Result<Statement, TypeFault>
         ensures { Resolves statement_of result
-            (return_outcome self.now.result (names_of self.now) at
+            (return_finding self.now.result (names_of self.now) at
             (optional_expression_tree value.now)) }
     {
         match value {
             None => match self.result {
                 None => Ok(Statement::Return(at, None)),
-                Some(_) => Err(TypeFault::Refused(Refusal::WrongType, at)),
+                Some(_) => Err(TypeFault::Refused(NameRefusal::WrongType, at)),
             },
             Some(value) => {
                 let found = self.expression(value)?;
                 match self.result {
-                    None => Err(TypeFault::Refused(Refusal::WrongType, value.place())),
+                    None => Err(TypeFault::Refused(NameRefusal::WrongType, value.place())),
                     Some(base) => {
                         if is_same(found.base, base) {
                             Ok(Statement::Return(at, Some(found.expression)))
                         } else {
-                            Err(TypeFault::Refused(Refusal::WrongType, value.place()))
+                            Err(TypeFault::Refused(NameRefusal::WrongType, value.place()))
                         }
                     }
                 }

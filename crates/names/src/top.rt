@@ -1,12 +1,12 @@
 //! The top level of a program: what the names of its items stand for.
 
-ghost use Rattle.names.specs.Outcome.{give};
-ghost use Rattle.names.specs.Resolution.{built_in, channel_meaning, global_meaning, item_meaning, item_name, next_name, result_base_of, signature_of, top_outcome};
+ghost use Rattle.names.specs.Finding.{give};
+ghost use Rattle.names.specs.Resolution.{built_in, channel_meaning, global_meaning, item_meaning, item_name, next_name, result_base_of, signature_of, top_finding};
 ghost use Rattle.names.specs.Statements as spec;
 ghost use Rattle.names.specs.Views.{Resolves, signature_view, top_view};
 ghost use Rattle.std.specs.Prelude.{IfOk, OnOk, length, map, ◌+◌, ◌<◌, ◌≡◌};
 ghost use Rattle.syntax.specs.Limits.{most_nodes};
-ghost use Rattle.syntax.specs.Tree.{global_value_tree, item_tree, name_tree, outcome_tree, procedure_tree};
+ghost use Rattle.syntax.specs.Tree.{global_value_tree, item_tree, name_tree, written_result_tree, procedure_tree};
 
 use crate::fault::TypeFault;
 use crate::operator::base_of;
@@ -14,7 +14,7 @@ use crate::scope::{Meaning, find, fresh, insert};
 use indexmap::IndexMap;
 use resolved::expression::{Base, Variable};
 use std::alloc::{AllocError, Global};
-use syntax::{Direction, GlobalValue, Item, Name, Outcome, Procedure};
+use syntax::{Direction, GlobalValue, Item, Name, Procedure, WrittenResult};
 
 /// What a call has to know of a procedure: the types of its parameters, and the type of its value, if it gives one.
 #[derive(Drop)]
@@ -53,12 +53,12 @@ fn global_meaning_of(base: Base, number: u32, value: &GlobalValue) -> Meaning
 }
 
 /// The type of the value that a procedure gives, if it gives one.
-pub fn result_of(outcome: &Outcome) -> Option<Base>
-    ensures { result ≡ result_base_of (outcome_tree outcome.now) }
+pub fn result_of(written: &WrittenResult) -> Option<Base>
+    ensures { result ≡ result_base_of (written_result_tree written.now) }
 {
-    match outcome {
-        Outcome::Nothing => None,
-        Outcome::Value { base, .. } => Some(base_of(*base)),
+    match written {
+        WrittenResult::Nothing => None,
+        WrittenResult::Value { base, .. } => Some(base_of(*base)),
     }
 }
 
@@ -72,7 +72,7 @@ fn signature(alloc: Global, procedure: &Procedure) -> Result<CodeSignature, Allo
     }
     Ok(CodeSignature {
         parameters,
-        result: result_of(&procedure.outcome),
+        result: result_of(&procedure.result),
     })
 }
 
@@ -162,10 +162,10 @@ impl TopNames {
     }
 
     /// The top level of these items.
-    #[tactic(auto, unfolding(crate::specs::Resolution::top_outcome))]
+    #[tactic(auto, unfolding(crate::specs::Resolution::top_finding))]
     pub fn of(alloc: Global, items: &[Item]) -> Result<TopNames, TypeFault>
         requires { length items.now < most_nodes }
-        ensures { Resolves top_view result (top_outcome (map item_tree items.now)) }
+        ensures { Resolves top_view result (top_finding (map item_tree items.now)) }
     {
         let mut top = TopNames::built_in(alloc)?;
         for item in items {

@@ -6,11 +6,11 @@ use Rattle.std.proofs.lemmas.List.Elements.{All-nil}
 use Rattle.lexer.specs.declared.token.Kind.TheVariants as kinds
 use Rattle.syntax.specs.declared.tree.Direction.{Direction}
 use Rattle.syntax.specs.Form.{Form, many, ◌·◌}
-use Rattle.syntax.specs.Grammar.{at, key, ◌◂◌, base, name, optional_label, label, direction, channel, exception, negative_constant, constant, global_value, global, valued, outcome, parameter, parameters, end_label, thrown, thrown_list, some_throws, throws, procedure, item, program}
+use Rattle.syntax.specs.Grammar.{at, key, ◌◂◌, base, name, optional_label, label, direction, channel, exception, negative_constant, constant, global_value, global, valued, written_result, parameter, parameters, end_label, thrown, thrown_list, some_throws, throws, procedure, item, program}
 use Rattle.syntax.specs.Nesting.{IsNestedItem, IsNested}
-use Rattle.syntax.specs.Nodes.{optional_label_nodes, outcome_nodes, parameter_nodes, thrown_nodes, item_nodes, program_nodes}
-use Rattle.syntax.specs.Tree.{LabelTree, ConstantTree, GlobalValueTree, OutcomeTree, ParameterTree, ThrownTree, ItemTree, ProgramTree}
-use Rattle.syntax.specs.Written.{IsWrittenOptionalLabel, IsWrittenConstant, IsWrittenGlobalValue, IsWrittenOutcome, IsWrittenParameter, IsWrittenThrown, IsWrittenItem, IsWritten}
+use Rattle.syntax.specs.Nodes.{optional_label_nodes, written_result_nodes, parameter_nodes, thrown_nodes, item_nodes, program_nodes}
+use Rattle.syntax.specs.Tree.{LabelTree, ConstantTree, GlobalValueTree, WrittenResultTree, ParameterTree, ThrownTree, ItemTree, ProgramTree}
+use Rattle.syntax.specs.Written.{IsWrittenOptionalLabel, IsWrittenConstant, IsWrittenGlobalValue, IsWrittenResult, IsWrittenParameter, IsWrittenThrown, IsWrittenItem, IsWritten}
 use Rattle.parser.proofs.Fits.{Fit, Has, from_at, from_after, from_before, each_fits, separated_fits, some_fit}
 use Rattle.parser.proofs.FitLabels.{Nothing, name_fits, label_fits, optional_label_fits, base_fits, integer_fits, truth_fits, size_fits}
 use Rattle.parser.proofs.FitStatements.{block_fits}
@@ -108,19 +108,19 @@ module _ (fits : ℕ → Type 0) (longest room : ℕ) where
       })
 
   -- what a procedure answers, behind the place that it begins at
-  abbrev FitOutcome : ℕ × OutcomeTree → ℕ → Type 0
-  FitOutcome pair k = fits pair.0 × IsWrittenOutcome fits longest pair.1 × (1 + outcome_nodes pair.1 ≤ k)
+  abbrev FitResult : ℕ × WrittenResultTree → ℕ → Type 0
+  FitResult pair k = fits pair.0 × IsWrittenResult fits longest pair.1 × (1 + written_result_nodes pair.1 ≤ k)
 
-  outcome_fits : (pair : ℕ × OutcomeTree) (k : ℕ) → Having outcome pair k → FitOutcome pair k
-  unfolding outcome valued
-  outcome_fits pair k (inl h) =
+  result_fits : (pair : ℕ × WrittenResultTree) (k : ℕ) → Having written_result pair k → FitResult pair k
+  unfolding written_result valued
+  result_fits pair k (inl h) =
       let word = from_at fits longest room kinds.Void h.0 k h.1 in
-      subst (λ p. FitOutcome p k) (sym h.2) (word.0, tt, omega (arith, word.1))
-  outcome_fits pair k (inr h) =
+      subst (λ p. FitResult p k) (sym h.2) (word.0, tt, omega (arith, word.1))
+  result_fits pair k (inr h) =
       let both = h.1 in
       let typed = base_fits fits longest room h.0.0 both.0 both.2 in
       let labelled = label_fits fits longest room h.0.1 both.1 both.3 in
-      subst (λ p. FitOutcome p k) (sym h.2) (typed.0, labelled.written, omega (arith, typed.1, labelled.few, both.4))
+      subst (λ p. FitResult p k) (sym h.2) (typed.0, labelled.written, omega (arith, typed.1, labelled.few, both.4))
 
   parameter_fits : (tree : ParameterTree) (k : ℕ) → Having parameter tree k → Fit (IsWrittenParameter fits longest tree) (parameter_nodes tree) (Nothing tree) k
   unfolding parameter
@@ -190,12 +190,12 @@ module _ (fits : ℕ → Type 0) (longest room : ℕ) where
       let a = h.1 in
       let b = a.2 in
       let c = b.2 in
-      let close = from_before fits longest room (outcome · name · optional_label ◂ kinds.OpenParenthesis · parameters) kinds.CloseParenthesis h.0.0.0.0 c.0 c.2 in
+      let close = from_before fits longest room (written_result · name · optional_label ◂ kinds.OpenParenthesis · parameters) kinds.CloseParenthesis h.0.0.0.0 c.0 c.2 in
       let d = close.1 in
-      let front = from_before fits longest room (outcome · name · optional_label) kinds.OpenParenthesis h.0.0.0.0.0 d.0 d.2 in
+      let front = from_before fits longest room (written_result · name · optional_label) kinds.OpenParenthesis h.0.0.0.0.0 d.0 d.2 in
       let e = front.1 in
       let f = e.2 in
-      let answers = outcome_fits h.0.0.0.0.0.0.0 f.0 f.2 in
+      let answers = result_fits h.0.0.0.0.0.0.0 f.0 f.2 in
       let named = name_fits fits longest room h.0.0.0.0.0.0.1 f.1 f.3 in
       let begins = optional_label_fits fits longest room h.0.0.0.0.0.1 e.1 e.3 in
       let takes = parameters_fit h.0.0.0.0.1 d.1 d.3 in
@@ -205,7 +205,7 @@ module _ (fits : ℕ → Type 0) (longest room : ℕ) where
       subst (λ t. FitItem t k) (sym h.2) (record {
         written = record {
           at = answers.0;
-          outcome = answers.1;
+          result = answers.1;
           name = named.written;
           begin = begins.written;
           parameters = takes.written;

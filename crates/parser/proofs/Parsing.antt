@@ -7,7 +7,7 @@ use Rattle.parser.specs.declared.fault.ParseFault.{ParseFault}
 use Rattle.parser.specs.declared.fault.ParseFault.TheVariants as faults
 use Rattle.parser.specs.OfText.{IsOfText}
 use Rattle.parser.specs.Reading.{IsRead, read}
-use Rattle.parser.specs.Refusal.{IsUnexpectedAt, IsTooDeepAt, IsTreeOrNoMemory, IsRefused}
+use Rattle.parser.specs.Refusal.{IsUnexpectedAt, IsTooDeepAt, IsTreeOrNoMemory, AreTokensRefused}
 use Rattle.syntax.specs.declared.tree.Item.{Item}
 use Rattle.syntax.specs.Grammar.{SpellsProgram, program}
 use Rattle.syntax.specs.Limits.{IsProgram}
@@ -37,7 +37,7 @@ module _ (tokens : List Token) (terminated : IsTerminated (terminals_of tokens))
   items_program items left text e =
       spelled_program (terminals_of tokens) (program_tree items) text (items_spelled items left e)
 
-  pub items_not_refused : (items : List Item) (left : List Token) → WasRead (Ok items) left → (fault : ParseFault) → IsRefused (terminals_of tokens) fault → ⊥
+  pub items_not_refused : (items : List Item) (left : List Token) → WasRead (Ok items) left → (fault : ParseFault) → AreTokensRefused (terminals_of tokens) fault → ⊥
   items_not_refused items left e fault refused =
       spelled_not_refused (terminals_of tokens) (program_tree items) fault (items_spelled items left e) refused
 
@@ -48,14 +48,14 @@ module _ (tokens : List Token) (terminated : IsTerminated (terminals_of tokens))
   fault_only (faults.TooDeep at) left e tree spelled =
       (subst (Verdict (terminals_of tokens)) e (verdict (terminals_of tokens) terminated)).1 tree spelled
 
-  pub fault_refused : (fault : ParseFault) (left : List Token) → WasRead (Err fault) left → (fault ≡ faults.NoMemory) ⊎ IsRefused (terminals_of tokens) fault
+  pub fault_refused : (fault : ParseFault) (left : List Token) → WasRead (Err fault) left → (fault ≡ faults.NoMemory) ⊎ AreTokensRefused (terminals_of tokens) fault
   fault_refused faults.NoMemory left e = inl refl
   fault_refused (faults.Unexpected at) left e =
       inr (subst (Verdict (terminals_of tokens)) e (verdict (terminals_of tokens) terminated)).0
   fault_refused (faults.TooDeep at) left e =
       inr (subst (Verdict (terminals_of tokens)) e (verdict (terminals_of tokens) terminated)).0
 
-  pub fault_first : (fault : ParseFault) (left : List Token) → WasRead (Err fault) left → (other : ParseFault) → IsRefused (terminals_of tokens) other → (fault ≡ other) ⊎ (fault ≡ faults.NoMemory)
+  pub fault_first : (fault : ParseFault) (left : List Token) → WasRead (Err fault) left → (other : ParseFault) → AreTokensRefused (terminals_of tokens) other → (fault ≡ other) ⊎ (fault ≡ faults.NoMemory)
   fault_first fault left e other refused = elim (fault_refused fault left e) [
     | inl none ↦ inr none
     | inr here ↦ inl (one_refusal (terminals_of tokens) fault other here refused)

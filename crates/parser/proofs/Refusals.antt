@@ -3,8 +3,8 @@ use Rattle.std.proofs.Common.{◌≡◌, ◌⊎◌, ℕ, List, [], ◌∷◌, �
 use Rattle.lexer.specs.Terminal.{Terminal, IsTerminated}
 use Rattle.parser.specs.declared.fault.ParseFault.{ParseFault}
 use Rattle.parser.specs.declared.fault.ParseFault.TheVariants as faults
-use Rattle.parser.specs.Reading.{Reason, OutOfPlace, OverLimit, Refusal, read}
-use Rattle.parser.specs.Refusal.{IsPrefixWithin, IsPrefixOfProgram, IsUnexpectedAt, IsTooDeepAt, IsRefused}
+use Rattle.parser.specs.Reading.{Reason, OutOfPlace, OverLimit, ParseRefusal, read}
+use Rattle.parser.specs.Refusal.{IsPrefixWithin, IsPrefixOfProgram, IsUnexpectedAt, IsTooDeepAt, AreTokensRefused}
 use Rattle.syntax.specs.Grammar.{SpellsProgram, SpellsBut, program}
 use Rattle.syntax.specs.Tree.{ProgramTree}
 use Rattle.parser.proofs.Growing.{grows}
@@ -102,7 +102,7 @@ not_two tokens at place u d =
 abbrev place_of : Terminal → ℕ
 place_of token = token.start
 
-pub one_refusal : (tokens : List Terminal) (fault other : ParseFault) → IsRefused tokens fault → IsRefused tokens other → fault ≡ other
+pub one_refusal : (tokens : List Terminal) (fault other : ParseFault) → AreTokensRefused tokens fault → AreTokensRefused tokens other → fault ≡ other
 one_refusal tokens faults.NoMemory other r s = absurd r
 one_refusal tokens (faults.Unexpected at) faults.NoMemory r s = absurd s
 one_refusal tokens (faults.Unexpected at) (faults.Unexpected place) r s =
@@ -119,18 +119,18 @@ spelled_stop : (tokens : List Terminal) (tree : ProgramTree) → SpellsProgram t
 spelled_stop tokens tree spelled stop =
     stop.stopped (spelled_front (stop.front ++ stop.token ∷ []) stop.after tree (subst (λ list. SpellsProgram list tree) (stop.split ∙ sym (append_assoc stop.front (stop.token ∷ []) stop.after)) spelled))
 
-pub spelled_not_refused : (tokens : List Terminal) (tree : ProgramTree) (fault : ParseFault) → SpellsProgram tokens tree → IsRefused tokens fault → ⊥
+pub spelled_not_refused : (tokens : List Terminal) (tree : ProgramTree) (fault : ParseFault) → SpellsProgram tokens tree → AreTokensRefused tokens fault → ⊥
 spelled_not_refused tokens tree faults.NoMemory spelled r = r
 spelled_not_refused tokens tree (faults.Unexpected at) spelled r = spelled_stop tokens tree spelled (of_unexpected tokens at r)
 spelled_not_refused tokens tree (faults.TooDeep at) spelled r = spelled_stop tokens tree spelled (of_too_deep tokens at r)
 
-refused_by : (tokens : List Terminal) (why : Reason) (at : ℕ) → Refuses why tokens at → (fault : ParseFault) × IsRefused tokens fault
+refused_by : (tokens : List Terminal) (why : Reason) (at : ℕ) → Refuses why tokens at → (fault : ParseFault) × AreTokensRefused tokens fault
 refused_by tokens OutOfPlace at r = (faults.Unexpected at, r)
 refused_by tokens OverLimit at r = (faults.TooDeep at, r)
 
-decided : (tokens : List Terminal) (found : Result (ProgramTree × List Terminal) Refusal) → Verdict tokens found → ((tree : ProgramTree) × SpellsProgram tokens tree) ⊎ ((fault : ParseFault) × IsRefused tokens fault)
+decided : (tokens : List Terminal) (found : Result (ProgramTree × List Terminal) ParseRefusal) → Verdict tokens found → ((tree : ProgramTree) × SpellsProgram tokens tree) ⊎ ((fault : ParseFault) × AreTokensRefused tokens fault)
 decided tokens (Ok found) v = inl (found.0, v.0)
 decided tokens (Err refusal) v = inr (refused_by tokens refusal.why refusal.at v.0)
 
-pub spelled_or_refused : (tokens : List Terminal) → IsTerminated tokens → ((tree : ProgramTree) × SpellsProgram tokens tree) ⊎ ((fault : ParseFault) × IsRefused tokens fault)
+pub spelled_or_refused : (tokens : List Terminal) → IsTerminated tokens → ((tree : ProgramTree) × SpellsProgram tokens tree) ⊎ ((fault : ParseFault) × AreTokensRefused tokens fault)
 spelled_or_refused tokens terminated = decided tokens (read 64 program tokens) (verdict tokens terminated)

@@ -2,8 +2,8 @@ ghost use Rattle.std.specs.Prelude.{◌≡◌, ℕ, map};
 ghost use Rattle.lexer.specs.Terminal.{terminals_of};
 ghost use Rattle.lexer.specs.declared.token.Kind.TheVariants.{Comma, Assign, Colon, Minus};
 ghost use Rattle.syntax.specs.Form.{many, ◌·◌, ◌gives◌};
-ghost use Rattle.syntax.specs.Grammar.{constant, negative_constant, global_value, channel, exception, global, outcome, parameter, parameters, end_label, thrown, thrown_list, throws, some_throws, procedure, direction, valued, item, label, separated, ◌▸◌};
-ghost use Rattle.syntax.specs.Tree.{label_tree, optional_label_tree, constant_tree, global_value_tree, outcome_tree, parameter_tree, thrown_tree, item_tree};
+ghost use Rattle.syntax.specs.Grammar.{constant, negative_constant, global_value, channel, exception, global, written_result, parameter, parameters, end_label, thrown, thrown_list, throws, some_throws, procedure, direction, valued, item, label, separated, ◌▸◌};
+ghost use Rattle.syntax.specs.Tree.{label_tree, optional_label_tree, constant_tree, global_value_tree, written_result_tree, parameter_tree, thrown_tree, item_tree};
 ghost use Rattle.parser.specs.Reading.{IsRead, read, kind_at, begins_item};
 
 use crate::cursor::Parser;
@@ -11,8 +11,8 @@ use crate::fault::ParseFault;
 use crate::program::MAX_LEVELS;
 use lexer::Kind;
 use syntax::{
-    Channel, Constant, Direction, GlobalValue, GlobalVariable, Item, Outcome, Parameter, Procedure,
-    Thrown, WrittenLabel,
+    Channel, Constant, Direction, GlobalValue, GlobalVariable, Item, Parameter, Procedure, Thrown,
+    WrittenLabel, WrittenResult,
 };
 
 impl<'a> Parser<'a> {
@@ -151,22 +151,22 @@ impl<'a> Parser<'a> {
     }
 
     #[tactic(auto, unfolding(syntax::specs::Grammar::valued, crate::specs::Reading::read))]
-    fn valued(&mut self) -> Result<(usize, Outcome), ParseFault>
-        ensures { (room : ℕ) → IsRead (λ found. (found.0, outcome_tree found.1)) result self.new.rest.now (read room valued (terminals_of self.old.rest.now)) }
+    fn valued(&mut self) -> Result<(usize, WrittenResult), ParseFault>
+        ensures { (room : ℕ) → IsRead (λ found. (found.0, written_result_tree found.1)) result self.new.rest.now (read room valued (terminals_of self.old.rest.now)) }
     {
         let (at, base) = self.base()?;
         let label = self.label()?;
-        Ok((at, Outcome::Value { base, label }))
+        Ok((at, WrittenResult::Value { base, label }))
     }
 
-    #[tactic(auto, using(crate::proofs::Items::outcome_reads))]
-    fn outcome(&mut self) -> Result<(usize, Outcome), ParseFault>
-        ensures { (room : ℕ) → IsRead (λ found. (found.0, outcome_tree found.1)) result self.new.rest.now (read room outcome (terminals_of self.old.rest.now)) }
+    #[tactic(auto, using(crate::proofs::Items::written_result_reads))]
+    fn outcome(&mut self) -> Result<(usize, WrittenResult), ParseFault>
+        ensures { (room : ℕ) → IsRead (λ found. (found.0, written_result_tree found.1)) result self.new.rest.now (read room written_result (terminals_of self.old.rest.now)) }
     {
         match self.kind() {
             Kind::Void => {
                 let token = self.advance()?;
-                Ok((token.span.start, Outcome::Nothing))
+                Ok((token.span.start, WrittenResult::Nothing))
             }
             _ => self.valued(),
         }
@@ -292,7 +292,7 @@ impl<'a> Parser<'a> {
     fn procedure(&mut self) -> Result<Item, ParseFault>
         ensures { IsRead item_tree result self.new.rest.now (read 64 procedure (terminals_of self.old.rest.now)) }
     {
-        let (at, outcome) = self.outcome()?;
+        let (at, result) = self.outcome()?;
         let name = self.name()?;
         let begin = self.optional_label()?;
         self.expect(Kind::OpenParenthesis)?;
@@ -303,7 +303,7 @@ impl<'a> Parser<'a> {
         let body = self.block(MAX_LEVELS)?;
         Ok(Item::Procedure(Procedure {
             at,
-            outcome,
+            result,
             name,
             begin,
             parameters,

@@ -18,7 +18,7 @@ use Rattle.resolved.specs.EndFaults.{inner_faults, block_faults, handlers_faults
 use Rattle.path_map.specs.declared.exits.Raised.{Raised}
 use Rattle.path_map.specs.declared.exits.Exits.{Exits}
 use Rattle.path_map.specs.declared.fault.EndsFault.{EndsFault}
-use Rattle.path_map.specs.FirstFault.{IsFirst}
+use Rattle.path_map.specs.FirstFault.{IsFirstEndFault}
 use Rattle.path_map.specs.Joins.{join, of_loop, raised_list, raises_some}
 use Rattle.path_map.specs.Paths.{inner_paths, block_paths, rest_paths, handlers_paths}
 use Rattle.path_map.specs.Sets.{row_has, IsSum, IsSummaryOf, is_one_of, throws}
@@ -36,9 +36,9 @@ module _ (program : Program) (s : S.Statement) (tree : Statement) (is : statemen
   pub faults-at : (in_loop : Bool) → inner_faults program in_loop tree ≡ [] → inner_faults program in_loop (statement_of s) ≡ []
   faults-at in_loop none = ap (inner_faults program in_loop) is ∙ none
 
-  pub first-at : (in_loop : Bool) (fault : EndsFault) → IsFirst (inner_faults program in_loop tree) fault
-      → IsFirst (inner_faults program in_loop (statement_of s)) fault
-  first-at in_loop fault first = subst (λ t. IsFirst (inner_faults program in_loop t) fault) (sym is) first
+  pub first-at : (in_loop : Bool) (fault : EndsFault) → IsFirstEndFault (inner_faults program in_loop tree) fault
+      → IsFirstEndFault (inner_faults program in_loop (statement_of s)) fault
+  first-at in_loop fault first = subst (λ t. IsFirstEndFault (inner_faults program in_loop t) fault) (sym is) first
 
 pub found-same : (ends : List Exit) (paths : List (List Exit)) (e0 e1 : List Exits) (r0 r1 : List ℕ) (x y : Exits)
     → y ≡ x → IsFound ends paths e0 e1 r0 r1 x → IsFound ends paths e0 e1 r0 r1 y

@@ -24,7 +24,7 @@ use Rattle.path_map.specs.declared.exits.Exits.{Exits}
 use Rattle.path_map.specs.declared.fault.EndDefect.TheVariants as defect
 use Rattle.path_map.specs.declared.fault.EndsFault.{EndsFault}
 use Rattle.path_map.specs.declared.fault.EndsFault.TheVariants.{NoMemory, Refused}
-use Rattle.path_map.specs.FirstFault.{IsFirst}
+use Rattle.path_map.specs.FirstFault.{IsFirstEndFault}
 use Rattle.path_map.specs.Exits.{exits_of, raised_by}
 use Rattle.path_map.specs.Joins.{join_raised}
 use Rattle.path_map.specs.Paths.{block_paths}
@@ -97,7 +97,7 @@ module _ (program : Program) (procedure : ProcedureEntry) where
   ends_here : List Exit
   ends_here = block_ends program procedure.body
 
-  pub body-first : (fault : EndsFault) → IsFirst (block_faults program false true procedure.body) fault → IsFirst (procedure_faults program procedure) fault
+  pub body-first : (fault : EndsFault) → IsFirstEndFault (block_faults program false true procedure.body) fault → IsFirstEndFault (procedure_faults program procedure) fault
   body-first fault first =
       first-left (block_faults program false true procedure.body
       ++ fault_unless (not (is_some procedure.result && has_end (block_ends program procedure.body) Normal)) NoValueReturned procedure.at)
@@ -107,13 +107,13 @@ module _ (program : Program) (procedure : ProcedureEntry) where
 
   pub no-value-first : block_faults program false true procedure.body ≡ []
       → (is_some procedure.result && has_end (block_ends program procedure.body) Normal) ≡ true
-      → IsFirst (procedure_faults program procedure) (Refused (record { defect = defect.NoValueReturned; at = procedure.at }))
+      → IsFirstEndFault (procedure_faults program procedure) (Refused (record { defect = defect.NoValueReturned; at = procedure.at }))
   no-value-first clean value = rw (clean, value) refl
 
   pub undeclared-first : block_faults program false true procedure.body ≡ []
       → (is_some procedure.result && has_end (block_ends program procedure.body) Normal) ≡ false
       → list_all (may_end procedure) (block_ends program procedure.body) ≡ false
-      → IsFirst (procedure_faults program procedure) (Refused (record { defect = defect.Undeclared; at = procedure.at }))
+      → IsFirstEndFault (procedure_faults program procedure) (Refused (record { defect = defect.Undeclared; at = procedure.at }))
   undeclared-first clean value ends = rw (clean, value, ends) refl
 
   pub no-faults : block_faults program false true procedure.body ≡ []
@@ -169,9 +169,9 @@ module _ (program : Program) (all : List ProcedureEntry) where
   }
 
   pub beside-first : (procedure : ProcedureEntry) (tail : List ProcedureEntry) (now : List Exits) (fault : EndsFault) → Beside program all (procedure ∷ tail) now
-      → IsFirst (procedure_faults program procedure) fault → IsFirst (flat_map (procedure_faults program) all) fault
+      → IsFirstEndFault (procedure_faults program procedure) fault → IsFirstEndFault (flat_map (procedure_faults program) all) fault
   beside-first procedure tail now fault along first =
-      subst (λ faults. IsFirst faults fault) along.faults
+      subst (λ faults. IsFirstEndFault faults fault) along.faults
       (first-left (procedure_faults program procedure) (flat_map (procedure_faults program) tail) fault first)
 
   pub beside-step : (procedure : ProcedureEntry) (tail : List ProcedureEntry) (now next : List Exits) → Beside program all (procedure ∷ tail) now

@@ -15,7 +15,7 @@ use Rattle.path_map.specs.declared.exits.Exits.{Exits}
 use Rattle.path_map.specs.declared.fault.EndDefect.TheVariants as defect
 use Rattle.path_map.specs.declared.fault.EndsFault.{EndsFault}
 use Rattle.path_map.specs.declared.fault.EndsFault.TheVariants.{NoMemory, Refused}
-use Rattle.path_map.specs.FirstFault.{IsFirst, fault_of, first_of}
+use Rattle.path_map.specs.FirstFault.{IsFirstEndFault, fault_of, first_of}
 use Rattle.path_map.specs.Exits.{exits_of, raised_by, thrown_in}
 use Rattle.path_map.specs.Joins.{join, join_raised, after, only_raised, of_loop}
 use Rattle.path_map.specs.Paths.{statement_paths, inner_paths, block_paths, rest_paths, handlers_paths}
@@ -125,13 +125,13 @@ module _ (b h : List Exit) (handlers : Handlers) (pb ph : List (List Exit)) (e0 
       }
 
 -- the first of faults that are put together
-pub first-left : (a b : List EndFault) (fault : EndsFault) → IsFirst a fault → IsFirst (a ++ b) fault
+pub first-left : (a b : List EndFault) (fault : EndsFault) → IsFirstEndFault a fault → IsFirstEndFault (a ++ b) fault
 first-left a b NoMemory first = tt
 first-left [] b (Refused refusal) first = absurd (cc)
 first-left (x ∷ a) b (Refused refusal) first = first
 
-pub first-right : (a b : List EndFault) (fault : EndsFault) → a ≡ [] → IsFirst b fault → IsFirst (a ++ b) fault
-first-right a b fault none first = subst (λ xs. IsFirst (xs ++ b) fault) (sym none) first
+pub first-right : (a b : List EndFault) (fault : EndsFault) → a ≡ [] → IsFirstEndFault b fault → IsFirstEndFault (a ++ b) fault
+first-right a b fault none first = subst (λ xs. IsFirstEndFault (xs ++ b) fault) (sym none) first
 
 pub none-both : (a b : List EndFault) → a ≡ [] → b ≡ [] → a ++ b ≡ []
 none-both a b p q = ap (λ xs. xs ++ b) p ∙ q
@@ -155,21 +155,21 @@ module _ (program : Program) (in_loop : Bool) (block : Block) (old : List Exits)
   module _ (statement : Statement) (tail : Block) (now : List Exits) (has : List ℕ) (so_far : Exits)
       (along : Along program in_loop block (Then statement tail) old now had has so_far) where
     pub outside : may_stand in_loop statement ≡ false
-        → IsFirst (block_faults program in_loop true block) (Refused (record { defect = defect.OutsideLoop; at = place_of statement }))
+        → IsFirstEndFault (block_faults program in_loop true block) (Refused (record { defect = defect.OutsideLoop; at = place_of statement }))
     outside stands =
-        subst (λ faults. IsFirst faults (Refused (record { defect = defect.OutsideLoop; at = place_of statement }))) along.faults
+        subst (λ faults. IsFirstEndFault faults (Refused (record { defect = defect.OutsideLoop; at = place_of statement }))) along.faults
         (rw stands refl)
 
     pub unreachable : may_stand in_loop statement ≡ true → so_far.normal ≡ false
-        → IsFirst (block_faults program in_loop true block) (Refused (record { defect = defect.Unreachable; at = place_of statement }))
+        → IsFirstEndFault (block_faults program in_loop true block) (Refused (record { defect = defect.Unreachable; at = place_of statement }))
     unreachable stands reached =
-        subst (λ faults. IsFirst faults (Refused (record { defect = defect.Unreachable; at = place_of statement }))) along.faults
+        subst (λ faults. IsFirstEndFault faults (Refused (record { defect = defect.Unreachable; at = place_of statement }))) along.faults
         (rw (stands, reached) refl)
 
-    pub inside : may_stand in_loop statement ≡ true → so_far.normal ≡ true → (fault : EndsFault) → IsFirst (inner_faults program in_loop statement) fault
-        → IsFirst (block_faults program in_loop true block) fault
+    pub inside : may_stand in_loop statement ≡ true → so_far.normal ≡ true → (fault : EndsFault) → IsFirstEndFault (inner_faults program in_loop statement) fault
+        → IsFirstEndFault (block_faults program in_loop true block) fault
     inside stands reached fault first =
-        subst (λ faults. IsFirst faults fault) along.faults
+        subst (λ faults. IsFirstEndFault faults fault) along.faults
         (rw (stands, reached) (first-left (inner_faults program in_loop statement) (block_faults program in_loop (has_end (statement_ends program statement) Normal) tail) fault first))
 
     pub along-step : may_stand in_loop statement ≡ true → so_far.normal ≡ true → (next : List Exits) (more : List ℕ) (found : Exits)
@@ -265,18 +265,18 @@ module _ (program : Program) (in_loop : Bool) (handlers : Handlers) (old : List 
       (along : Handling program in_loop handlers (Catch at handled body tail) old now had has was row so_far)
       (without : (e : ℕ) → row_has taken e ≡ (row_has row e && not (e == handled))) where
     pub never-raised : row_has row handled ≡ false → (ends : List Exit) → AreThrown was ends
-        → IsFirst (handlers_faults program in_loop ends handlers) (Refused (record { defect = defect.NeverRaised; at = at }))
+        → IsFirstEndFault (handlers_faults program in_loop ends handlers) (Refused (record { defect = defect.NeverRaised; at = at }))
     never-raised absent ends are =
         let there = along.remaining ends are in
         let none : throws there.ends handled ≡ false = sym (there.are.has handled) ∙ absent in
-        subst (λ faults. IsFirst faults (Refused (record { defect = defect.NeverRaised; at = at }))) there.same (rw none refl)
+        subst (λ faults. IsFirstEndFault faults (Refused (record { defect = defect.NeverRaised; at = at }))) there.same (rw none refl)
 
-    pub in-handler : row_has row handled ≡ true → (fault : EndsFault) → IsFirst (block_faults program in_loop true body) fault
-        → (ends : List Exit) → AreThrown was ends → IsFirst (handlers_faults program in_loop ends handlers) fault
+    pub in-handler : row_has row handled ≡ true → (fault : EndsFault) → IsFirstEndFault (block_faults program in_loop true body) fault
+        → (ends : List Exit) → AreThrown was ends → IsFirstEndFault (handlers_faults program in_loop ends handlers) fault
     in-handler present fault first ends are =
         let there = along.remaining ends are in
         let some : throws there.ends handled ≡ true = sym (there.are.has handled) ∙ present in
-        subst (λ faults. IsFirst faults fault) there.same
+        subst (λ faults. IsFirstEndFault faults fault) there.same
         (rw some (first-left (block_faults program in_loop true body)
         (handlers_faults program in_loop (filter (λ exit. not (same_exit (Throw handled) exit)) there.ends) tail) fault first))
 

@@ -25,6 +25,6 @@ first_of [] = None
 first_of (x ∷ rest) = Some x
 
 -- a fault that is the first of these; out of memory says nothing of them
-abbrev pub IsFirst : List EndFault → EndsFault → Type 0
-IsFirst faults NoMemory = Unit {0}
-IsFirst faults (Refused refusal) = first_of faults ≡ Some (fault_of refusal)
+abbrev pub IsFirstEndFault : List EndFault → EndsFault → Type 0
+IsFirstEndFault faults NoMemory = Unit {0}
+IsFirstEndFault faults (Refused refusal) = first_of faults ≡ Some (fault_of refusal)

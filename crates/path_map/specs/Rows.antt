@@ -17,7 +17,7 @@ says (Some row) declared exception = row_has row.words.items exception
 abbrev pub no_row : Option ExceptionSet
 no_row = None
 
-abbrev pub AreRows : Core → List (Option ExceptionSet) → Type 0
-AreRows core rows = (f exception : ℕ) →
+abbrev pub AreDeclaredRows : Core → List (Option ExceptionSet) → Type 0
+AreDeclaredRows core rows = (f exception : ℕ) →
     says (slice_index_or rows f no_row) (declared_by (procedure_at (program_of core) f).throws) exception
     ≡ is_one_of (declared_by (procedure_at (program_of core) f).throws) exception

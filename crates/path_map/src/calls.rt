@@ -1,6 +1,6 @@
 //! What calls raise: the exceptions that procedures declare.
 ghost use Rattle.path_map.specs.Exits.{raised_by};
-ghost use Rattle.path_map.specs.Rows.{AreRows, says};
+ghost use Rattle.path_map.specs.Rows.{AreDeclaredRows, says};
 ghost use Rattle.path_map.specs.Sets.{IsSum, is_one_of};
 ghost use Rattle.resolved.specs.CoreOf.{program_of};
 ghost use Rattle.resolved.specs.Ends.{declared_by};
@@ -21,7 +21,7 @@ pub(crate) struct Walk<'a> {
     pub(crate) alloc: Global,
     pub(crate) core: &'a Core,
     rows: Vec<Option<ExceptionSet>>,
-    ghost same: { AreRows core.now rows.items },
+    ghost same: { AreDeclaredRows core.now rows.items },
 }
 
 impl<'a> Walk<'a> {

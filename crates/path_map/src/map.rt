@@ -1,6 +1,6 @@
 //! The path map of a program.
 ghost use Rattle.path_map.specs.Exits.{exits_of};
-ghost use Rattle.path_map.specs.FirstFault.{IsFirst};
+ghost use Rattle.path_map.specs.FirstFault.{IsFirstEndFault};
 ghost use Rattle.path_map.specs.Paths.{block_paths, program_paths};
 ghost use Rattle.path_map.specs.Sets.{AreDeclared, row_has};
 ghost use Rattle.resolved.specs.CoreOf.{program_of};
@@ -33,7 +33,7 @@ pub fn ends(alloc: Global, core: &Core) -> Result<PathMap, EndsFault>
     ensures exact { IfOk result (λ found. found.entries.items
         ≡ map exits_of (program_paths (program_of core.now))) }
     ensures accepted { OnOk result (end_faults (program_of core.now) ≡ []) }
-    ensures first_fault { IfErr result (IsFirst (end_faults (program_of core.now))) }
+    ensures first_fault { IfErr result (IsFirstEndFault (end_faults (program_of core.now))) }
 {
     let walk = Walk::along(alloc, core)?;
     let mut entries = Vec::new(alloc);
@@ -53,7 +53,7 @@ fn walk_procedure(
         (block_paths (program_of walk.now.core.now) (procedure_entry procedure.now).body)) }
     ensures accepted { OnOk result (procedure_faults
         (program_of walk.now.core.now) (procedure_entry procedure.now) ≡ []) }
-    ensures first_fault { IfErr result (IsFirst (procedure_faults
+    ensures first_fault { IfErr result (IsFirstEndFault (procedure_faults
         (program_of walk.now.core.now) (procedure_entry procedure.now))) }
 {
     let mut raised = ExceptionSet::new(walk.alloc);

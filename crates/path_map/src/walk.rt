@@ -1,5 +1,5 @@
 //! The walk along a program that finds its ends.
-ghost use Rattle.path_map.specs.FirstFault.{IsFirst};
+ghost use Rattle.path_map.specs.FirstFault.{IsFirstEndFault};
 ghost use Rattle.path_map.specs.Joins.{only_raised};
 ghost use Rattle.path_map.specs.Sets.{AreRaised};
 ghost use Rattle.path_map.specs.Walks.{AreHandlersFound, AreLeft, AreStatementsFound, AreThrown, IsBlockFound, IsFormFound, IsFoundAlone, IsStatementFound, faults_of_block, faults_of_handlers, faults_within};
@@ -38,7 +38,7 @@ pub(crate) fn walk_block(
     ensures found { IfOk result (IsBlockFound walk.now.core.now block.now
         entries.old.items entries.new.items raised.old.words.items raised.new.words.items) }
     ensures accepted { OnOk result (faults_of_block walk.now.core.now in_loop block.now ≡ []) }
-    ensures first_fault { IfErr result (IsFirst
+    ensures first_fault { IfErr result (IsFirstEndFault
         (faults_of_block walk.now.core.now in_loop block.now)) }
 {
     let at = reserve(entries)?;
@@ -59,7 +59,7 @@ fn walk_statements(
     ensures found { IfOk result (AreStatementsFound walk.now.core.now block.now
         entries.old.items entries.new.items raised.old.words.items raised.new.words.items) }
     ensures accepted { OnOk result (faults_of_block walk.now.core.now in_loop block.now ≡ []) }
-    ensures first_fault { IfErr result (IsFirst
+    ensures first_fault { IfErr result (IsFirstEndFault
         (faults_of_block walk.now.core.now in_loop block.now)) }
 {
     let mut exits = Exits::going_on(Raised::Nothing);
@@ -88,7 +88,7 @@ fn walk_statement(
     ensures found { IfOk result (IsStatementFound walk.now.core.now statement.now
         entries.old.items entries.new.items raised.old.words.items raised.new.words.items) }
     ensures accepted { OnOk result (faults_within walk.now.core.now in_loop statement.now ≡ []) }
-    ensures first_fault { IfErr result (IsFirst
+    ensures first_fault { IfErr result (IsFirstEndFault
         (faults_within walk.now.core.now in_loop statement.now)) }
 {
     let at = reserve(entries)?;
@@ -109,7 +109,7 @@ fn walk_form(
     ensures found { IfOk result (IsFormFound walk.now.core.now statement.now
         entries.old.items entries.new.items raised.old.words.items raised.new.words.items) }
     ensures accepted { OnOk result (faults_within walk.now.core.now in_loop statement.now ≡ []) }
-    ensures first_fault { IfErr result (IsFirst
+    ensures first_fault { IfErr result (IsFirstEndFault
         (faults_within walk.now.core.now in_loop statement.now)) }
 {
     match statement {
@@ -169,7 +169,7 @@ fn walk_handlers(
         faults_of_handlers walk.now.core.now in_loop ends handlers.now ≡ []) }
     ensures first_fault { IfErr result (λ fault. (ends : List Exit)
         → AreThrown inner.old.words.items ends →
-        IsFirst (faults_of_handlers walk.now.core.now in_loop ends handlers.now) fault) }
+        IsFirstEndFault (faults_of_handlers walk.now.core.now in_loop ends handlers.now) fault) }
 {
     let mut exits = Exits::raising(Raised::Nothing);
     for handler in handlers {

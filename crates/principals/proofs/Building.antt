@@ -7,7 +7,7 @@ use Rattle.std.proofs.lemmas.List.Quantifiers.{all_pairs_push}
 use Rattle.std.proofs.lemmas.Option.{slice_get_within, none-some}
 use Rattle.lexer.specs.Terminal.{Terminal}
 use Rattle.principals.specs.ActsFor.{PrincipalHierarchy, AllDifferent}
-use Rattle.principals.specs.HierarchyText.{Entry, Declares, Relates, IsRefusal, Twice, Crowded, UnknownLeft, UnknownRight, AllAccepted, IsFirstRefusal, IsSaid, declared, written}
+use Rattle.principals.specs.HierarchyText.{Entry, Declares, Relates, IsEntryRefusal, Twice, Crowded, UnknownLeft, UnknownRight, AllAccepted, IsFirstRefusal, IsSaid, declared, written}
 use Rattle.std.proofs.Common.{take, drop}
 use Rattle.std.proofs.lemmas.List.{take-append-drop, drop_more, take_more, map-append, map_push}
 use Rattle.principals.specs.Reading.{Built, HaveNames, IsBuildFault, IsStatementsFault, entry_of, entries_of}
@@ -63,10 +63,10 @@ written-push_pair [] l r = refl
 written-push_pair (Declares first ∷ es) l r = written-push_pair es l r
 written-push_pair (Relates left right ∷ es) l r = ap (λ x. (left.text, right.text) ∷ x) (written-push_pair es l r)
 
-accepted-push : (es : List Entry) (e : Entry) → AllAccepted es → ((fault : HierFault) → IsRefusal (declared es) e fault → ⊥) → AllAccepted (es ++ e ∷ [])
+accepted-push : (es : List Entry) (e : Entry) → AllAccepted es → ((fault : HierFault) → IsEntryRefusal (declared es) e fault → ⊥) → AllAccepted (es ++ e ∷ [])
 accepted-push es e accepted not_refused before after entry fault parts refused =
     ⊎_elim
-    (λ last. not_refused fault (subst (λ x. IsRefusal (declared x) e fault) last.0 (subst (λ x. IsRefusal (declared before) x fault) last.1 refused)))
+    (λ last. not_refused fault (subst (λ x. IsEntryRefusal (declared x) e fault) last.0 (subst (λ x. IsEntryRefusal (declared before) x fault) last.1 refused)))
     (λ earlier. accepted before earlier.0 entry fault earlier.1 refused)
     (split_push es before after e entry parts)
 
@@ -104,11 +104,11 @@ different-push names name different new =
     all_pairs_push (λ first second. first ≢ second) names name different
     (λ k d l e. new (subst (λ x. Contains names x) e (Contains-get_or names k d l)))
 
-name_accepted : (names : List (List ℕ)) (name : Terminal) (fault : HierFault) → (Contains names name.text → ⊥) → length names < 256 → IsRefusal names (Declares name) fault → ⊥
+name_accepted : (names : List (List ℕ)) (name : Terminal) (fault : HierFault) → (Contains names name.text → ⊥) → length names < 256 → IsEntryRefusal names (Declares name) fault → ⊥
 name_accepted names name fault new room (Twice _ h) = new h
 name_accepted names name fault new room (Crowded _ h full) = absurd (omega arith)
 
-pair_accepted : (names : List (List ℕ)) (left right : Terminal) (fault : HierFault) → Contains names left.text → Contains names right.text → IsRefusal names (Relates left right) fault → ⊥
+pair_accepted : (names : List (List ℕ)) (left right : Terminal) (fault : HierFault) → Contains names left.text → Contains names right.text → IsEntryRefusal names (Relates left right) fault → ⊥
 pair_accepted names left right fault l r (UnknownLeft _ _ h) = h l
 pair_accepted names left right fault l r (UnknownRight _ _ h k) = k r
 
@@ -148,14 +148,14 @@ built_pair es names pairs left right a b built l r = record {
 
 -- the first entry that can't be added is the first refusal
 pub built_refused : (es after : List Entry) (names : List (List ℕ)) (pairs : List (ℕ × ℕ)) (entry : Entry) (fault : HierFault) → Built es names pairs →
-    IsRefusal names entry fault → IsFirstRefusal (es ++ entry ∷ after) fault
+    IsEntryRefusal names entry fault → IsFirstRefusal (es ++ entry ∷ after) fault
 built_refused es after names pairs entry fault built refused = record {
   before = es;
   entry = entry;
   after = after;
   entries_are = refl;
   accepted = built.accepted;
-  refused = subst (λ x. IsRefusal x entry fault) built.same_names refused;
+  refused = subst (λ x. IsEntryRefusal x entry fault) built.same_names refused;
 }
 
 -- when all entries are added the hierarchy is what they say

@@ -9,7 +9,7 @@ use Rattle.lexer.specs.Terminal.{Terminal}
 use Rattle.lexer.specs.declared.fault.LexFault.{LexFault}
 use Rattle.lexer.specs.declared.fault.LexFault.TheVariants as lex
 use Rattle.lexer.proofs.Listed.{listed, refused_at}
-use Rattle.principals.specs.HierarchyText.{Entry, Declares, Relates, Nonterminal, Derives, Finish, Declaration, Relation, OneMore, Last, IsRefusal, Twice, Crowded, UnknownLeft, UnknownRight, IsFirstRefusal, Says, IsLexFaultAt, IsSyntaxFault, HasBoundary}
+use Rattle.principals.specs.HierarchyText.{Entry, Declares, Relates, Nonterminal, Derives, Finish, Declaration, Relation, OneMore, Last, IsEntryRefusal, Twice, Crowded, UnknownLeft, UnknownRight, IsFirstRefusal, Says, IsLexFaultAt, IsSyntaxFault, HasBoundary}
 use Rattle.principals.specs.Reading.{IsReadFault}
 use Rattle.principals.specs.declared.fault.HierFault.{HierFault}
 use Rattle.principals.specs.declared.fault.HierFault.TheVariants as fault
@@ -48,7 +48,7 @@ middle : {X : Type 0} (P : X → Type 0) (before after : List X) (x : X) → All
 middle P [] after x h = h.0
 middle P (b ∷ before) after x h = middle P before after x h.1
 
-refusal_spot : (text : List ℕ) (names : List (List ℕ)) (entry : Entry) (f : HierFault) → EntryStartsIn text entry → IsRefusal names entry f → HasBoundary text f
+refusal_spot : (text : List ℕ) (names : List (List ℕ)) (entry : Entry) (f : HierFault) → EntryStartsIn text entry → IsEntryRefusal names entry f → HasBoundary text f
 refusal_spot text names entry f spot (Twice name h) = spot
 refusal_spot text names entry f spot (Crowded name h k) = spot
 refusal_spot text names entry f spot (UnknownLeft left right h) = spot.0

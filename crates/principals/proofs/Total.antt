@@ -5,14 +5,14 @@ use Rattle.std.proofs.lemmas.Bool.{cases_lt, false≢true}
 use Rattle.std.proofs.lemmas.List.Elements.{All-cons, All-nil}
 use Rattle.std.proofs.lemmas.Option.{slice_get_within}
 use Rattle.std.proofs.lemmas.Slice.Eq.{bytes_eq-Decides}
-use Rattle.lexer.specs.Cut.{IsCut, IsRefused}
+use Rattle.lexer.specs.Cut.{IsCut, IsTextRefused}
 use Rattle.lexer.specs.Terminal.{Terminal, IsTerminated}
 use Rattle.lexer.specs.declared.fault.LexFault.{LexFault}
 use Rattle.lexer.specs.declared.fault.LexFault.TheVariants as lex
 use Rattle.lexer.proofs.Listed.{listed}
 use Rattle.lexer.proofs.Total.{is_cut_or_refused}
 use Rattle.principals.specs.ActsFor.{PrincipalHierarchy, IsHierarchy, AllBelow, AllDifferent}
-use Rattle.principals.specs.HierarchyText.{Entry, Declares, Relates, IsHierarchyForm, IsUnexpectedAt, IsRefusal, Twice, Crowded, UnknownLeft, UnknownRight, IsFirstRefusal, IsSaid, declared, written, greatest_text, Says, IsHierarchyOf, IsRefusedText}
+use Rattle.principals.specs.HierarchyText.{Entry, Declares, Relates, IsHierarchyForm, IsUnexpectedInHierarchyAt, IsEntryRefusal, Twice, Crowded, UnknownLeft, UnknownRight, IsFirstRefusal, IsSaid, declared, written, greatest_text, Says, IsHierarchyOf, IsRefusedText}
 use Rattle.principals.specs.Laws.{HasOneHierarchy, IsReadOrRefused}
 use Rattle.principals.specs.Reading.{Built, HaveNames, ReadingState, Fresh, Ended, next, run, said}
 use Rattle.principals.specs.declared.fault.HierFault.{HierFault}
@@ -49,7 +49,7 @@ Outcome entries =
 -- one entry more is built, or refused
 record Refused (names : List (List ℕ)) (entry : Entry) : Type 0 where
   why : HierFault
-  refused : IsRefusal names entry why
+  refused : IsEntryRefusal names entry why
 
 one_entry : (es : List Entry) (names : List (List ℕ)) (pairs : List (ℕ × ℕ)) (entry : Entry) → Built es names pairs
     → ((more : List (List ℕ)) × (others : List (ℕ × ℕ)) × Built (es ++ entry ∷ []) more others) ⊎ Refused names entry
@@ -109,7 +109,7 @@ said_is_hierarchy es h is =
 -- ---- the form
 
 abbrev Formed : List Terminal → Type 0
-Formed tokens = ((es : List Entry) × IsHierarchyForm tokens es) ⊎ ((at : ℕ) × IsUnexpectedAt tokens at)
+Formed tokens = ((es : List Entry) × IsHierarchyForm tokens es) ⊎ ((at : ℕ) × IsUnexpectedInHierarchyAt tokens at)
 
 walk : (before rest : List Terminal) (s : ReadingState) (es : List Entry) → IsTerminated (before ++ rest) → run Fresh before ≡ Some (s, es) → Formed (before ++ rest)
 walk before [] s es terminated h =
@@ -147,14 +147,14 @@ form_outcome tokens terminated = walk [] tokens Fresh [] terminated refl
 abbrev Read : List ℕ → Type 0
 Read text = ((hierarchy : PrincipalHierarchy) × IsHierarchyOf text hierarchy) ⊎ ((f : HierFault) × IsRefusedText text f)
 
-refused_entry : (text : List ℕ) (es : List Entry) (names : List (List ℕ)) (entry : Entry) (f : HierFault) → IsRefusal names entry f
+refused_entry : (text : List ℕ) (es : List Entry) (names : List (List ℕ)) (entry : Entry) (f : HierFault) → IsEntryRefusal names entry f
     → Says text es → IsFirstRefusal es f → IsRefusedText text f
 refused_entry text es names entry f (Twice name h) says first = (es, says, first)
 refused_entry text es names entry f (Crowded name h full) says first = (es, says, first)
 refused_entry text es names entry f (UnknownLeft left right h) says first = (es, says, first)
 refused_entry text es names entry f (UnknownRight left right h k) says first = (es, says, first)
 
-not_lexed : (text : List ℕ) (f : LexFault) → length text ≤ greatest_text → IsRefused text f → Read text
+not_lexed : (text : List ℕ) (f : LexFault) → length text ≤ greatest_text → IsTextRefused text f → Read text
 not_lexed text lex.NoMemory fits r = absurd r.stuck
 not_lexed text (lex.NoToken at) fits r = inr (fault.Syntax at, (fits, inl (lex.NoToken at, r, refl)))
 not_lexed text (lex.LiteralTooLarge at) fits r = inr (fault.Syntax at, (fits, inl (lex.LiteralTooLarge at, r, refl)))

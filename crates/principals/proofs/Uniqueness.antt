@@ -8,7 +8,7 @@ use Rattle.lexer.specs.declared.fault.LexFault.{LexFault}
 use Rattle.lexer.specs.declared.fault.LexFault.TheVariants as lex
 use Rattle.lexer.proofs.Cutting.{has_one_cut, not_cut_and_refused, has_one_refusal}
 use Rattle.principals.specs.ActsFor.{PrincipalHierarchy, HasName, IsHierarchy}
-use Rattle.principals.specs.HierarchyText.{Entry, IsHierarchyForm, IsPrefixOfForm, IsUnexpectedAt, IsRefusal, Twice, Crowded, UnknownLeft, UnknownRight, IsFirstRefusal, IsSaid, declared, written, greatest_text, Says, IsHierarchyOf, IsLexFaultAt, IsSyntaxFault, IsRefusedText}
+use Rattle.principals.specs.HierarchyText.{Entry, IsHierarchyForm, IsPrefixOfForm, IsUnexpectedInHierarchyAt, IsEntryRefusal, Twice, Crowded, UnknownLeft, UnknownRight, IsFirstRefusal, IsSaid, declared, written, greatest_text, Says, IsHierarchyOf, IsLexFaultAt, IsSyntaxFault, IsRefusedText}
 use Rattle.principals.specs.Reading.{Ended, IsStatementsFault, IsReadFault}
 use Rattle.principals.specs.declared.fault.HierFault.{HierFault}
 use Rattle.principals.specs.declared.fault.HierFault.TheVariants as fault
@@ -37,7 +37,7 @@ two_places (a ∷ xs) (b ∷ ys) us vs x y h =
 
 -- ---- entries
 
-refused_once : (names : List (List ℕ)) (entry : Entry) (f g : HierFault) → IsRefusal names entry f → IsRefusal names entry g → f ≡ g
+refused_once : (names : List (List ℕ)) (entry : Entry) (f g : HierFault) → IsEntryRefusal names entry f → IsEntryRefusal names entry g → f ≡ g
 refused_once names entry f g (Twice name h) (Twice _ k) = refl
 refused_once names entry f g (Twice name h) (Crowded _ k l) = absurd (k h)
 refused_once names entry f g (Crowded name h l) (Twice _ k) = absurd (h k)
@@ -51,7 +51,7 @@ first_once : (es : List Entry) (f g : HierFault) → IsFirstRefusal es f → IsF
 first_once es f g a b =
     ⊎_elim
     (λ same. refused_once (declared a.before) a.entry f g a.refused
-    (subst (λ x. IsRefusal (declared x) a.entry g) (sym same.0) (subst (λ x. IsRefusal (declared b.before) x g) (sym same.1) b.refused)))
+    (subst (λ x. IsEntryRefusal (declared x) a.entry g) (sym same.0) (subst (λ x. IsEntryRefusal (declared b.before) x g) (sym same.1) b.refused)))
     (⊎_elim
     (λ later. absurd (b.accepted a.before later.0 a.entry f later.1 a.refused))
     (λ later. absurd (a.accepted b.before later.0 b.entry g later.1 b.refused)))
@@ -86,7 +86,7 @@ said_once es h k kept a b =
 form_once : (tokens : List Terminal) (es fs : List Entry) → IsHierarchyForm tokens es → IsHierarchyForm tokens fs → es ≡ fs
 form_once tokens es fs a b = (some_pair_parts Ended Ended es fs (sym (derived_is_read a) ∙ derived_is_read b)).1
 
-form_is_expected : (tokens : List Terminal) (es : List Entry) (at : ℕ) → IsHierarchyForm tokens es → IsUnexpectedAt tokens at → ⊥
+form_is_expected : (tokens : List Terminal) (es : List Entry) (at : ℕ) → IsHierarchyForm tokens es → IsUnexpectedInHierarchyAt tokens at → ⊥
 form_is_expected tokens es at form u =
     u.stops (record {
       more = u.after;
@@ -103,7 +103,7 @@ shorter_prefix front t between whole e b = record {
       (ap (λ x. x ++ b.more) e ∙ append_assoc front (t ∷ between) b.more ∙ sym (append_assoc front (t ∷ []) (between ++ b.more))) b.form;
 }
 
-unexpected_once : (tokens : List Terminal) (at other : ℕ) → IsUnexpectedAt tokens at → IsUnexpectedAt tokens other → at ≡ other
+unexpected_once : (tokens : List Terminal) (at other : ℕ) → IsUnexpectedInHierarchyAt tokens at → IsUnexpectedInHierarchyAt tokens other → at ≡ other
 unexpected_once tokens at other a b =
     ⊎_elim
     (λ same. a.place ∙ ap (λ t. t.start) same.1 ∙ sym b.place)
@@ -133,7 +133,7 @@ syntax_once text at other a b =
     b)
     (λ ta. ⊎_elim
     (λ lb. absurd (not_cut_and_refused text ta.0 lb.0 ta.1 lb.1))
-    (λ tb. unexpected_once ta.0 at other ta.2 (subst (λ x. IsUnexpectedAt x other) (has_one_cut text tb.0 ta.0 tb.1 ta.1) tb.2))
+    (λ tb. unexpected_once ta.0 at other ta.2 (subst (λ x. IsUnexpectedInHierarchyAt x other) (has_one_cut text tb.0 ta.0 tb.1 ta.1) tb.2))
     b)
     a
 
@@ -141,7 +141,7 @@ says_not_syntax : (text : List ℕ) (es : List Entry) (at : ℕ) → Says text e
 says_not_syntax text es at says s =
     ⊎_elim
     (λ l. not_cut_and_refused text says.tokens l.0 says.cut l.1)
-    (λ t. form_is_expected says.tokens es at says.form (subst (λ x. IsUnexpectedAt x at) (has_one_cut text t.0 says.tokens t.1 says.cut) t.2))
+    (λ t. form_is_expected says.tokens es at says.form (subst (λ x. IsUnexpectedInHierarchyAt x at) (has_one_cut text t.0 says.tokens t.1 says.cut) t.2))
     s
 
 -- the three ways in which a text is refused
@@ -202,7 +202,7 @@ hierarchy_once text h k kept a b =
 
 -- ---- what the entries' fault is of the text
 
-no_other_refusal : (names : List (List ℕ)) (entry : Entry) (f : HierFault) → IsRefusal names entry f → (f ≡ fault.TooLong → ⊥) × ((at : ℕ) → f ≡ fault.Syntax at → ⊥)
+no_other_refusal : (names : List (List ℕ)) (entry : Entry) (f : HierFault) → IsEntryRefusal names entry f → (f ≡ fault.TooLong → ⊥) × ((at : ℕ) → f ≡ fault.Syntax at → ⊥)
 no_other_refusal names entry f (Twice name h) = (λ e. cc, λ at e. cc)
 no_other_refusal names entry f (Crowded name h k) = (λ e. cc, λ at e. cc)
 no_other_refusal names entry f (UnknownLeft left right h) = (λ e. cc, λ at e. cc)

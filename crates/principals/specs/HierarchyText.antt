@@ -1,7 +1,7 @@
 -- The text of a principal hierarchy: its form, what it declares and writes, and the first refusal in it. Our own.
 use Rattle.std.specs.Prelude.{◌≡◌, ◌≢◌, ◌⊎◌, ℕ, ◌<◌, ◌≤◌, List, [], ◌∷◌, ◌++◌, length, codes, Contains, IsCharBoundary}
 use Rattle.std.specs.List.{AllZip}
-use Rattle.lexer.specs.Cut.{IsCut, IsRefused}
+use Rattle.lexer.specs.Cut.{IsCut, IsTextRefused}
 use Rattle.lexer.specs.Terminal.{Terminal}
 use Rattle.lexer.specs.declared.fault.LexFault.{LexFault}
 use Rattle.lexer.specs.declared.fault.LexFault.TheVariants.{NoMemory as LexNoMemory, NoToken, LiteralTooLarge, UnclosedComment}
@@ -59,7 +59,7 @@ pub record IsPrefixOfForm (front : List Terminal) : Type 0 where
   pub form : IsHierarchyForm (front ++ more) entries
 
 -- the first token with which no text of this form goes on begins at a byte
-pub record IsUnexpectedAt (tokens : List Terminal) (at : ℕ) : Type 0 where
+pub record IsUnexpectedInHierarchyAt (tokens : List Terminal) (at : ℕ) : Type 0 where
   pub before : List Terminal
   pub token : Terminal
   pub after : List Terminal
@@ -83,19 +83,19 @@ written (Declares name ∷ entries) = written entries
 written (Relates left right ∷ entries) = (left.text, right.text) ∷ written entries
 
 -- an entry is refused, where these names are declared before it; of two refusals of one entry the first is reported
-pub data IsRefusal (names : List (List ℕ)) : Entry → HierFault → Type 0 where
-  Twice : (name : Terminal) → Contains names name.text → IsRefusal names (Declares name) (DeclaredTwice name.start)
+pub data IsEntryRefusal (names : List (List ℕ)) : Entry → HierFault → Type 0 where
+  Twice : (name : Terminal) → Contains names name.text → IsEntryRefusal names (Declares name) (DeclaredTwice name.start)
   Crowded : (name : Terminal) → (Contains names name.text → ⊥) → 256 ≤ length names
-      → IsRefusal names (Declares name) (TooManyPrincipals name.start)
+      → IsEntryRefusal names (Declares name) (TooManyPrincipals name.start)
   UnknownLeft : (left right : Terminal) → (Contains names left.text → ⊥)
-      → IsRefusal names (Relates left right) (UnknownPrincipal left.start)
+      → IsEntryRefusal names (Relates left right) (UnknownPrincipal left.start)
   UnknownRight : (left right : Terminal) → Contains names left.text → (Contains names right.text → ⊥)
-      → IsRefusal names (Relates left right) (UnknownPrincipal right.start)
+      → IsEntryRefusal names (Relates left right) (UnknownPrincipal right.start)
 
 -- no entry is refused
 abbrev pub AllAccepted : List Entry → Type 0
 AllAccepted entries = (before after : List Entry) (entry : Entry) (fault : HierFault)
-    → entries ≡ before ++ entry ∷ after → IsRefusal (declared before) entry fault → ⊥
+    → entries ≡ before ++ entry ∷ after → IsEntryRefusal (declared before) entry fault → ⊥
 
 -- the first entry that is refused, and why
 pub record IsFirstRefusal (entries : List Entry) (fault : HierFault) : Type 0 where
@@ -104,7 +104,7 @@ pub record IsFirstRefusal (entries : List Entry) (fault : HierFault) : Type 0 wh
   pub after : List Entry
   pub entries_are : entries ≡ before ++ entry ∷ after
   pub accepted : AllAccepted before
-  pub refused : IsRefusal (declared before) entry fault
+  pub refused : IsEntryRefusal (declared before) entry fault
 
 -- the hierarchy that the entries say: its names are the declared ones, and its pairs are the numbers of the written ones
 pub record IsSaid (entries : List Entry) (hierarchy : PrincipalHierarchy) : Type 0 where
@@ -148,8 +148,8 @@ IsLexFaultAt (UnclosedComment place) at = at ≡ place
 -- a text without tokens, or the first token with which no text of this form goes on
 abbrev pub IsSyntaxFault : List ℕ → ℕ → Type 0
 IsSyntaxFault text at =
-    ((fault : LexFault) × IsRefused text fault × IsLexFaultAt fault at)
-    ⊎ ((tokens : List Terminal) × IsCut text tokens × IsUnexpectedAt tokens at)
+    ((fault : LexFault) × IsTextRefused text fault × IsLexFaultAt fault at)
+    ⊎ ((tokens : List Terminal) × IsCut text tokens × IsUnexpectedInHierarchyAt tokens at)
 
 -- the first refusal of a text; out of memory is none of the text's
 abbrev pub IsRefusedText : List ℕ → HierFault → Type 0

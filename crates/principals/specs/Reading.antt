@@ -6,7 +6,7 @@ use Rattle.std.specs.Option.{option_and_then}
 use Rattle.lexer.specs.Terminal.{Terminal, terminal_of}
 use Rattle.lexer.specs.declared.token.Kind.{Kind}
 use Rattle.lexer.specs.declared.token.Kind.TheVariants.{Name as NameKind, Comma as CommaKind, Semicolon as SemicolonKind, End as EndKind}
-use Rattle.principals.specs.HierarchyText.{Entry, Declares, Relates, IsUnexpectedAt, AllAccepted, IsFirstRefusal, IsRefusal, IsRefusedText, declared, written}
+use Rattle.principals.specs.HierarchyText.{Entry, Declares, Relates, IsUnexpectedInHierarchyAt, AllAccepted, IsFirstRefusal, IsEntryRefusal, IsRefusedText, declared, written}
 use Rattle.principals.specs.declared.fault.HierFault.{HierFault}
 use Rattle.principals.specs.declared.fault.HierFault.TheVariants as fault
 use Rattle.principals.specs.declared.reading.Role.{Role}
@@ -86,7 +86,7 @@ entries_of statements = map entry_of statements
 -- a fault of the form alone
 abbrev pub IsFormFault : List Terminal → HierFault → Type 0
 IsFormFault tokens fault.NoMemory = Unit {0}
-IsFormFault tokens (fault.Syntax at) = IsUnexpectedAt tokens at
+IsFormFault tokens (fault.Syntax at) = IsUnexpectedInHierarchyAt tokens at
 IsFormFault tokens _ = ⊥
 
 -- the pairs are the numbers of these pairs of names
@@ -105,7 +105,7 @@ pub record Built (entries : List Entry) (names : List (List ℕ)) (pairs : List 
 -- why an entry is not added: out of memory, or its refusal
 abbrev pub IsBuildFault : List (List ℕ) → Entry → HierFault → Type 0
 IsBuildFault names entry fault.NoMemory = Unit {0}
-IsBuildFault names entry other = IsRefusal names entry other
+IsBuildFault names entry other = IsEntryRefusal names entry other
 
 -- a fault of the entries alone
 abbrev pub IsStatementsFault : List Entry → HierFault → Type 0

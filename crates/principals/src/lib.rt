@@ -35,11 +35,11 @@ impl Model for Hierarchy {
 
     ghost Value = { PrincipalHierarchy };
 
-    ghost use Rattle.principals.specs.Inside.{hierarchy_of, IsKept};
+    ghost use Rattle.principals.specs.Inside.{hierarchy_of, IsKeptHierarchy};
 
     ghost view = { hierarchy_of };
 
-    ghost invariant = { IsKept };
+    ghost invariant = { IsKeptHierarchy };
 }
 
 impl Clone for Hierarchy {

@@ -15,7 +15,7 @@ use Rattle.labels.proofs.Tests.{flows-decides, covers-decides}
 use Rattle.labels.proofs.Elements.{each_from_All}
 use Rattle.resolved.specs.Program.{Program}
 use Rattle.resolved.specs.Labelled.{Unwritten, OfLocal, OfLoop, Demand, chosen, Labelled, program_demands}
-use Rattle.resolved.specs.Flow.{IsFlowChain, IsRefused, AreLeast, Gathered, AreGathered, IsUncovered, reported_step}
+use Rattle.resolved.specs.Flow.{IsFlowChain, IsProgramRefused, AreLeast, Gathered, AreGathered, IsUncovered, reported_step}
 
 pub same_unwritten : Unwritten → Unwritten → Bool
 same_unwritten (OfLocal f n) (OfLocal g m) = (f == g) && (n == m)
@@ -94,14 +94,14 @@ least-decide program labels least = (
 
 -- every program is labelled or refused
 pub labelled-or_refused : (program : Program) →
-    Labelled program ⊎ ((policy : ReaderPolicy) × (chain : List Demand) × (last : Demand) × IsRefused program policy chain last)
+    Labelled program ⊎ ((policy : ReaderPolicy) × (chain : List Demand) × (last : Demand) × IsProgramRefused program policy chain last)
 labelled-or_refused program =
     ⊎_elim (λ found. inr (refused found.0 found.1 found.2 found.3)) (λ none. inl (labelled none))
     (found-or (λ (d : Demand). is_written d.right && not (holds (label_lattice program.hierarchy) (least_labels program) d)) (program_demands program))
   where
     refused : (last : Demand) → first_unmet (label_lattice program.hierarchy) (program_demands program) (least_labels program) ≡ Some last →
         Contains (program_demands program) last → (is_written last.right && not (holds (label_lattice program.hierarchy) (least_labels program) last)) ≡ true →
-        (policy : ReaderPolicy) × (chain : List Demand) × (d : Demand) × IsRefused program policy chain d
+        (policy : ReaderPolicy) × (chain : List Demand) × (d : Demand) × IsProgramRefused program policy chain d
     refused last first there e = by_right last.right refl (and_parts (is_written last.right) (not (holds (label_lattice program.hierarchy) (least_labels program) last)) e)
       where
         fails : (b : Bool) → not b ≡ true → b ≡ false
@@ -109,7 +109,7 @@ labelled-or_refused program =
         fails true f = let i : false ≡ true = f in absurd (cc)
 
         by_right : (r : Atom Unwritten Label) → last.right ≡ r → (is_written last.right ≡ true) × (not (holds (label_lattice program.hierarchy) (least_labels program) last) ≡ true) →
-            (policy : ReaderPolicy) × (chain : List Demand) × (d : Demand) × IsRefused program policy chain d
+            (policy : ReaderPolicy) × (chain : List Demand) × (d : Demand) × IsProgramRefused program policy chain d
         by_right (Unknown u) is parts = let i : false ≡ true = sym (ap is_written is) ∙ parts.0 in absurd (cc)
         by_right (Written to) is parts =
             let found = unmet-chain same_unwritten unwritten-same unwritten-itself (label_lattice program.hierarchy) (IsLattice-flows program.hierarchy)
@@ -172,12 +172,12 @@ policy-in_left labels (atom ∷ rest) policy there =
 pub refused-by : (program : Program) (last : Demand) (policy : ReaderPolicy) (to : Label) →
     first_unmet (label_lattice program.hierarchy) (program_demands program) (least_labels program) ≡ Some last → Contains (program_demands program) last →
     last.right ≡ Written to → Contains (join_of (λ a b. a ++ b) [] (least_labels program) last.left) policy → (¬ Covers program.hierarchy to policy) →
-    (chain : List Demand) × IsRefused program policy chain last
+    (chain : List Demand) × IsProgramRefused program policy chain last
 refused-by program last policy to first there is policy_of uncovered =
     let found = policy-in_left (least_labels program) last.left policy policy_of in by_part found.0 found.1 found.2
   where
     made : (from : Label) (chain : List Demand) → Contains from policy → Linked (program_demands program) (Written from) chain last →
-        (chain : List Demand) × IsRefused program policy chain last
+        (chain : List Demand) × IsProgramRefused program policy chain last
     made from chain k linked = (
       chain,
       record {
@@ -189,7 +189,7 @@ refused-by program last policy to first there is policy_of uncovered =
     )
 
     by_part : (atom : Atom Unwritten Label) → Contains last.left atom → Contains (value (least_labels program) atom) policy →
-        (chain : List Demand) × IsRefused program policy chain last
+        (chain : List Demand) × IsProgramRefused program policy chain last
     by_part (Written from) part k = made from (last ∷ []) k (ends (Written from) last there part)
     by_part (Unknown u) part k =
         let found = policy-in_all (reaching same_unwritten unwritten-same unwritten-itself (program_demands program) u) policy program.hierarchy k in
@@ -243,7 +243,7 @@ module _ (program : Program) (cs : List Gathered) (gathered : AreGathered progra
 
   pub gathered-refused : (from : Label) (chain : List Gathered) (last : Gathered) (policy : ReaderPolicy) →
       IsRefusedAt (label_lattice program.hierarchy) cs from chain last → Contains from policy → IsUncovered program.hierarchy last.right policy →
-      (there : List Demand) × (d : Demand) × IsRefused program policy there d × StandsFor gathered.number gathered.inner cs d last
+      (there : List Demand) × (d : Demand) × IsProgramRefused program policy there d × StandsFor gathered.number gathered.inner cs d last
       × (reported_gathered reported_step chain ≡ reported_steps reported_step there)
   gathered-refused from chain last policy refused policy_of uncovered =
       let found = refused-same (program_demands program) cs gathered (label_lattice program.hierarchy) (IsLattice-flows program.hierarchy)
@@ -252,7 +252,7 @@ module _ (program : Program) (cs : List Gathered) (gathered : AreGathered progra
     where
       made : (d : Demand) (there : List Demand) → IsRefusedAt (label_lattice program.hierarchy) (program_demands program) from there d →
           StandsFor gathered.number gathered.inner cs d last → OneByOne gathered.number gathered.inner cs there (outer gathered.inner chain) →
-          (there : List Demand) × (d : Demand) × IsRefused program policy there d × StandsFor gathered.number gathered.inner cs d last
+          (there : List Demand) × (d : Demand) × IsProgramRefused program policy there d × StandsFor gathered.number gathered.inner cs d last
           × (reported_gathered reported_step chain ≡ reported_steps reported_step there)
       made d there is stands one = (
         there,

@@ -30,7 +30,7 @@ FlowBothWays program labels others =
     → IsTrue (flows program.hierarchy (labels u) (others u)) × IsTrue (flows program.hierarchy (others u) (labels u))
 
 -- a program that is refused at a demand, with a chain that ends there
-pub record IsRefused (program : Program) (policy : ReaderPolicy) (chain : List Demand) (last : Demand) : Type 0 where
+pub record IsProgramRefused (program : Program) (policy : ReaderPolicy) (chain : List Demand) (last : Demand) : Type 0 where
   pub labels : Unwritten → Label
   pub least : AreLeast program labels
   pub first : first_unmet (label_lattice program.hierarchy) (program_demands program) labels ≡ Some last

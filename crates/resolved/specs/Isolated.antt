@@ -3,7 +3,7 @@
 use Rattle.std.specs.Prelude.{◌≡◌, ℕ, ◌<◌, length, ◌⊎◌, IsTrue}
 use Rattle.principals.specs.ActsFor.{PrincipalHierarchy}
 use Rattle.labels.specs.Label.{Label, may_read}
-use Rattle.labels.specs.Sent.{IsPrefix, seen}
+use Rattle.labels.specs.Sent.{IsPrefix, pairs_for}
 use Rattle.resolved.specs.declared.tables.Direction.TheVariants.{Input}
 use Rattle.resolved.specs.Program.{Program, channel_at}
 use Rattle.resolved.specs.SourceState.{World}
@@ -23,8 +23,8 @@ Agree h label_of program p first second =
 abbrev pub IsolatedUnder : PrincipalHierarchy → (ℕ → Label) → Program → Type 0
 IsolatedUnder h label_of program =
     (p : ℕ) (first second : World) → Agree h label_of program p first second → (k m : ℕ)
-    → IsPrefix (seen h label_of p (sent_by program first k)) (seen h label_of p (sent_by program second m))
-    ⊎ IsPrefix (seen h label_of p (sent_by program second m)) (seen h label_of p (sent_by program first k))
+    → IsPrefix (pairs_for h label_of p (sent_by program first k)) (pairs_for h label_of p (sent_by program second m))
+    ⊎ IsPrefix (pairs_for h label_of p (sent_by program second m)) (pairs_for h label_of p (sent_by program first k))
 
 -- an isolated program, under its own hierarchy and labels
 abbrev pub Isolated : Program → Type 0

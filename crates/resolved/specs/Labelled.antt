@@ -342,13 +342,13 @@ abbrev pub join_under : Labelling → Join → Label
 join_under labelling join = join_of (λ a b. a ++ b) [] (chosen labelling) join
 
 -- demands that hold under a labelling
-abbrev pub Fits : PrincipalHierarchy → Labelling → List Demand → Type 0
-Fits h labelling demands = FitsAll (label_lattice h) demands (chosen labelling)
+abbrev pub FitsDemands : PrincipalHierarchy → Labelling → List Demand → Type 0
+FitsDemands h labelling demands = FitsAll (label_lattice h) demands (chosen labelling)
 
 -- labels of the locals make every procedure labelled: there are labels for the loops with which all demands hold
 abbrev pub MakeLabelled : Program → Locals → Type 0
 MakeLabelled program locals =
-    (loops : Loops) × Fits program.hierarchy (record { locals = locals; loops = loops }) (program_demands program)
+    (loops : Loops) × FitsDemands program.hierarchy (record { locals = locals; loops = loops }) (program_demands program)
 
 -- a labelled program: some labels of the locals make every procedure labelled
 abbrev pub Labelled : Program → Type 0

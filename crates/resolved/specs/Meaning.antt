@@ -163,13 +163,13 @@ cells_of None v = v ∷ []
 cells_of (Some length) v = replicate length v
 
 -- the cells of a slot of a new frame: the argument of a parameter, and 0 or `false` of a local
-abbrev pub slot_cells : Option SlotEntry → Option Value → List Value
-slot_cells None argument = []
-slot_cells (Some slot) (Some v) = v ∷ []
-slot_cells (Some slot) None = cells_of slot.size (zero_value slot.base)
+abbrev pub first_cells_of_slots : Option SlotEntry → Option Value → List Value
+first_cells_of_slots None argument = []
+first_cells_of_slots (Some slot) (Some v) = v ∷ []
+first_cells_of_slots (Some slot) None = cells_of slot.size (zero_value slot.base)
 
 abbrev pub frame_of : List SlotEntry → List Value → ℕ → List Value
-frame_of slots arguments n = slot_cells (slice_get slots n) (slice_get arguments n)
+frame_of slots arguments n = first_cells_of_slots (slice_get slots n) (slice_get arguments n)
 
 -- the state at the begin of a call: the frame is new
 abbrev pub entering : ProcedureEntry → List Value → SourceState → SourceState
@@ -184,9 +184,9 @@ calls_with program k (suc frames) procedure arguments s =
     (entering (procedure_at program procedure) arguments s))
 
 -- the cells of a global at first: its first value, or 0 or `false` in each element
-abbrev pub global_cells : Option GlobalEntry → List Value
-global_cells None = []
-global_cells (Some entry) = cells_of entry.size entry.first
+abbrev pub first_cells_of_globals : Option GlobalEntry → List Value
+first_cells_of_globals None = []
+first_cells_of_globals (Some entry) = cells_of entry.size entry.first
 
 abbrev pub numbers_by : Direction → List ℤ → List ℤ
 numbers_by Input numbers = numbers
@@ -200,7 +200,7 @@ channel_numbers (Some entry) numbers = numbers_by entry.direction numbers
 -- the state in which a run begins
 abbrev pub first_state : Program → World → SourceState
 first_state program world = record {
-  globals = λ n. global_cells (slice_get program.globals n);
+  globals = λ n. first_cells_of_globals (slice_get program.globals n);
   locals = λ n. [];
   inputs = λ channel. channel_numbers (slice_get program.channels channel) (world channel);
   sent = [];

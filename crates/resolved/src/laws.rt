@@ -1,7 +1,7 @@
 //! Laws of the definitions, each the contract of a function that does nothing.
 ghost use Rattle.labels.specs.Constraints.{FitsAll, IsRefusedAt, StandsFor, label_lattice, reported_gathered, reported_steps};
 ghost use Rattle.labels.specs.Label.{Label, ReaderPolicy};
-ghost use Rattle.resolved.specs.Flow.{AreGathered, AreLeast, FlowBothWays, Gathered, IsFlowChain, IsRefused, IsUncovered, reported_step};
+ghost use Rattle.resolved.specs.Flow.{AreGathered, AreLeast, FlowBothWays, Gathered, IsFlowChain, IsProgramRefused, IsUncovered, reported_step};
 ghost use Rattle.resolved.specs.Kinds.{MeaningKeepsTypes, RunsBeginTyped, ValuesHaveTheirTypes};
 ghost use Rattle.resolved.specs.Labelled.{Demand, Labelled, Unwritten, program_demands};
 ghost use Rattle.resolved.specs.Precise.{IsAcceptable, handler_of_one, raising_argument, short_circuit, two_normal_ends};
@@ -30,7 +30,7 @@ pub fn programs_are_labelled_or_refused()
         Labelled program
         ↔ FitsAll (label_lattice program.hierarchy) (program_demands program) labels }
     ensures either { (program : Program) → Labelled program ⊎ ((policy : ReaderPolicy)
-        × (chain : List Demand) × (last : Demand) × IsRefused program policy chain last) }
+        × (chain : List Demand) × (last : Demand) × IsProgramRefused program policy chain last) }
     ensures ruled_out { (program : Program) (policy : ReaderPolicy) (chain : List Demand)
         (last : Demand) → IsFlowChain program policy chain last → Labelled program → ⊥ }
 {}
@@ -46,7 +46,7 @@ pub fn gathered_constraints_decide()
         (from : Label) (chain : List Gathered) (last : Gathered) (policy : ReaderPolicy) →
         IsRefusedAt (label_lattice program.hierarchy) cs from chain last → Contains from policy →
         IsUncovered program.hierarchy last.right policy →
-        (there : List Demand) × (d : Demand) × IsRefused program policy there d
+        (there : List Demand) × (d : Demand) × IsProgramRefused program policy there d
         × StandsFor gathered.number gathered.inner cs d last
         × (reported_gathered reported_step chain ≡ reported_steps reported_step there) }
 {}

@@ -8,7 +8,7 @@ use crate::fault::LineFault;
 use crate::line::words_of;
 use crate::texts::Texts;
 use channels::Device;
-use flowc::{Outcome, Task, TaskFault, perform, task};
+use flowc::{Task, TaskFault, TaskResult, perform, task};
 use std::alloc::Global;
 
 /// Answers a command line, whose files are texts. The bytes that it leaves for a file become the text of that name.
@@ -59,7 +59,7 @@ fn answer_files(
     asked: &Task,
     files: &[Vec<u8>],
     answer: &mut Vec<u8>,
-) -> Result<Outcome, LineFault>
+) -> Result<TaskResult, LineFault>
     requires files { length files.now ≡ files_of asked.now }
 {
     let mut out = Device::new(Vec::new(alloc));
@@ -72,7 +72,7 @@ fn answer_files(
 }
 
 // A module becomes a text. Where a build makes none, no text has the name.
-fn keep(texts: &mut Texts, asked: &Task, outcome: Outcome) -> Result<(), LineFault> {
+fn keep(texts: &mut Texts, asked: &Task, outcome: TaskResult) -> Result<(), LineFault> {
     let Task::Build { out, .. } = asked else {
         return Ok(());
     };

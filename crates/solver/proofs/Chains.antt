@@ -1,7 +1,7 @@
 -- The way back along a trail.
 use Rattle.std.proofs.Common.{◌≡◌, refl, sym, ap, ◌∙◌, subst, ℕ, suc, ◌<◌, ◌≤◌, ◌-◌, length, get_or, List, [], ◌∷◌, ◌++◌, reverse, arith}
 use Rattle.std.proofs.lemmas.List.{reverse-append}
-use Rattle.solver.specs.Reach.{CameFrom, EndsAt, IsTrail, Leads, LeadsOn, ParentsFall, earlier, ends, goes_on, itself, nothing_found}
+use Rattle.solver.specs.Reach.{CameFrom, EndsAt, IsTrail, LeadsTo, LeadsOn, ParentsFall, earlier, ends, goes_on, itself, nothing_found}
 use Rattle.solver.specs.declared.edges.Edges.{Edges}
 use Rattle.solver.specs.declared.search.Found.{Found}
 use Rattle.solver.specs.declared.system.Atom.{Atom}
@@ -39,7 +39,7 @@ step_back edges n found _ chain last to x pos is trail _ (earlier p u h e) leads
       came = subst (λ (y : Found). CameFrom n found (length found) y.parent step.from) x_is (came-after n found p _ step.from (omega (arith, h)) step.came);
       leads = subst (λ c. LeadsOn edges step.from c last to) (sym (reverse-push chain x.by))
           (goes_on step.from to x.by u last (reverse chain)
-          (subst (λ w. Leads edges step.from x.by (Unknown w)) e (subst (λ (y : Found). Leads edges step.from y.by (Unknown (get_or found p nothing_found).unknown)) x_is step.leads)) leads);
+          (subst (λ w. LeadsTo edges step.from x.by (Unknown w)) e (subst (λ (y : Found). LeadsTo edges step.from y.by (Unknown (get_or found p nothing_found).unknown)) x_is step.leads)) leads);
     }
 
 pub walks-step : (found : List Found) (parent at : ℕ) (chain : List ℕ) (last : ℕ) (x : Found) → 0 < at → x ≡ get_or found (at - 1) nothing_found →

@@ -5,7 +5,7 @@ use Rattle.std.proofs.lemmas.Bool.{eqb-true, eqb-false, or_cases}
 use Rattle.std.proofs.lemmas.List.{take_more, length_push}
 use Rattle.std.proofs.lemmas.List.Folds.{list_any-append}
 use Rattle.solver.specs.Bits.{has_bit}
-use Rattle.solver.specs.Breaker.{AreKept, BreaksSides, IsBreakerOf, IsFirstBreaker, IsKept, IsKnown, NoneBreaks, nothing, some}
+use Rattle.solver.specs.Breaker.{AreKept, BreaksSides, IsBreakerOf, IsFirstBreaker, IsKeptRow, IsKnown, NoneBreaks, nothing, some}
 use Rattle.solver.specs.Rows.{atom_has, left_has}
 use Rattle.solver.specs.declared.row.Row.{Row}
 use Rattle.solver.specs.declared.system.Atom.{Atom}
@@ -34,13 +34,13 @@ known-more below words words' n to known members fine m has =
     (or_cases (m == n) (has_bit words m) (sym (members m) ∙ has))
 
 -- what is kept of an element, as a row
-pub kept-count : (below : ℕ → ℕ → Bool) (count to : ℕ) (row : Row) → IsKept below count to (Some row) → row.count ≡ count
+pub kept-count : (below : ℕ → ℕ → Bool) (count to : ℕ) (row : Row) → IsKeptRow below count to (Some row) → row.count ≡ count
 kept-count below count to row (some _ e known) = e
 
-pub kept-known : (below : ℕ → ℕ → Bool) (count to : ℕ) (row : Row) → IsKept below count to (Some row) → IsKnown below row.words.items to
+pub kept-known : (below : ℕ → ℕ → Bool) (count to : ℕ) (row : Row) → IsKeptRow below count to (Some row) → IsKnown below row.words.items to
 kept-known below count to row (some _ e known) = known
 
-pub kept-new : (below : ℕ → ℕ → Bool) (count to : ℕ) (row : Row) → row.count ≡ count → ((n : ℕ) → has_bit row.words.items n ≡ false) → IsKept below count to (Some row)
+pub kept-new : (below : ℕ → ℕ → Bool) (count to : ℕ) (row : Row) → row.count ≡ count → ((n : ℕ) → has_bit row.words.items n ≡ false) → IsKeptRow below count to (Some row)
 kept-new below count to row e none = some row e (λ n has. let no : true ≡ false = sym has ∙ none n in absurd (cc))
 
 -- what is known of no element
@@ -61,22 +61,22 @@ kept-push below count (k ∷ known) kept to d h = go to h
     push-last [] = refl
     push-last (x ∷ xs) = push-last xs
 
-    go : (i : ℕ) → i < length ((k ∷ known) ++ None ∷ []) → IsKept below count i (get_or ((k ∷ known) ++ None ∷ []) i d)
+    go : (i : ℕ) → i < length ((k ∷ known) ++ None ∷ []) → IsKeptRow below count i (get_or ((k ∷ known) ++ None ∷ []) i d)
     go i h' =
-        ⊎_elim (λ lt. subst (λ (o : Option Row). IsKept below count i o) (sym (push-before (k ∷ known) i lt)) (kept i d lt))
-        (λ last. subst (λ (o : Option Row). IsKept below count i o) (sym (ap (λ j. get_or ((k ∷ known) ++ None ∷ []) j d) last ∙ push-last (k ∷ known))) nothing)
+        ⊎_elim (λ lt. subst (λ (o : Option Row). IsKeptRow below count i o) (sym (push-before (k ∷ known) i lt)) (kept i d lt))
+        (λ last. subst (λ (o : Option Row). IsKeptRow below count i o) (sym (ap (λ j. get_or ((k ∷ known) ++ None ∷ []) j d) last ∙ push-last (k ∷ known))) nothing)
         (one (k ∷ known) i h')
 
-pub kept-set : (below : ℕ → ℕ → Bool) (count : ℕ) (known : List (Option Row)) (at : ℕ) (o : Option Row) → AreKept below count known → IsKept below count at o → at < length known →
-    (to : ℕ) (d : Option Row) → to < length known → IsKept below count to (get_or (set known at o) to d)
+pub kept-set : (below : ℕ → ℕ → Bool) (count : ℕ) (known : List (Option Row)) (at : ℕ) (o : Option Row) → AreKept below count known → IsKeptRow below count at o → at < length known →
+    (to : ℕ) (d : Option Row) → to < length known → IsKeptRow below count to (get_or (set known at o) to d)
 kept-set below count known at o kept one h to d lt = go (nat_eq to at) refl
   where
-    go : (t : Bool) → nat_eq to at ≡ t → IsKept below count to (get_or (set known at o) to d)
+    go : (t : Bool) → nat_eq to at ≡ t → IsKeptRow below count to (get_or (set known at o) to d)
     go true e =
         let is : to ≡ at = eqb-true to at e in
-        subst (λ (x : Option Row). IsKept below count to x) (sym (ap (λ j. get_or (set known at o) j d) is ∙ get_or-set_same known at o d h))
-        (subst (λ j. IsKept below count j o) (sym is) one)
-    go false e = subst (λ (x : Option Row). IsKept below count to x) (sym (get_or-set_other known at to o d (eqb-false to at e))) (kept to d lt)
+        subst (λ (x : Option Row). IsKeptRow below count to x) (sym (ap (λ j. get_or (set known at o) j d) is ∙ get_or-set_same known at o d h))
+        (subst (λ j. IsKeptRow below count j o) (sym is) one)
+    go false e = subst (λ (x : Option Row). IsKeptRow below count to x) (sym (get_or-set_other known at to o d (eqb-false to at e))) (kept to d lt)
 
 -- ---- the constraints one by one
 slice_get-at : {X : Type 0} (xs : List X) (i : ℕ) (x d : X) → slice_get xs i ≡ Some x → get_or xs i d ≡ x

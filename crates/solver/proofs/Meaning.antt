@@ -10,7 +10,7 @@ use Rattle.labels.specs.Constraints as formal
 use Rattle.solver.specs.Broken.{written_at}
 use Rattle.solver.specs.Links.{AreBelow, InRange, IsBelow, Link, edges_at, left_links, link, links_of, same}
 use Rattle.solver.specs.Reach as reach
-use Rattle.solver.specs.Reach.{Leads, ReachesBy, edge, row_of}
+use Rattle.solver.specs.Reach.{LeadsTo, ReachesBy, edge, row_of}
 use Rattle.solver.specs.System.{atom_of, constraint_of}
 use Rattle.solver.specs.declared.edges.Edge.{Edge}
 use Rattle.solver.specs.declared.edges.Edges.{Edges}
@@ -148,13 +148,13 @@ links_of-has {T} k (d ∷ cs) (suc i) c from at part =
 pub record AreEdges {T : Type 0} (cs : List (Constraint T)) (edges : Edges) : Type 0 where
   pub row : (from : Atom) → row_of edges from ≡ edges_at from (links_of 0 cs)
 
-pub leads-part : {T : Type 0} (cs : List (Constraint T)) (edges : Edges) → AreEdges cs edges → (from : Atom) (by : ℕ) (to : Atom) → Leads edges from by to → IsPart cs by from to
+pub leads-part : {T : Type 0} (cs : List (Constraint T)) (edges : Edges) → AreEdges cs edges → (from : Atom) (by : ℕ) (to : Atom) → LeadsTo edges from by to → IsPart cs by from to
 leads-part {T} cs edges are from by to h =
     let found = links_of-only 0 cs from by to (edges_at-only from by to (links_of 0 cs) (subst (λ es. Contains es (edge by to)) (are.row from) h)) in
     subst (λ i. IsPart cs i from to) (sym (found.1 ∙ zero-add found.0)) found.2
 
 pub part-leads : {T : Type 0} (cs : List (Constraint T)) (edges : Edges) → AreEdges cs edges → (i : ℕ) (c : Constraint T) (from : Atom) → slice_get cs i ≡ Some c →
-    Contains c.left.items from → Leads edges from i c.right
+    Contains c.left.items from → LeadsTo edges from i c.right
 part-leads {T} cs edges are i c from at part =
     subst (λ es. Contains es (edge i c.right)) (sym (are.row from))
     (edges_at-has from i c.right (links_of 0 cs) (subst (λ n. Contains (links_of 0 cs) (link from n c.right)) (zero-add i) (links_of-has 0 cs i c from at part)))
@@ -213,7 +213,7 @@ module _ {T V : Type 0} (l : Lattice V) (table : List V) (cs : List (Constraint 
         number.0,
         in_table c number.0 source.1 here,
         number.2,
-        reach.directly at.0 u (subst (λ r. Leads edges (Written number.0) at.0 r) right (part-leads cs edges are at.0 c (Written number.0) at.1 here)),
+        reach.directly at.0 u (subst (λ r. LeadsTo edges (Written number.0) at.0 r) right (part-leads cs edges are at.0 c (Written number.0) at.1 here)),
       )
   reaches-from v u (formal.onward d w _ r h from is) =
       let before = reaches-from v w r in
@@ -226,5 +226,5 @@ module _ {T V : Type 0} (l : Lattice V) (table : List V) (cs : List (Constraint 
         before.0,
         before.1,
         before.2,
-        reach.onward at.0 w u before.3 (subst (λ r. Leads edges (Unknown w) at.0 r) right (part-leads cs edges are at.0 c (Unknown w) at.1 here)),
+        reach.onward at.0 w u before.3 (subst (λ r. LeadsTo edges (Unknown w) at.0 r) right (part-leads cs edges are at.0 c (Unknown w) at.1 here)),
       )

@@ -5,7 +5,7 @@ use Rattle.std.proofs.lemmas.List.Elements.{Contains-append_left, Contains-appen
 use Rattle.solver.specs.Breaker.{Arrives, BreaksAlong, IsBreakChain, itself, onward}
 use Rattle.solver.specs.Broken.{candidates, earliest, found_candidates}
 use Rattle.solver.specs.Reach as reach
-use Rattle.solver.specs.Reach.{EndsAt, IsTrace, IsTrail, Leads, LeadsOn, nothing_found, row_of}
+use Rattle.solver.specs.Reach.{EndsAt, IsTrace, IsTrail, LeadsTo, LeadsOn, nothing_found, row_of}
 use Rattle.solver.specs.declared.broken.Broken.{Broken}
 use Rattle.solver.specs.declared.edges.Edges.{Edges}
 use Rattle.solver.specs.declared.search.Found.{Found}
@@ -15,7 +15,7 @@ use Rattle.solver.proofs.Candidates.{IsOfEdge, broken, candidates-has, candidate
 
 module _ (edges : Edges) (below : ℕ → ℕ → Bool) (n : ℕ) (found : List Found) (trace : IsTrace edges n found) where
   -- what it breaks is a candidate
-  breaks-candidate : (i to : ℕ) (from : Atom) → Arrives edges n from → Leads edges from i (Written to) → below n to ≡ false →
+  breaks-candidate : (i to : ℕ) (from : Atom) → Arrives edges n from → LeadsTo edges from i (Written to) → below n to ≡ false →
       (b : Broken) × Contains (of_value edges below n found) b × (b.by ≡ i)
   breaks-candidate i to _ itself leads fails = (
     broken n 0 i to,
@@ -26,7 +26,7 @@ module _ (edges : Edges) (below : ℕ → ℕ → Bool) (n : ℕ) (found : List 
   breaks-candidate i to _ (onward u r) leads fails =
       let has = trace.complete u r in
       let k = has.0 in
-      let leads' : Leads edges (Unknown (get_or found k nothing_found).unknown) i (Written to) = subst (λ w. Leads edges (Unknown w) i (Written to)) (sym has.2) leads in
+      let leads' : LeadsTo edges (Unknown (get_or found k nothing_found).unknown) i (Written to) = subst (λ w. LeadsTo edges (Unknown w) i (Written to)) (sym has.2) leads in
       let b = broken n (suc (0 + k)) i to in (
         b,
         Contains-append_right (candidates below n 0 (row_of edges (Written n))) (found_candidates edges below n 0 found) b

@@ -8,7 +8,7 @@ use Rattle.principals.proofs.Closure.{none_in_nil, Contains-cons_cases, Contains
 use Rattle.std.specs.Global.{Global}
 use Rattle.std.specs.declared.vec.Vec.{Vec}
 use Rattle.solver.proofs.Rows.{row_at-slice}
-use Rattle.solver.specs.Reach.{AllMarked, CameFrom, Grows, Has, IsStep, IsTrace, IsTrail, Leads, ReachesBy, LeadInside, LeadsInside, directly, earlier, edge, itself, more, nothing_found, onward, row_of, same}
+use Rattle.solver.specs.Reach.{AllMarked, CameFrom, Grows, Has, IsStep, IsTrace, IsTrail, LeadsTo, ReachesBy, LeadInside, LeadsInside, directly, earlier, edge, itself, more, nothing_found, onward, row_of, same}
 use Rattle.solver.specs.declared.edges.Edge.{Edge}
 use Rattle.solver.specs.declared.edges.Edges.{Edges}
 use Rattle.solver.specs.declared.search.Found.{Found}
@@ -184,11 +184,11 @@ step-kept edges n found found' k at h step =
     record {
       from = step.from;
       came = subst (λ (x : Found). CameFrom n found' k x.parent step.from) e (came-kept at (omega (arith, h)) (omega arith) step.came);
-      leads = subst (λ (x : Found). Leads edges step.from x.by (Unknown x.unknown)) e step.leads;
+      leads = subst (λ (x : Found). LeadsTo edges step.from x.by (Unknown x.unknown)) e step.leads;
     }
 
 trail-push : (edges : Edges) (n : ℕ) (found : List Found) (x : Found) (from : Atom) → IsTrail edges n found → CameFrom n found (length found) x.parent from →
-    Leads edges from x.by (Unknown x.unknown) → IsTrail edges n (found ++ x ∷ [])
+    LeadsTo edges from x.by (Unknown x.unknown) → IsTrail edges n (found ++ x ∷ [])
 trail-push edges n found x from trail came leads k h =
     let at : (k : ℕ) → k < length found → get_or (found ++ x ∷ []) k nothing_found ≡ get_or found k nothing_found = λ k h. at-push found x k h in
     ⊎_elim
@@ -198,12 +198,12 @@ trail-push edges n found x from trail came leads k h =
     record {
       from = from;
       came = subst (λ (y : Found). CameFrom n (found ++ x ∷ []) k y.parent from) e (came-kept at (omega arith) (omega (arith, last)) came);
-      leads = subst (λ (y : Found). Leads edges from y.by (Unknown y.unknown)) e leads;
+      leads = subst (λ (y : Found). LeadsTo edges from y.by (Unknown y.unknown)) e leads;
     })
     (lt_or_last k (length found) (omega (arith, h, length_push found x)))
 
 grows-trail : (edges : Edges) (n : ℕ) (row : List Edge) (parent : ℕ) (marks : List Bool) (found : List Found) (marks' : List Bool) (found' : List Found) (from : Atom) →
-    Grows row parent marks found marks' found' → CameFrom n found (length found) parent from → ((by u : ℕ) → Contains row (edge by (Unknown u)) → Leads edges from by (Unknown u)) →
+    Grows row parent marks found marks' found' → CameFrom n found (length found) parent from → ((by u : ℕ) → Contains row (edge by (Unknown u)) → LeadsTo edges from by (Unknown u)) →
     IsTrail edges n found → IsTrail edges n found'
 grows-trail edges n row parent marks found _ _ from same came leads trail = trail
 grows-trail edges n row parent marks found _ _ from (more marks' found' by u before h inside e) came leads trail =

@@ -13,7 +13,7 @@ use Rattle.solver.specs.Breaker.{Arrives, Breaks, BreaksAlong, BreaksFirst, IsBr
 use Rattle.solver.specs.Broken.{AllRightsInside, is_below, written_at}
 use Rattle.solver.specs.Links.{AreBelow, InRange, IsBelow, edges_at, links_of, row_at}
 use Rattle.solver.specs.Reach as reach
-use Rattle.solver.specs.Reach.{CameFrom, IsTrail, Leads, LeadsOn, ReachesBy, LeadsInside, nothing_found, row_of}
+use Rattle.solver.specs.Reach.{CameFrom, IsTrail, LeadsTo, LeadsOn, ReachesBy, LeadsInside, nothing_found, row_of}
 use Rattle.solver.specs.Rows.{AreRows, atom_has, has_at, left_has, reached_by, unknowns_with}
 use Rattle.solver.specs.System.{Picks, atom_of, constraint_of, is_among, row_join, rows_with, values_of}
 use Rattle.solver.specs.declared.edges.Edges.{Edges}
@@ -71,7 +71,7 @@ trail-sound edges n found trail (suc bound) k lt h =
     let step = trail k h in
     by_came (get_or found k nothing_found).parent step.from step.came step.leads (λ p before. trail-sound edges n found trail bound p (omega (arith, lt, before)) (omega (arith, before, h)))
   where
-    by_came : (parent : ℕ) (from : Atom) → CameFrom n found k parent from → Leads edges from (get_or found k nothing_found).by (Unknown (get_or found k nothing_found).unknown) →
+    by_came : (parent : ℕ) (from : Atom) → CameFrom n found k parent from → LeadsTo edges from (get_or found k nothing_found).by (Unknown (get_or found k nothing_found).unknown) →
         ((p : ℕ) → p < k → ReachesBy edges n (get_or found p nothing_found).unknown) → ReachesBy edges n (get_or found k nothing_found).unknown
     by_came _ _ reach.itself leads earlier_ones = reach.directly (get_or found k nothing_found).by (get_or found k nothing_found).unknown leads
     by_came _ _ (reach.earlier p w before e) leads earlier_ones =
@@ -117,7 +117,7 @@ are-edges {T} cs cs' edges is written unknown = record { row = row }
     row (Unknown u) = unknown u ∙ ap (λ (xs : List (Constraint T)). edges_at (Unknown u) (links_of 0 xs)) is
 
 right-below : {T : Type 0} (cs : List (Constraint T)) (edges : Edges) → AreEdges cs edges → (written unknowns : ℕ) → InRange written unknowns cs →
-    (from : Atom) (by : ℕ) (to : Atom) → Leads edges from by to → IsBelow written unknowns to
+    (from : Atom) (by : ℕ) (to : Atom) → LeadsTo edges from by to → IsBelow written unknowns to
 right-below {T} cs edges are written unknowns range from by to leads =
     let part = leads-part cs edges are from by to leads in
     subst (λ r. IsBelow written unknowns r) part.right
@@ -186,9 +186,9 @@ module _ {T V : Type 0} (l : Lattice V) (laws : LatticeLaws l) (table : List V) 
       IsTrue (l.leq (value vals (atom_of l table a)) (vals u))
   part-fits i c u at right (Written n) part =
       below-vals n u (in_table l table cs edges are unknowns range c n (at-contains cs i c at) part)
-      (reach.directly i u (subst (λ r. Leads edges (Written n) i r) right (part-leads cs edges are i c (Written n) at part)))
+      (reach.directly i u (subst (λ r. LeadsTo edges (Written n) i r) right (part-leads cs edges are i c (Written n) at part)))
   part-fits i c u at right (Unknown w) part =
-      vals-least w (vals u) (λ n h r. below-vals n u h (reach.onward i w u r (subst (λ x. Leads edges (Unknown w) i x) right (part-leads cs edges are i c (Unknown w) at part))))
+      vals-least w (vals u) (λ n h r. below-vals n u h (reach.onward i w u r (subst (λ x. LeadsTo edges (Unknown w) i x) right (part-leads cs edges are i c (Unknown w) at part))))
 
   unknown-fits : (i : ℕ) (c : Constraint T) (u : ℕ) → slice_get cs i ≡ Some c → c.right ≡ Unknown u → IsTrue (holds l vals (one_meant c))
   unknown-fits i c u at right =
@@ -265,7 +265,7 @@ module _ {T V : Type 0} (l : Lattice V) (laws : LatticeLaws l) (table : List V) 
         from = part.0;
         arrives = atom-arrives n part.0 part.2;
         to = breaks.sides.to;
-        leads = subst (λ r. Leads edges part.0 i r) breaks.sides.is (part-leads cs edges are i c part.0 breaks.at part.1);
+        leads = subst (λ r. LeadsTo edges part.0 i r) breaks.sides.is (part-leads cs edges are i c part.0 breaks.at part.1);
         fails = breaks.sides.fails;
       }
 
@@ -274,7 +274,7 @@ module _ {T V : Type 0} (l : Lattice V) (laws : LatticeLaws l) (table : List V) 
   arrives-below n _ h itself = laws.reflexive (written_at l table n)
   arrives-below n _ h (onward u r) = below-vals n u h r
 
-  broken-fails : (n i to : ℕ) (from : Atom) → n < length table → Arrives edges n from → Leads edges from i (Written to) → below n to ≡ false → (c : Constraint T) → slice_get cs i ≡ Some c →
+  broken-fails : (n i to : ℕ) (from : Atom) → n < length table → Arrives edges n from → LeadsTo edges from i (Written to) → below n to ≡ false → (c : Constraint T) → slice_get cs i ≡ Some c →
       (c.right ≡ Written to) × IsFalse (holds l vals (one_meant c))
   broken-fails n i to from h arrives leads fails c at =
       let part = leads-part cs edges are from i (Written to) leads in
@@ -318,12 +318,12 @@ module _ {T V : Type 0} (l : Lattice V) (laws : LatticeLaws l) (table : List V) 
     pub refused : IsRefusedAt l all_meant (written_at l table n) picked last
 
   -- the end of a chain is a constraint that is broken
-  end-arrives : (n : ℕ) (from : Atom) (chain : List ℕ) (last : ℕ) (to : Atom) → Arrives edges n from → LeadsOn edges from chain last to → (end : Atom) × Arrives edges n end × Leads edges end last to
+  end-arrives : (n : ℕ) (from : Atom) (chain : List ℕ) (last : ℕ) (to : Atom) → Arrives edges n from → LeadsOn edges from chain last to → (end : Atom) × Arrives edges n end × LeadsTo edges end last to
   end-arrives n _ _ _ _ arrives (reach.ends from to by leads) = (from, arrives, leads)
   end-arrives n _ _ _ _ arrives (reach.goes_on from to by u last rest leads more) =
       end-arrives n (Unknown u) rest last to (onward u (arrives-on n from by u arrives leads)) more
     where
-      arrives-on : (n : ℕ) (from : Atom) (by u : ℕ) → Arrives edges n from → Leads edges from by (Unknown u) → ReachesBy edges n u
+      arrives-on : (n : ℕ) (from : Atom) (by u : ℕ) → Arrives edges n from → LeadsTo edges from by (Unknown u) → ReachesBy edges n u
       arrives-on n _ by u itself leads = reach.directly by u leads
       arrives-on n _ by u (onward w r) leads = reach.onward by w u r leads
 

@@ -12,7 +12,7 @@ use Rattle.principals.proofs.Closure.{none_in_nil, Contains-cons_cases, Contains
 use Rattle.std.specs.Global.{Global}
 use Rattle.std.specs.declared.vec.Vec.{Vec}
 use Rattle.solver.specs.Links.{row_at}
-use Rattle.solver.specs.Reach.{Leads, ReachesBy, directly, edge, onward, row_of}
+use Rattle.solver.specs.Reach.{LeadsTo, ReachesBy, directly, edge, onward, row_of}
 use Rattle.solver.specs.Spread.{AllJoined, AreMasks, Spreads, mask_at, more, same}
 use Rattle.solver.specs.declared.edges.Edge.{Edge}
 use Rattle.solver.specs.declared.edges.Edges.{Edges}
@@ -294,7 +294,7 @@ module _ (edges : Edges) (first block : ℕ) (masks : List ℕ) (s : Spreading e
 
   reach-set : (n k u : ℕ) → n ≡ first + k → k < 64 → ReachesBy edges n u → bit_at (mask_at masks u) k ≡ 1
   reach-set n k u is h (directly by _ leads) =
-      let leads' : Leads edges (Written (first + k)) by (Unknown u) = subst (λ m. Leads edges (Written m) by (Unknown u)) is leads in
+      let leads' : LeadsTo edges (Written (first + k)) by (Unknown u) = subst (λ m. LeadsTo edges (Written m) by (Unknown u)) is leads in
       begun k (omega arith) (all k h (row_at-inside edges.written.items (first + k) (edge by (Unknown u)) leads')) by u k leads' (one_bit-same k h)
   reach-set n k u is h (onward by w _ r leads) = closed-end w by u k leads (reach-set n k w is h r)
 

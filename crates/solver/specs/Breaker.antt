@@ -1,7 +1,7 @@
 -- The constraints with a written right side that a written element breaks: by rows of bits, and along edges with a chain.
 -- Source: our own.
 use Rattle.std.specs.Prelude.{◌≡◌, ℕ, ◌/◌, ◌<◌, ◌≤◌, List, Bool, true, false, Option, Some, None, IsTrue, length, slice_get, slice_index_or}
-use Rattle.solver.specs.Reach.{Leads, LeadsOn, ReachesBy}
+use Rattle.solver.specs.Reach.{LeadsTo, LeadsOn, ReachesBy}
 use Rattle.solver.specs.Bits.{has_bit}
 use Rattle.solver.specs.Rows.{left_has}
 use Rattle.solver.specs.declared.edges.Edges.{Edges}
@@ -42,12 +42,12 @@ IsFirstBreaker below count rows cs (Some n) = BreaksFirst below count rows cs n
 abbrev pub IsKnown : (below : ℕ → ℕ → Bool) → List ℕ → (to : ℕ) → Type 0
 IsKnown below words to = (n : ℕ) → IsTrue (has_bit words n) → below n to ≡ true
 
-pub data IsKept (below : ℕ → ℕ → Bool) (count to : ℕ) : Option Row → Type 0 where
-  nothing : IsKept below count to None
-  some : (row : Row) → row.count ≡ count → IsKnown below row.words.items to → IsKept below count to (Some row)
+pub data IsKeptRow (below : ℕ → ℕ → Bool) (count to : ℕ) : Option Row → Type 0 where
+  nothing : IsKeptRow below count to None
+  some : (row : Row) → row.count ≡ count → IsKnown below row.words.items to → IsKeptRow below count to (Some row)
 
 abbrev pub AreKept : (below : ℕ → ℕ → Bool) → (count : ℕ) → List (Option Row) → Type 0
-AreKept below count known = (to : ℕ) (d : Option Row) → to < length known → IsKept below count to (slice_index_or known to d)
+AreKept below count known = (to : ℕ) (d : Option Row) → to < length known → IsKeptRow below count to (slice_index_or known to d)
 
 -- a member of a row that does not lie below an element, or none where all do
 abbrev pub IsAbove : (below : ℕ → ℕ → Bool) → (count : ℕ) → List ℕ → (to : ℕ) → Option ℕ → Type 0
@@ -74,7 +74,7 @@ pub record BreaksAlong (edges : Edges) (below : ℕ → ℕ → Bool) (n i : ℕ
   pub from : Atom
   pub arrives : Arrives edges n from
   pub to : ℕ
-  pub leads : Leads edges from i (Written to)
+  pub leads : LeadsTo edges from i (Written to)
   pub fails : below n to ≡ false
 
 -- a chain from an element to the first constraint that it breaks

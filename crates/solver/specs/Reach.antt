@@ -16,8 +16,8 @@ row_of edges (Unknown u) = row_at edges.unknown.items u
 abbrev pub edge : ℕ → Atom → Edge
 edge by to = record { by = by; to = to }
 
-abbrev pub Leads : Edges → Atom → ℕ → Atom → Type 0
-Leads edges from by to = Contains (row_of edges from) (edge by to)
+abbrev pub LeadsTo : Edges → Atom → ℕ → Atom → Type 0
+LeadsTo edges from by to = Contains (row_of edges from) (edge by to)
 
 -- the unknowns to which edges lead lie below a count
 abbrev pub LeadInside : ℕ → List Edge → Type 0
@@ -28,8 +28,8 @@ LeadsInside edges = (from : Atom) → LeadInside (length edges.unknown.items) (r
 
 -- a written element reaches an unknown along edges
 pub data ReachesBy (edges : Edges) (n : ℕ) : ℕ → Type 0 where
-  directly : (by u : ℕ) → Leads edges (Written n) by (Unknown u) → ReachesBy edges n u
-  onward : (by w u : ℕ) → ReachesBy edges n w → Leads edges (Unknown w) by (Unknown u) → ReachesBy edges n u
+  directly : (by u : ℕ) → LeadsTo edges (Written n) by (Unknown u) → ReachesBy edges n u
+  onward : (by w u : ℕ) → ReachesBy edges n w → LeadsTo edges (Unknown w) by (Unknown u) → ReachesBy edges n u
 
 abbrev pub nothing_found : Found
 nothing_found = record { unknown = 0; by = 0; parent = 0 }
@@ -43,7 +43,7 @@ pub data CameFrom (n : ℕ) (found : List Found) (before : ℕ) : ℕ → Atom �
 pub record IsStep (edges : Edges) (n : ℕ) (found : List Found) (k : ℕ) : Type 0 where
   pub from : Atom
   pub came : CameFrom n found k (slice_index_or found k nothing_found).parent from
-  pub leads : Leads edges from (slice_index_or found k nothing_found).by (Unknown (slice_index_or found k nothing_found).unknown)
+  pub leads : LeadsTo edges from (slice_index_or found k nothing_found).by (Unknown (slice_index_or found k nothing_found).unknown)
 
 abbrev pub IsTrail : Edges → ℕ → List Found → Type 0
 IsTrail edges n found = (k : ℕ) → k < length found → IsStep edges n found k
@@ -76,10 +76,10 @@ ParentsFall found = (k : ℕ) → k < length found → (slice_index_or found k n
 pub record EndsAt (edges : Edges) (n : ℕ) (found : List Found) (parent last : ℕ) (to : Atom) : Type 0 where
   pub from : Atom
   pub came : CameFrom n found (length found) parent from
-  pub leads : Leads edges from last to
+  pub leads : LeadsTo edges from last to
 
 -- edges joined one to the next by these constraints, from an atom to a last right side
 pub data LeadsOn (edges : Edges) : Atom → List ℕ → (last : ℕ) → Atom → Type 0 where
-  ends : (from to : Atom) (by : ℕ) → Leads edges from by to → LeadsOn edges from (by ∷ []) by to
-  goes_on : (from to : Atom) (by u last : ℕ) (rest : List ℕ) → Leads edges from by (Unknown u) → LeadsOn edges (Unknown u) rest last to →
+  ends : (from to : Atom) (by : ℕ) → LeadsTo edges from by to → LeadsOn edges from (by ∷ []) by to
+  goes_on : (from to : Atom) (by u last : ℕ) (rest : List ℕ) → LeadsTo edges from by (Unknown u) → LeadsOn edges (Unknown u) rest last to →
       LeadsOn edges from (by ∷ rest) last to

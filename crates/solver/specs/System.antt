@@ -5,7 +5,7 @@ use Rattle.std.specs.List.{list_any}
 use Rattle.labels.specs.Constraints.{FitsAll, IsJoin, IsLeast, IsRefusedAt, Lattice}
 use Rattle.labels.specs.Constraints as formal
 use Rattle.solver.specs.Broken.{written_at}
-use Rattle.solver.specs.declared.fault.Refusal.{Refusal}
+use Rattle.solver.specs.declared.fault.SolveRefusal.{SolveRefusal}
 use Rattle.solver.specs.declared.fault.SolveFault.{SolveFault}
 use Rattle.solver.specs.declared.fault.SolveFault.TheVariants.{NoMemory, Unmet}
 use Rattle.solver.specs.declared.system.Atom.{Atom}
@@ -66,7 +66,7 @@ Picks xs (i ∷ indices) [] = ⊥
 Picks xs (i ∷ indices) (x ∷ picked) = (slice_get xs i ≡ Some x) × Picks xs indices picked
 
 -- a refusal: the first constraint with a written right side that the least values do not fit, and a chain that ends there
-pub record IsRefusal {T V : Type 0} (l : Lattice V) (system : System V T) (refusal : Refusal) : Type 0 where
+pub record IsSolveRefusal {T V : Type 0} (l : Lattice V) (system : System V T) (refusal : SolveRefusal) : Type 0 where
   pub chain : List (formal.Constraint T ℕ V)
   pub last : formal.Constraint T ℕ V
   pub picked : Picks (constraints_of l system) refusal.chain.items chain
@@ -74,7 +74,7 @@ pub record IsRefusal {T V : Type 0} (l : Lattice V) (system : System V T) (refus
 
 abbrev pub Refuses : {T V : Type 0} → Lattice V → System V T → SolveFault → Type 0
 Refuses l system NoMemory = Unit {0}
-Refuses l system (Unmet refusal) = IsRefusal l system refusal
+Refuses l system (Unmet refusal) = IsSolveRefusal l system refusal
 
 -- a solution: for each written element what it reaches, and so values that fit all constraints and are least
 pub record IsSolution {T V : Type 0} (l : Lattice V) (system : System V T) (reached : List (List ℕ)) : Type 0 where

@@ -1,6 +1,6 @@
 //! A written element that breaks a constraint with a written right side: it reaches the left side, and does not lie below the right
 //! side.
-ghost use Rattle.solver.specs.Breaker.{AreKept, IsAbove, IsAboveInWord, IsBreakerOf, IsFirstBreaker, IsKept, IsKnown};
+ghost use Rattle.solver.specs.Breaker.{AreKept, IsAbove, IsAboveInWord, IsBreakerOf, IsFirstBreaker, IsKeptRow, IsKnown};
 ghost use Rattle.solver.specs.Broken.{is_below};
 ghost use Rattle.solver.specs.Links.{AreBelow, InRange, IsBelow};
 ghost use Rattle.solver.specs.Bits.{has_bit};
@@ -120,9 +120,9 @@ fn first_above<L: Lattice>(
 ) -> Result<Option<usize>, AllocError>
     requires to { to < length written.now }
     requires left { left.now.count ≡ length written.now }
-    requires known { IsKept (is_below (L.order lattice.now) written.now)
+    requires known { IsKeptRow (is_below (L.order lattice.now) written.now)
         (length written.now) to known.old }
-    ensures known { OnOk result (IsKept (is_below (L.order lattice.now) written.now)
+    ensures known { OnOk result (IsKeptRow (is_below (L.order lattice.now) written.now)
         (length written.now) to known.new) }
     ensures above { IfOk result (IsAbove (is_below (L.order lattice.now) written.now)
         (length written.now) left.now.words.items to) }
@@ -138,8 +138,8 @@ fn first_above<L: Lattice>(
 
 // What is known, as a row.
 fn known_row(alloc: Global, known: Option<Row>, count: usize) -> Result<Row, AllocError>
-    ensures { IfOk result (λ row. (below : ℕ → ℕ → Bool) (to : ℕ) → IsKept below count to known →
-        IsKept below count to (Some row)) }
+    ensures { IfOk result (λ row. (below : ℕ → ℕ → Bool) (to : ℕ) → IsKeptRow below count to known →
+        IsKeptRow below count to (Some row)) }
 {
     match known {
         Some(row) => Ok(row),

@@ -7,7 +7,7 @@ use thiserror::Error;
 
 /// Why constraints have no solution: a flow that they ask for and rule out.
 #[derive(Debug, Drop)]
-pub struct Refusal {
+pub struct SolveRefusal {
     /// The written element where the flow starts, by its number in the table of written elements.
     pub from: usize,
     /// The constraints along which it goes, by their indices. The last one is the first that the least solution does not fit; its
@@ -23,7 +23,7 @@ pub enum SolveFault {
     NoMemory,
     /// No values fit all constraints.
     #[error("no values fit the constraints")]
-    Unmet(Refusal),
+    Unmet(SolveRefusal),
 }
 
 impl From<AllocError> for SolveFault {

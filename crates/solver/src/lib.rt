@@ -15,7 +15,7 @@ pub mod solving;
 mod spread;
 pub mod system;
 
-pub use fault::{Refusal, SolveFault};
+pub use fault::{SolveFault, SolveRefusal};
 pub use solution::Solution;
 pub use solving::solve;
 pub use system::{Atom, Constraint, System};

@@ -10,7 +10,7 @@ use crate::breaker::first_breaker;
 use crate::broken::earlier_of_value;
 use crate::chain::chain_to;
 use crate::edges::{Edges, edges_of};
-use crate::fault::{Refusal, SolveFault};
+use crate::fault::{SolveFault, SolveRefusal};
 use crate::reached::rows_of;
 use crate::search::trace;
 use crate::solution::Solution;
@@ -58,7 +58,7 @@ fn refusal<L: Lattice>(
     written: &[L::Elem],
     edges: &Edges,
     value: usize,
-) -> Result<Refusal, AllocError>
+) -> Result<SolveRefusal, AllocError>
     requires value { value < length written.now }
     requires written { length edges.now.written.items ≡ length written.now }
     requires inside { LeadsInside edges.now }
@@ -75,5 +75,5 @@ fn refusal<L: Lattice>(
         unreachable!();
     };
     let chain = chain_to(alloc, found, broken.parent, broken.by)?;
-    Ok(Refusal { from: value, chain })
+    Ok(SolveRefusal { from: value, chain })
 }

@@ -3,7 +3,7 @@
 -- numbers of nodes stay small where texts do.
 -- Source: our own.
 use Rattle.std.specs.Prelude.{ℕ, ◌+◌, Option, None, Some, length, sum_by}
-use Rattle.syntax.specs.Tree.{PolicyTree, LabelTree, ExpressionTree, IntegerTree, TruthTree, VariableTree, ElementTree, UnaryTree, BinaryTree, CallTree, RightTree, ReceivedTree, CalledTree, ValueTree, StatementTree, DeclareTree, DeclareArrayTree, AssignTree, AssignElementTree, CallTree', ReceiveTree, SendTree, IfTree, IfElseTree, WhileTree, BreakTree, ContinueTree, ThrowTree, ReturnTree, TryTree, NestedTree, BlockTree, BlockOf, StatementTrees, NoStatement, StatementThen, CatchTrees, NoCatch, CatchThen, OutcomeTree, NothingTree, ResultTree, ParameterTree, ThrownTree, ProcedureTree, ItemTree, ChannelItem, ExceptionItem, GlobalItem, ProcedureItem, ProgramTree}
+use Rattle.syntax.specs.Tree.{PolicyTree, LabelTree, ExpressionTree, IntegerTree, TruthTree, VariableTree, ElementTree, UnaryTree, BinaryTree, CallTree, RightTree, ReceivedTree, CalledTree, ValueTree, StatementTree, DeclareTree, DeclareArrayTree, AssignTree, AssignElementTree, CallTree', ReceiveTree, SendTree, IfTree, IfElseTree, WhileTree, BreakTree, ContinueTree, ThrowTree, ReturnTree, TryTree, NestedTree, BlockTree, BlockOf, StatementTrees, NoStatement, StatementThen, CatchTrees, NoCatch, CatchThen, WrittenResultTree, NothingTree, ResultTree, ParameterTree, ThrownTree, ProcedureTree, ItemTree, ChannelItem, ExceptionItem, GlobalItem, ProcedureItem, ProgramTree}
 
 -- itself, the owner and the readers
 abbrev pub policy_nodes : PolicyTree → ℕ
@@ -67,9 +67,9 @@ abbrev mutual
   catches_nodes NoCatch = 0
   catches_nodes (CatchThen at exception body rest) = 2 + (block_nodes body + catches_nodes rest)
 
-abbrev pub outcome_nodes : OutcomeTree → ℕ
-outcome_nodes NothingTree = 0
-outcome_nodes (ResultTree base label) = label_nodes label
+abbrev pub written_result_nodes : WrittenResultTree → ℕ
+written_result_nodes NothingTree = 0
+written_result_nodes (ResultTree base label) = label_nodes label
 
 abbrev pub parameter_nodes : ParameterTree → ℕ
 parameter_nodes parameter = 2 + label_nodes parameter.label
@@ -79,7 +79,7 @@ thrown_nodes thrown = 2 + label_nodes thrown.label
 
 abbrev pub procedure_nodes : ProcedureTree → ℕ
 procedure_nodes procedure =
-    2 + outcome_nodes procedure.outcome + optional_label_nodes procedure.begin + sum_by parameter_nodes procedure.parameters + optional_label_nodes procedure.end + sum_by thrown_nodes procedure.throws + block_nodes procedure.body
+    2 + written_result_nodes procedure.result + optional_label_nodes procedure.begin + sum_by parameter_nodes procedure.parameters + optional_label_nodes procedure.end + sum_by thrown_nodes procedure.throws + block_nodes procedure.body
 
 abbrev pub item_nodes : ItemTree → ℕ
 item_nodes (ChannelItem channel) = 2 + label_nodes channel.label

@@ -25,8 +25,8 @@ use Rattle.syntax.specs.declared.tree.Constant.TheVariants as constants
 use Rattle.syntax.specs.declared.tree.GlobalValue.{GlobalValue}
 use Rattle.syntax.specs.declared.tree.GlobalValue.TheVariants as global_values
 use Rattle.syntax.specs.declared.tree.GlobalVariable.{GlobalVariable}
-use Rattle.syntax.specs.declared.tree.Outcome.{Outcome}
-use Rattle.syntax.specs.declared.tree.Outcome.TheVariants as outcomes
+use Rattle.syntax.specs.declared.tree.WrittenResult.{WrittenResult}
+use Rattle.syntax.specs.declared.tree.WrittenResult.TheVariants as outcomes
 use Rattle.syntax.specs.declared.tree.Parameter.{Parameter}
 use Rattle.syntax.specs.declared.tree.Thrown.{Thrown}
 use Rattle.syntax.specs.declared.tree.Procedure.{Procedure}
@@ -153,9 +153,9 @@ pub record GlobalTree : Type 0 where
   pub name : NameTree
   pub value : GlobalValueTree
 
-pub data OutcomeTree : Type 0 where
-  NothingTree : OutcomeTree
-  ResultTree : BaseType → LabelTree → OutcomeTree
+pub data WrittenResultTree : Type 0 where
+  NothingTree : WrittenResultTree
+  ResultTree : BaseType → LabelTree → WrittenResultTree
 
 pub record ParameterTree : Type 0 where
   pub at : ℕ
@@ -169,7 +169,7 @@ pub record ThrownTree : Type 0 where
 
 pub record ProcedureTree : Type 0 where
   pub at : ℕ
-  pub outcome : OutcomeTree
+  pub result : WrittenResultTree
   pub name : NameTree
   pub begin : Option LabelTree
   pub parameters : List ParameterTree
@@ -336,9 +336,9 @@ global_tree global = record {
   value = global_value_tree global.value;
 }
 
-abbrev pub outcome_tree : Outcome → OutcomeTree
-outcome_tree outcomes.Nothing = NothingTree
-outcome_tree (outcomes.Value base label) = ResultTree base (label_tree label)
+abbrev pub written_result_tree : WrittenResult → WrittenResultTree
+written_result_tree outcomes.Nothing = NothingTree
+written_result_tree (outcomes.Value base label) = ResultTree base (label_tree label)
 
 abbrev pub parameter_tree : Parameter → ParameterTree
 parameter_tree parameter = record {
@@ -354,7 +354,7 @@ thrown_tree thrown = record { name = name_tree thrown.name; label = label_tree t
 abbrev pub procedure_tree : Procedure → ProcedureTree
 procedure_tree procedure = record {
   at = procedure.at;
-  outcome = outcome_tree procedure.outcome;
+  result = written_result_tree procedure.result;
   name = name_tree procedure.name;
   begin = optional_label_tree procedure.begin;
   parameters = map parameter_tree procedure.parameters.items;

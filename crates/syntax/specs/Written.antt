@@ -4,7 +4,7 @@
 use Rattle.std.specs.Prelude.{ℕ, ◌≤◌, Option, None, Some, length, IsTrue, All}
 use Rattle.lexer.specs.Lexeme.{greatest_literal}
 use Rattle.lexer.specs.Words.{is_name_text}
-use Rattle.syntax.specs.Tree.{NameTree, PolicyTree, LabelTree, ExpressionTree, IntegerTree, TruthTree, VariableTree, ElementTree, UnaryTree, BinaryTree, CallTree, RightTree, ReceivedTree, CalledTree, ValueTree, SizeTree, StatementTree, DeclareTree, DeclareArrayTree, AssignTree, AssignElementTree, CallTree', ReceiveTree, SendTree, IfTree, IfElseTree, WhileTree, BreakTree, ContinueTree, ThrowTree, ReturnTree, TryTree, NestedTree, BlockTree, BlockOf, StatementTrees, NoStatement, StatementThen, CatchTrees, NoCatch, CatchThen, ChannelTree, ConstantTree, IntegerConstant, TruthConstant, GlobalValueTree, ScalarTree, ArrayTree, GlobalTree, OutcomeTree, NothingTree, ResultTree, ParameterTree, ThrownTree, ProcedureTree, ItemTree, ChannelItem, ExceptionItem, GlobalItem, ProcedureItem, ProgramTree}
+use Rattle.syntax.specs.Tree.{NameTree, PolicyTree, LabelTree, ExpressionTree, IntegerTree, TruthTree, VariableTree, ElementTree, UnaryTree, BinaryTree, CallTree, RightTree, ReceivedTree, CalledTree, ValueTree, SizeTree, StatementTree, DeclareTree, DeclareArrayTree, AssignTree, AssignElementTree, CallTree', ReceiveTree, SendTree, IfTree, IfElseTree, WhileTree, BreakTree, ContinueTree, ThrowTree, ReturnTree, TryTree, NestedTree, BlockTree, BlockOf, StatementTrees, NoStatement, StatementThen, CatchTrees, NoCatch, CatchThen, ChannelTree, ConstantTree, IntegerConstant, TruthConstant, GlobalValueTree, ScalarTree, ArrayTree, GlobalTree, WrittenResultTree, NothingTree, ResultTree, ParameterTree, ThrownTree, ProcedureTree, ItemTree, ChannelItem, ExceptionItem, GlobalItem, ProcedureItem, ProgramTree}
 
 -- no place is refused
 abbrev pub Anywhere : ℕ → Type 0
@@ -98,9 +98,9 @@ module _ (fits : ℕ → Type 0) (longest : ℕ) where
   IsWrittenGlobal global =
       fits global.at × IsWrittenLabel global.label × IsWrittenName global.name × IsWrittenGlobalValue global.value
 
-  abbrev pub IsWrittenOutcome : OutcomeTree → Type 0
-  IsWrittenOutcome NothingTree = Unit {0}
-  IsWrittenOutcome (ResultTree base label) = IsWrittenLabel label
+  abbrev pub IsWrittenResult : WrittenResultTree → Type 0
+  IsWrittenResult NothingTree = Unit {0}
+  IsWrittenResult (ResultTree base label) = IsWrittenLabel label
 
   abbrev pub IsWrittenParameter : ParameterTree → Type 0
   IsWrittenParameter parameter = fits parameter.at × IsWrittenLabel parameter.label × IsWrittenName parameter.name
@@ -110,7 +110,7 @@ module _ (fits : ℕ → Type 0) (longest : ℕ) where
 
   pub record IsWrittenProcedure (procedure : ProcedureTree) : Type 0 where
     pub at : fits procedure.at
-    pub outcome : IsWrittenOutcome procedure.outcome
+    pub result : IsWrittenResult procedure.result
     pub name : IsWrittenName procedure.name
     pub begin : IsWrittenOptionalLabel procedure.begin
     pub parameters : All IsWrittenParameter procedure.parameters

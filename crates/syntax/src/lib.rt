@@ -9,6 +9,6 @@ pub use line::Line;
 pub use program::Program;
 pub use tree::{
     BaseType, BinaryOperator, Block, Call, Catch, Channel, Constant, Direction, Expression,
-    GlobalValue, GlobalVariable, Item, Name, Outcome, Parameter, Procedure, RightSide, Size,
-    Statement, Thrown, UnaryOperator, WrittenLabel, WrittenPolicy,
+    GlobalValue, GlobalVariable, Item, Name, Parameter, Procedure, RightSide, Size, Statement,
+    Thrown, UnaryOperator, WrittenLabel, WrittenPolicy, WrittenResult,
 };

@@ -268,7 +268,7 @@ pub struct GlobalVariable {
 
 /// What a procedure answers: nothing, or a value of a type with a label.
 #[derive(Debug, Drop)]
-pub enum Outcome {
+pub enum WrittenResult {
     Nothing,
     Value { base: BaseType, label: WrittenLabel },
 }
@@ -293,7 +293,7 @@ pub struct Thrown {
 #[derive(Debug, Drop)]
 pub struct Procedure {
     pub at: usize,
-    pub outcome: Outcome,
+    pub result: WrittenResult,
     pub name: Name,
     pub begin: Option<WrittenLabel>,
     pub parameters: Vec<Parameter>,

@@ -1,7 +1,7 @@
 //! Sources of the whole language: what stands before labels is right, or the first fault is found at its byte.
 
 use acceptance::Cause;
-use analysis::{Fault, analyse};
+use analysis::{AnalysisFault, analyse};
 use principals::Hierarchy;
 use std::test::Fail;
 
@@ -164,8 +164,8 @@ fn finds_the_first_fault_before_labels(rt: HostRuntime) -> Result<(), Fail> {
     for (source, wanted) in SOURCES {
         let found = match analyse(alloc, &hierarchy, source.as_bytes()) {
             Ok(_) => None,
-            Err(Fault::NoMemory) => Some((Cause::TextTooLong, 0)),
-            Err(Fault::Refused(cause, at)) => Some((cause, at)),
+            Err(AnalysisFault::NoMemory) => Some((Cause::TextTooLong, 0)),
+            Err(AnalysisFault::Refused(cause, at)) => Some((cause, at)),
         };
         assert!(rt; found == wanted, "{source}");
     }

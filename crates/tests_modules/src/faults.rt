@@ -1,20 +1,20 @@
 //! The number and the words of each refusal, defect and fault.
 
-use bytecode::Refusal;
+use bytecode::ModuleRefusal;
 use channels::WorldDefect;
 use host::HostFault;
 use std::test::Fail;
-use verifier::{Defect, Fault};
+use verifier::{CodeFault, Defect};
 
 #[test]
 fn refusals_of_bytes(rt: HostRuntime) {
     for (refusal, number, words) in [
-        (Refusal::Magic, 801, "magic"),
-        (Refusal::Version, 802, "version"),
-        (Refusal::Short, 803, "short"),
-        (Refusal::BadValue, 804, "bad value"),
-        (Refusal::NotCanonical, 805, "not canonical"),
-        (Refusal::Trailing, 806, "trailing bytes"),
+        (ModuleRefusal::Magic, 801, "magic"),
+        (ModuleRefusal::Version, 802, "version"),
+        (ModuleRefusal::Short, 803, "short"),
+        (ModuleRefusal::BadValue, 804, "bad value"),
+        (ModuleRefusal::NotCanonical, 805, "not canonical"),
+        (ModuleRefusal::Trailing, 806, "trailing bytes"),
     ] {
         assert!(rt;
             refusal.number() == number && refusal.words() == words,
@@ -56,7 +56,7 @@ fn defects_of_worlds(rt: HostRuntime) {
 
 #[test]
 fn faults_of_a_host(rt: HostRuntime) -> Result<(), Fail> {
-    let fault = Fault {
+    let fault = CodeFault {
         defect: Defect::FallsOffEnd,
         procedure: 0,
         offset: 9,
@@ -68,7 +68,7 @@ fn faults_of_a_host(rt: HostRuntime) -> Result<(), Fail> {
         (HostFault::UnknownPrincipal, Some(153), "unknown principal"),
         (HostFault::UnknownChannel, Some(852), "unknown channel"),
         (
-            HostFault::Bytes(Refusal::Trailing, 9),
+            HostFault::Bytes(ModuleRefusal::Trailing, 9),
             Some(806),
             "trailing bytes",
         ),

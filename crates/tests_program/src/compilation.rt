@@ -1,6 +1,6 @@
 //! Causes by number and words, and a compilation whose growths are refused.
 
-use flowc::{Cause, Fault, check_texts, compile};
+use flowc::{Cause, CompileFault, check_texts, compile};
 use std::alloc::Global;
 use std::test::Fail;
 
@@ -44,7 +44,7 @@ fn has_a_number_and_words_for_each_cause(rt: HostRuntime) -> Result<(), Fail> {
 }
 
 // How many bytes a program is compiled to, or its fault.
-fn size_of(alloc: Global) -> Result<usize, Fault> {
+fn size_of(alloc: Global) -> Result<usize, CompileFault> {
     let source = b"output{} pub; void main() { send pub, 7; }";
     Ok(compile(alloc, b"", source)?.len())
 }
@@ -54,7 +54,7 @@ fn size_of(alloc: Global) -> Result<usize, Fault> {
 #[test]
 fn a_refused_growth_changes_no_answer(rt: HostRuntime) -> Result<(), Fail> {
     let mut answer = size_of(rt.alloc());
-    if answer.as_ref().err() == Some(&Fault::NoMemory) {
+    if answer.as_ref().err() == Some(&CompileFault::NoMemory) {
         answer = size_of(rt.alloc());
     }
     assert!(rt; matches!(&answer, Ok(76)));

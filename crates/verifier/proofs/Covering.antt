@@ -3,7 +3,7 @@ use Rattle.std.proofs.Common.{◌≡◌, ◌≢◌, ◌⊎◌, inl, inr, ℕ, su
 use Rattle.std.specs.List.{Contains}
 use Rattle.std.proofs.lemmas.List.Sorted.{Contains-permutation, IsPermutation-sym, length_permutation}
 use Rattle.bytecode.specs.declared.declaration.Handler.{Handler}
-use Rattle.verifier.specs.Coverage.{IsCoverage, IsInOrder, Waits, leaf, left, total}
+use Rattle.verifier.specs.Coverage.{IsCoverage, IsSortedByStart, Waits, leaf, left, total}
 use Rattle.verifier.specs.declared.coverage.Coverage.{Coverage}
 use Rattle.verifier.proofs.Reaching.{number_cases}
 use Rattle.verifier.proofs.Shared.{any_default}
@@ -27,10 +27,10 @@ total_less f g (suc n) index h less others = elim (number_cases n index) [
 
 -- ---- in order
 
-pub sorted_contains : (handlers sorted : List Handler) (h : Handler) → IsInOrder handlers sorted → Contains handlers h → Contains sorted h
+pub sorted_contains : (handlers sorted : List Handler) (h : Handler) → IsSortedByStart handlers sorted → Contains handlers h → Contains sorted h
 sorted_contains handlers sorted h o c = Contains-permutation handlers sorted h o.same c
 
-pub contains_sorted : (handlers sorted : List Handler) (h : Handler) → IsInOrder handlers sorted → Contains sorted h → Contains handlers h
+pub contains_sorted : (handlers sorted : List Handler) (h : Handler) → IsSortedByStart handlers sorted → Contains sorted h → Contains handlers h
 contains_sorted handlers sorted h o c = Contains-permutation sorted handlers h (IsPermutation-sym handlers sorted o.same) c
 
 -- ---- those that wait
@@ -70,7 +70,7 @@ taken_left c new index width changed others inside positive =
 
 -- ---- all wait
 
-module _ (handlers : List Handler) (c : Coverage) (order : IsInOrder handlers c.handlers.items) where
+module _ (handlers : List Handler) (c : Coverage) (order : IsSortedByStart handlers c.handlers.items) where
   pub real_waits : (h : Handler) → Waits c h → Contains handlers h
   real_waits h w = contains_sorted handlers c.handlers.items h order (w.index, w.inside, w.there)
 

@@ -9,7 +9,7 @@ use Rattle.bytecode.specs.declared.instruction.Instruction.TheVariants.{Push, Pu
 use Rattle.bytecode.specs.declared.value.Kind.{Kind}
 use Rattle.bytecode.specs.declared.value.Kind.TheVariants.{Int}
 use Rattle.verifier.specs.Depth.{IsMet, IsGreatestDepth, found, left}
-use Rattle.verifier.specs.Flow.{Effect, Leaves, Misses, Signature, all_popped, and_then, exchanged, goes_on, is_own, next, pushed, signature}
+use Rattle.verifier.specs.Flow.{Effect, Leaves, Misses, OperandEffect, all_popped, and_then, exchanged, goes_on, is_own, next, pushed, signature}
 use Rattle.verifier.specs.Operands.{greatest, list_of, IsShared}
 use Rattle.verifier.specs.Search.{row, table, IsSearching, HaveLongest}
 use Rattle.verifier.specs.declared.fault.Defect.TheVariants.{OperandKind}
@@ -72,7 +72,7 @@ popped_less (Some w ∷ wanted) (kind ∷ kinds) rest e = split (λ more. popped
     split less true e = omega (arith, less e)
     split less false e = absurd (cc)
 
-left_less : (b : Bool) (s : Signature) (kinds after : List Kind) → (if b then exchanged s kinds else Misses OperandKind) ≡ Leaves after → s.pushes ≡ None → length after ≤ length kinds
+left_less : (b : Bool) (s : OperandEffect) (kinds after : List Kind) → (if b then exchanged s kinds else Misses OperandKind) ≡ Leaves after → s.pushes ≡ None → length after ≤ length kinds
 left_less false s kinds after e none = absurd (cc)
 left_less true s kinds after e none = split (all_popped s.pops kinds) refl e
   where

@@ -18,7 +18,7 @@ use Rattle.verifier.specs.Boundaries.{IsBoundary, KeepsBoundaries}
 use Rattle.verifier.specs.declared.fault.Defect.{Defect}
 use Rattle.verifier.specs.declared.fault.Defect.TheVariants as defect
 use Rattle.verifier.proofs.Offsets.{next_boundary}
-use Rattle.verifier.specs.declared.fault.Fault.{Fault}
+use Rattle.verifier.specs.declared.fault.CodeFault.{CodeFault}
 
 module _ (m : ModuleContents) (number : ℕ) (procedure : ProcedureContents) where
   -- ---- the loop over instructions
@@ -50,15 +50,15 @@ module _ (m : ModuleContents) (number : ℕ) (procedure : ProcedureContents) whe
       ∙ ap (λ o. fault_list number (get_or handlers k d).start o ++ handler_faults m number procedure (drop (k + 1) handlers)) e)
 
 -- the first of two lists together
-pub first_of_both : (xs ys : List Fault) → slice_get xs 0 ≡ None → slice_get (xs ++ ys) 0 ≡ slice_get ys 0
+pub first_of_both : (xs ys : List CodeFault) → slice_get xs 0 ≡ None → slice_get (xs ++ ys) 0 ≡ slice_get ys 0
 first_of_both [] ys e = refl
 first_of_both (x ∷ xs) ys e = absurd (let no : Some x ≡ None = e in cc)
 
-pub first_of_front : (xs ys : List Fault) (x : Fault) → slice_get xs 0 ≡ Some x → slice_get (xs ++ ys) 0 ≡ Some x
+pub first_of_front : (xs ys : List CodeFault) (x : CodeFault) → slice_get xs 0 ≡ Some x → slice_get (xs ++ ys) 0 ≡ Some x
 first_of_front [] ys x e = absurd (let no : None ≡ Some x = e in cc)
 first_of_front (y ∷ xs) ys x e = e
 
-pub nothing_first : (xs : List Fault) → slice_get xs 0 ≡ None → xs ≡ []
+pub nothing_first : (xs : List CodeFault) → slice_get xs 0 ≡ None → xs ≡ []
 nothing_first [] e = refl
 nothing_first (x ∷ xs) e = absurd (let no : Some x ≡ None = e in cc)
 
@@ -70,7 +70,7 @@ module _ (m : ModuleContents) (number : ℕ) where
       ap (λ (ps : List ProcedureContents). slice_get (procedure_faults m number ps) 0) (drop_more procedures k d h)
       ∙ first_of_both (own_faults m number (get_or procedures k d)) (procedure_faults m (number + 1) (drop (k + 1) procedures)) e
 
-  pub first_procedure : (procedures : List ProcedureContents) (k : ℕ) (d : ProcedureContents) (x : Fault) → k < length procedures → slice_get (own_faults m number (get_or procedures k d)) 0 ≡ Some x → slice_get (procedure_faults m number (drop k procedures)) 0 ≡ Some x
+  pub first_procedure : (procedures : List ProcedureContents) (k : ℕ) (d : ProcedureContents) (x : CodeFault) → k < length procedures → slice_get (own_faults m number (get_or procedures k d)) 0 ≡ Some x → slice_get (procedure_faults m number (drop k procedures)) 0 ≡ Some x
   first_procedure procedures k d x h e =
       ap (λ (ps : List ProcedureContents). slice_get (procedure_faults m number ps) 0) (drop_more procedures k d h)
       ∙ first_of_front (own_faults m number (get_or procedures k d)) (procedure_faults m (number + 1) (drop (k + 1) procedures)) x e
@@ -199,13 +199,13 @@ get_at [] k d h = absurd (omega arith)
 get_at (x ∷ xs) zero d h = refl
 get_at (x ∷ xs) (suc k) d h = get_at xs k d (omega arith)
 
-module _ (m q : ModuleContents) (number index : ℕ) (procedures : List ProcedureContents) (item body : ProcedureContents) (same_module : q ≡ m) (same_procedure : body ≡ item) (is : item ≡ get_or procedures index item) (inside : index < length procedures) (o : Option Fault) (found : o ≡ slice_get (own_faults q number body) 0) where
+module _ (m q : ModuleContents) (number index : ℕ) (procedures : List ProcedureContents) (item body : ProcedureContents) (same_module : q ≡ m) (same_procedure : body ≡ item) (is : item ≡ get_or procedures index item) (inside : index < length procedures) (o : Option CodeFault) (found : o ≡ slice_get (own_faults q number body) 0) where
   own_are : o ≡ slice_get (own_faults m number (get_or procedures index item)) 0
   own_are =
       found ∙ ap (λ x. slice_get (own_faults x number body) 0) same_module
       ∙ ap (λ x. slice_get (own_faults m number x) 0) (same_procedure ∙ is)
 
-  pub procedure_some : (fault : Fault) → o ≡ Some fault → slice_get (procedure_faults m number (drop index procedures)) 0 ≡ Some fault
+  pub procedure_some : (fault : CodeFault) → o ≡ Some fault → slice_get (procedure_faults m number (drop index procedures)) 0 ≡ Some fault
   procedure_some fault e = first_procedure m number procedures index item fault inside (sym own_are ∙ e)
 
   pub procedure_none : o ≡ None → slice_get (procedure_faults m number (drop index procedures)) 0 ≡ slice_get (procedure_faults m (number + 1) (drop (index + 1) procedures)) 0

@@ -6,7 +6,7 @@ use Rattle.bytecode.specs.Code.{code_length, instruction_at}
 use Rattle.bytecode.specs.declared.value.Kind.{Kind}
 use Rattle.bytecode.specs.declared.instruction.Instruction.{Instruction}
 use Rattle.verifier.specs.declared.fault.Defect.{Defect}
-use Rattle.verifier.specs.Flow.{Edge, Flow, starts, grows, changed, nowhere, effect, Misses, IsFlowDefect, misses, meets, falls, FlowsWell, between}
+use Rattle.verifier.specs.Flow.{Edge, Flow, starts, grows, changed, nowhere, effect, Misses, IsOperandDefect, misses, meets, falls, FlowsWell, between}
 use Rattle.bytecode.specs.declared.value.Kind.TheVariants.{Int, Boolean}
 use Rattle.verifier.specs.declared.fault.Defect.TheVariants.{FallsOffEnd}
 
@@ -49,7 +49,7 @@ flow_within m p done _ d (grows table from before to after f has edge none) at k
 pub no_fault : (m : ModuleContents) (p : ProcedureContents) (done : ℕ → Option (List Kind)) → IsDone m p done → FlowsWell m p
 no_fault m p done d offset defect fault = none offset defect fault
   where
-    none : (offset : ℕ) (defect : Defect) → IsFlowDefect m p offset defect → ⊥
+    none : (offset : ℕ) (defect : Defect) → IsOperandDefect m p offset defect → ⊥
     none _ _ (misses table at kinds i wrong f has is e) = d.finds at kinds i wrong (flow_within m p done table d f at kinds has) is e
     none _ _ (meets table at kinds to after others f has edge inside there ne) =
         let a = flow_within m p done table d f at kinds has in

@@ -12,13 +12,13 @@ use Rattle.bytecode.specs.declared.declaration.Handler.{Handler}
 use Rattle.bytecode.specs.declared.instruction.Instruction.{Instruction}
 use Rattle.verifier.specs.declared.fault.Defect.{Defect}
 use Rattle.bytecode.specs.Targets.{target_of}
-use Rattle.verifier.specs.Flow.{Edge, next, jumps, caught, Flow, starts, nowhere, grows, misses, meets, falls, IsFlowDefect, FlowsWell, changed, between, effect, all_popped, pushed, exchanged, signature, is_own, and_then, Leaves, Misses, goes_on}
+use Rattle.verifier.specs.Flow.{Edge, next, jumps, caught, Flow, starts, nowhere, grows, misses, meets, falls, IsOperandDefect, FlowsWell, changed, between, effect, all_popped, pushed, exchanged, signature, is_own, and_then, Leaves, Misses, goes_on}
 use Rattle.verifier.specs.Operands.{list_of, IsLonger}
 use Rattle.verifier.specs.Boundaries.{IsBoundary, KeepsBoundaries}
 use Rattle.verifier.specs.Coverage.{IsCoverage, Waits}
 use Rattle.verifier.specs.Depth as Depth
 use Rattle.verifier.specs.Depth.{IsMet, found}
-use Rattle.verifier.specs.Search.{row, table, AreMet, IsWaiting, IsKept, IsSearching, IsAtEdge, Flowed, Steps, IsApplied, HasEffect, HasInstruction, IsFirst, left, unset}
+use Rattle.verifier.specs.Search.{row, table, AreMet, IsWaiting, IsFollowed, IsSearching, IsAtEdge, Flowed, KeepsSearching, IsApplied, HasEffect, HasInstruction, StartsWithEmpty, left, unset}
 use Rattle.verifier.specs.declared.fault.Defect.TheVariants.{OperandKind, FallsOffEnd}
 use Rattle.verifier.specs.declared.coverage.Coverage.{Coverage}
 use Rattle.verifier.specs.declared.search.Search.{Search}
@@ -54,15 +54,15 @@ pub none_at_end : (m : ModuleContents) (p : ProcedureContents) (s : Search) (bus
 none_at_end m p s busy g = ap (row s.operands) (past_end s.shapes (code_length p.code) None (omega (arith, g.sized)))
 
 -- an edge to the end is a fault
-pub falls_at : (m : ModuleContents) (p : ProcedureContents) (s : Search) (busy : List ℕ) (at to : ℕ) (after : List Kind) → IsSearching m p s busy → IsAtEdge m p s at to after → to ≡ code_length p.code → IsFlowDefect m p to FallsOffEnd
+pub falls_at : (m : ModuleContents) (p : ProcedureContents) (s : Search) (busy : List ℕ) (at to : ℕ) (after : List Kind) → IsSearching m p s busy → IsAtEdge m p s at to after → to ≡ code_length p.code → IsOperandDefect m p to FallsOffEnd
 falls_at m p s busy at to after g e is =
-    subst (λ t. IsFlowDefect m p t FallsOffEnd) (sym is)
+    subst (λ t. IsOperandDefect m p t FallsOffEnd) (sym is)
     (falls (changed (table s) (code_length p.code) (Some after)) after (grows (table s) at e.kinds (code_length p.code) after g.flow e.has (subst (λ t. Edge m p at e.kinds t after) is e.edge) (none_at_end m p s busy g)) (changed_at (table s) (code_length p.code) after))
 
 -- an edge that brings another list is a fault
-pub meets_at : (m : ModuleContents) (p : ProcedureContents) (s : Search) (busy : List ℕ) (at to : ℕ) (after others : List Kind) (defect : Defect) → IsSearching m p s busy → IsAtEdge m p s at to after → to ≢ code_length p.code → table s to ≡ Some others → after ≢ others → defect ≡ between after others → IsFlowDefect m p to defect
+pub meets_at : (m : ModuleContents) (p : ProcedureContents) (s : Search) (busy : List ℕ) (at to : ℕ) (after others : List Kind) (defect : Defect) → IsSearching m p s busy → IsAtEdge m p s at to after → to ≢ code_length p.code → table s to ≡ Some others → after ≢ others → defect ≡ between after others → IsOperandDefect m p to defect
 meets_at m p s busy at to after others defect g e inside there ne is =
-    subst (IsFlowDefect m p to) (sym is) (meets (table s) at e.kinds to after others g.flow e.has e.edge inside there ne)
+    subst (IsOperandDefect m p to) (sym is) (meets (table s) at e.kinds to after others g.flow e.has e.edge inside there ne)
 
 -- the search with one more list
 module _ (m : ModuleContents) (p : ProcedureContents) (s new : Search) (at to list : ℕ) (g : IsSearching m p s (at ∷ [])) (e : IsAtEdge m p s at to (list_of s.operands list)) (number : list < length s.operands) (is_boundary : IsBoundary p to) (inside : to < length s.shapes) (unset_there : get_or s.shapes to None ≡ None) (lists : new.operands ≡ s.operands) (shapes : new.shapes ≡ set s.shapes to (Some list)) (work : new.work ≡ s.work ++ to ∷ []) where
@@ -102,7 +102,7 @@ module _ (m : ModuleContents) (p : ProcedureContents) (s new : Search) (at to li
         | inr ne ↦ others offset ne ∙ h
       ]
 
-  kept : (offset : ℕ) (kinds : List Kind) → IsKept m p s offset kinds → IsKept m p new offset kinds
+  kept : (offset : ℕ) (kinds : List Kind) → IsFollowed m p s offset kinds → IsFollowed m p new offset kinds
   kept offset kinds k = record {
     instruction = k.instruction;
     there = k.there;
@@ -119,7 +119,7 @@ module _ (m : ModuleContents) (p : ProcedureContents) (s new : Search) (at to li
   pub flowed : Flowed m p s new at to list
   flowed = record {
     searching = record {
-      root = subst IsFirst (sym lists) g.root;
+      root = subst StartsWithEmpty (sym lists) g.root;
       sized = ap length shapes ∙ length-set s.shapes to (Some list) ∙ g.sized;
       numbers = λ offset n h. elim (number_cases offset to) [
         | inl same ↦ let f : Some list ≡ Some n = sym at_to ∙ ap (λ k. get_or new.shapes k None) (sym same) ∙ h in let n_is : list ≡ n = cc in omega (arith, ap length lists)
@@ -181,7 +181,7 @@ going_done m p s g empty = record {
   none_at_end = none_at_end m p s [] g;
 }
   where
-    every : (at : ℕ) (kinds : List Kind) → table s at ≡ Some kinds → IsKept m p s at kinds
+    every : (at : ℕ) (kinds : List Kind) → table s at ≡ Some kinds → IsFollowed m p s at kinds
     every at kinds h =
         elim (g.pending at kinds h) [
           | inl w ↦ absurd (nothing at (subst (λ l. Contains l at) empty w))
@@ -191,7 +191,7 @@ going_done m p s g empty = record {
         nothing : (at : ℕ) → Contains [] at → ⊥
         nothing at c = omega (arith, c.1)
 
-    along : (at : ℕ) (kinds : List Kind) → IsKept m p s at kinds → (to : ℕ) (after : List Kind) → Edge m p at kinds to after → table s to ≡ Some after
+    along : (at : ℕ) (kinds : List Kind) → IsFollowed m p s at kinds → (to : ℕ) (after : List Kind) → Edge m p at kinds to after → table s to ≡ Some after
     along at kinds k _ _ (next i to after is e goes to_is) =
         let f : Some k.instruction ≡ Some i = sym k.there ∙ is in let same : k.instruction ≡ i = cc in
         let t : Leaves k.after ≡ Leaves after = sym k.finds ∙ ap (λ j. effect m p j kinds) same ∙ e in let after_is : k.after ≡ after = cc in
@@ -208,7 +208,7 @@ search_done m p s g empty = no_fault m p (table s) (going_done m p s g empty)
 -- ---- a offset is looked at
 
 -- what was looked at is kept
-pub looked_at : (m : ModuleContents) (p : ProcedureContents) (s : Search) (at : ℕ) → IsSearching m p s (at ∷ []) → ((kinds : List Kind) → table s at ≡ Some kinds → IsKept m p s at kinds) → IsSearching m p s []
+pub looked_at : (m : ModuleContents) (p : ProcedureContents) (s : Search) (at : ℕ) → IsSearching m p s (at ∷ []) → ((kinds : List Kind) → table s at ≡ Some kinds → IsFollowed m p s at kinds) → IsSearching m p s []
 looked_at m p s at g kept = record {
   root = g.root;
   sized = g.sized;
@@ -231,8 +231,8 @@ looked_at m p s at g kept = record {
         single zero h e = e
         single (suc k) h e = absurd (omega arith)
 
-    here : (offset : ℕ) (kinds : List Kind) → table s offset ≡ Some kinds → at ≡ offset → IsKept m p s offset kinds
-    here offset kinds h e = subst (λ a. IsKept m p s a kinds) e (kept kinds (ap (table s) e ∙ h))
+    here : (offset : ℕ) (kinds : List Kind) → table s offset ≡ Some kinds → at ≡ offset → IsFollowed m p s offset kinds
+    here offset kinds h e = subst (λ a. IsFollowed m p s a kinds) e (kept kinds (ap (table s) e ∙ h))
 
 -- ---- more lists
 
@@ -272,7 +272,7 @@ module _ (m : ModuleContents) (p : ProcedureContents) (s new : Search) (busy : L
             | inr added ↦ met k added inside
           ]
 
-      kept : (offset : ℕ) (kinds : List Kind) → IsKept m p s offset kinds → IsKept m p new offset kinds
+      kept : (offset : ℕ) (kinds : List Kind) → IsFollowed m p s offset kinds → IsFollowed m p new offset kinds
       kept offset kinds k = record {
         instruction = k.instruction;
         there = k.there;
@@ -288,10 +288,10 @@ module _ (m : ModuleContents) (p : ProcedureContents) (s new : Search) (busy : L
 
 -- ---- steps from a offset
 
-pub steps_of : (m : ModuleContents) (p : ProcedureContents) (old new : Search) (at to list : ℕ) → Flowed m p old new at to list → Steps m p old new at
+pub steps_of : (m : ModuleContents) (p : ProcedureContents) (old new : Search) (at to list : ℕ) → Flowed m p old new at to list → KeepsSearching m p old new at
 steps_of m p old new at to list f = record { searching = f.searching; keeps = f.keeps; same = f.same; left = f.left }
 
-pub steps_none : (m : ModuleContents) (p : ProcedureContents) (s : Search) (at : ℕ) → IsSearching m p s (at ∷ []) → Steps m p s s at
+pub steps_none : (m : ModuleContents) (p : ProcedureContents) (s : Search) (at : ℕ) → IsSearching m p s (at ∷ []) → KeepsSearching m p s s at
 steps_none m p s at g = record { searching = g; keeps = λ offset kinds h. h; same = refl; left = omega arith }
 
 pub edge_next : (m : ModuleContents) (p : ProcedureContents) (s : Search) (at to : ℕ) (i : Instruction) (after : List Kind) → HasEffect m p s at i after → goes_on i ≡ true → to ≡ at + width_of i → IsAtEdge m p s at to after
@@ -307,11 +307,11 @@ edge_caught m p s at kinds i h has is inside low high = record { kinds = kinds; 
 effect_own : (m : ModuleContents) (p : ProcedureContents) (i : Instruction) (kinds : List Kind) → is_own p i ≡ true → effect m p i kinds ≡ exchanged (signature m p i) kinds
 effect_own m p i kinds own = ap (λ (b : Bool). if b then exchanged (signature m p i) kinds else Misses OperandKind) own
 
-pub misses_at : (m : ModuleContents) (p : ProcedureContents) (s : Search) (busy : List ℕ) (at : ℕ) (kinds : List Kind) (i : Instruction) (wrong : Defect) → IsSearching m p s busy → table s at ≡ Some kinds → instruction_at p.code at ≡ Some i → is_own p i ≡ true → all_popped (signature m p i).pops kinds ≡ Misses wrong → IsFlowDefect m p at wrong
+pub misses_at : (m : ModuleContents) (p : ProcedureContents) (s : Search) (busy : List ℕ) (at : ℕ) (kinds : List Kind) (i : Instruction) (wrong : Defect) → IsSearching m p s busy → table s at ≡ Some kinds → instruction_at p.code at ≡ Some i → is_own p i ≡ true → all_popped (signature m p i).pops kinds ≡ Misses wrong → IsOperandDefect m p at wrong
 misses_at m p s busy at kinds i wrong g has is own e =
     misses (table s) at kinds i wrong g.flow has is (effect_own m p i kinds own ∙ ap (λ o. and_then o (λ rest. Leaves (pushed (signature m p i).pushes rest))) e)
 
-pub misses_own : (m : ModuleContents) (p : ProcedureContents) (s : Search) (busy : List ℕ) (at : ℕ) (kinds : List Kind) (i : Instruction) → IsSearching m p s busy → table s at ≡ Some kinds → instruction_at p.code at ≡ Some i → is_own p i ≡ false → IsFlowDefect m p at OperandKind
+pub misses_own : (m : ModuleContents) (p : ProcedureContents) (s : Search) (busy : List ℕ) (at : ℕ) (kinds : List Kind) (i : Instruction) → IsSearching m p s busy → table s at ≡ Some kinds → instruction_at p.code at ≡ Some i → is_own p i ≡ false → IsOperandDefect m p at OperandKind
 misses_own m p s busy at kinds i g has is own =
     misses (table s) at kinds i OperandKind g.flow has is (ap (λ (b : Bool). if b then exchanged (signature m p i) kinds else Misses OperandKind) own)
 
@@ -357,7 +357,7 @@ all_followed m p s new at i after e to_targets to_handlers still to_next g =
       caught = λ h there low high. still h.target [] (to_handlers h there low high);
     })
 
-pub steps_more : (m : ModuleContents) (p : ProcedureContents) (old between new : Search) (at to list : ℕ) → Steps m p old between at → Flowed m p between new at to list → Steps m p old new at
+pub steps_more : (m : ModuleContents) (p : ProcedureContents) (old between new : Search) (at to list : ℕ) → KeepsSearching m p old between at → Flowed m p between new at to list → KeepsSearching m p old new at
 steps_more m p old between new at to list f h = record {
   searching = h.searching;
   keeps = λ offset kinds e. h.keeps offset kinds (f.keeps offset kinds e);
@@ -420,7 +420,7 @@ module _ (m : ModuleContents) (p : ProcedureContents) (s new : Search) (at : ℕ
   taken_table : (offset : ℕ) → table new offset ≡ table s offset
   taken_table offset = ap (λ (v : List (Option ℕ)). row new.operands (get_or v offset None)) shapes ∙ ap (λ ls. row ls (get_or s.shapes offset None)) operands
 
-  taken_kept : (offset : ℕ) (kinds : List Kind) → IsKept m p s offset kinds → IsKept m p new offset kinds
+  taken_kept : (offset : ℕ) (kinds : List Kind) → IsFollowed m p s offset kinds → IsFollowed m p new offset kinds
   taken_kept offset kinds k = record {
     instruction = k.instruction;
     there = k.there;
@@ -433,7 +433,7 @@ module _ (m : ModuleContents) (p : ProcedureContents) (s new : Search) (at : ℕ
 
   pub taken : IsSearching m p new (at ∷ [])
   taken = record {
-    root = subst IsFirst (sym operands) g.root;
+    root = subst StartsWithEmpty (sym operands) g.root;
     sized = ap length shapes ∙ g.sized;
     numbers = λ offset n h. let k = g.numbers offset n (ap (λ (v : List (Option ℕ)). get_or v offset None) (sym shapes) ∙ h) in omega (arith, k, ap length operands);
     begins = λ offset kinds h. g.begins offset kinds (sym (taken_table offset) ∙ h);
@@ -473,8 +473,8 @@ all_unset : (n : ℕ) → unset (replicate n None) ≡ n
 all_unset zero = refl
 all_unset (suc n) = ap suc (all_unset n)
 
-pub empty_falls : (m : ModuleContents) (p : ProcedureContents) → code_length p.code ≡ 0 → IsFlowDefect m p 0 FallsOffEnd
-empty_falls m p e = subst (λ t. IsFlowDefect m p t FallsOffEnd) e (falls (changed nowhere 0 (Some [])) [] starts (subst (λ t. changed nowhere 0 (Some []) t ≡ Some []) (sym e) (changed_at nowhere 0 [])))
+pub empty_falls : (m : ModuleContents) (p : ProcedureContents) → code_length p.code ≡ 0 → IsOperandDefect m p 0 FallsOffEnd
+empty_falls m p e = subst (λ t. IsOperandDefect m p t FallsOffEnd) e (falls (changed nowhere 0 (Some [])) [] starts (subst (λ t. changed nowhere 0 (Some []) t ≡ Some []) (sym e) (changed_at nowhere 0 [])))
 
 module _ (m : ModuleContents) (p : ProcedureContents) (s : Search) (n : ℕ) (size : code_length p.code ≡ suc n) (boundaries : KeepsBoundaries p) (operands : s.operands ≡ [] ∷ []) (shapes : s.shapes ≡ set (replicate (suc n) None) 0 (Some 0)) (work : s.work ≡ 0 ∷ []) where
   start_table : (offset : ℕ) → table s offset ≡ row ([] ∷ []) (get_or (Some 0 ∷ replicate n None) offset None)

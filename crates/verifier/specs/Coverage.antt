@@ -36,7 +36,7 @@ pub record IsTree (nodes : List ℕ) (width : ℕ) : Type 0 where
 -- ---- handlers
 
 -- the same handlers in the order of their starts
-pub record IsInOrder (handlers sorted : List Handler) : Type 0 where
+pub record IsSortedByStart (handlers sorted : List Handler) : Type 0 where
   pub same : IsPermutation handlers sorted
   pub rises : IsNonDecreasingBy (λ handler. handler.start) sorted
 

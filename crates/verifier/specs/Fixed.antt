@@ -13,7 +13,7 @@ use Rattle.bytecode.specs.declared.declaration.Direction.{Direction}
 use Rattle.bytecode.specs.declared.declaration.Direction.TheVariants.{Input, Output}
 use Rattle.verifier.specs.declared.fault.Defect.{Defect}
 use Rattle.verifier.specs.declared.fault.Defect.TheVariants as defect
-use Rattle.verifier.specs.declared.fault.Fault.{Fault}
+use Rattle.verifier.specs.declared.fault.CodeFault.{CodeFault}
 
 -- whether an instruction's first byte stands at an offset
 abbrev pub is_start : ProcedureContents → ℕ → Bool
@@ -93,30 +93,30 @@ handler_defect m procedure handler =
     else Some defect.Jump
 
 -- the fault of a procedure at an offset, if there is one
-abbrev pub fault_list : ℕ → ℕ → Option Defect → List Fault
+abbrev pub fault_list : ℕ → ℕ → Option Defect → List CodeFault
 fault_list number offset None = []
 fault_list number offset (Some wrong) = record { defect = wrong; procedure = number; offset = offset } ∷ []
 
 -- the faults of instructions that stand from an offset on
-abbrev pub instruction_faults : ModuleContents → ℕ → ProcedureContents → ℕ → List Instruction → List Fault
+abbrev pub instruction_faults : ModuleContents → ℕ → ProcedureContents → ℕ → List Instruction → List CodeFault
 instruction_faults m number procedure offset [] = []
 instruction_faults m number procedure offset (instruction ∷ code) =
     fault_list number offset (instruction_defect m procedure instruction)
     ++ instruction_faults m number procedure (offset + width_of instruction) code
 
 -- the faults of handlers, each at its start
-abbrev pub handler_faults : ModuleContents → ℕ → ProcedureContents → List Handler → List Fault
+abbrev pub handler_faults : ModuleContents → ℕ → ProcedureContents → List Handler → List CodeFault
 handler_faults m number procedure [] = []
 handler_faults m number procedure (handler ∷ handlers) =
     fault_list number handler.start (handler_defect m procedure handler) ++ handler_faults m number procedure handlers
 
 -- the fixed faults of procedures that are numbered from a number on
-abbrev pub procedure_faults : ModuleContents → ℕ → List ProcedureContents → List Fault
+abbrev pub procedure_faults : ModuleContents → ℕ → List ProcedureContents → List CodeFault
 procedure_faults m number [] = []
 procedure_faults m number (procedure ∷ procedures) =
     instruction_faults m number procedure 0 procedure.code ++ handler_faults m number procedure procedure.handlers
     ++ procedure_faults m (number + 1) procedures
 
 -- the fixed faults of a module: procedures in order, instructions by offset, then handlers in order
-abbrev pub fixed_faults : ModuleContents → List Fault
+abbrev pub fixed_faults : ModuleContents → List CodeFault
 fixed_faults m = procedure_faults m 0 m.procedures

@@ -21,11 +21,11 @@ use Rattle.verifier.specs.declared.fault.Defect.TheVariants.{OperandKind, Operan
 -- ---- what an instruction pops and pushes
 
 -- the kinds that an instruction pops, the first one from the top, where none is any kind; and the kind that it then pushes
-pub record Signature : Type 0 where
+pub record OperandEffect : Type 0 where
   pub pops : List (Option Kind)
   pub pushes : Option Kind
 
-abbrev pub exchange : List Kind → Option Kind → Signature
+abbrev pub exchange : List Kind → Option Kind → OperandEffect
 exchange kinds pushes = record { pops = map (λ kind. Some kind) kinds; pushes = pushes }
 
 -- the kind of a slot or a global
@@ -41,7 +41,7 @@ abbrev pub global_kind : ModuleContents → ℕ → Kind
 global_kind m k = slot_kind (slice_get (machine_code m).globals k)
 
 -- a call pops the arguments, the last one first, and its return pushes the value, if there is one
-abbrev pub called : Option ProcedureContents → Signature
+abbrev pub called : Option ProcedureContents → OperandEffect
 called None = exchange [] None
 called (Some callee) = exchange (reverse (header_of callee).parameters) callee.returned
 
@@ -50,7 +50,7 @@ abbrev pub value_kinds : Option Kind → List Kind
 value_kinds None = []
 value_kinds (Some kind) = kind ∷ []
 
-abbrev pub signature : ModuleContents → ProcedureContents → Instruction → Signature
+abbrev pub signature : ModuleContents → ProcedureContents → Instruction → OperandEffect
 signature m procedure (Push n) = exchange [] (Some Int)
 signature m procedure (PushBoolean b) = exchange [] (Some Boolean)
 signature m procedure Pop = record { pops = None ∷ []; pushes = None }
@@ -131,7 +131,7 @@ pushed None kinds = kinds
 pushed (Some kind) kinds = kind ∷ kinds
 
 -- pop, then push
-abbrev pub exchanged : Signature → List Kind → Effect
+abbrev pub exchanged : OperandEffect → List Kind → Effect
 exchanged s kinds = and_then (all_popped s.pops kinds) (λ rest. Leaves (pushed s.pushes rest))
 
 -- what an instruction makes of the kinds of the operands
@@ -198,11 +198,11 @@ between kinds others = if length kinds == length others then OperandKind else Op
 
 -- a fault of the flow at an offset: an instruction that control reaches misses an operand or finds one of another kind; an edge
 -- brings another list to an instruction than it has; control comes to the end of the code
-pub data IsFlowDefect (m : ModuleContents) (procedure : ProcedureContents) : ℕ → Defect → Type 0 where
-  misses : (table : ℕ → Option (List Kind)) (at : ℕ) (kinds : List Kind) (i : Instruction) (wrong : Defect) → Flow m procedure table → table at ≡ Some kinds → instruction_at procedure.code at ≡ Some i → effect m procedure i kinds ≡ Misses wrong → IsFlowDefect m procedure at wrong
-  meets : (table : ℕ → Option (List Kind)) (at : ℕ) (kinds : List Kind) (to : ℕ) (after others : List Kind) → Flow m procedure table → table at ≡ Some kinds → Edge m procedure at kinds to after → to ≢ code_length procedure.code → table to ≡ Some others → after ≢ others → IsFlowDefect m procedure to (between after others)
-  falls : (table : ℕ → Option (List Kind)) (kinds : List Kind) → Flow m procedure table → table (code_length procedure.code) ≡ Some kinds → IsFlowDefect m procedure (code_length procedure.code) FallsOffEnd
+pub data IsOperandDefect (m : ModuleContents) (procedure : ProcedureContents) : ℕ → Defect → Type 0 where
+  misses : (table : ℕ → Option (List Kind)) (at : ℕ) (kinds : List Kind) (i : Instruction) (wrong : Defect) → Flow m procedure table → table at ≡ Some kinds → instruction_at procedure.code at ≡ Some i → effect m procedure i kinds ≡ Misses wrong → IsOperandDefect m procedure at wrong
+  meets : (table : ℕ → Option (List Kind)) (at : ℕ) (kinds : List Kind) (to : ℕ) (after others : List Kind) → Flow m procedure table → table at ≡ Some kinds → Edge m procedure at kinds to after → to ≢ code_length procedure.code → table to ≡ Some others → after ≢ others → IsOperandDefect m procedure to (between after others)
+  falls : (table : ℕ → Option (List Kind)) (kinds : List Kind) → Flow m procedure table → table (code_length procedure.code) ≡ Some kinds → IsOperandDefect m procedure (code_length procedure.code) FallsOffEnd
 
 -- no fault of the flow
 abbrev pub FlowsWell : ModuleContents → ProcedureContents → Type 0
-FlowsWell m procedure = (offset : ℕ) (defect : Defect) → IsFlowDefect m procedure offset defect → ⊥
+FlowsWell m procedure = (offset : ℕ) (defect : Defect) → IsOperandDefect m procedure offset defect → ⊥

@@ -8,13 +8,13 @@ use Rattle.bytecode.specs.declared.instruction.Instruction.{Instruction}
 use Rattle.bytecode.specs.declared.value.Kind.{Kind}
 use Rattle.bytecode.specs.declared.declaration.Handler.{Handler}
 use Rattle.bytecode.specs.Targets.{target_of}
-use Rattle.verifier.specs.Flow.{Edge, Flow, Leaves, effect, goes_on, IsFlowDefect}
+use Rattle.verifier.specs.Flow.{Edge, Flow, Leaves, effect, goes_on, IsOperandDefect}
 use Rattle.verifier.specs.Coverage.{IsCoverage, Waits}
 use Rattle.verifier.specs.Depth.{IsMet}
 use Rattle.verifier.specs.Operands.{list_of}
 use Rattle.verifier.specs.declared.search.Search.{Search}
-use Rattle.verifier.specs.declared.search.Stop.{Stop}
-use Rattle.verifier.specs.declared.search.Stop.TheVariants.{NoMemory, Wrong}
+use Rattle.verifier.specs.declared.search.SearchStop.{SearchStop}
+use Rattle.verifier.specs.declared.search.SearchStop.TheVariants.{NoMemory, Wrong}
 use Rattle.verifier.specs.declared.body.Body.{Body}
 use Rattle.verifier.specs.declared.coverage.Coverage.{Coverage}
 
@@ -32,7 +32,7 @@ numbered code None = None
 numbered code (Some index) = slice_get code index
 
 -- a procedure that the search may look at: its indices are those of its code, which has less than 4 GiB
-pub record IsBody (b : Body) : Type 0 where
+pub record IsSearchableBody (b : Body) : Type 0 where
   pub indices : b.indices ≡ indices_from 0 b.procedure.now.code
   pub short : code_length b.procedure.now.code < 2 ^ 32
 
@@ -46,7 +46,7 @@ abbrev pub table : Search → ℕ → Option (List Kind)
 table s offset = row s.operands (slice_index_or s.shapes offset None)
 
 -- a offset whose instruction finds its operands, and from which each edge was followed
-pub record IsKept (m : ModuleContents) (p : ProcedureContents) (s : Search) (at : ℕ) (kinds : List Kind) : Type 0 where
+pub record IsFollowed (m : ModuleContents) (p : ProcedureContents) (s : Search) (at : ℕ) (kinds : List Kind) : Type 0 where
   pub instruction : Instruction
   pub there : instruction_at p.code at ≡ Some instruction
   pub after : List Kind
@@ -66,8 +66,8 @@ abbrev pub left : Search → ℕ
 left s = unset s.shapes + length s.work
 
 -- the list 0 is there and empty
-abbrev pub IsFirst : List (List Kind) → Type 0
-IsFirst lists = (0 < length lists) × (list_of lists 0 ≡ [])
+abbrev pub StartsWithEmpty : List (List Kind) → Type 0
+StartsWithEmpty lists = (0 < length lists) × (list_of lists 0 ≡ [])
 
 -- each list is one that an instruction finds or leaves, and none that is so is longer than all of them
 abbrev pub AreMet : ModuleContents → ProcedureContents → List (List Kind) → Type 0
@@ -80,14 +80,14 @@ pub record HaveLongest (m : ModuleContents) (p : ProcedureContents) (lists : Lis
 -- a search at work: its table is one of the flow, its lists are met, and each offset that has a list waits, is being looked at, or
 -- is kept
 pub record IsSearching (m : ModuleContents) (p : ProcedureContents) (s : Search) (busy : List ℕ) : Type 0 where
-  pub root : IsFirst s.operands
+  pub root : StartsWithEmpty s.operands
   pub sized : length s.shapes ≡ code_length p.code
   pub numbers : (offset list : ℕ) → slice_index_or s.shapes offset None ≡ Some list → list < length s.operands
   pub begins : (offset : ℕ) (kinds : List Kind) → table s offset ≡ Some kinds → (i : Instruction) × (instruction_at p.code offset ≡ Some i)
   pub first : table s 0 ≡ Some []
   pub flow : Flow m p (table s)
   pub met : AreMet m p s.operands
-  pub pending : (at : ℕ) (kinds : List Kind) → table s at ≡ Some kinds → Contains s.work at ⊎ (Contains busy at ⊎ IsKept m p s at kinds)
+  pub pending : (at : ℕ) (kinds : List Kind) → table s at ≡ Some kinds → Contains s.work at ⊎ (Contains busy at ⊎ IsFollowed m p s at kinds)
   pub waits : (at : ℕ) → Contains s.work at → (kinds : List Kind) × (table s at ≡ Some kinds)
 
 -- ---- steps
@@ -111,7 +111,7 @@ pub record Flowed (m : ModuleContents) (p : ProcedureContents) (old new : Search
   pub left : left new ≤ left old
 
 -- control went on from a offset: lists were kept, and none was made
-pub record Steps (m : ModuleContents) (p : ProcedureContents) (old new : Search) (at : ℕ) : Type 0 where
+pub record KeepsSearching (m : ModuleContents) (p : ProcedureContents) (old new : Search) (at : ℕ) : Type 0 where
   pub searching : IsSearching m p new (at ∷ [])
   pub keeps : (offset : ℕ) (kinds : List Kind) → table old offset ≡ Some kinds → table new offset ≡ Some kinds
   pub same : new.operands ≡ old.operands
@@ -139,9 +139,9 @@ pub record HasInstruction (p : ProcedureContents) (s : Search) (at : ℕ) : Type
   pub has : table s at ≡ Some kinds
 
 -- a search at work that goes straight on to an offset, or to none
-abbrev pub IsNext : ModuleContents → ProcedureContents → Search → Option ℕ → Type 0
-IsNext m p s None = IsSearching m p s []
-IsNext m p s (Some at) = (IsSearching m p s (at ∷ [])) × HasInstruction p s at
+abbrev pub IsSearchingNext : ModuleContents → ProcedureContents → Search → Option ℕ → Type 0
+IsSearchingNext m p s None = IsSearching m p s []
+IsSearchingNext m p s (Some at) = (IsSearching m p s (at ∷ [])) × HasInstruction p s at
 
 -- 1 where there is an offset to go straight on to
 abbrev pub count : Option ℕ → ℕ
@@ -155,6 +155,6 @@ pub record IsWaiting (p : ProcedureContents) (c : Coverage) (s : Search) : Type 
   pub gone : (h : Handler) (at : ℕ) → Contains p.handlers h → h.start ≤ at → at < h.end → Waits c h ⊎ (table s h.target ≡ Some [])
 
 -- why a search stopped
-abbrev pub IsStop : ModuleContents → ProcedureContents → Stop → Type 0
+abbrev pub IsStop : ModuleContents → ProcedureContents → SearchStop → Type 0
 IsStop m p NoMemory = Unit {0}
-IsStop m p (Wrong offset defect) = IsFlowDefect m p offset defect
+IsStop m p (Wrong offset defect) = IsOperandDefect m p offset defect

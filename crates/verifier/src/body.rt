@@ -2,7 +2,7 @@
 
 ghost use Rattle.bytecode.specs.Code.{code_length, instruction_at};
 ghost use Rattle.std.specs.Prelude.{IfOk, slice_get, ◌<◌, ◌^◌, ◌≡◌};
-ghost use Rattle.verifier.specs.Search.{IsBody, indices_from};
+ghost use Rattle.verifier.specs.Search.{IsSearchableBody, indices_from};
 
 use crate::numbers::Numbers;
 use crate::parameters::PackedModule;
@@ -25,7 +25,7 @@ impl<'a> Body<'a> {
         procedure: &'a Procedure,
     ) -> Result<Body<'a>, AllocError>
         requires { code_length procedure.now.code < 2 ^ 32 }
-        ensures body { IfOk result (λ body. IsBody body) }
+        ensures body { IfOk result (λ body. IsSearchableBody body) }
         ensures program { IfOk result (λ body. body.program.now ≡ program.now) }
         ensures procedure { IfOk result (λ body. body.procedure.now ≡ procedure.now) }
     {
@@ -39,7 +39,7 @@ impl<'a> Body<'a> {
 
     /// The instruction whose first byte stands at an offset, if there is one.
     pub(crate) fn at(&self, offset: u32) -> Option<Instruction>
-        requires { IsBody self.now }
+        requires { IsSearchableBody self.now }
         ensures { result ≡ instruction_at self.now.procedure.now.code offset }
     {
         match self.indices.at(offset) {

@@ -3,7 +3,7 @@
 ghost use Rattle.bytecode.specs.declared.declaration.Handler.{Handler as TheHandler};
 ghost use Rattle.std.specs.List.{Contains};
 ghost use Rattle.std.specs.Prelude.{IfNone, IfOk, IfSome, length, ℕ, ◌<◌, ◌^◌, ◌≡◌, ◌⊎◌, ◌≤◌};
-ghost use Rattle.verifier.specs.Coverage.{IsCoverage, IsInOrder, Waits, left};
+ghost use Rattle.verifier.specs.Coverage.{IsCoverage, IsSortedByStart, Waits, left};
 
 use crate::ends::Ends;
 use bytecode::Handler;
@@ -64,7 +64,7 @@ impl Coverage {
 
 // Handlers in the order of their starts.
 fn in_order(alloc: Global, handlers: &[Handler]) -> Result<Vec<Handler>, AllocError>
-    ensures { IfOk result (λ sorted. IsInOrder handlers.now sorted.items) }
+    ensures { IfOk result (λ sorted. IsSortedByStart handlers.now sorted.items) }
 {
     let mut sorted = Vec::new(alloc);
     for handler in handlers {

@@ -50,7 +50,7 @@ impl Defect {
 
 /// A fault of a module's code: what is wrong, and the procedure and the byte offset where.
 #[derive(Clone, Copy, Debug, PartialEq, Eq)]
-pub struct Fault {
+pub struct CodeFault {
     pub defect: Defect,
     pub procedure: u32,
     pub offset: u32,
@@ -64,7 +64,7 @@ pub enum VerifyFault {
     NoMemory,
     /// The module has this fault.
     #[error("a fault in the code")]
-    Wrong(Fault),
+    Wrong(CodeFault),
 }
 
 impl From<AllocError> for VerifyFault {

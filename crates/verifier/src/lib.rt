@@ -18,6 +18,6 @@ mod search;
 pub mod verified;
 mod work;
 
-pub use fault::{Defect, Fault, VerifyFault};
+pub use fault::{CodeFault, Defect, VerifyFault};
 pub use loading::{LoadFault, load};
 pub use verified::{Verified, verify};

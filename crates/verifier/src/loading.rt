@@ -6,9 +6,9 @@ ghost use Rattle.std.specs.Prelude.{◌≡◌, IfErr, IfOk};
 ghost use Rattle.verifier.specs.Faults.{HasNoFault};
 ghost use Rattle.verifier.specs.Loaded.{CannotLoad, IsLoaded, IsLoadedAs, fault_of_bytes, fault_of_code};
 
-use crate::fault::{Fault, VerifyFault};
+use crate::fault::{CodeFault, VerifyFault};
 use crate::verified::{Verified, verify};
-use bytecode::Refusal;
+use bytecode::ModuleRefusal;
 use module_file::{FormatFault, decode};
 use std::alloc::Global;
 
@@ -18,9 +18,9 @@ pub enum LoadFault {
     /// Out of memory.
     NoMemory,
     /// 801 to 806: the bytes spell no module. The first refusal, and its offset in the bytes.
-    Bytes(Refusal, usize),
+    Bytes(ModuleRefusal, usize),
     /// 811 to 815: the module has this fault in its code.
-    Code(Fault),
+    Code(CodeFault),
 }
 
 impl From<FormatFault> for LoadFault {

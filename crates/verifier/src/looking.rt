@@ -2,16 +2,16 @@
 
 ghost use Rattle.std.specs.Prelude.{IfErr, IfNone, IfOk, IfSome, Some, length, ◌<◌, ◌^◌, ◌≡◌, ◌⊎◌};
 ghost use Rattle.verifier.specs.Boundaries.{KeepsBoundaries};
-ghost use Rattle.verifier.specs.Faults.{IsRefusal};
-ghost use Rattle.verifier.specs.Search.{IsBody};
-ghost use Rattle.verifier.specs.Verified.{HasCodes, IsAdded, IsFaultOf};
+ghost use Rattle.verifier.specs.Faults.{ReportsModuleFault};
+ghost use Rattle.verifier.specs.Search.{IsSearchableBody};
+ghost use Rattle.verifier.specs.Verified.{HasCodes, AddsVerifiedCode, IsFaultOf};
 
 use crate::body::Body;
-use crate::fault::{Fault, VerifyFault};
+use crate::fault::{CodeFault, VerifyFault};
 use crate::fixed::body_fault;
 use crate::parameters::PackedModule;
 use crate::positions::Code;
-use crate::search::{Stop, find_defect};
+use crate::search::{SearchStop, find_defect};
 use std::alloc::Global;
 
 /// Looks for a fault of a module, and answers the code of each procedure where there is none.
@@ -23,7 +23,7 @@ pub(crate) fn look_for_faults(
     program: &PackedModule,
 ) -> Result<Vec<Code>, VerifyFault>
     ensures ok { IfOk result (λ codes. HasCodes program.now codes.items) }
-    ensures err { IfErr result (λ fault. IsRefusal program.now fault) }
+    ensures err { IfErr result (λ fault. ReportsModuleFault program.now fault) }
 {
     let procedures = program.procedures();
     let mut codes = Vec::new(alloc);
@@ -49,14 +49,14 @@ fn look_for_flow_fault(
     alloc: Global,
     body: &Body,
     number: u32,
-    found: Option<Fault>,
+    found: Option<CodeFault>,
     codes: &mut Vec<Code>,
-) -> Result<Option<Fault>, VerifyFault>
+) -> Result<Option<CodeFault>, VerifyFault>
     requires boundaries { KeepsBoundaries body.now.procedure.now }
-    requires body { IsBody body.now }
+    requires body { IsSearchableBody body.now }
     requires few { length body.now.procedure.now.handlers < 2 ^ 32 }
     ensures none { IfOk result (λ fault. IfNone fault (
-        IsAdded body.now.program.now body.now.procedure.now found codes.old.items codes.new.items)) }
+        AddsVerifiedCode body.now.program.now body.now.procedure.now found codes.old.items codes.new.items)) }
     ensures some { IfOk result (λ fault. IfSome fault (λ fault.
         (found ≡ Some fault) ⊎ IsFaultOf body.now.program.now number body.now.procedure.now fault)) }
     ensures no_memory { IfErr result (λ fault. fault ≡ VerifyFault.NoMemory) }
@@ -69,8 +69,8 @@ fn look_for_flow_fault(
             codes.push(Code::of(alloc, body, greatest_depth)?)?;
             Ok(None)
         }
-        Err(Stop::NoMemory) => Err(VerifyFault::NoMemory),
-        Err(Stop::Wrong(offset, defect)) => Ok(Some(Fault {
+        Err(SearchStop::NoMemory) => Err(VerifyFault::NoMemory),
+        Err(SearchStop::Wrong(offset, defect)) => Ok(Some(CodeFault {
             defect,
             procedure: number,
             offset,

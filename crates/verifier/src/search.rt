@@ -12,8 +12,8 @@ ghost use Rattle.verifier.specs.Flow.{FlowsWell};
 ghost use Rattle.verifier.specs.Depth.{IsGreatestDepth};
 ghost use Rattle.verifier.specs.Operands.{list_of};
 ghost use Rattle.verifier.specs.Boundaries.{IsBoundary, KeepsBoundaries};
-ghost use Rattle.verifier.specs.declared.search.Stop.TheVariants.{NoMemory};
-ghost use Rattle.verifier.specs.Search.{Flowed, HasEffect, HaveLongest, HasInstruction, IsApplied, IsAtEdge, IsBody, IsNext, IsSearching, IsStop, IsWaiting, Steps, count, left, table, waiting};
+ghost use Rattle.verifier.specs.declared.search.SearchStop.TheVariants.{NoMemory};
+ghost use Rattle.verifier.specs.Search.{Flowed, HasEffect, HaveLongest, HasInstruction, IsApplied, IsAtEdge, IsSearchableBody, IsSearchingNext, IsSearching, IsStop, IsWaiting, KeepsSearching, count, left, table, waiting};
 
 use crate::body::Body;
 use crate::coverage::Coverage;
@@ -27,24 +27,24 @@ use std::alloc::{AllocError, AllocFailed, Global};
 
 /// Why a search stopped: memory ran out, or there is a defect at an offset.
 #[derive(Clone, Copy, Debug, PartialEq, Eq)]
-pub(crate) enum Stop {
+pub(crate) enum SearchStop {
     NoMemory,
     Wrong(u32, Defect),
 }
 
-impl From<AllocError> for Stop {
+impl From<AllocError> for SearchStop {
     ghost from_gives = { λ _ stop. stop ≡ NoMemory };
 
-    fn from(_error: AllocError) -> Stop {
-        Stop::NoMemory
+    fn from(_error: AllocError) -> SearchStop {
+        SearchStop::NoMemory
     }
 }
 
-impl<T: Drop> From<AllocFailed<T>> for Stop {
+impl<T: Drop> From<AllocFailed<T>> for SearchStop {
     ghost from_gives = { λ _ stop. stop ≡ NoMemory };
 
-    fn from(_error: AllocFailed<T>) -> Stop {
-        Stop::NoMemory
+    fn from(_error: AllocFailed<T>) -> SearchStop {
+        SearchStop::NoMemory
     }
 }
 
@@ -60,7 +60,7 @@ pub(crate) struct Search {
 impl Search {
     // Control goes from an offset to another one with a list. Answers whether it is the first there; then that offset is
     // still to be looked at.
-    fn arrive(&mut self, body: &Body, at: u32, to: u32, list: u32) -> Result<bool, Stop>
+    fn arrive(&mut self, body: &Body, at: u32, to: u32, list: u32) -> Result<bool, SearchStop>
         requires searching { IsSearching body.now.program.now body.now.procedure.now self.old (at ∷ []) }
         requires edge { IsAtEdge body.now.program.now body.now.procedure.now self.old at to (list_of self.old.operands list) }
         requires list { list < length self.old.operands }
@@ -71,7 +71,7 @@ impl Search {
         ensures err { IfErr result (λ stop. IsStop body.now.program.now body.now.procedure.now stop) }
     {
         if to as usize == self.shapes.len() {
-            return Err(Stop::Wrong(to, Defect::FallsOffEnd));
+            return Err(SearchStop::Wrong(to, Defect::FallsOffEnd));
         }
         match self.shapes.at(to) {
             None => {
@@ -80,13 +80,13 @@ impl Search {
             }
             Some(other) => match self.operands.meet(list, other) {
                 Ok(()) => Ok(false),
-                Err(defect) => Err(Stop::Wrong(to, defect)),
+                Err(defect) => Err(SearchStop::Wrong(to, defect)),
             },
         }
     }
 
     // Control goes from an offset to another one with a list, and that one waits if control is the first there.
-    fn reach(&mut self, body: &Body, at: u32, to: u32, list: u32) -> Result<(), Stop>
+    fn reach(&mut self, body: &Body, at: u32, to: u32, list: u32) -> Result<(), SearchStop>
         requires searching { IsSearching body.now.program.now body.now.procedure.now self.old (at ∷ []) }
         requires edge { IsAtEdge body.now.program.now body.now.procedure.now self.old at to (list_of self.old.operands list) }
         requires list { list < length self.old.operands }
@@ -109,7 +109,7 @@ impl Search {
         at: u32,
         instruction: Instruction,
         list: u32,
-    ) -> Result<u32, Stop>
+    ) -> Result<u32, SearchStop>
         requires searching { IsSearching body.now.program.now body.now.procedure.now self.old (at ∷ []) }
         requires shape { table self.old at ≡ Some (list_of self.old.operands list) }
         requires list { list < length self.old.operands }
@@ -122,14 +122,14 @@ impl Search {
     {
         if is_own(body.procedure, instruction) {
             match pops(&self.operands, body, instruction, list) {
-                Err(defect) => Err(Stop::Wrong(at, defect)),
+                Err(defect) => Err(SearchStop::Wrong(at, defect)),
                 Ok(rest) => match pushes(body, instruction) {
                     None => Ok(rest),
                     Some(kind) => Ok(self.operands.push(rest, kind)?),
                 },
             }
         } else {
-            Err(Stop::Wrong(at, Defect::OperandKind))
+            Err(SearchStop::Wrong(at, Defect::OperandKind))
         }
     }
 
@@ -140,13 +140,14 @@ impl Search {
         at: u32,
         instruction: Instruction,
         list: u32,
-    ) -> Result<(), Stop>
+    ) -> Result<(), SearchStop>
         requires searching { IsSearching body.now.program.now body.now.procedure.now self.old (at ∷ []) }
         requires effect { HasEffect body.now.program.now body.now.procedure.now self.old at instruction (list_of self.old.operands list) }
         requires list { list < length self.old.operands }
         requires boundaries { KeepsBoundaries body.now.procedure.now }
         requires room { length self.old.operands + left self.old ≤ 2 ^ 32 }
-        ensures ok { OnOk result (Steps body.now.program.now body.now.procedure.now self.old self.new at) }
+        ensures ok { OnOk result (KeepsSearching body.now.program.now body.now.procedure.now
+            self.old self.new at) }
         ensures there { OnOk result ((to : ℕ) → targets.target_of instruction ≡ Some to → table self.new to ≡ Some (list_of self.old.operands list)) }
         ensures err { IfErr result (λ stop. IsStop body.now.program.now body.now.procedure.now stop) }
     {
@@ -157,13 +158,14 @@ impl Search {
     }
 
     // Control goes to each handler whose range holds the offset. Where it went before, it need not go again.
-    fn raise(&mut self, body: &Body, coverage: &mut Coverage, at: u32) -> Result<(), Stop>
+    fn raise(&mut self, body: &Body, coverage: &mut Coverage, at: u32) -> Result<(), SearchStop>
         requires searching { IsSearching body.now.program.now body.now.procedure.now self.old (at ∷ []) }
         requires there { HasInstruction body.now.procedure.now self.old at }
         requires boundaries { KeepsBoundaries body.now.procedure.now }
         requires waiting { IsWaiting body.now.procedure.now coverage.old self.old }
         requires room { length self.old.operands + left self.old ≤ 2 ^ 32 }
-        ensures ok { OnOk result (Steps body.now.program.now body.now.procedure.now self.old self.new at) }
+        ensures ok { OnOk result (KeepsSearching body.now.program.now body.now.procedure.now
+            self.old self.new at) }
         ensures waiting { OnOk result (IsWaiting body.now.procedure.now coverage.new self.new) }
         ensures there { OnOk result ((h : Handler) → Contains body.now.procedure.now.handlers h → h.start ≤ at → at < h.end → table self.new h.target ≡ Some []) }
         ensures err { IfErr result (λ stop. IsStop body.now.program.now body.now.procedure.now stop) }
@@ -182,7 +184,7 @@ impl Search {
         at: u32,
         instruction: Instruction,
         list: u32,
-    ) -> Result<Option<u32>, Stop>
+    ) -> Result<Option<u32>, SearchStop>
         requires searching { IsSearching body.now.program.now body.now.procedure.now self.old (at ∷ []) }
         requires effect { HasEffect body.now.program.now body.now.procedure.now self.old at instruction (list_of self.old.operands list) }
         requires list { list < length self.old.operands }
@@ -191,7 +193,8 @@ impl Search {
         requires boundaries { KeepsBoundaries body.now.procedure.now }
         requires short { code_length body.now.procedure.now.code < 2 ^ 32 }
         requires room { length self.old.operands + left self.old ≤ 2 ^ 32 }
-        ensures next { IfOk result (IsNext body.now.program.now body.now.procedure.now self.new) }
+        ensures next { IfOk result (IsSearchingNext body.now.program.now body.now.procedure.now
+            self.new) }
         ensures keeps { OnOk result ((offset : ℕ) (kinds : List Kind) → table self.old offset ≡ Some kinds → table self.new offset ≡ Some kinds) }
         ensures same { OnOk result (self.new.operands ≡ self.old.operands) }
         ensures left { IfOk result (λ next. left self.new + count next ≤ left self.old) }
@@ -216,7 +219,7 @@ impl Search {
         at: u32,
         instruction: Instruction,
         list: u32,
-    ) -> Result<Option<u32>, Stop>
+    ) -> Result<Option<u32>, SearchStop>
         requires searching { IsSearching body.now.program.now body.now.procedure.now self.old (at ∷ []) }
         requires shape { table self.old at ≡ Some (list_of self.old.operands list) }
         requires list { list < length self.old.operands }
@@ -225,7 +228,8 @@ impl Search {
         requires waiting { IsWaiting body.now.procedure.now coverage.old self.old }
         requires room { length self.old.operands + left self.old < 2 ^ 32 }
         requires short { code_length body.now.procedure.now.code < 2 ^ 32 }
-        ensures next { IfOk result (IsNext body.now.program.now body.now.procedure.now self.new) }
+        ensures next { IfOk result (IsSearchingNext body.now.program.now body.now.procedure.now
+            self.new) }
         ensures waiting { OnOk result (IsWaiting body.now.procedure.now coverage.new self.new) }
         ensures left { IfOk result (λ next. left self.new + count next ≤ left self.old) }
         ensures few { OnOk result (length self.new.operands ≤ length self.old.operands + 1) }
@@ -239,14 +243,20 @@ impl Search {
     }
 
     // Looks at an offset that has a list.
-    fn look(&mut self, body: &Body, coverage: &mut Coverage, at: u32) -> Result<Option<u32>, Stop>
+    fn look(
+        &mut self,
+        body: &Body,
+        coverage: &mut Coverage,
+        at: u32,
+    ) -> Result<Option<u32>, SearchStop>
         requires searching { IsSearching body.now.program.now body.now.procedure.now self.old (at ∷ []) }
         requires there { HasInstruction body.now.procedure.now self.old at }
         requires boundaries { KeepsBoundaries body.now.procedure.now }
         requires waiting { IsWaiting body.now.procedure.now coverage.old self.old }
-        requires body { IsBody body.now }
+        requires body { IsSearchableBody body.now }
         requires room { length self.old.operands + left self.old < 2 ^ 32 }
-        ensures next { IfOk result (IsNext body.now.program.now body.now.procedure.now self.new) }
+        ensures next { IfOk result (IsSearchingNext body.now.program.now body.now.procedure.now
+            self.new) }
         ensures waiting { OnOk result (IsWaiting body.now.procedure.now coverage.new self.new) }
         ensures left { IfOk result (λ next. left self.new + count next ≤ left self.old) }
         ensures few { OnOk result (length self.new.operands ≤ length self.old.operands + 1) }
@@ -262,12 +272,12 @@ impl Search {
     }
 
     // Looks at an offset that has a list, and at those to which control goes straight on from there.
-    fn follow(&mut self, body: &Body, coverage: &mut Coverage, at: u32) -> Result<(), Stop>
+    fn follow(&mut self, body: &Body, coverage: &mut Coverage, at: u32) -> Result<(), SearchStop>
         requires searching { IsSearching body.now.program.now body.now.procedure.now self.old (at ∷ []) }
         requires there { HasInstruction body.now.procedure.now self.old at }
         requires boundaries { KeepsBoundaries body.now.procedure.now }
         requires waiting { IsWaiting body.now.procedure.now coverage.old self.old }
-        requires body { IsBody body.now }
+        requires body { IsSearchableBody body.now }
         requires room { length self.old.operands + left self.old < 2 ^ 32 }
         ensures ok { OnOk result (IsSearching body.now.program.now body.now.procedure.now self.new []) }
         ensures waiting { OnOk result (IsWaiting body.now.procedure.now coverage.new self.new) }
@@ -283,11 +293,11 @@ impl Search {
     }
 
     // Looks at each offset that waits, until none does.
-    fn run(&mut self, body: &Body, coverage: &mut Coverage) -> Result<(), Stop>
+    fn run(&mut self, body: &Body, coverage: &mut Coverage) -> Result<(), SearchStop>
         requires searching { IsSearching body.now.program.now body.now.procedure.now self.old [] }
         requires boundaries { KeepsBoundaries body.now.procedure.now }
         requires waiting { IsWaiting body.now.procedure.now coverage.old self.old }
-        requires body { IsBody body.now }
+        requires body { IsSearchableBody body.now }
         requires room { length self.old.operands + left self.old ≤ 2 ^ 32 }
         ensures ok { OnOk result (FlowsWell body.now.program.now body.now.procedure.now) }
         ensures longest { OnOk result (HaveLongest body.now.program.now body.now.procedure.now self.new.operands) }
@@ -302,9 +312,9 @@ impl Search {
 
 /// Looks for a fault of the flow of a procedure whose targets are right, and answers the greatest number of operands where there
 /// is none.
-pub(crate) fn find_defect(alloc: Global, body: &Body) -> Result<u32, Stop>
+pub(crate) fn find_defect(alloc: Global, body: &Body) -> Result<u32, SearchStop>
     requires boundaries { KeepsBoundaries body.now.procedure.now }
-    requires body { IsBody body.now }
+    requires body { IsSearchableBody body.now }
     requires few { length body.now.procedure.now.handlers < 2 ^ 32 }
     ensures ok { OnOk result (FlowsWell body.now.program.now body.now.procedure.now) }
     ensures depth { IfOk result (λ depth. IsGreatestDepth body.now.program.now body.now.procedure.now depth) }
@@ -312,7 +322,7 @@ pub(crate) fn find_defect(alloc: Global, body: &Body) -> Result<u32, Stop>
 {
     let size = body.indices.len();
     if size == 0 {
-        return Err(Stop::Wrong(0, Defect::FallsOffEnd));
+        return Err(SearchStop::Wrong(0, Defect::FallsOffEnd));
     }
     let mut coverage = Coverage::new(alloc, body.procedure.handlers())?;
     let operands = Operands::new(alloc)?;

@@ -2,7 +2,7 @@ ghost use Rattle.bytecode.specs.Machine.{code_of};
 ghost use Rattle.std.specs.Prelude.{IfErr, IfOk, OnOk, Some, length, slice_get, ◌<◌, ◌≡◌};
 ghost use Rattle.bytecode.specs.Contents.{ProcedureContents};
 ghost use Rattle.verifier.specs.Depth.{IsGreatestDepth};
-ghost use Rattle.verifier.specs.Faults.{HasNoFault, IsRefusal};
+ghost use Rattle.verifier.specs.Faults.{HasNoFault, ReportsModuleFault};
 ghost use Rattle.verifier.specs.Safety.{IsNeverStuck};
 ghost use Rattle.verifier.specs.Positions.{positioned};
 
@@ -73,7 +73,7 @@ pub fn verify(alloc: Global, program: Module) -> Result<Verified, VerifyFault>
     ensures value { IfOk result (λ verified. verified ≡ program) }
     ensures safe { OnOk result (IsNeverStuck program) }
     ensures faultless { OnOk result (HasNoFault program) }
-    ensures fault { IfErr result (λ fault. IsRefusal program fault) }
+    ensures fault { IfErr result (λ fault. ReportsModuleFault program fault) }
 {
     let packed = PackedModule::new(alloc, program)?;
     let codes = look_for_faults(alloc, &packed)?;

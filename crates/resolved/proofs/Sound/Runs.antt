@@ -8,7 +8,7 @@ use Rattle.resolved.specs.declared.expression.Variable.TheVariants.{Global, Loca
 use Rattle.resolved.specs.Program.{Program, ProcedureEntry, GlobalEntry, procedure_at}
 use Rattle.resolved.specs.Value.{base_of}
 use Rattle.resolved.specs.SourceState.{World, cells}
-use Rattle.resolved.specs.Meaning.{entering, first_state, global_cells}
+use Rattle.resolved.specs.Meaning.{entering, first_state, first_cells_of_globals}
 use Rattle.resolved.specs.WellFormed.{VariableType, variable_type, global_type, same_base, size_fits, label_fits, first_fits, main_fits, well_formed}
 use Rattle.resolved.specs.Kinds.{CellsFit, StateFits, RunsBeginTyped, ArgumentsFit}
 use Rattle.resolved.proofs.Parts.{ProcedureParts, program_parts, procedure_there, procedure_at_is, passes_at}
@@ -24,7 +24,7 @@ first_state_fits : (program : Program) (procedure : ProcedureEntry) (world : Wor
 first_state_fits program procedure world h = record { fits = go }
   where
     global_fits : (entry : Option GlobalEntry) (n : ℕ) (type : VariableType) → slice_get program.globals n ≡ entry
-        → global_type entry ≡ Some type → CellsFit type (global_cells entry)
+        → global_type entry ≡ Some type → CellsFit type (first_cells_of_globals entry)
     global_fits None n type e e' = cc
     global_fits (Some entry) n type e e' =
         let all_fit : list_all (λ (entry : GlobalEntry). size_fits entry.size && label_fits program.hierarchy entry.label && first_fits entry)
@@ -32,7 +32,7 @@ first_state_fits program procedure world h = record { fits = go }
         let fit : first_fits entry ≡ true =
         (both (size_fits entry.size && label_fits program.hierarchy entry.label) _ (passes_at _ program.globals n entry all_fit e)).1 in
         let same : record { base = entry.base; size = entry.size } ≡ type = some_same e' in
-        subst (λ t. CellsFit t (global_cells (Some entry))) same
+        subst (λ t. CellsFit t (first_cells_of_globals (Some entry))) same
         (cells_of_fit entry.base entry.size entry.first
         (same_base_is (base_of entry.first) entry.base (both (same_base (base_of entry.first) entry.base) _ fit).0))
 

@@ -13,7 +13,7 @@ use Rattle.resolved.specs.declared.expression.Variable.TheVariants.{Global, Loca
 use Rattle.resolved.specs.Program.{Program, ProcedureEntry, SlotEntry}
 use Rattle.resolved.specs.Value.{base_of, zero_value}
 use Rattle.resolved.specs.SourceState.{SourceState, cells, with_cells, assigned, stored, cleared}
-use Rattle.resolved.specs.Meaning.{entering, cells_of, slot_cells}
+use Rattle.resolved.specs.Meaning.{entering, cells_of, first_cells_of_slots}
 use Rattle.resolved.specs.WellFormed.{VariableType, variable_type, slot_type, cell_count, parameter_fits, parameters_of}
 use Rattle.resolved.specs.Kinds.{CellsFit, StateFits, ArgumentsFit}
 use Rattle.resolved.proofs.Sound.Values.{both}
@@ -126,7 +126,7 @@ entering_fits program caller callee s values state matches fit = record { fits =
   where
     slot_fits : (slot : Option SlotEntry) (argument : Option Value) (n : ℕ) (type : VariableType)
         → slice_get callee.slots n ≡ slot → slice_get values n ≡ argument → slot_type slot ≡ Some type
-        → CellsFit type (slot_cells slot argument)
+        → CellsFit type (first_cells_of_slots slot argument)
     slot_fits None argument n type e e' h = cc
     slot_fits (Some slot) None n type e e' h =
         let same : record { base = slot.base; size = slot.size } ≡ type = some_same h in

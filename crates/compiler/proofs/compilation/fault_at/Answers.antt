@@ -1,5 +1,5 @@
 use Rattle.std.proofs.Common.{ap}
-use Rattle.compiler.specs.declared.fault.Fault.TheVariants.{Refused}
+use Rattle.compiler.specs.declared.fault.CompileFault.TheVariants.{Refused}
 use Rattle.compiler.proofs.compilation.fault_at.Goals as goal
 
 pub returns : goal.returns

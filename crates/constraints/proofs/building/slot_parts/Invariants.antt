@@ -1,11 +1,11 @@
 use Rattle.std.proofs.Common.{map, take}
-use Rattle.constraints.specs.Rows.{Grows, Mean}
+use Rattle.constraints.specs.Rows.{TableGrows, Mean}
 use Rattle.resolved.specs.ProgramOf.{slot_entry}
 use Rattle.constraints.specs.Rows.{slot_parts}
 use Rattle.constraints.proofs.building.slot_parts.Given as goal
 
 abbrev pub invariant-loop-i : goal.invariant-loop-i
 invariant-loop-i l = record {
-  grown : Grows l.fn.written.list.items l.written.list.items;
+  grown : TableGrows l.fn.written.list.items l.written.list.items;
   meaning : Mean l.written.list.items l.atoms.items (slot_parts l.first (map slot_entry (take l.i l.slots)));
 }

@@ -2,7 +2,7 @@ use Rattle.std.proofs.Common.{get_or, map, subst, arith}
 use Rattle.std.proofs.lemmas.List.{take_all}
 use Rattle.resolved.specs.ProgramOf.{thrown_entry}
 use Rattle.resolved.specs.declared.tables.Thrown.{Thrown}
-use Rattle.constraints.specs.Procedures.{AreDeclared}
+use Rattle.constraints.specs.Procedures.{AreDeclaredTakers}
 use Rattle.constraints.specs.Takers.{no_entry}
 use Rattle.constraints.proofs.Declared.{declared-next, level-free}
 use Rattle.constraints.proofs.procedures.take_declared.Goals as goal
@@ -18,5 +18,5 @@ loop-i-preserved c = λ barrier below within e.
 
 pub returns : goal.returns
 returns c = λ barrier below within.
-    subst (λ list. AreDeclared (map thrown_entry list) c.args.number c.args.level c.args.thrown.now.items c.loop-i.thrown.items)
+    subst (λ list. AreDeclaredTakers (map thrown_entry list) c.args.number c.args.level c.args.thrown.now.items c.loop-i.thrown.items)
     (take_all c.loop-i.i c.args.throws.now (omega (arith, c.loop-i-test.false))) (c.loop-i.invariant barrier below within)

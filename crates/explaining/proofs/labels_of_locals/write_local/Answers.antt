@@ -1,6 +1,6 @@
 use Rattle.std.proofs.Common.{◌∙◌, List, ℕ, subst, sym}
 use Rattle.resolved.specs.ProgramOf.{slot_entry}
-use Rattle.explaining.specs.Locals.{IsLine, if_unlabelled, local_of}
+use Rattle.explaining.specs.Locals.{IsLocalLine, if_unlabelled, local_of}
 use Rattle.explaining.proofs.Texts.{on_err}
 use Rattle.explaining.proofs.Lists.{part_of_none, with_label, writes_none, writes_one, writes_part}
 use Rattle.explaining.proofs.labels_of_locals.write_local.Goals as goal
@@ -24,7 +24,7 @@ returns-in_err-write_all-clause-prefix g c =
     let local = local_of c.args.procedure c.args.number slot in
     on_err c.from_residual-in_err-write_all.result _
     (writes_part c.args.marked.now.text.now c.args.checked.now _ _ local slot.written (sym c.is_some.ensures ∙ c.if-is_some.false) c.as_bytes.result.now
-    (subst (λ (line : List ℕ). IsLine c.args.marked.now.text.now c.args.checked.now local line) (sym c.as_bytes.ensures.value) c.in_ok-line.ensures)
+    (subst (λ (line : List ℕ). IsLocalLine c.args.marked.now.text.now c.args.checked.now local line) (sym c.as_bytes.ensures.value) c.in_ok-line.ensures)
     c.in_err-write_all.ensures.prefix)
 
 pub returns-clause-written : goal.returns-clause-written
@@ -32,5 +32,5 @@ returns-clause-written g c =
     let slot = slot_entry c.args.slot.now in
     let local = local_of c.args.procedure c.args.number slot in
     writes_one c.args.marked.now.text.now c.args.checked.now _ _ local slot.written (sym c.is_some.ensures ∙ c.if-is_some.false) c.as_bytes.result.now
-    (subst (λ (line : List ℕ). IsLine c.args.marked.now.text.now c.args.checked.now local line) (sym c.as_bytes.ensures.value) c.in_ok-line.ensures)
+    (subst (λ (line : List ℕ). IsLocalLine c.args.marked.now.text.now c.args.checked.now local line) (sym c.as_bytes.ensures.value) c.in_ok-line.ensures)
     c.in_ok-write_all.ensures.written

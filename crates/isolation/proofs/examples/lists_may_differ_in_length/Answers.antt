@@ -1,7 +1,7 @@
 use Rattle.std.proofs.Common.{◌≡◌, refl, ap, ℕ, zero, suc, List, [], true, false, pos, Some}
 use Rattle.std.specs.Int.{int_wrap}
 use Rattle.labels.specs.declared.sent.Pair.{Pair}
-use Rattle.labels.specs.Sent.{seen}
+use Rattle.labels.specs.Sent.{pairs_for}
 use Rattle.resolved.specs.declared.expression.Variable.TheVariants.{Local}
 use Rattle.resolved.specs.declared.expression.Operator.TheVariants.{GreaterThan}
 use Rattle.resolved.specs.Tree.{Integer, Read, Binary, Assign, Receive, Send, Try, Empty, Then, NoMore, Catch}
@@ -38,7 +38,7 @@ reached k =
 
 seen_from : (k : ℕ) → Outcome → List Pair
 seen_from k o =
-    seen two_principals (channel_label waiting) bob
+    pairs_for two_principals (channel_label waiting) bob
     (state_after (leaving (λ t. record t { locals = λ n. [] }) (after o (block_meaning (calls_with waiting k 511) k (Then (Send 0 1 (Integer 1)) Empty))))).sent
 
 pub returns-clause-nothing : goal.returns-clause-nothing

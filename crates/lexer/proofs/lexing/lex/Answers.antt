@@ -5,7 +5,7 @@ use Rattle.lexer.specs.declared.token.Kind.{Kind}
 use Rattle.lexer.specs.declared.fault.LexFault.{LexFault}
 use Rattle.lexer.specs.declared.fault.LexFault.TheVariants.{NoMemory}
 use Rattle.std.specs.Result.{MatchResult, IfErr}
-use Rattle.lexer.specs.Cut.{IsCut, IsRefused}
+use Rattle.lexer.specs.Cut.{IsCut, IsTextRefused}
 use Rattle.lexer.specs.Listing.{IsFaultAtCharacter}
 use Rattle.lexer.specs.Scan.{Reads}
 use Rattle.lexer.specs.Terminal.{terminal_of, terminals_of}
@@ -68,7 +68,7 @@ placed : {X : Type 0} (r : Result X LexFault) (fault : LexFault) (P : LexFault �
 placed {X} r fault P e h = let Q : Result X LexFault → Type 0 = λ x. IfErr x P in subst Q (sym e) h
 
 -- the refusal that is reported
-reported : (c : goal.After-drop-tokens) → IsRefused c.args.src.now c.in_err-kind.field-0.0
+reported : (c : goal.After-drop-tokens) → IsTextRefused c.args.src.now c.in_err-kind.field-0.0
 reported c =
     refused c.args.src.now c.loop-first.rest.now (terminals_of c.loop-first.tokens.items) c.in_err-kind.field-0.0 c.loop-first.invariant.1 c.in_err-kind.ensures
 

@@ -2,12 +2,12 @@ use Rattle.std.proofs.Common.{[], arith}
 use Rattle.std.proofs.lemmas.List.Elements.{All-nil, All-push}
 use Rattle.std.proofs.lemmas.Result.{err_from_is_err_and}
 use Rattle.labels.specs.Canonical.{IsCanonicalPolicy}
-use Rattle.names.specs.Labels.{policy_outcome, policies_outcome}
+use Rattle.names.specs.Labels.{policy_finding, policies_finding}
 use Rattle.names.proofs.Loops.{starts, collects, collects_wrong, goes_to_end}
 use Rattle.names.proofs.label.policies.Goals as goal
 
 pub loop-one-init : goal.loop-one-init
-unfolding policies_outcome
+unfolding policies_finding
 loop-one-init c = record {
   made = starts _ _ c.args.written.now _ [] c.new-policies.ensures.items;
   canonical = rw c.new-policies.ensures.items (All-nil IsCanonicalPolicy);
@@ -16,11 +16,11 @@ loop-one-init c = record {
 pub returns-in_err-policy-clause-made : goal.returns-in_err-policy-clause-made
 returns-in_err-policy-clause-made c =
     let p = err_from_is_err_and c.from_residual.result c.from_residual.ensures.1 in
-    rw (p.1, p.2) (collects_wrong (policy_outcome c.args.hierarchy.now) c.loop-one.invariant.made c.one-item.result c.in_err-policy.field-0.0 c.one-item.is c.loop-one-test.true c.in_err-policy.ensures.made)
+    rw (p.1, p.2) (collects_wrong (policy_finding c.args.hierarchy.now) c.loop-one.invariant.made c.one-item.result c.in_err-policy.field-0.0 c.one-item.is c.loop-one-test.true c.in_err-policy.ensures.made)
 
 pub loop-one-preserved : goal.loop-one-preserved
 loop-one-preserved c = record {
-  made = rw c.in_ok-push.ensures.items (collects (policy_outcome c.args.hierarchy.now) c.loop-one.invariant.made c.one-item.result c.in_ok-policy.field-0 c.one-item.is c.loop-one-test.true c.in_ok-policy.ensures.made);
+  made = rw c.in_ok-push.ensures.items (collects (policy_finding c.args.hierarchy.now) c.loop-one.invariant.made c.one-item.result c.in_ok-policy.field-0 c.one-item.is c.loop-one-test.true c.in_ok-policy.ensures.made);
   canonical = rw c.in_ok-push.ensures.items (All-push IsCanonicalPolicy _ _ c.loop-one.invariant.canonical c.in_ok-policy.ensures.canonical);
 }
 

@@ -5,9 +5,9 @@ use Rattle.std.proofs.lemmas.Result.{err_from_is_err_and}
 use Rattle.syntax.specs.Tree.{parameter_tree, thrown_tree, block_tree, procedure_tree}
 use Rattle.resolved.specs.ProgramOf.{result_entry, thrown_entry}
 use Rattle.resolved.specs.TreeOf.{block_of}
-use Rattle.names.specs.Resolution.{end_label_of, parameters_outcome, throws_outcome}
-use Rattle.names.specs.Statements.{Setting, block_outcome}
-use Rattle.names.specs.Views.{Fails, found_in, point_of, throws_view, top_view}
+use Rattle.names.specs.Resolution.{end_label_of, parameters_finding, throws_finding}
+use Rattle.names.specs.Statements.{Setting, block_finding}
+use Rattle.names.specs.Views.{ResolvingFails, found_in, point_of, throws_view, top_view}
 use Rattle.names.proofs.Later.{setting_same}
 use Rattle.names.proofs.Procedures.{parameters_are, parameters_few, parameters_wrong, end_wrong, throws_wrong, block_wrong, procedure_found}
 use Rattle.names.proofs.procedure.resolve_procedure.Goals as goal
@@ -25,8 +25,8 @@ returns-in_err-parameters c =
     let first = c.new-body.result in
     let p = err_from_is_err_and c.from_residual-in_err-parameters.result c.from_residual-in_err-parameters.ensures.1 in
     let are = parameters_are h first.hierarchy.now (found_in c.args.top.now.names) (point_of first) (map parameter_tree c.deref.result.now) (ap (λ (setting : Setting). setting.hierarchy) c.new-body.ensures.setting) c.new-body.ensures.point
-    ∙ ap (λ list. parameters_outcome h (found_in c.args.top.now.names) (map parameter_tree list)) c.deref.ensures.value in
-    let wrong = subst (Fails c.in_err-parameters.field-0.0) are c.in_err-parameters.ensures.made in
+    ∙ ap (λ list. parameters_finding h (found_in c.args.top.now.names) (map parameter_tree list)) c.deref.ensures.value in
+    let wrong = subst (ResolvingFails c.in_err-parameters.field-0.0) are c.in_err-parameters.ensures.made in
     rw (p.1, p.2) (parameters_wrong h (top_view c.args.top.now) (procedure_tree c.args.written.now) (result_entry c.in_ok-value.value) c.in_ok-begin.begin c.in_ok-value.ensures c.in_ok-begin.ensures
     c.in_err-parameters.field-0.0 wrong)
 
@@ -36,7 +36,7 @@ returns-in_err-end c =
     let first = c.new-body.result in
     let p = err_from_is_err_and c.from_residual-in_err-end.result c.from_residual-in_err-end.ensures.1 in
     let are = parameters_are h first.hierarchy.now (found_in c.args.top.now.names) (point_of first) (map parameter_tree c.deref.result.now) (ap (λ (setting : Setting). setting.hierarchy) c.new-body.ensures.setting) c.new-body.ensures.point
-    ∙ ap (λ list. parameters_outcome h (found_in c.args.top.now.names) (map parameter_tree list)) c.deref.ensures.value in
+    ∙ ap (λ list. parameters_finding h (found_in c.args.top.now.names) (map parameter_tree list)) c.deref.ensures.value in
     rw (p.1, p.2) (end_wrong h (top_view c.args.top.now) (procedure_tree c.args.written.now) (result_entry c.in_ok-value.value) c.in_ok-begin.begin c.in_ok-value.ensures c.in_ok-begin.ensures
     (point_of c.parameters.new.self) (sym are ∙ c.in_ok-parameters.ensures.made) c.in_err-end.field-0.0 c.in_err-end.ensures)
 
@@ -46,8 +46,8 @@ returns-in_err-throws c =
     let first = c.new-body.result in
     let p = err_from_is_err_and c.from_residual-in_err-throws.result c.from_residual-in_err-throws.ensures.1 in
     let are = parameters_are h first.hierarchy.now (found_in c.args.top.now.names) (point_of first) (map parameter_tree c.deref.result.now) (ap (λ (setting : Setting). setting.hierarchy) c.new-body.ensures.setting) c.new-body.ensures.point
-    ∙ ap (λ list. parameters_outcome h (found_in c.args.top.now.names) (map parameter_tree list)) c.deref.ensures.value in
-    let wrong = subst (λ list. Fails c.in_err-throws.field-0.0 (throws_outcome h (found_in c.args.top.now.names) (map thrown_tree list))) c.deref-2.ensures.value c.in_err-throws.ensures in
+    ∙ ap (λ list. parameters_finding h (found_in c.args.top.now.names) (map parameter_tree list)) c.deref.ensures.value in
+    let wrong = subst (λ list. ResolvingFails c.in_err-throws.field-0.0 (throws_finding h (found_in c.args.top.now.names) (map thrown_tree list))) c.deref-2.ensures.value c.in_err-throws.ensures in
     rw (p.1, p.2) (throws_wrong h (top_view c.args.top.now) (procedure_tree c.args.written.now) (result_entry c.in_ok-value.value) c.in_ok-begin.begin c.in_ok-value.ensures c.in_ok-begin.ensures
     (point_of c.parameters.new.self) (sym are ∙ c.in_ok-parameters.ensures.made) c.in_ok-end.end c.in_ok-end.ensures c.in_err-throws.field-0.0 wrong)
 
@@ -65,10 +65,10 @@ returns-in_err-statements c =
     let inside = c.parameters.new.self in
     let p = err_from_is_err_and c.from_residual-in_err-statements.result c.from_residual-in_err-statements.ensures.1 in
     let are = parameters_are h first.hierarchy.now (found_in c.args.top.now.names) (point_of first) (map parameter_tree c.deref.result.now) (ap (λ (setting : Setting). setting.hierarchy) c.new-body.ensures.setting) c.new-body.ensures.point
-    ∙ ap (λ list. parameters_outcome h (found_in c.args.top.now.names) (map parameter_tree list)) c.deref.ensures.value in
-    let thrown = sym (ap (λ list. throws_outcome h (found_in c.args.top.now.names) (map thrown_tree list)) c.deref-2.ensures.value) ∙ c.in_ok-throws.ensures in
+    ∙ ap (λ list. parameters_finding h (found_in c.args.top.now.names) (map parameter_tree list)) c.deref.ensures.value in
+    let thrown = sym (ap (λ list. throws_finding h (found_in c.args.top.now.names) (map thrown_tree list)) c.deref-2.ensures.value) ∙ c.in_ok-throws.ensures in
     let setting = setting_same first inside c.in_ok-parameters.ensures.later ∙ c.new-body.ensures.setting ∙ ap (λ value. record { hierarchy = h; signatures = (top_view c.args.top.now).signatures; result = value }) c.result_of.ensures in
-    let wrong = subst (λ one. Fails c.in_err-statements.field-0.0 (block_outcome one (point_of inside) (block_tree c.args.written.now.body))) setting c.in_err-statements.ensures.made in
+    let wrong = subst (λ one. ResolvingFails c.in_err-statements.field-0.0 (block_finding one (point_of inside) (block_tree c.args.written.now.body))) setting c.in_err-statements.ensures.made in
     rw (p.1, p.2) (block_wrong h (top_view c.args.top.now) (procedure_tree c.args.written.now) (result_entry c.in_ok-value.value) c.in_ok-begin.begin c.in_ok-value.ensures c.in_ok-begin.ensures
     (point_of inside) (sym are ∙ c.in_ok-parameters.ensures.made) c.in_ok-end.end c.in_ok-end.ensures (throws_view c.in_ok-throws.throws) thrown c.in_err-statements.field-0.0 wrong)
 
@@ -85,10 +85,10 @@ returns c =
     let inside = c.parameters.new.self in
     let after = c.block.new.self in
     let are = parameters_are h first.hierarchy.now (found_in c.args.top.now.names) (point_of first) (map parameter_tree c.deref.result.now) (ap (λ (setting : Setting). setting.hierarchy) c.new-body.ensures.setting) c.new-body.ensures.point
-    ∙ ap (λ list. parameters_outcome h (found_in c.args.top.now.names) (map parameter_tree list)) c.deref.ensures.value in
-    let thrown = sym (ap (λ list. throws_outcome h (found_in c.args.top.now.names) (map thrown_tree list)) c.deref-2.ensures.value) ∙ c.in_ok-throws.ensures in
+    ∙ ap (λ list. parameters_finding h (found_in c.args.top.now.names) (map parameter_tree list)) c.deref.ensures.value in
+    let thrown = sym (ap (λ list. throws_finding h (found_in c.args.top.now.names) (map thrown_tree list)) c.deref-2.ensures.value) ∙ c.in_ok-throws.ensures in
     let setting = setting_same first inside c.in_ok-parameters.ensures.later ∙ c.new-body.ensures.setting ∙ ap (λ value. record { hierarchy = h; signatures = (top_view c.args.top.now).signatures; result = value }) c.result_of.ensures in
-    let found = subst (λ one. block_outcome one (point_of inside) (block_tree c.args.written.now.body) ≡ Ok (point_of after, block_of c.in_ok-statements.statements.items)) setting c.in_ok-statements.ensures.made in
+    let found = subst (λ one. block_finding one (point_of inside) (block_tree c.args.written.now.body) ≡ Ok (point_of after, block_of c.in_ok-statements.statements.items)) setting c.in_ok-statements.ensures.made in
     let ends = c.in_ok-end_label.ensures ∙ ap (λ list. end_label_of c.in_ok-end.end c.begin_label-begin_label.result (map thrown_entry list)) c.deref-3.ensures.value in
     let counted : c.len.result ≡ length (map parameter_tree c.args.written.now.parameters.items) = omega (arith, length-map c.args.written.now.parameters.items parameter_tree) in
     procedure_found h (top_view c.args.top.now) (procedure_tree c.args.written.now) (result_entry c.in_ok-value.value) c.in_ok-begin.begin c.in_ok-value.ensures c.in_ok-begin.ensures

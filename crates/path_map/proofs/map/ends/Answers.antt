@@ -4,7 +4,7 @@ use Rattle.resolved.specs.EndFaults.{end_faults, procedure_faults}
 use Rattle.resolved.specs.Program.{ProcedureEntry}
 use Rattle.resolved.specs.ProgramOf.{procedure_entry}
 use Rattle.path_map.specs.Exits.{exits_of}
-use Rattle.path_map.specs.FirstFault.{IsFirst}
+use Rattle.path_map.specs.FirstFault.{IsFirstEndFault}
 use Rattle.path_map.specs.Paths.{block_paths}
 use Rattle.path_map.proofs.Procedures.{Beside, beside-begin, beside-first, beside-step, beside-end, beside-clean, next-procedure, last-procedure}
 use Rattle.path_map.proofs.map.ends.Goals as goal
@@ -34,11 +34,11 @@ returns-in_err-walk_procedure-clause-first_fault c =
     let procedure = procedure_entry c.procedure-item.result in
     let all = map procedure_entry c.args.core.now.procedures.items in
     let tail = map procedure_entry (drop (c.loop-procedure.procedure-index + 1) c.deref-procedure-items.result.now) in
-    let first : IsFirst (end_faults program) c.in_err-walk_procedure.field-0.0 =
+    let first : IsFirstEndFault (end_faults program) c.in_err-walk_procedure.field-0.0 =
     beside-first program all procedure tail c.loop-procedure.entries.items c.in_err-walk_procedure.field-0.0
     (subst (λ list. Beside program all list c.loop-procedure.entries.items)
     (next-procedure c.deref-procedure-items.result.now c.loop-procedure.procedure-index c.procedure-item.result c.loop-procedure-test.true c.procedure-item.is) c.loop-procedure.invariant)
-    (subst (λ core. IsFirst (procedure_faults (program_of core) procedure) c.in_err-walk_procedure.field-0.0) c.in_ok-walk.ensures c.in_err-walk_procedure.ensures.first_fault) in
+    (subst (λ core. IsFirstEndFault (procedure_faults (program_of core) procedure) c.in_err-walk_procedure.field-0.0) c.in_ok-walk.ensures c.in_err-walk_procedure.ensures.first_fault) in
     search (rules, first)
 
 pub returns-clause-exact : goal.returns-clause-exact

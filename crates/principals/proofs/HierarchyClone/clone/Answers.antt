@@ -1,7 +1,7 @@
 use Rattle.std.proofs.Common.{◌≡◌, ◌<◌, map, length, refl, sym, ap, subst, ◌∙◌}
 use Rattle.std.specs.Prelude.{string_bytes}
 use Rattle.principals.specs.ActsFor.{IsHierarchy, acts_for}
-use Rattle.principals.specs.Inside.{hierarchy_of, IsKept}
+use Rattle.principals.specs.Inside.{hierarchy_of, IsKeptHierarchy}
 use Rattle.principals.specs.Table.{related}
 use Rattle.principals.specs.declared.Hierarchy.TheInside.{Inside}
 use Rattle.principals.proofs.Names.{same_bytes, AllZip-length}
@@ -10,7 +10,7 @@ use Rattle.principals.proofs.HierarchyClone.clone.Goals.{In_ok-table}
 
 -- what has the parts of a kept hierarchy is kept
 kept : (old new : Inside) → hierarchy_of new ≡ hierarchy_of old → length new.names.keys ≡ length old.names.keys → new.table.items ≡ old.table.items →
-    IsKept old → IsKept new
+    IsKeptHierarchy old → IsKeptHierarchy new
 kept old new view keys table h =
     record {
       hierarchy = subst IsHierarchy (sym view) h.hierarchy;

@@ -2,8 +2,8 @@ use Rattle.std.proofs.Common.{◌≡◌, ◌<◌, ◌^◌, [], Some, None, slice
 use Rattle.std.specs.Prelude.{IfNone, IfSome}
 use Rattle.bytecode.specs.Contents.{ProcedureContents}
 use Rattle.verifier.specs.Fixed.{fixed_faults, procedure_faults}
-use Rattle.verifier.specs.Verified.{IsAdded, IsFaultOf}
-use Rattle.verifier.specs.declared.fault.Fault.{Fault}
+use Rattle.verifier.specs.Verified.{AddsVerifiedCode, IsFaultOf}
+use Rattle.verifier.specs.declared.fault.CodeFault.{CodeFault}
 use Rattle.verifier.proofs.Reported.{item_at, item_fault, flow_more, depth_more, there_inside, all_flow, is_verified, reported_first, reported_flow}
 use Rattle.verifier.proofs.Bounds.{bounded}
 use Rattle.verifier.proofs.FixedFaults.{boundaries, own_right, none_left, procedure_some, procedure_none}
@@ -46,14 +46,14 @@ loop-procedure-preserved c =
     let procedures = c.procedures-procedures.result.now in
     let are = c.procedures-procedures.ensures.procedures in
     let now = c.in_ok-found in
-    let added : now.found ≡ None → IsAdded b.body.program.now b.body.procedure.now l.found l.codes.items c.look_for_flow_fault.new.codes.items =
-    λ e. subst (λ (o : Option Fault). IfNone o (IsAdded b.body.program.now b.body.procedure.now l.found l.codes.items c.look_for_flow_fault.new.codes.items)) e now.ensures.none in
+    let added : now.found ≡ None → AddsVerifiedCode b.body.program.now b.body.procedure.now l.found l.codes.items c.look_for_flow_fault.new.codes.items =
+    λ e. subst (λ (o : Option CodeFault). IfNone o (AddsVerifiedCode b.body.program.now b.body.procedure.now l.found l.codes.items c.look_for_flow_fault.new.codes.items)) e now.ensures.none in
     record {
       number_is = omega (arith, l.invariant.number_is);
       same =
           sym (procedure_none m b.body.program.now l.number l.procedure-index procedures c.procedure-item.result b.body.procedure.now b.ensures.program b.ensures.procedure c.procedure-item.is c.loop-procedure-test.true c.body_fault.result c.body_fault.ensures c.in_default.is)
           ∙ l.invariant.same;
-      found = λ fault e. elim (subst (λ (o : Option Fault). IfSome o (λ f. (l.found ≡ Some f) ⊎ IsFaultOf b.body.program.now l.number b.body.procedure.now f)) e now.ensures.some) [
+      found = λ fault e. elim (subst (λ (o : Option CodeFault). IfSome o (λ f. (l.found ≡ Some f) ⊎ IsFaultOf b.body.program.now l.number b.body.procedure.now f)) e now.ensures.some) [
         | inl before ↦ l.invariant.found fault before
         | inr here ↦ item_fault m procedures are l.procedure-index c.procedure-item.result b.body.procedure.now c.procedure-item.is b.ensures.procedure c.loop-procedure-test.true b.body.program.now l.number fault b.ensures.program l.invariant.number_is here
       ];

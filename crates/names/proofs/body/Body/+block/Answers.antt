@@ -6,9 +6,9 @@ use Rattle.syntax.specs.Tree.{TryTree, block_tree, catch_tree, catches_of, expre
 use Rattle.resolved.proofs.Views.{statement_of_if, statement_of_while, statement_of_try, statement_of_nested}
 use Rattle.resolved.specs.Tree.{If}
 use Rattle.resolved.specs.TreeOf.{expression_of, block_of, handlers_of, statement_of}
-use Rattle.names.specs.Environment.{exception_outcome}
-use Rattle.names.specs.Statements.{statement_outcome, block_outcome, catches_outcome}
-use Rattle.names.specs.Views.{Fails, Resolves, at_point, point_of, setting_of, taken}
+use Rattle.names.specs.Environment.{exception_finding}
+use Rattle.names.specs.Statements.{statement_finding, block_finding, catches_finding}
+use Rattle.names.specs.Views.{ResolvingFails, Resolves, at_point, point_of, setting_of, taken}
 use Rattle.names.proofs.Along.{statement_fits, statement_part, statement_wrong, statement_right, statements_done, exception_wrong, body_wrong, catch_fits, catch_part, catch_right, catches_done}
 use Rattle.names.proofs.Holding.{condition_wrong, if_done, if_else_done, if_wrong, else_wrong, while_done, while_wrong, try_done, try_wrong, handlers_wrong, nested_done, nested_wrong, if_nodes}
 use Rattle.names.proofs.Later.{setting_same}
@@ -24,7 +24,7 @@ statement-choose-requires t c =
 pub statement-returns-in-If-clause-made : goal.statement-returns-in-If-clause-made
 statement-returns-in-If-clause-made t c =
     let before = c.args.self.now in
-    subst (λ one. Resolves (at_point c.choose.new.self statement_of) c.choose.result (statement_outcome (setting_of before) (point_of before) one))
+    subst (λ one. Resolves (at_point c.choose.new.self statement_of) c.choose.result (statement_finding (setting_of before) (point_of before) one))
     (sym (ap statement_tree c.in-If.is ∙ if_is c.in-If.at c.in-If.condition c.in-If.accepted c.in-If.otherwise)) c.choose.ensures.made
 
 pub statement-returns-in-If-clause-grows : goal.statement-returns-in-If-clause-grows
@@ -40,7 +40,7 @@ statement-repeat-requires t c =
 pub statement-returns-in-While-clause-made : goal.statement-returns-in-While-clause-made
 statement-returns-in-While-clause-made t c =
     let before = c.args.self.now in
-    subst (λ one. Resolves (at_point c.repeat.new.self statement_of) c.repeat.result (statement_outcome (setting_of before) (point_of before) one))
+    subst (λ one. Resolves (at_point c.repeat.new.self statement_of) c.repeat.result (statement_finding (setting_of before) (point_of before) one))
     (sym (ap statement_tree c.in-While.is ∙ while_is c.in-While.at c.in-While.condition c.in-While.body)) c.repeat.ensures.made
 
 pub statement-returns-in-While-clause-grows : goal.statement-returns-in-While-clause-grows
@@ -57,7 +57,7 @@ statement-attempt-requires t c =
 pub statement-returns-in-Try-clause-made : goal.statement-returns-in-Try-clause-made
 statement-returns-in-Try-clause-made t c =
     let before = c.args.self.now in
-    subst (λ one. Resolves (at_point c.attempt.new.self statement_of) c.attempt.result (statement_outcome (setting_of before) (point_of before) one))
+    subst (λ one. Resolves (at_point c.attempt.new.self statement_of) c.attempt.result (statement_finding (setting_of before) (point_of before) one))
     (sym (ap statement_tree c.in-Try.is ∙ try_is c.in-Try.at c.in-Try.body c.in-Try.catches
     ∙ ap (λ list. TryTree c.in-Try.at (block_tree c.in-Try.body) (catches_of (map catch_tree list))) (sym c.deref.ensures.value))) c.attempt.ensures.made
 
@@ -75,7 +75,7 @@ statement-nest-requires t c =
 pub statement-returns-in-Nested-clause-made : goal.statement-returns-in-Nested-clause-made
 statement-returns-in-Nested-clause-made t c =
     let before = c.args.self.now in
-    subst (λ one. Resolves (at_point c.nest.new.self statement_of) c.nest.result (statement_outcome (setting_of before) (point_of before) one))
+    subst (λ one. Resolves (at_point c.nest.new.self statement_of) c.nest.result (statement_finding (setting_of before) (point_of before) one))
     (sym (ap statement_tree c.in-Nested.is ∙ nested_is c.in-Nested.block)) c.nest.ensures.made
 
 pub statement-returns-in-Nested-clause-grows : goal.statement-returns-in-Nested-clause-grows
@@ -114,20 +114,20 @@ choose-returns-in_err-otherwise-in-Some-clause-made t c =
     let before = c.args.self.now in
     let p = err_from_is_err_and c.from_residual-in_err-otherwise-in-Some.result c.from_residual-in_err-otherwise-in-Some.ensures.1 in
     let tree = ap (λ otherwise. if_tree c.args.at (expression_tree c.args.condition.now) (block_tree c.args.accepted.now) (optional_block_tree otherwise)) c.in-Some.is in
-    let second = subst (λ setting. Fails c.in_err-otherwise-in-Some.field-0.0 (block_outcome setting (point_of c.block.new.self) (block_tree c.in-Some.otherwise)))
+    let second = subst (λ setting. ResolvingFails c.in_err-otherwise-in-Some.field-0.0 (block_finding setting (point_of c.block.new.self) (block_tree c.in-Some.otherwise)))
     (setting_same before c.block.new.self c.in_ok-accepted.ensures.later) c.in_err-otherwise-in-Some.ensures.made in
     let wrong = else_wrong (setting_of before) (point_of before) c.args.at (expression_tree c.args.condition.now) (expression_of c.in_ok-condition.condition) c.in_ok-condition.ensures
     (block_tree c.args.accepted.now) (block_tree c.in-Some.otherwise) (point_of c.block.new.self) (block_of c.in_ok-accepted.accepted.items) c.in_err-otherwise-in-Some.field-0.0 c.in_ok-accepted.ensures.made second in
-    rw (p.1, p.2) (subst (λ one. Fails c.in_err-otherwise-in-Some.field-0.0 (statement_outcome (setting_of before) (point_of before) one)) (sym tree) wrong)
+    rw (p.1, p.2) (subst (λ one. ResolvingFails c.in_err-otherwise-in-Some.field-0.0 (statement_finding (setting_of before) (point_of before) one)) (sym tree) wrong)
 
 pub choose-returns-in_ok-otherwise-in-Some-clause-made : goal.choose-returns-in_ok-otherwise-in-Some-clause-made
 choose-returns-in_ok-otherwise-in-Some-clause-made t c =
     let before = c.args.self.now in
     let after = c.block-in-Some.new.self in
     let tree = ap (λ otherwise. if_tree c.args.at (expression_tree c.args.condition.now) (block_tree c.args.accepted.now) (optional_block_tree otherwise)) c.in-Some.is in
-    let second = subst (λ setting. block_outcome setting (point_of c.block.new.self) (block_tree c.in-Some.otherwise) ≡ Ok (point_of after, block_of c.in_ok-otherwise-in-Some.otherwise.items))
+    let second = subst (λ setting. block_finding setting (point_of c.block.new.self) (block_tree c.in-Some.otherwise) ≡ Ok (point_of after, block_of c.in_ok-otherwise-in-Some.otherwise.items))
     (setting_same before c.block.new.self c.in_ok-accepted.ensures.later) c.in_ok-otherwise-in-Some.ensures.made in
-    ap (statement_outcome (setting_of before) (point_of before)) tree
+    ap (statement_finding (setting_of before) (point_of before)) tree
     ∙ if_else_done (setting_of before) (point_of before) c.args.at (expression_tree c.args.condition.now) (expression_of c.in_ok-condition.condition) c.in_ok-condition.ensures
     (block_tree c.args.accepted.now) (block_tree c.in-Some.otherwise) (point_of c.block.new.self) (point_of after) (block_of c.in_ok-accepted.accepted.items) (block_of c.in_ok-otherwise-in-Some.otherwise.items)
     c.in_ok-accepted.ensures.made second
@@ -143,7 +143,7 @@ choose-returns-in-None-clause-made t c =
     let before = c.args.self.now in
     let after = c.block.new.self in
     let tree = ap (λ otherwise. if_tree c.args.at (expression_tree c.args.condition.now) (block_tree c.args.accepted.now) (optional_block_tree otherwise)) c.in-None.is in
-    ap (statement_outcome (setting_of before) (point_of before)) tree
+    ap (statement_finding (setting_of before) (point_of before)) tree
     ∙ if_done (setting_of before) (point_of before) c.args.at (expression_tree c.args.condition.now) (expression_of c.in_ok-condition.condition) c.in_ok-condition.ensures
     (block_tree c.args.accepted.now) (point_of after) (block_of c.in_ok-accepted.accepted.items) c.in_ok-accepted.ensures.made
     ∙ ap (λ one. Ok (point_of after, one)) (ap (λ list. If c.args.at (expression_of c.in_ok-condition.condition) (block_of c.in_ok-accepted.accepted.items) (block_of list)) (sym c.new.ensures.items)
@@ -186,7 +186,7 @@ attempt-returns-in_err-handlers-clause-made t c =
     let inside = c.block.new.self in
     let catches = catches_of (map catch_tree c.args.catches.now) in
     let p = err_from_is_err_and c.from_residual-in_err-handlers.result c.from_residual-in_err-handlers.ensures.1 in
-    let second = subst (λ setting. Fails c.in_err-handlers.field-0.0 (catches_outcome setting (point_of inside) catches))
+    let second = subst (λ setting. ResolvingFails c.in_err-handlers.field-0.0 (catches_finding setting (point_of inside) catches))
     (setting_same before inside c.in_ok-body.ensures.later) c.in_err-handlers.ensures.made in
     rw (p.1, p.2) (handlers_wrong (setting_of before) (point_of before) c.args.at (block_tree c.args.body.now) catches (point_of inside) (block_of c.in_ok-body.body.items)
     c.in_err-handlers.field-0.0 c.in_ok-body.ensures.made second)
@@ -197,7 +197,7 @@ attempt-returns-clause-made t c =
     let inside = c.block.new.self in
     let after = c.catches.new.self in
     let catches = catches_of (map catch_tree c.args.catches.now) in
-    let second = subst (λ setting. catches_outcome setting (point_of inside) catches ≡ Ok (point_of after, handlers_of c.in_ok-handlers.handlers.items))
+    let second = subst (λ setting. catches_finding setting (point_of inside) catches ≡ Ok (point_of after, handlers_of c.in_ok-handlers.handlers.items))
     (setting_same before inside c.in_ok-body.ensures.later) c.in_ok-handlers.ensures.made in
     try_done (setting_of before) (point_of before) c.args.at (block_tree c.args.body.now) catches (point_of inside) (point_of after)
     (block_of c.in_ok-body.body.items) (handlers_of c.in_ok-handlers.handlers.items) c.in_ok-body.ensures.made second
@@ -253,17 +253,17 @@ pub catches-returns-in_err-number-clause-made : goal.catches-returns-in_err-numb
 catches-returns-in_err-number-clause-made t c =
     let p = err_from_is_err_and c.from_residual.result c.from_residual.ensures.1 in
     rw (p.1, p.2) (exception_wrong c.loop-one.invariant c.one-item.result c.one-item.is c.loop-one-test.true c.in_err-number.field-0.0
-    (subst (λ found. Fails c.in_err-number.field-0.0 (exception_outcome found c.one-item.result.exception.at)) c.meaning.ensures c.in_err-number.ensures))
+    (subst (λ found. ResolvingFails c.in_err-number.field-0.0 (exception_finding found c.one-item.result.exception.at)) c.meaning.ensures c.in_err-number.ensures))
 
 pub catches-returns-in_err-body-clause-made : goal.catches-returns-in_err-body-clause-made
 catches-returns-in_err-body-clause-made t c =
     let p = err_from_is_err_and c.from_residual-in_err-body.result c.from_residual-in_err-body.ensures.1 in
-    rw (p.1, p.2) (body_wrong c.loop-one.invariant c.one-item.result c.one-item.is c.loop-one-test.true c.in_ok-number.number (sym (ap (λ found. exception_outcome found c.one-item.result.exception.at) c.meaning.ensures) ∙ c.in_ok-number.ensures)
+    rw (p.1, p.2) (body_wrong c.loop-one.invariant c.one-item.result c.one-item.is c.loop-one-test.true c.in_ok-number.number (sym (ap (λ found. exception_finding found c.one-item.result.exception.at) c.meaning.ensures) ∙ c.in_ok-number.ensures)
     c.in_err-body.field-0.0 c.in_err-body.ensures.made)
 
 pub catches-loop-one-preserved : goal.catches-loop-one-preserved
 catches-loop-one-preserved t c =
-    rw c.in_ok-push.ensures.items (catch_right c.loop-one.invariant c.one-item.result c.one-item.is c.loop-one-test.true c.in_ok-number.number (sym (ap (λ found. exception_outcome found c.one-item.result.exception.at) c.meaning.ensures) ∙ c.in_ok-number.ensures)
+    rw c.in_ok-push.ensures.items (catch_right c.loop-one.invariant c.one-item.result c.one-item.is c.loop-one-test.true c.in_ok-number.number (sym (ap (λ found. exception_finding found c.one-item.result.exception.at) c.meaning.ensures) ∙ c.in_ok-number.ensures)
     c.block.new.self (record { at = c.one-item.result.exception.at; exception = c.in_ok-number.number; body = c.in_ok-body.body }) refl refl c.in_ok-body.ensures.made c.in_ok-body.ensures.later c.in_ok-body.ensures.grows)
 
 pub catches-returns-clause-made : goal.catches-returns-clause-made

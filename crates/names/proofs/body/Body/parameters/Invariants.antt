@@ -1,6 +1,6 @@
 use Rattle.std.proofs.Common.{◌≡◌, ◌+◌, map}
 use Rattle.syntax.specs.Tree.{parameter_tree}
-use Rattle.names.specs.Outcome.{along}
+use Rattle.names.specs.Finding.{along}
 use Rattle.names.specs.Resolution.{next_parameter}
 use Rattle.names.specs.Views.{IsLater, point_of, taken}
 use Rattle.names.proofs.Loops.{GoesOn}

@@ -1,10 +1,10 @@
 use Rattle.std.proofs.Common.{map}
 use Rattle.syntax.specs.Tree.{item_tree}
-use Rattle.names.specs.Resolution.{next_item, items_outcome}
+use Rattle.names.specs.Resolution.{next_item, items_finding}
 use Rattle.names.specs.Views.{tables_view, top_view}
 use Rattle.names.proofs.Loops.{GoesOn}
 use Rattle.names.proofs.program.ItemTables.of.Given as goal
 
 abbrev pub invariant-loop-item : goal.invariant-loop-item
 invariant-loop-item l =
-    GoesOn (next_item l.hierarchy (top_view l.top)) item_tree l.items (items_outcome l.hierarchy (top_view l.top) (map item_tree l.items)) (tables_view l.tables) l.item-index
+    GoesOn (next_item l.hierarchy (top_view l.top)) item_tree l.items (items_finding l.hierarchy (top_view l.top) (map item_tree l.items)) (tables_view l.tables) l.item-index

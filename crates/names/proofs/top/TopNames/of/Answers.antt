@@ -1,13 +1,13 @@
 use Rattle.std.proofs.Common.{◌≡◌, length, map, sym, ap, arith}
 use Rattle.std.proofs.lemmas.List.{length-map}
-use Rattle.names.specs.Resolution.{built_in, top_outcome}
+use Rattle.names.specs.Resolution.{built_in, top_finding}
 use Rattle.names.specs.Views.{signature_view, top_view}
 use Rattle.names.proofs.Loops.{starts}
 use Rattle.names.proofs.Tables.{ok_inside}
 use Rattle.names.proofs.top.TopNames.of.Goals as goal
 
 pub loop-item-init : goal.loop-item-init
-unfolding top_outcome
+unfolding top_finding
 loop-item-init c =
     let e : built_in ≡ top_view c.in_ok-top.top = ok_inside _ _ c.in_ok-top.ensures in
     let no_channels : 0 ≡ c.in_ok-top.top.channels = ap (λ top. top.channels) e in

@@ -1,10 +1,10 @@
 use Rattle.verifier.specs.Coverage.{left}
-use Rattle.verifier.specs.Search.{IsWaiting, Steps}
+use Rattle.verifier.specs.Search.{IsWaiting, KeepsSearching}
 use Rattle.verifier.proofs.search.Search.raise.Given as goal
 
 abbrev pub invariant-loop-handler : goal.invariant-loop-handler
 invariant-loop-handler l = record {
-  steps : Steps l.body.program.now l.body.procedure.now l.fn.self l.self l.at;
+  steps : KeepsSearching l.body.program.now l.body.procedure.now l.fn.self l.self l.at;
   waiting : IsWaiting l.body.procedure.now l.coverage l.self;
 }
 
