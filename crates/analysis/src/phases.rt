@@ -17,7 +17,7 @@ use acceptance::Cause;
 use lexer::lex;
 use names::resolve;
 use parser::parse;
-use path_map::{PathMap, ends};
+use path_map::{PathMap, find_ends};
 use principals::{Hierarchy, MAX_TEXT};
 use resolved::program::Core;
 use std::alloc::Global;
@@ -65,7 +65,7 @@ pub fn analyse(
         Ok(core) => core,
         Err(fault) => return Err(of_name(fault)),
     };
-    match ends(alloc, &core) {
+    match find_ends(alloc, &core) {
         Ok(ends) => Ok(Analysed { core, ends }),
         Err(fault) => Err(of_end(fault)),
     }

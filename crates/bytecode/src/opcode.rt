@@ -119,7 +119,7 @@ fn comparison_row(comparison: Comparison) -> Row
 }
 
 /// The instruction with an opcode that is followed by a number.
-fn numbered(opcode: u8, number: u32) -> Option<Instruction>
+fn numbered_instruction(opcode: u8, number: u32) -> Option<Instruction>
     ensures { result ≡ with_opcode opcode (numbered number) }
 {
     match opcode {
@@ -144,7 +144,7 @@ fn numbered(opcode: u8, number: u32) -> Option<Instruction>
 }
 
 /// The instruction with an opcode that has no operand.
-fn plain(opcode: u8) -> Option<Instruction>
+fn plain_instruction(opcode: u8) -> Option<Instruction>
     ensures { result ≡ with_opcode opcode plain }
 {
     match opcode {
@@ -171,7 +171,7 @@ fn plain(opcode: u8) -> Option<Instruction>
 }
 
 /// The instruction with an opcode that is followed by the byte of a boolean.
-fn flagged(opcode: u8, flag: u8) -> Option<Instruction>
+fn flagged_instruction(opcode: u8, flag: u8) -> Option<Instruction>
     ensures { result ≡ with_opcode opcode (flagged flag) }
 {
     match (opcode, flag) {
@@ -182,14 +182,14 @@ fn flagged(opcode: u8, flag: u8) -> Option<Instruction>
 }
 
 /// The instruction that an opcode and its operand spell, if any.
-pub fn spelled(opcode: u8, operand: &[u8]) -> Option<Instruction>
+pub fn instruction_of(opcode: u8, operand: &[u8]) -> Option<Instruction>
     requires { 1 < length operand.now → 4 ≤ length operand.now }
     ensures { result ≡ instruction_of opcode operand.now }
 {
     match operand {
-        [] => plain(opcode),
-        [flag] => flagged(opcode, *flag),
-        _ => numbered(opcode, BigEndian::read_u32(operand)),
+        [] => plain_instruction(opcode),
+        [flag] => flagged_instruction(opcode, *flag),
+        _ => numbered_instruction(opcode, BigEndian::read_u32(operand)),
     }
 }
 

@@ -14,5 +14,5 @@ pub use defect::{WorldDefect, WorldFault};
 pub use labels::Pair;
 pub use sent::Sent;
 pub use sink::{Device, Sink, SinkFault, write_all};
-pub use view::{ViewFault, seen, write_view};
+pub use view::{ViewFault, pairs_for, write_view};
 pub use world::{InputList, World};

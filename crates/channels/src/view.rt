@@ -189,7 +189,7 @@ pub fn write_view<S: Sink>(
 }
 
 // The pairs of a list that the observer is shown.
-fn shown_pairs(alloc: Global, observer: &Observer, sent: &[Pair]) -> Result<Vec<Pair>, AllocError>
+fn select_pairs(alloc: Global, observer: &Observer, sent: &[Pair]) -> Result<Vec<Pair>, AllocError>
     ensures { IfOk result (λ pairs. pairs.items ≡ filter
         (is_shown observer.now.program.now observer.now.principal) sent.now) }
 {
@@ -204,7 +204,7 @@ fn shown_pairs(alloc: Global, observer: &Observer, sent: &[Pair]) -> Result<Vec<
 
 /// The pairs that a principal sees of those that a module sent, in order: those on channels whose label it may read, under the
 /// module's own hierarchy.
-pub fn seen(
+pub fn pairs_for(
     alloc: Global,
     sent: &Sent,
     program: &Module,
@@ -213,5 +213,5 @@ pub fn seen(
     ensures { IfOk result (λ pairs. pairs.items ≡ seen_of program.now principal sent.now) }
 {
     let observer = Observer::of(alloc, program, Some(principal))?;
-    shown_pairs(alloc, &observer, sent.pairs())
+    select_pairs(alloc, &observer, sent.pairs())
 }

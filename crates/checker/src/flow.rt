@@ -17,7 +17,7 @@ use solver::{Atom, Constraint, SolveFault, SolveRefusal, System};
 use std::alloc::{AllocError, Global};
 
 /// The fault of a program whose constraints are not solved.
-pub(crate) fn unsolved(
+pub(crate) fn refuse_program(
     alloc: Global,
     core: Core,
     system: &System<Label, Option<Target>>,
@@ -61,7 +61,7 @@ fn flow_of(
     let Atom::Written(to) = last.right else {
         unreachable!();
     };
-    let policy = uncovered(
+    let policy = find_uncovered(
         &core.hierarchy,
         &system.written[refusal.from],
         &system.written[to as usize],
@@ -77,7 +77,7 @@ fn flow_of(
 }
 
 // The first policy of a label that another label, to which it does not flow, does not cover.
-fn uncovered<'a>(hierarchy: &Hierarchy, from: &'a Label, to: &Label) -> &'a Policy
+fn find_uncovered<'a>(hierarchy: &Hierarchy, from: &'a Label, to: &Label) -> &'a Policy
     requires { IsFalse (flows hierarchy.now from.now to.now) }
     ensures contained { Contains from.now result.now }
     ensures uncovered { ¬ Covers hierarchy.now to.now result.now }

@@ -13,7 +13,7 @@ ghost use Rattle.std.specs.Prelude.{IfErr, IfOk, [], map, ◌≡◌};
 
 use crate::checked::Checked;
 use crate::fault::CheckFault;
-use crate::flow::unsolved;
+use crate::flow::refuse_program;
 use analysis::{Analysed, analyse};
 use constraints::gather;
 use labels::LabelLattice;
@@ -49,14 +49,14 @@ pub fn check(alloc: Global, hierarchy: &Hierarchy, source: &[u8]) -> Result<Chec
     isolation::noninterference::labelled_programs_are_isolated();
     let Analysed { core, ends } = match analyse(alloc, hierarchy, source) {
         Ok(found) => found,
-        Err(fault) => return Err(before_labels(fault)),
+        Err(fault) => return Err(fault_before_labels(fault)),
     };
-    let checked = labelled(alloc, core, &ends)?;
+    let checked = find_labels(alloc, core, &ends)?;
     Ok(checked)
 }
 
 // A fault of the phases before labels.
-fn before_labels(fault: analysis::AnalysisFault) -> CheckFault
+fn fault_before_labels(fault: analysis::AnalysisFault) -> CheckFault
     ensures { result ≡ fault_of fault }
 {
     match fault {
@@ -66,7 +66,7 @@ fn before_labels(fault: analysis::AnalysisFault) -> CheckFault
 }
 
 // A program without a fault of its ends, with its least labels if it is labelled.
-fn labelled(alloc: Global, core: Core, ends: &PathMap) -> Result<Checked, CheckFault>
+fn find_labels(alloc: Global, core: Core, ends: &PathMap) -> Result<Checked, CheckFault>
     requires ended { end_faults (program_of core) ≡ [] }
     requires mapped { ends.now.entries.items ≡ map exits_of (program_paths (program_of core)) }
     ensures core { IfOk result (λ checked. checked.core ≡ core) }
@@ -90,6 +90,6 @@ fn labelled(alloc: Global, core: Core, ends: &PathMap) -> Result<Checked, CheckF
                 solution,
             })
         }
-        Err(fault) => Err(unsolved(alloc, core, &system, fault)),
+        Err(fault) => Err(refuse_program(alloc, core, &system, fault)),
     }
 }

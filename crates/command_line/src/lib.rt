@@ -5,4 +5,4 @@ mod request;
 mod words;
 
 pub use request::{MAX_STEPS, Task, TaskFault, USUAL_STEPS};
-pub use words::task;
+pub use words::read_task;

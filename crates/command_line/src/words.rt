@@ -20,7 +20,7 @@ use std::alloc::{AllocError, Global};
 ///
 /// The text of the parser of command lines where the words are wrong or ask for help, or out of
 /// memory.
-pub fn task<'a>(alloc: Global, words: &'a [&'a str]) -> Result<Task, TaskFault>
+pub fn read_task<'a>(alloc: Global, words: &'a [&'a str]) -> Result<Task, TaskFault>
     ensures matched { IfOk result (IsTaskOf (subcommand_of flowc_command (texts words.now))) }
     ensures steps { IfOk result (λ task. steps_of task ≤ MAX_STEPS) }
     ensures refused { IfOk result (λ _. fault_of flowc_command (texts words.now) ≡ []) }
@@ -29,57 +29,62 @@ pub fn task<'a>(alloc: Global, words: &'a [&'a str]) -> Result<Task, TaskFault>
     ensures plain { GrantsPlainRequests (texts words.now) result }
     ensures only { HasNoOption (texts words.now) → IfOk result (IsSpelling (texts words.now)) }
 {
-    let command = whole_command(alloc)?;
+    let command = make_command(alloc)?;
     match command.try_get_matches_from(words) {
-        Ok(matches) => asked(alloc, &matches),
+        Ok(matches) => read_matches(alloc, &matches),
         Err(error) => Err(words_fault(alloc, &error)),
     }
 }
 
 // The task that the subcommand asks for, under which the parser left each word that it needs.
-fn asked(alloc: Global, matches: &ArgMatches<'_>) -> Result<Task, TaskFault>
+fn read_matches(alloc: Global, matches: &ArgMatches<'_>) -> Result<Task, TaskFault>
     requires met { Enters (subcommand_rows_of matches.now) }
     ensures matched { IfOk result (IsTaskOf (subcommand_rows_of matches.now)) }
     ensures steps { IfOk result (λ task. steps_of task ≤ MAX_STEPS) }
     ensures taken { IfErr result (λ fault. fault ≡ NoMemory) }
 {
     match matches.subcommand() {
-        Some(("check", inner)) => check_task(alloc, inner),
-        Some(("build", inner)) => build_task(alloc, inner),
-        Some(("run", inner)) => run_task(alloc, inner),
-        Some(("list", inner)) => list_task(alloc, inner),
-        Some(("explain", inner)) => explain_task(alloc, inner),
+        Some(("check", inner)) => read_check(alloc, inner),
+        Some(("build", inner)) => read_build(alloc, inner),
+        Some(("run", inner)) => read_run(alloc, inner),
+        Some(("list", inner)) => read_list(alloc, inner),
+        Some(("explain", inner)) => read_explain(alloc, inner),
         _ => unreachable!(),
     }
 }
 
 // What the program takes: each subcommand with its words.
-fn whole_command<'a>(alloc: Global) -> Result<Command<'a>, AllocError>
+fn make_command<'a>(alloc: Global) -> Result<Command<'a>, AllocError>
     ensures shape { IfOk result (λ command. app_of command ≡ flowc_command) }
 {
     Command::new(alloc, "flowc")
         .about("Checks, compiles and runs programs with confidentiality labels")
         .subcommand_required(true)
-        .subcommand(check_command(alloc)?)?
-        .subcommand(build_command(alloc)?)?
-        .subcommand(run_command(alloc)?)?
-        .subcommand(list_command(alloc)?)?
-        .subcommand(explain_command(alloc)?)
+        .subcommand(make_check(alloc)?)?
+        .subcommand(make_build(alloc)?)?
+        .subcommand(make_run(alloc)?)?
+        .subcommand(make_list(alloc)?)?
+        .subcommand(make_explain(alloc)?)
 }
 
 // A subcommand that takes no words as yet, and what its help says.
-fn subcommand<'a>(alloc: Global, name: &'a str, about: &'a str, example: &'a str) -> Command<'a>
+fn make_subcommand<'a>(
+    alloc: Global,
+    name: &'a str,
+    about: &'a str,
+    example: &'a str,
+) -> Command<'a>
     ensures shape { app_of result ≡ new_app name.now }
     ensures local { (out-Command result).has_globals ≡ false }
 {
     Command::new(alloc, name).about(about).after_help(example)
 }
 
-fn check_command<'a>(alloc: Global) -> Result<Command<'a>, AllocError>
+fn make_check<'a>(alloc: Global) -> Result<Command<'a>, AllocError>
     ensures shape { IfOk result (λ command. app_of command ≡ check_command) }
     ensures local { IfOk result (λ command. (out-Command command).has_globals ≡ false) }
 {
-    subcommand(
+    make_subcommand(
         alloc,
         "check",
         "Checks a source under a hierarchy, and prints ok",
@@ -89,11 +94,11 @@ fn check_command<'a>(alloc: Global) -> Result<Command<'a>, AllocError>
     .arg(source(alloc))
 }
 
-fn build_command<'a>(alloc: Global) -> Result<Command<'a>, AllocError>
+fn make_build<'a>(alloc: Global) -> Result<Command<'a>, AllocError>
     ensures shape { IfOk result (λ command. app_of command ≡ build_command) }
     ensures local { IfOk result (λ command. (out-Command command).has_globals ≡ false) }
 {
-    subcommand(
+    make_subcommand(
         alloc,
         "build",
         "Compiles a source under a hierarchy, and writes the module",
@@ -104,11 +109,11 @@ fn build_command<'a>(alloc: Global) -> Result<Command<'a>, AllocError>
     .arg(file(alloc, "OUT", "the file that the module is written to"))
 }
 
-fn run_command<'a>(alloc: Global) -> Result<Command<'a>, AllocError>
+fn make_run<'a>(alloc: Global) -> Result<Command<'a>, AllocError>
     ensures shape { IfOk result (λ command. app_of command ≡ run_command) }
     ensures local { IfOk result (λ command. (out-Command command).has_globals ≡ false) }
 {
-    subcommand(
+    make_subcommand(
         alloc,
         "run",
         "Runs a module on a world, and prints what it sent",
@@ -120,11 +125,11 @@ fn run_command<'a>(alloc: Global) -> Result<Command<'a>, AllocError>
     .arg(steps(alloc))
 }
 
-fn list_command<'a>(alloc: Global) -> Result<Command<'a>, AllocError>
+fn make_list<'a>(alloc: Global) -> Result<Command<'a>, AllocError>
     ensures shape { IfOk result (λ command. app_of command ≡ list_command) }
     ensures local { IfOk result (λ command. (out-Command command).has_globals ≡ false) }
 {
-    subcommand(
+    make_subcommand(
         alloc,
         "list",
         "Lists the channels of a module with their labels, and its code",
@@ -133,11 +138,11 @@ fn list_command<'a>(alloc: Global) -> Result<Command<'a>, AllocError>
     .arg(module(alloc))
 }
 
-fn explain_command<'a>(alloc: Global) -> Result<Command<'a>, AllocError>
+fn make_explain<'a>(alloc: Global) -> Result<Command<'a>, AllocError>
     ensures shape { IfOk result (λ command. app_of command ≡ explain_command) }
     ensures local { IfOk result (λ command. (out-Command command).has_globals ≡ false) }
 {
-    subcommand(
+    make_subcommand(
         alloc,
         "explain",
         "Explains the labels of locals, or why a flow is refused (601)",
@@ -214,70 +219,70 @@ fn words_fault(alloc: Global, error: &clap::Error) -> TaskFault
     }
 }
 
-fn check_task(alloc: Global, matches: &ArgMatches<'_>) -> Result<Task, TaskFault>
+fn read_check(alloc: Global, matches: &ArgMatches<'_>) -> Result<Task, TaskFault>
     requires given { HasCheckWords (rows_in matches.now) }
     ensures matched { IfOk result (AsksFor (codes "check") (rows_in matches.now)) }
     ensures steps { IfOk result (λ task. steps_of task ≤ MAX_STEPS) }
     ensures taken { IfErr result (λ fault. fault ≡ NoMemory) }
 {
     Ok(Task::Check {
-        hier: word(alloc, matches, "HIER")?,
-        src: word(alloc, matches, "SRC")?,
+        hier: read_word(alloc, matches, "HIER")?,
+        src: read_word(alloc, matches, "SRC")?,
     })
 }
 
-fn build_task(alloc: Global, matches: &ArgMatches<'_>) -> Result<Task, TaskFault>
+fn read_build(alloc: Global, matches: &ArgMatches<'_>) -> Result<Task, TaskFault>
     requires given { HasBuildWords (rows_in matches.now) }
     ensures matched { IfOk result (AsksFor (codes "build") (rows_in matches.now)) }
     ensures steps { IfOk result (λ task. steps_of task ≤ MAX_STEPS) }
     ensures taken { IfErr result (λ fault. fault ≡ NoMemory) }
 {
     Ok(Task::Build {
-        hier: word(alloc, matches, "HIER")?,
-        src: word(alloc, matches, "SRC")?,
-        out: word(alloc, matches, "OUT")?,
+        hier: read_word(alloc, matches, "HIER")?,
+        src: read_word(alloc, matches, "SRC")?,
+        out: read_word(alloc, matches, "OUT")?,
     })
 }
 
-fn run_task(alloc: Global, matches: &ArgMatches<'_>) -> Result<Task, TaskFault>
+fn read_run(alloc: Global, matches: &ArgMatches<'_>) -> Result<Task, TaskFault>
     requires given { HasRunWords (rows_in matches.now) }
     ensures matched { IfOk result (AsksFor (codes "run") (rows_in matches.now)) }
     ensures steps { IfOk result (λ task. steps_of task ≤ MAX_STEPS) }
     ensures taken { IfErr result (λ fault. fault ≡ NoMemory) }
 {
     Ok(Task::Run {
-        file: word(alloc, matches, "MODULE")?,
-        world: word(alloc, matches, "WORLD")?,
-        observer: observer_word(alloc, matches)?,
-        steps: steps_number(matches),
+        file: read_word(alloc, matches, "MODULE")?,
+        world: read_word(alloc, matches, "WORLD")?,
+        observer: read_observer(alloc, matches)?,
+        steps: read_steps(matches),
     })
 }
 
-fn list_task(alloc: Global, matches: &ArgMatches<'_>) -> Result<Task, TaskFault>
+fn read_list(alloc: Global, matches: &ArgMatches<'_>) -> Result<Task, TaskFault>
     requires given { HasListWords (rows_in matches.now) }
     ensures matched { IfOk result (AsksFor (codes "list") (rows_in matches.now)) }
     ensures steps { IfOk result (λ task. steps_of task ≤ MAX_STEPS) }
     ensures taken { IfErr result (λ fault. fault ≡ NoMemory) }
 {
     Ok(Task::List {
-        file: word(alloc, matches, "MODULE")?,
+        file: read_word(alloc, matches, "MODULE")?,
     })
 }
 
-fn explain_task(alloc: Global, matches: &ArgMatches<'_>) -> Result<Task, TaskFault>
+fn read_explain(alloc: Global, matches: &ArgMatches<'_>) -> Result<Task, TaskFault>
     requires given { HasExplainWords (rows_in matches.now) }
     ensures matched { IfOk result (AsksFor (codes "explain") (rows_in matches.now)) }
     ensures steps { IfOk result (λ task. steps_of task ≤ MAX_STEPS) }
     ensures taken { IfErr result (λ fault. fault ≡ NoMemory) }
 {
     Ok(Task::Explain {
-        hier: word(alloc, matches, "HIER")?,
-        src: word(alloc, matches, "SRC")?,
+        hier: read_word(alloc, matches, "HIER")?,
+        src: read_word(alloc, matches, "SRC")?,
     })
 }
 
 // The word that the parser matched for a required argument.
-fn word(alloc: Global, matches: &ArgMatches<'_>, id: &str) -> Result<String, AllocError>
+fn read_word(alloc: Global, matches: &ArgMatches<'_>, id: &str) -> Result<String, AllocError>
     requires given { IsGiven id.now (rows_in matches.now) }
     ensures { IfOk result (λ word. IsWordOf (rows_in matches.now) id.now (string_bytes word)) }
 {
@@ -285,7 +290,7 @@ fn word(alloc: Global, matches: &ArgMatches<'_>, id: &str) -> Result<String, All
 }
 
 // The word of `--observer`, where it was given.
-fn observer_word(alloc: Global, matches: &ArgMatches<'_>) -> Result<Option<String>, AllocError>
+fn read_observer(alloc: Global, matches: &ArgMatches<'_>) -> Result<Option<String>, AllocError>
     ensures { IfOk result (λ observer. option_map string_bytes observer ≡ first_of (codes "observer") (rows_in matches.now)) }
 {
     match matches.get_str("observer") {
@@ -295,7 +300,7 @@ fn observer_word(alloc: Global, matches: &ArgMatches<'_>) -> Result<Option<Strin
 }
 
 // The number of `--steps`, or the usual one where it was not given.
-fn steps_number(matches: &ArgMatches<'_>) -> u64
+fn read_steps(matches: &ArgMatches<'_>) -> u64
     requires in_range { HasStepsInRange (rows_in matches.now) }
     ensures number { result ≡ steps_in (rows_in matches.now) }
     ensures most { result ≤ MAX_STEPS }

@@ -16,7 +16,7 @@ mod view;
 pub use acceptance::{Cause, Text};
 pub use bytecode::{Module, ModuleRefusal};
 pub use channels::{Device, Pair, Sink, SinkFault, World, WorldDefect, WorldFault};
-pub use command_line::{MAX_STEPS, Task, TaskFault, USUAL_STEPS, task};
+pub use command_line::{MAX_STEPS, Task, TaskFault, USUAL_STEPS, read_task};
 pub use compiler::{CompileFault, NotAccepted, check_texts, compile};
 pub use host::{Answer, Event, Host, HostFault, Id, MAX_SESSIONS};
 pub use machine::Status;

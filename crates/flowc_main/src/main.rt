@@ -5,7 +5,7 @@ ghost use Rattle.flowc.specs.Task.{files_of};
 ghost use Rattle.std.specs.Prelude.{◌≡◌, IfOk, length};
 
 use channels::{Device, write_all};
-use flowc::{Task, TaskFault, perform, task};
+use flowc::{Task, TaskFault, perform, read_task};
 use std::alloc::{AllocError, AllocFailed};
 use std::io::ErrorKind;
 use std::process::ExitCode;
@@ -70,7 +70,7 @@ fn perform_words(rt: &HostRuntime) -> Result<u8, Failure> {
     for word in owned.iter().skip(1) {
         lent.push(word.as_str())?;
     }
-    let asked = task(rt.alloc(), &lent)?;
+    let asked = read_task(rt.alloc(), &lent)?;
     let files = read_files(rt, &asked)?;
     let mut out = Device::new(rt.stdout());
     let mut err = Device::new(rt.stderr());

@@ -6,7 +6,7 @@ ghost use Rattle.std.specs.Prelude.{[], ◌≡◌, ◌+◌, ◌<◌, ◌^◌, If
 use crate::event::{Answer, Event, Id};
 use crate::fault::HostFault;
 use crate::session::{Session, find, first_run, remove};
-use channels::{Pair, World, seen};
+use channels::{Pair, World, pairs_for};
 use machine::Status;
 use std::alloc::{AllocError, Global};
 use std::marker::Model;
@@ -65,7 +65,7 @@ impl Host {
         if self.sessions.len() >= MAX_SESSIONS {
             return Err(HostFault::Full);
         }
-        let after = following(id);
+        let after = next_id(id);
         let run = first_run(self.alloc, bytes, world)?;
         let Ok(()) = self.sessions.insert(0, Session::new(id, run)) else {
             return Err(HostFault::NoMemory);
@@ -109,7 +109,7 @@ impl Host {
         if principal >= program.hierarchy().count() {
             return Err(HostFault::UnknownPrincipal);
         }
-        let Ok(pairs) = seen(self.alloc, session.sent(), program, principal) else {
+        let Ok(pairs) = pairs_for(self.alloc, session.sent(), program, principal) else {
             return Err(HostFault::NoMemory);
         };
         Ok(pairs)
@@ -178,7 +178,7 @@ impl Host {
 }
 
 // The id after another one, if there is one.
-fn following(id: Id) -> Option<Id>
+fn next_id(id: Id) -> Option<Id>
     ensures within { id < 2 ^ 64 }
     ensures next { next_of result ≡ id + 1 }
 {

@@ -6,7 +6,7 @@ ghost use Rattle.std.specs.Prelude.{◌≡◌, ◌≤◌, ◌+◌, ◌⊎◌, Li
 ghost use Rattle.std.specs.List.{All};
 
 use crate::fault::LexFault;
-use crate::pieces::{Piece, first_character, front, next_piece};
+use crate::pieces::{Piece, cut_piece, split_first, take_front};
 use crate::token::{Kind, Span, Token};
 use std::alloc::Global;
 
@@ -35,11 +35,11 @@ pub fn lex(alloc: Global, src: &str) -> Result<Vec<Token<'_>>, LexFault>
 {
     let mut tokens = Vec::new(alloc);
     let mut rest = src;
-    while let Some((first, after)) = first_character(rest) {
+    while let Some((first, after)) = split_first(rest) {
         let start = src.len() - rest.len();
-        let Piece { kind, rest: left } = next_piece(rest, first, after, start)?;
+        let Piece { kind, rest: left } = cut_piece(rest, first, after, start)?;
         if let Some(kind) = kind {
-            let text = front(rest, left);
+            let text = take_front(rest, left);
             let end = src.len() - left.len();
             tokens.push(Token {
                 kind,

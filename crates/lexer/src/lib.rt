@@ -14,5 +14,5 @@ pub mod token;
 pub use fault::LexFault;
 pub use lexing::{lex, one_reading};
 pub use names::is_name;
-pub use position::place;
+pub use position::find_place;
 pub use token::{Kind, Place, Span, Token};

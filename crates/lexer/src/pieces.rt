@@ -42,7 +42,7 @@ impl Class {
 }
 
 /// The next lexeme of `text`, which begins with `first` and goes on with `after`, at the byte `at`.
-pub(crate) fn next_piece<'a>(
+pub(crate) fn cut_piece<'a>(
     text: &'a str,
     first: char,
     after: &'a str,
@@ -57,13 +57,13 @@ pub(crate) fn next_piece<'a>(
             rest: after,
         })
     } else if first.is_ascii_digit() {
-        literal(text, first, after, at)
+        cut_literal(text, first, after, at)
     } else if begins_name(first) {
-        Ok(word(text, first, after))
+        Ok(cut_word(text, first, after))
     } else if first == '/' {
-        solidus(text, after, at)
+        cut_solidus(text, after, at)
     } else {
-        sign(text, first, after).ok_or(LexFault::NoToken(at))
+        cut_sign(text, first, after).ok_or(LexFault::NoToken(at))
     }
 }
 
@@ -74,13 +74,18 @@ fn is_white_space(character: char) -> bool
 }
 
 /// A run of digits.
-fn literal<'a>(text: &'a str, first: char, after: &'a str, at: usize) -> Result<Piece<'a>, LexFault>
+fn cut_literal<'a>(
+    text: &'a str,
+    first: char,
+    after: &'a str,
+    at: usize,
+) -> Result<Piece<'a>, LexFault>
     requires split { chars text.now ≡ first ∷ chars after.now }
     requires digit { IsTrue (is_ascii_digit first) }
     ensures { MatchResult result (λ piece. Reads (chars text.now) piece.kind (chars piece.rest.now)) (λ fault. IsStuck at (chars text.now) fault) }
 {
-    let rest = after_run(after, Class::Digit);
-    match front(text, rest).parse::<u32>() {
+    let rest = skip_run(after, Class::Digit);
+    match take_front(text, rest).parse::<u32>() {
         Ok(value) if value <= MAX_LITERAL => Ok(Piece {
             kind: Some(Kind::Integer(value)),
             rest,
@@ -90,13 +95,13 @@ fn literal<'a>(text: &'a str, first: char, after: &'a str, at: usize) -> Result<
 }
 
 /// A keyword or a name.
-fn word<'a>(text: &'a str, first: char, after: &'a str) -> Piece<'a>
+fn cut_word<'a>(text: &'a str, first: char, after: &'a str) -> Piece<'a>
     requires split { chars text.now ≡ first ∷ chars after.now }
     requires begins { IsTrue (may_begin first) }
     ensures { Reads (chars text.now) result.kind (chars result.rest.now) }
 {
-    let rest = after_run(after, Class::NamePart);
-    let kind = keyword(front(text, rest)).unwrap_or(Kind::Name);
+    let rest = skip_run(after, Class::NamePart);
+    let kind = keyword(take_front(text, rest)).unwrap_or(Kind::Name);
     Piece {
         kind: Some(kind),
         rest,
@@ -104,7 +109,7 @@ fn word<'a>(text: &'a str, first: char, after: &'a str) -> Piece<'a>
 }
 
 /// A comment, or the sign `/`.
-fn solidus<'a>(text: &'a str, after: &'a str, at: usize) -> Result<Piece<'a>, LexFault>
+fn cut_solidus<'a>(text: &'a str, after: &'a str, at: usize) -> Result<Piece<'a>, LexFault>
     requires { chars text.now ≡ 47 ∷ chars after.now }
     ensures { MatchResult result (λ piece. Reads (chars text.now) piece.kind (chars piece.rest.now)) (λ fault. IsStuck at (chars text.now) fault) }
 {
@@ -112,9 +117,9 @@ fn solidus<'a>(text: &'a str, after: &'a str, at: usize) -> Result<Piece<'a>, Le
     match characters.next() {
         Some('/') => Ok(Piece {
             kind: None,
-            rest: after_run(characters.as_str(), Class::InLine),
+            rest: skip_run(characters.as_str(), Class::InLine),
         }),
-        Some('*') => match after_close(characters.as_str()) {
+        Some('*') => match skip_comment(characters.as_str()) {
             Some(rest) => Ok(Piece { kind: None, rest }),
             None => Err(LexFault::UnclosedComment(at)),
         },
@@ -126,18 +131,18 @@ fn solidus<'a>(text: &'a str, after: &'a str, at: usize) -> Result<Piece<'a>, Le
 }
 
 /// A sign other than `/`, if one begins here.
-fn sign<'a>(text: &'a str, first: char, after: &'a str) -> Option<Piece<'a>>
+fn cut_sign<'a>(text: &'a str, first: char, after: &'a str) -> Option<Piece<'a>>
     requires split { chars text.now ≡ first ∷ chars after.now }
     requires begins { IsTrue (begins_sign first) }
     ensures { MatchOption result (HasNoLexeme (chars text.now)) (λ piece. Reads (chars text.now) piece.kind (chars piece.rest.now)) }
 {
-    if let Some((kind, rest)) = double_sign(first, after) {
+    if let Some((kind, rest)) = cut_double_sign(first, after) {
         return Some(Piece {
             kind: Some(kind),
             rest,
         });
     }
-    let kind = single_sign(first)?;
+    let kind = kind_of_sign(first)?;
     Some(Piece {
         kind: Some(kind),
         rest: after,
@@ -146,15 +151,15 @@ fn sign<'a>(text: &'a str, first: char, after: &'a str) -> Option<Piece<'a>>
 
 /// The sign of two characters that begins with `first` and goes on in `after`, if there is one, and
 /// what follows it.
-fn double_sign(first: char, after: &str) -> Option<(Kind, &str)>
+fn cut_double_sign(first: char, after: &str) -> Option<(Kind, &str)>
     ensures { MatchOption result (IsNoDouble first (chars after.now)) (λ sign. IsDouble first (chars after.now) sign.0 (chars sign.1.now)) }
 {
-    let (second, rest) = first_character(after)?;
-    let kind = pair(first, second)?;
+    let (second, rest) = split_first(after)?;
+    let kind = kind_of_pair(first, second)?;
     Some((kind, rest))
 }
 
-fn pair(first: char, second: char) -> Option<Kind>
+fn kind_of_pair(first: char, second: char) -> Option<Kind>
     ensures { result ≡ sign_of (first ∷ second ∷ []) }
 {
     match (first, second) {
@@ -168,7 +173,7 @@ fn pair(first: char, second: char) -> Option<Kind>
     }
 }
 
-fn single_sign(character: char) -> Option<Kind>
+fn kind_of_sign(character: char) -> Option<Kind>
     ensures { result ≡ sign_of (character ∷ []) }
 {
     match character {
@@ -195,7 +200,7 @@ fn single_sign(character: char) -> Option<Kind>
 }
 
 /// The first character of `text`, and what follows it.
-pub(crate) fn first_character(text: &str) -> Option<(char, &str)>
+pub(crate) fn split_first(text: &str) -> Option<(char, &str)>
     ensures { MatchOption result (text.now ≡ []) (λ split. chars text.now ≡ split.0 ∷ chars split.1.now) }
 {
     let mut characters = text.chars();
@@ -204,7 +209,7 @@ pub(crate) fn first_character(text: &str) -> Option<(char, &str)>
 }
 
 /// What stands in `text` before `rest`, which ends it.
-pub(crate) fn front<'a>(text: &'a str, rest: &str) -> &'a str
+pub(crate) fn take_front<'a>(text: &'a str, rest: &str) -> &'a str
     requires { IsTail (chars text.now) (chars rest.now) }
     ensures { chars text.now ≡ chars result.now ++ chars rest.now }
 {
@@ -213,7 +218,7 @@ pub(crate) fn front<'a>(text: &'a str, rest: &str) -> &'a str
 }
 
 /// What follows the longest front of `text` whose characters are all of the class.
-fn after_run(text: &str, class: Class) -> &str
+fn skip_run(text: &str, class: Class) -> &str
     ensures { chars result.now ≡ after_run (holds class) (chars text.now) }
 {
     let mut characters = text.chars();
@@ -229,7 +234,7 @@ fn after_run(text: &str, class: Class) -> &str
 }
 
 /// What follows the first `*/` of `text`.
-fn after_close(text: &str) -> Option<&str>
+fn skip_comment(text: &str) -> Option<&str>
     ensures { MatchOption result (after_close false (chars text.now) ≡ None) (λ rest. after_close false (chars text.now) ≡ Some (chars rest.now)) }
 {
     let mut characters = text.chars();

@@ -30,7 +30,7 @@ fn place_from(finals: &[u32], place: u32, instruction: Instruction) -> u32
 
 /// The final place of each place of the code. They are found from the last one to the first, since the jumps that are followed go
 /// forward.
-fn final_places(alloc: Global, code: &[Instruction]) -> Result<Vec<u32>, AllocError>
+fn find_final_places(alloc: Global, code: &[Instruction]) -> Result<Vec<u32>, AllocError>
     requires { length code.now < 2 ^ 32 }
     ensures size { IfOk result (λ finals. length finals.items ≡ length code.now) }
     ensures places { IfOk result (λ finals.
@@ -62,7 +62,7 @@ pub(crate) fn thread(alloc: Global, code: &[Instruction]) -> Result<Vec<Instruct
     requires { length code.now < 2 ^ 32 }
     ensures { IfOk result (λ made. made.items ≡ threaded code.now) }
 {
-    let finals = final_places(alloc, code)?;
+    let finals = find_final_places(alloc, code)?;
     let mut made = Vec::new(alloc);
     for instruction in code {
         made.push(thread_instruction(&finals, *instruction))?;

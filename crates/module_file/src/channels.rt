@@ -6,9 +6,9 @@ ghost use Rattle.module_file.specs.Reading.{Decodes, texts};
 ghost use Rattle.std.specs.BTreeSet.{contains_text};
 ghost use Rattle.std.specs.Prelude.{[], length};
 
-use crate::hierarchy::label;
-use crate::names::{built_in, exceptions, name, take};
-use crate::reading::{ReadError, byte, number, refused};
+use crate::hierarchy::read_label;
+use crate::names::{read_exceptions, read_name, take, take_built_in};
+use crate::reading::{ReadError, read_byte, read_number, refuse};
 use bytecode::ModuleRefusal;
 use bytecode::channel::Channel;
 use bytecode::declaration::Direction;
@@ -18,20 +18,20 @@ use std::collections::BTreeSet;
 
 /// The direction of a channel.
 #[tactic(auto, unfolding(bytecode::specs::Format::direction))]
-fn direction(bytes: &[u8]) -> Result<(Direction, &[u8]), ReadError>
+fn read_direction(bytes: &[u8]) -> Result<(Direction, &[u8]), ReadError>
     ensures { Decodes (λ x. (x.0, x.1.now)) result (read direction bytes.now) }
 {
-    let (direction, rest) = byte(bytes)?;
+    let (direction, rest) = read_byte(bytes)?;
     match direction {
         0 => Ok((Direction::Input, rest)),
         1 => Ok((Direction::Output, rest)),
-        _ => Err(refused(ModuleRefusal::BadValue, bytes)),
+        _ => Err(refuse(ModuleRefusal::BadValue, bytes)),
     }
 }
 
 /// A channel whose name is not taken, with a label among so many principals.
 #[tactic(auto, unfolding(bytecode::specs::Format::channel_after))]
-fn channel<'a>(
+fn read_channel<'a>(
     alloc: Global,
     principals: u32,
     taken: &BTreeSet<String>,
@@ -39,14 +39,14 @@ fn channel<'a>(
 ) -> Result<(Channel, &'a [u8]), ReadError>
     ensures { Decodes (λ x. (x.0, x.1.now)) result (read (channel_after principals (contains_text taken.now) []) bytes.now) }
 {
-    let (direction, rest) = direction(bytes)?;
-    let (name, rest) = name(alloc, taken, rest)?;
-    let (label, rest) = label(alloc, principals, rest)?;
+    let (direction, rest) = read_direction(bytes)?;
+    let (name, rest) = read_name(alloc, taken, rest)?;
+    let (label, rest) = read_label(alloc, principals, rest)?;
     Ok((Channel::new(direction, name, label), rest))
 }
 
 /// So many channels, none of whose names is taken before.
-fn channels(
+fn read_channels(
     alloc: Global,
     principals: u32,
     mut taken: BTreeSet<String>,
@@ -58,7 +58,7 @@ fn channels(
     let mut channels = Vec::new(alloc);
     let mut rest = bytes;
     for _ in 0..count {
-        let (channel, after) = channel(alloc, principals, &taken, rest)?;
+        let (channel, after) = read_channel(alloc, principals, &taken, rest)?;
         take(alloc, &mut taken, channel.name())?;
         channels.push(channel)?;
         rest = after;
@@ -67,7 +67,7 @@ fn channels(
 }
 
 /// The channels behind their count, none of whose names is taken before.
-fn counted(
+fn read_counted_channels(
     alloc: Global,
     principals: u32,
     taken: BTreeSet<String>,
@@ -75,21 +75,21 @@ fn counted(
 ) -> Result<(Vec<Channel>, &[u8]), ReadError>
     ensures { Decodes (λ x. (x.0.items, x.1.now)) result (read (Counted any (channel_after principals (contains_text taken))) bytes.now) }
 {
-    let (count, rest) = number(bytes)?;
-    channels(alloc, principals, taken, count, rest)
+    let (count, rest) = read_number(bytes)?;
+    read_channels(alloc, principals, taken, count, rest)
 }
 
 /// The names of the declared exceptions, and the channels with labels among the principals of the hierarchy.
 #[tactic(auto, unfolding(bytecode::specs::Format::declared))]
-pub(crate) fn declared<'a>(
+pub(crate) fn read_declared<'a>(
     alloc: Global,
     hierarchy: &Hierarchy,
     bytes: &'a [u8],
 ) -> Result<(Vec<String>, Vec<Channel>, &'a [u8]), ReadError>
     ensures { Decodes (λ x. ((texts x.0.items, x.1.items), x.2.now)) result (read (declared (length hierarchy.now.names)) bytes.now) }
 {
-    let mut taken = built_in(alloc)?;
-    let (exceptions, rest) = exceptions(alloc, &mut taken, bytes)?;
-    let (channels, rest) = counted(alloc, hierarchy.count(), taken, rest)?;
+    let mut taken = take_built_in(alloc)?;
+    let (exceptions, rest) = read_exceptions(alloc, &mut taken, bytes)?;
+    let (channels, rest) = read_counted_channels(alloc, hierarchy.count(), taken, rest)?;
     Ok((exceptions, channels, rest))
 }

@@ -6,10 +6,10 @@ ghost use Rattle.bytecode.specs.Opcodes.{instructions};
 ghost use Rattle.module_file.specs.Reading.{Decodes};
 ghost use Rattle.std.specs.Prelude.{[], IfOk, ◌≤◌};
 
-use crate::reading::{ReadError, byte, number, refused, text};
+use crate::reading::{ReadError, read_byte, read_number, read_text, refuse};
 use bytecode::ModuleRefusal;
 use bytecode::instruction::Instruction;
-use bytecode::opcode::{spelled, width_after};
+use bytecode::opcode::{instruction_of, width_after};
 use std::alloc::Global;
 
 // An instruction takes one byte, two or five. Code with so many bytes for each of its instructions finds room for all.
@@ -17,26 +17,26 @@ const USUAL_WIDTH: usize = 3;
 
 /// The instruction at the front, which ends within the room that is left in its code.
 #[tactic(auto, unfolding(bytecode::specs::Opcodes::instructions))]
-fn instruction(room: u32, bytes: &[u8]) -> Result<(Instruction, &[u8]), ReadError>
+fn read_instruction(room: u32, bytes: &[u8]) -> Result<(Instruction, &[u8]), ReadError>
     ensures gives { Decodes (λ x. (x.0, x.1.now)) result (instruction_in instructions room bytes.now) }
     ensures inside { IfOk result (λ x. width_of x.0 ≤ room) }
 {
-    let (opcode, rest) = byte(bytes)?;
+    let (opcode, rest) = read_byte(bytes)?;
     let Some(width) = width_after(opcode) else {
-        return Err(refused(ModuleRefusal::BadValue, bytes));
+        return Err(refuse(ModuleRefusal::BadValue, bytes));
     };
     if room as usize <= width {
-        return Err(refused(ModuleRefusal::BadValue, bytes));
+        return Err(refuse(ModuleRefusal::BadValue, bytes));
     }
-    let (operand, after) = text(width, rest)?;
-    let Some(instruction) = spelled(opcode, operand) else {
-        return Err(refused(ModuleRefusal::BadValue, rest));
+    let (operand, after) = read_text(width, rest)?;
+    let Some(instruction) = instruction_of(opcode, operand) else {
+        return Err(refuse(ModuleRefusal::BadValue, rest));
     };
     Ok((instruction, after))
 }
 
 /// The instructions that the next `size` bytes are.
-fn instructions(
+fn read_instructions(
     alloc: Global,
     size: u32,
     bytes: &[u8],
@@ -48,7 +48,7 @@ fn instructions(
     let mut rest = bytes;
     let mut room = size;
     while room > 0 {
-        let (next, after) = instruction(room, rest)?;
+        let (next, after) = read_instruction(room, rest)?;
         code.push(next)?;
         room -= next.width() as u32;
         rest = after;
@@ -57,9 +57,9 @@ fn instructions(
 }
 
 /// The code behind its length.
-pub(crate) fn code(alloc: Global, bytes: &[u8]) -> Result<(Vec<Instruction>, &[u8]), ReadError>
+pub(crate) fn read_code(alloc: Global, bytes: &[u8]) -> Result<(Vec<Instruction>, &[u8]), ReadError>
     ensures { Decodes (λ x. (x.0.items, x.1.now)) result (read (Code instructions) bytes.now) }
 {
-    let (size, rest) = number(bytes)?;
-    instructions(alloc, size, rest)
+    let (size, rest) = read_number(bytes)?;
+    read_instructions(alloc, size, rest)
 }

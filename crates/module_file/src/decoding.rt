@@ -7,12 +7,12 @@ ghost use Rattle.bytecode.specs.Format.{contents, main, module_file, program};
 ghost use Rattle.module_file.specs.Reading.{contents_of, Decodes};
 ghost use Rattle.std.specs.Prelude.{IfErr, IfOk, ◌≡◌};
 
-use crate::channels::declared;
+use crate::channels::read_declared;
 use crate::fault::FormatFault;
-use crate::globals::globals;
-use crate::hierarchy::hierarchy;
-use crate::procedures::procedures;
-use crate::reading::{ReadError, number, refused};
+use crate::globals::read_globals;
+use crate::hierarchy::read_hierarchy;
+use crate::procedures::read_procedures;
+use crate::reading::{ReadError, read_number, refuse};
 use bytecode::ModuleRefusal;
 use bytecode::channel::Channel;
 use bytecode::declaration::Global as Variable;
@@ -46,29 +46,26 @@ pub(crate) struct Program {
 
 /// The number of a procedure without parameters that returns no value.
 #[tactic(auto, unfolding(bytecode::specs::Format::main))]
-fn main_procedure<'a>(
-    procedures: &[Procedure],
-    bytes: &'a [u8],
-) -> Result<(u32, &'a [u8]), ReadError>
+fn read_main<'a>(procedures: &[Procedure], bytes: &'a [u8]) -> Result<(u32, &'a [u8]), ReadError>
     ensures { Decodes (λ x. (x.0, x.1.now)) result (read (main procedures.now) bytes.now) }
 {
-    let (number, rest) = number(bytes)?;
+    let (number, rest) = read_number(bytes)?;
     match procedures.get(number as usize) {
         Some(procedure) if procedure.parameters() == 0 && procedure.returned().is_none() => Ok((
             number, rest,
         )),
-        _ => Err(refused(ModuleRefusal::BadValue, bytes)),
+        _ => Err(refuse(ModuleRefusal::BadValue, bytes)),
     }
 }
 
 /// The globals, the procedures, and the number of the one where a run starts.
 #[tactic(auto, unfolding(bytecode::specs::Format::program))]
-fn program_at(alloc: Global, bytes: &[u8]) -> Result<(Program, &[u8]), ReadError>
+fn read_program(alloc: Global, bytes: &[u8]) -> Result<(Program, &[u8]), ReadError>
     ensures { Decodes (λ x. ((x.0.globals.items, (x.0.procedures.items, x.0.main)), x.1.now)) result (read program bytes.now) }
 {
-    let (globals, rest) = globals(alloc, bytes)?;
-    let (procedures, rest) = procedures(alloc, rest)?;
-    let (main, rest) = main_procedure(&procedures, rest)?;
+    let (globals, rest) = read_globals(alloc, bytes)?;
+    let (procedures, rest) = read_procedures(alloc, rest)?;
+    let (main, rest) = read_main(&procedures, rest)?;
     let program = Program {
         globals,
         procedures,
@@ -79,12 +76,12 @@ fn program_at(alloc: Global, bytes: &[u8]) -> Result<(Program, &[u8]), ReadError
 
 /// The fields of a module behind magic and version.
 #[tactic(auto, unfolding(bytecode::specs::Format::contents))]
-fn contents(alloc: Global, bytes: &[u8]) -> Result<(Fields, &[u8]), ReadError>
+fn read_contents(alloc: Global, bytes: &[u8]) -> Result<(Fields, &[u8]), ReadError>
     ensures { Decodes (λ x. (contents_of x.0, x.1.now)) result (read contents bytes.now) }
 {
-    let (hierarchy, rest) = hierarchy(alloc, bytes)?;
-    let (exceptions, channels, rest) = declared(alloc, &hierarchy, rest)?;
-    let (program, rest) = program_at(alloc, rest)?;
+    let (hierarchy, rest) = read_hierarchy(alloc, bytes)?;
+    let (exceptions, channels, rest) = read_declared(alloc, &hierarchy, rest)?;
+    let (program, rest) = read_program(alloc, rest)?;
     let fields = Fields {
         hierarchy,
         exceptions,
@@ -96,27 +93,27 @@ fn contents(alloc: Global, bytes: &[u8]) -> Result<(Fields, &[u8]), ReadError>
 
 /// The fields of a module behind magic and version, which are tested.
 #[tactic(auto, unfolding(bytecode::specs::Format::module_file))]
-fn file(alloc: Global, bytes: &[u8]) -> Result<(Fields, &[u8]), ReadError>
+fn read_file(alloc: Global, bytes: &[u8]) -> Result<(Fields, &[u8]), ReadError>
     ensures { Decodes (λ x. (contents_of x.0, x.1.now)) result (read module_file bytes.now) }
 {
-    let (magic, rest) = number(bytes)?;
+    let (magic, rest) = read_number(bytes)?;
     if magic != MAGIC {
-        return Err(refused(ModuleRefusal::Magic, bytes));
+        return Err(refuse(ModuleRefusal::Magic, bytes));
     }
-    let (version, after) = number(rest)?;
+    let (version, after) = read_number(rest)?;
     if version != VERSION {
-        return Err(refused(ModuleRefusal::Version, rest));
+        return Err(refuse(ModuleRefusal::Version, rest));
     }
-    contents(alloc, after)
+    read_contents(alloc, after)
 }
 
 /// The fields of a module that all of the bytes are.
-fn all_of_file(alloc: Global, bytes: &[u8]) -> Result<Fields, ReadError>
+fn read_all_of_file(alloc: Global, bytes: &[u8]) -> Result<Fields, ReadError>
     ensures { Decodes contents_of result (read_all module_file bytes.now) }
 {
-    let (fields, rest) = file(alloc, bytes)?;
+    let (fields, rest) = read_file(alloc, bytes)?;
     if !rest.is_empty() {
-        return Err(refused(ModuleRefusal::Trailing, rest));
+        return Err(refuse(ModuleRefusal::Trailing, rest));
     }
     Ok(fields)
 }
@@ -153,7 +150,7 @@ pub fn decode(alloc: Global, bytes: &[u8]) -> Result<Module, FormatFault>
     // A refusal is the first one, at its offset.
     ensures first_fault { IfErr result (λ fault. Reports fault (first_refusal bytes.now)) }
 {
-    match all_of_file(alloc, bytes) {
+    match read_all_of_file(alloc, bytes) {
         Ok(fields) => Ok(module_of(fields)),
         Err(ReadError::NoMemory) => Err(FormatFault::NoMemory),
         Err(ReadError::Stop(stop)) => {

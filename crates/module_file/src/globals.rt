@@ -6,7 +6,7 @@ ghost use Rattle.module_file.specs.Reading.{Decodes};
 ghost use Rattle.std.specs.Prelude.{◌<◌, ◌≡◌, ◌≤◌};
 
 use crate::limit::{cells_of_size, is_size};
-use crate::reading::{Element, ReadError, byte, each, number, refused};
+use crate::reading::{Element, ReadError, read_byte, read_each, read_number, refuse};
 use bytecode::ModuleRefusal;
 use bytecode::declaration::Global as Variable;
 use bytecode::value::Kind;
@@ -14,30 +14,30 @@ use std::alloc::Global;
 
 /// The kind of a global or of a slot.
 #[tactic(auto, unfolding(bytecode::specs::Format::variable_kind))]
-pub(crate) fn kind(bytes: &[u8]) -> Result<(Kind, &[u8]), ReadError>
+pub(crate) fn read_kind(bytes: &[u8]) -> Result<(Kind, &[u8]), ReadError>
     ensures { Decodes (λ x. (x.0, x.1.now)) result (read variable_kind bytes.now) }
 {
-    let (kind, rest) = byte(bytes)?;
+    let (kind, rest) = read_byte(bytes)?;
     match kind {
         0 => Ok((Kind::Int, rest)),
         1 => Ok((Kind::Boolean, rest)),
-        _ => Err(refused(ModuleRefusal::BadValue, bytes)),
+        _ => Err(refuse(ModuleRefusal::BadValue, bytes)),
     }
 }
 
 /// The first value of a scalar, and 0 for an array, which has none.
-fn first_value(kind: Kind, size: u32, bytes: &[u8]) -> Result<(u32, &[u8]), ReadError>
+fn read_first_value(kind: Kind, size: u32, bytes: &[u8]) -> Result<(u32, &[u8]), ReadError>
     ensures { Decodes (λ x. (x.0, x.1.now)) result (read (first_value kind size) bytes.now) }
 {
     if size != 0 {
         return Ok((0, bytes));
     }
-    let (value, rest) = number(bytes)?;
+    let (value, rest) = read_number(bytes)?;
     match kind {
         Kind::Int => Ok((value, rest)),
         Kind::Boolean => {
             if value > 1 {
-                return Err(refused(ModuleRefusal::BadValue, bytes));
+                return Err(refuse(ModuleRefusal::BadValue, bytes));
             }
             Ok((value, rest))
         }
@@ -76,12 +76,12 @@ impl Element for GlobalField {
         _before: &[Variable],
         bytes: &'a [u8],
     ) -> Result<(Variable, &'a [u8]), ReadError> {
-        let (kind, rest) = kind(bytes)?;
-        let (size, after) = number(rest)?;
+        let (kind, rest) = read_kind(bytes)?;
+        let (size, after) = read_number(rest)?;
         if !is_size(*cells, size) {
-            return Err(refused(ModuleRefusal::BadValue, rest));
+            return Err(refuse(ModuleRefusal::BadValue, rest));
         }
-        let (first, after) = first_value(kind, size, after)?;
+        let (first, after) = read_first_value(kind, size, after)?;
         *cells += cells_of_size(size);
         Ok((global_of(kind, size, first), after))
     }
@@ -89,9 +89,9 @@ impl Element for GlobalField {
 
 /// The globals behind their count.
 #[tactic(auto, unfolding(bytecode::specs::Format::globals))]
-pub(crate) fn globals(alloc: Global, bytes: &[u8]) -> Result<(Vec<Variable>, &[u8]), ReadError>
+pub(crate) fn read_globals(alloc: Global, bytes: &[u8]) -> Result<(Vec<Variable>, &[u8]), ReadError>
     ensures { Decodes (λ x. (x.0.items, x.1.now)) result (read globals bytes.now) }
 {
-    let (count, rest) = number(bytes)?;
-    each(alloc, &GlobalField, 0, count, rest)
+    let (count, rest) = read_number(bytes)?;
+    read_each(alloc, &GlobalField, 0, count, rest)
 }

@@ -4,8 +4,8 @@ ghost use Rattle.bytecode.specs.Form.{Counted, read};
 ghost use Rattle.bytecode.specs.Format.{any, hierarchy, label, number_below, pair_after, policy_after, principals, reader_after};
 ghost use Rattle.module_file.specs.Reading.{Decodes, texts};
 
-use crate::names::first_names;
-use crate::reading::{Element, ReadError, each, number, refused};
+use crate::names::read_first_names;
+use crate::reading::{Element, ReadError, read_each, read_number, refuse};
 use bytecode::ModuleRefusal;
 use labels::{Label, Policy};
 use principals::Hierarchy;
@@ -16,26 +16,26 @@ const MAX_PRINCIPALS: u32 = 256;
 
 /// The number of one of so many things.
 #[tactic(auto, unfolding(bytecode::specs::Format::number_below))]
-fn number_below(count: u32, bytes: &[u8]) -> Result<(u32, &[u8]), ReadError>
+fn read_number_below(count: u32, bytes: &[u8]) -> Result<(u32, &[u8]), ReadError>
     ensures { Decodes (λ x. (x.0, x.1.now)) result (read (number_below count) bytes.now) }
 {
-    let (number, rest) = number(bytes)?;
+    let (number, rest) = read_number(bytes)?;
     if number >= count {
-        return Err(refused(ModuleRefusal::BadValue, bytes));
+        return Err(refuse(ModuleRefusal::BadValue, bytes));
     }
     Ok((number, rest))
 }
 
 /// The names of the principals behind their count.
 #[tactic(auto, unfolding(bytecode::specs::Format::principals))]
-fn principals(alloc: Global, bytes: &[u8]) -> Result<(Vec<String>, &[u8]), ReadError>
+fn read_principals(alloc: Global, bytes: &[u8]) -> Result<(Vec<String>, &[u8]), ReadError>
     ensures { Decodes (λ x. (texts x.0.items, x.1.now)) result (read principals bytes.now) }
 {
-    let (count, rest) = number(bytes)?;
+    let (count, rest) = read_number(bytes)?;
     if count > MAX_PRINCIPALS {
-        return Err(refused(ModuleRefusal::BadValue, bytes));
+        return Err(refuse(ModuleRefusal::BadValue, bytes));
     }
-    first_names(alloc, count, rest)
+    read_first_names(alloc, count, rest)
 }
 
 /// A pair's field among so many principals.
@@ -61,13 +61,13 @@ impl Element for PairField {
         before: &[(u32, u32)],
         bytes: &'a [u8],
     ) -> Result<((u32, u32), &'a [u8]), ReadError> {
-        let (first, rest) = number_below(self.principals, bytes)?;
-        let (second, rest) = number_below(self.principals, rest)?;
+        let (first, rest) = read_number_below(self.principals, bytes)?;
+        let (second, rest) = read_number_below(self.principals, rest)?;
         let pair = (first, second);
         if let Some(last) = before.last()
             && *last >= pair
         {
-            return Err(refused(ModuleRefusal::NotCanonical, bytes));
+            return Err(refuse(ModuleRefusal::NotCanonical, bytes));
         }
         Ok((pair, rest))
     }
@@ -97,14 +97,14 @@ impl Element for ReaderField {
         before: &[u32],
         bytes: &'a [u8],
     ) -> Result<(u32, &'a [u8]), ReadError> {
-        let (reader, rest) = number_below(self.principals, bytes)?;
+        let (reader, rest) = read_number_below(self.principals, bytes)?;
         if reader == self.owner {
-            return Err(refused(ModuleRefusal::NotCanonical, bytes));
+            return Err(refuse(ModuleRefusal::NotCanonical, bytes));
         }
         if let Some(last) = before.last()
             && *last >= reader
         {
-            return Err(refused(ModuleRefusal::NotCanonical, bytes));
+            return Err(refuse(ModuleRefusal::NotCanonical, bytes));
         }
         Ok((reader, rest))
     }
@@ -134,20 +134,20 @@ impl Element for PolicyField {
         bytes: &'a [u8],
     ) -> Result<(Policy, &'a [u8]), ReadError> {
         let principals = self.principals;
-        let (owner, rest) = number_below(principals, bytes)?;
-        let (readers, rest) = readers(alloc, principals, owner, rest)?;
+        let (owner, rest) = read_number_below(principals, bytes)?;
+        let (readers, rest) = read_readers(alloc, principals, owner, rest)?;
         let policy = Policy::of(owner, readers);
         if let Some(last) = before.last()
             && *last >= policy
         {
-            return Err(refused(ModuleRefusal::NotCanonical, bytes));
+            return Err(refuse(ModuleRefusal::NotCanonical, bytes));
         }
         Ok((policy, rest))
     }
 }
 
 /// The readers of a policy behind their count.
-fn readers(
+fn read_readers(
     alloc: Global,
     principals: u32,
     owner: u32,
@@ -155,49 +155,53 @@ fn readers(
 ) -> Result<(Vec<u32>, &[u8]), ReadError>
     ensures { Decodes (λ x. (x.0.items, x.1.now)) result (read (Counted any (reader_after principals owner)) bytes.now) }
 {
-    let (count, rest) = number(bytes)?;
-    each(alloc, &ReaderField { principals, owner }, (), count, rest)
+    let (count, rest) = read_number(bytes)?;
+    read_each(alloc, &ReaderField { principals, owner }, (), count, rest)
 }
 
 /// The policies of a label behind their count.
 #[tactic(auto, unfolding(bytecode::specs::Format::label))]
-fn policies(alloc: Global, principals: u32, bytes: &[u8]) -> Result<(Vec<Policy>, &[u8]), ReadError>
+fn read_policies(
+    alloc: Global,
+    principals: u32,
+    bytes: &[u8],
+) -> Result<(Vec<Policy>, &[u8]), ReadError>
     ensures { Decodes (λ x. (x.0.items, x.1.now)) result (read (label principals) bytes.now) }
 {
-    let (count, rest) = number(bytes)?;
-    each(alloc, &PolicyField { principals }, (), count, rest)
+    let (count, rest) = read_number(bytes)?;
+    read_each(alloc, &PolicyField { principals }, (), count, rest)
 }
 
 /// A label among so many principals.
-pub(crate) fn label(
+pub(crate) fn read_label(
     alloc: Global,
     principals: u32,
     bytes: &[u8],
 ) -> Result<(Label, &[u8]), ReadError>
     ensures { Decodes (λ x. (x.0, x.1.now)) result (read (label principals) bytes.now) }
 {
-    let (policies, rest) = policies(alloc, principals, bytes)?;
+    let (policies, rest) = read_policies(alloc, principals, bytes)?;
     Ok((Label::of(policies), rest))
 }
 
 /// The written pairs among so many principals, behind their count.
-fn pairs(
+fn read_pairs(
     alloc: Global,
     principals: u32,
     bytes: &[u8],
 ) -> Result<(Vec<(u32, u32)>, &[u8]), ReadError>
     ensures { Decodes (λ x. (x.0.items, x.1.now)) result (read (Counted any (pair_after principals)) bytes.now) }
 {
-    let (count, rest) = number(bytes)?;
-    each(alloc, &PairField { principals }, (), count, rest)
+    let (count, rest) = read_number(bytes)?;
+    read_each(alloc, &PairField { principals }, (), count, rest)
 }
 
 /// The hierarchy.
 #[tactic(auto, unfolding(bytecode::specs::Format::hierarchy))]
-pub(crate) fn hierarchy(alloc: Global, bytes: &[u8]) -> Result<(Hierarchy, &[u8]), ReadError>
+pub(crate) fn read_hierarchy(alloc: Global, bytes: &[u8]) -> Result<(Hierarchy, &[u8]), ReadError>
     ensures { Decodes (λ x. (x.0, x.1.now)) result (read hierarchy bytes.now) }
 {
-    let (names, rest) = principals(alloc, bytes)?;
-    let (pairs, rest) = pairs(alloc, names.len() as u32, rest)?;
+    let (names, rest) = read_principals(alloc, bytes)?;
+    let (pairs, rest) = read_pairs(alloc, names.len() as u32, rest)?;
     Ok((Hierarchy::of(alloc, names, pairs)?, rest))
 }

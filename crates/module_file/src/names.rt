@@ -7,14 +7,14 @@ ghost use Rattle.std.specs.BTreeSet.{contains_text};
 ghost use Rattle.std.specs.Prelude.{[], bytes_eq, false, IfOk, List, MatchOption, OnOk, true, ℕ, ◌||◌, ◌≡◌};
 ghost use Rattle.std.specs.String.{string_bytes};
 
-use crate::reading::{ReadError, number, refused, text};
+use crate::reading::{ReadError, read_number, read_text, refuse};
 use bytecode::ModuleRefusal;
 use lexer::is_name;
 use std::alloc::{AllocError, Global};
 use std::collections::BTreeSet;
 
 /// The text as a name, where it is one that is not taken.
-fn new_name<'a>(taken: &BTreeSet<String>, text: &'a [u8]) -> Option<&'a str>
+fn read_new_name<'a>(taken: &BTreeSet<String>, text: &'a [u8]) -> Option<&'a str>
     ensures { MatchOption result (is_new_name (contains_text taken.now) [] text.now ≡ false)
         (λ name. (name.now ≡ text.now) × (is_new_name (contains_text taken.now) [] text.now ≡ true)) }
 {
@@ -30,17 +30,17 @@ fn new_name<'a>(taken: &BTreeSet<String>, text: &'a [u8]) -> Option<&'a str>
 
 /// A name that is not taken.
 #[tactic(auto, unfolding(bytecode::specs::Format::name_after))]
-pub(crate) fn name<'a>(
+pub(crate) fn read_name<'a>(
     alloc: Global,
     taken: &BTreeSet<String>,
     bytes: &'a [u8],
 ) -> Result<(String, &'a [u8]), ReadError>
     ensures { Decodes (λ x. (string_bytes x.0, x.1.now)) result (read (name_after (contains_text taken.now) []) bytes.now) }
 {
-    let (size, rest) = number(bytes)?;
-    let (name, rest) = text(size as usize, rest)?;
-    let Some(name) = new_name(taken, name) else {
-        return Err(refused(ModuleRefusal::BadValue, bytes));
+    let (size, rest) = read_number(bytes)?;
+    let (name, rest) = read_text(size as usize, rest)?;
+    let Some(name) = read_new_name(taken, name) else {
+        return Err(refuse(ModuleRefusal::BadValue, bytes));
     };
     Ok((String::from_str(alloc, name)?, rest))
 }
@@ -58,7 +58,7 @@ pub(crate) fn take(
 }
 
 /// So many names, none of which is taken before. They are taken then.
-pub(crate) fn names<'a>(
+pub(crate) fn read_names<'a>(
     alloc: Global,
     taken: &mut BTreeSet<String>,
     count: u32,
@@ -70,7 +70,7 @@ pub(crate) fn names<'a>(
     let mut names = Vec::new(alloc);
     let mut rest = bytes;
     for _ in 0..count {
-        let (name, after) = name(alloc, taken, rest)?;
+        let (name, after) = read_name(alloc, taken, rest)?;
         take(alloc, taken, name.as_str())?;
         names.push(name)?;
         rest = after;
@@ -79,7 +79,7 @@ pub(crate) fn names<'a>(
 }
 
 /// So many names, where none is taken before.
-pub(crate) fn first_names(
+pub(crate) fn read_first_names(
     alloc: Global,
     count: u32,
     bytes: &[u8],
@@ -87,11 +87,11 @@ pub(crate) fn first_names(
     ensures { Decodes (λ x. (texts x.0.items, x.1.now)) result (each_at (λ before rest. read (name_after (λ _. false) before) rest) count [] bytes.now) }
 {
     let mut taken = BTreeSet::new(alloc);
-    names(alloc, &mut taken, count, bytes)
+    read_names(alloc, &mut taken, count, bytes)
 }
 
 /// The names of the built-in exceptions, as those that are taken before any is declared.
-pub(crate) fn built_in(alloc: Global) -> Result<BTreeSet<String>, AllocError>
+pub(crate) fn take_built_in(alloc: Global) -> Result<BTreeSet<String>, AllocError>
     ensures { IfOk result (λ taken. (q : List ℕ) → contains_text taken q ≡ is_built_in q) }
 {
     let mut taken = BTreeSet::new(alloc);
@@ -103,7 +103,7 @@ pub(crate) fn built_in(alloc: Global) -> Result<BTreeSet<String>, AllocError>
 
 /// The declared exceptions behind their count, where the built-in ones are taken.
 #[tactic(auto, unfolding(bytecode::specs::Format::exceptions))]
-pub(crate) fn exceptions<'a>(
+pub(crate) fn read_exceptions<'a>(
     alloc: Global,
     taken: &mut BTreeSet<String>,
     bytes: &'a [u8],
@@ -112,6 +112,6 @@ pub(crate) fn exceptions<'a>(
     ensures gives { Decodes (λ x. (texts x.0.items, x.1.now)) result (read exceptions bytes.now) }
     ensures taken { IfOk result (λ x. (q : List ℕ) → contains_text taken.new q ≡ (is_built_in q || is_among (texts x.0.items) q)) }
 {
-    let (count, rest) = number(bytes)?;
-    names(alloc, taken, count, rest)
+    let (count, rest) = read_number(bytes)?;
+    read_names(alloc, taken, count, rest)
 }

@@ -5,10 +5,10 @@ ghost use Rattle.bytecode.specs.Format.{handler, handlers, max_cells, procedure,
 ghost use Rattle.module_file.specs.Reading.{Decodes};
 ghost use Rattle.std.specs.Prelude.{◌≡◌, ◌≤◌};
 
-use crate::code::code;
-use crate::globals::kind;
+use crate::code::read_code;
+use crate::globals::read_kind;
 use crate::limit::{cells_of_size, is_size};
-use crate::reading::{Element, ReadError, byte, each, number, refused};
+use crate::reading::{Element, ReadError, read_byte, read_each, read_number, refuse};
 use bytecode::ModuleRefusal;
 use bytecode::declaration::{Handler, Slot};
 use bytecode::procedure::Procedure;
@@ -35,10 +35,10 @@ impl Element for HandlerField {
         _before: &[Handler],
         bytes: &'a [u8],
     ) -> Result<(Handler, &'a [u8]), ReadError> {
-        let (start, rest) = number(bytes)?;
-        let (end, rest) = number(rest)?;
-        let (exception, rest) = number(rest)?;
-        let (target, rest) = number(rest)?;
+        let (start, rest) = read_number(bytes)?;
+        let (end, rest) = read_number(rest)?;
+        let (exception, rest) = read_number(rest)?;
+        let (target, rest) = read_number(rest)?;
         let handler = Handler {
             start,
             end,
@@ -51,11 +51,11 @@ impl Element for HandlerField {
 
 /// The handlers behind their count.
 #[tactic(auto, unfolding(bytecode::specs::Format::handlers))]
-fn handlers(alloc: Global, bytes: &[u8]) -> Result<(Vec<Handler>, &[u8]), ReadError>
+fn read_handlers(alloc: Global, bytes: &[u8]) -> Result<(Vec<Handler>, &[u8]), ReadError>
     ensures { Decodes (λ x. (x.0.items, x.1.now)) result (read handlers bytes.now) }
 {
-    let (count, rest) = number(bytes)?;
-    each(alloc, &HandlerField, (), count, rest)
+    let (count, rest) = read_number(bytes)?;
+    read_each(alloc, &HandlerField, (), count, rest)
 }
 
 fn slot_of(kind: Kind, size: u32) -> Slot
@@ -91,11 +91,11 @@ impl Element for SlotField {
         before: &[Slot],
         bytes: &'a [u8],
     ) -> Result<(Slot, &'a [u8]), ReadError> {
-        let (kind, rest) = kind(bytes)?;
-        let (size, after) = number(rest)?;
+        let (kind, rest) = read_kind(bytes)?;
+        let (size, after) = read_number(rest)?;
         let may_be_array = self.parameters as usize <= before.len();
         if !(is_size(*cells, size) && (may_be_array || size == 0)) {
-            return Err(refused(ModuleRefusal::BadValue, rest));
+            return Err(refuse(ModuleRefusal::BadValue, rest));
         }
         *cells += cells_of_size(size);
         Ok((slot_of(kind, size), after))
@@ -104,27 +104,27 @@ impl Element for SlotField {
 
 /// The slots behind their count, the first of which are parameters.
 #[tactic(auto, unfolding(bytecode::specs::Format::slots))]
-fn slots(alloc: Global, parameters: u32, bytes: &[u8]) -> Result<(Vec<Slot>, &[u8]), ReadError>
+fn read_slots(alloc: Global, parameters: u32, bytes: &[u8]) -> Result<(Vec<Slot>, &[u8]), ReadError>
     ensures { Decodes (λ x. (x.0.items, x.1.now)) result (read (slots parameters) bytes.now) }
 {
-    let (count, rest) = number(bytes)?;
+    let (count, rest) = read_number(bytes)?;
     if count < parameters {
-        return Err(refused(ModuleRefusal::BadValue, bytes));
+        return Err(refuse(ModuleRefusal::BadValue, bytes));
     }
-    each(alloc, &SlotField { parameters }, 0, count, rest)
+    read_each(alloc, &SlotField { parameters }, 0, count, rest)
 }
 
 /// The kind of value that a procedure returns, if any.
 #[tactic(auto, unfolding(bytecode::specs::Format::returned))]
-fn returned(bytes: &[u8]) -> Result<(Option<Kind>, &[u8]), ReadError>
+fn read_returned(bytes: &[u8]) -> Result<(Option<Kind>, &[u8]), ReadError>
     ensures { Decodes (λ x. (x.0, x.1.now)) result (read returned bytes.now) }
 {
-    let (kind, rest) = byte(bytes)?;
+    let (kind, rest) = read_byte(bytes)?;
     match kind {
         0 => Ok((None, rest)),
         1 => Ok((Some(Kind::Int), rest)),
         2 => Ok((Some(Kind::Boolean), rest)),
-        _ => Err(refused(ModuleRefusal::BadValue, bytes)),
+        _ => Err(refuse(ModuleRefusal::BadValue, bytes)),
     }
 }
 
@@ -148,11 +148,11 @@ impl Element for ProcedureField {
         _before: &[Procedure],
         bytes: &'a [u8],
     ) -> Result<(Procedure, &'a [u8]), ReadError> {
-        let (returned, rest) = returned(bytes)?;
-        let (parameters, rest) = number(rest)?;
-        let (slots, rest) = slots(alloc, parameters, rest)?;
-        let (code, rest) = code(alloc, rest)?;
-        let (handlers, rest) = handlers(alloc, rest)?;
+        let (returned, rest) = read_returned(bytes)?;
+        let (parameters, rest) = read_number(rest)?;
+        let (slots, rest) = read_slots(alloc, parameters, rest)?;
+        let (code, rest) = read_code(alloc, rest)?;
+        let (handlers, rest) = read_handlers(alloc, rest)?;
         let procedure = Procedure::new(returned, parameters, slots, code, handlers);
         Ok((procedure, rest))
     }
@@ -160,9 +160,12 @@ impl Element for ProcedureField {
 
 /// The procedures behind their count.
 #[tactic(auto, unfolding(bytecode::specs::Format::procedures))]
-pub(crate) fn procedures(alloc: Global, bytes: &[u8]) -> Result<(Vec<Procedure>, &[u8]), ReadError>
+pub(crate) fn read_procedures(
+    alloc: Global,
+    bytes: &[u8],
+) -> Result<(Vec<Procedure>, &[u8]), ReadError>
     ensures { Decodes (λ x. (x.0.items, x.1.now)) result (read procedures bytes.now) }
 {
-    let (count, rest) = number(bytes)?;
-    each(alloc, &ProcedureField, (), count, rest)
+    let (count, rest) = read_number(bytes)?;
+    read_each(alloc, &ProcedureField, (), count, rest)
 }

@@ -13,7 +13,7 @@ use std::alloc::{AllocError, AllocFailed, Global};
 #[derive(Debug, Drop)]
 pub(crate) enum ReadError {
     NoMemory,
-    ReadStop(ReadStop),
+    Stop(ReadStop),
 }
 
 impl From<AllocError> for ReadError {
@@ -33,10 +33,10 @@ impl<T: Drop> From<AllocFailed<T>> for ReadError {
 }
 
 /// The refusal of the field that `bytes` begin with.
-pub(crate) fn refused(refusal: ModuleRefusal, bytes: &[u8]) -> ReadError
+pub(crate) fn refuse(refusal: ModuleRefusal, bytes: &[u8]) -> ReadError
     ensures { result ≡ ReadError.Stop (stop_at refusal bytes.now) }
 {
-    ReadError::ReadStop(ReadStop {
+    ReadError::Stop(ReadStop {
         refusal,
         left: bytes.len(),
     })
@@ -49,32 +49,32 @@ pub(crate) const SHORT: ReadStop = ReadStop {
 };
 
 /// One byte.
-pub(crate) fn byte(bytes: &[u8]) -> Result<(u8, &[u8]), ReadError>
+pub(crate) fn read_byte(bytes: &[u8]) -> Result<(u8, &[u8]), ReadError>
     ensures { Decodes (λ x. (x.0, x.1.now)) result (byte_at bytes.now) }
 {
     match bytes {
-        [] => Err(ReadError::ReadStop(SHORT)),
+        [] => Err(ReadError::Stop(SHORT)),
         [first, rest @ ..] => Ok((*first, rest)),
     }
 }
 
 /// A number in four bytes.
-pub(crate) fn number(bytes: &[u8]) -> Result<(u32, &[u8]), ReadError>
+pub(crate) fn read_number(bytes: &[u8]) -> Result<(u32, &[u8]), ReadError>
     ensures { Decodes (λ x. (x.0, x.1.now)) result (number_at bytes.now) }
 {
     if bytes.len() < 4 {
-        return Err(ReadError::ReadStop(SHORT));
+        return Err(ReadError::Stop(SHORT));
     }
     let (front, rest) = bytes.split_at(4);
     Ok((BigEndian::read_u32(front), rest))
 }
 
 /// So many bytes.
-pub(crate) fn text(count: usize, bytes: &[u8]) -> Result<(&[u8], &[u8]), ReadError>
+pub(crate) fn read_text(count: usize, bytes: &[u8]) -> Result<(&[u8], &[u8]), ReadError>
     ensures { Decodes (λ x. (x.0.now, x.1.now)) result (bytes_at count bytes.now) }
 {
     if bytes.len() < count {
-        return Err(ReadError::ReadStop(SHORT));
+        return Err(ReadError::Stop(SHORT));
     }
     Ok(bytes.split_at(count))
 }
@@ -102,7 +102,7 @@ pub(crate) trait Element {
 }
 
 /// So many fields, one after the other. Nothing is reserved by the count.
-pub(crate) fn each<'a, E: Element>(
+pub(crate) fn read_each<'a, E: Element>(
     alloc: Global,
     element: &E,
     mut state: E::State,

@@ -11,7 +11,7 @@ ghost use Rattle.syntax.specs.Tree.{NestedTree, TryTree, WhileTree, block_tree, 
 use crate::body::Body;
 use crate::fault::TypeFault;
 use crate::operator::base_of;
-use crate::scope::exception;
+use crate::scope::require_exception;
 use resolved::expression::Base;
 use resolved::statement::{Exit, Handler, Statement};
 use syntax::{Block, Catch};
@@ -20,7 +20,7 @@ impl<'a> Body<'a> {
     /// A block, whose locals are in scope to its end.
     #[cycle(block)]
     #[tactic(auto, unfolding(crate::specs::Statements::block_finding))]
-    pub fn block(&mut self, written: &Block) -> Result<Vec<Statement>, TypeFault>
+    pub fn resolve_block(&mut self, written: &Block) -> Result<Vec<Statement>, TypeFault>
         requires room { taken self.old + block_nodes (block_tree written.now) < most_nodes }
         ensures made { Resolves (at_point self.new block_view) result
             (block_finding (setting_of self.old) (point_of self.old) (block_tree written.now)) }
@@ -29,14 +29,17 @@ impl<'a> Body<'a> {
             taken self.old + block_nodes (block_tree written.now)) }
     {
         let before = self.locals.len();
-        let made = self.statements(&written.statements)?;
+        let made = self.resolve_statements(&written.statements)?;
         self.locals.truncate(before);
         Ok(made)
     }
 
     /// The statements of a block.
     #[cycle(block)]
-    fn statements(&mut self, written: &[syntax::Statement]) -> Result<Vec<Statement>, TypeFault>
+    fn resolve_statements(
+        &mut self,
+        written: &[syntax::Statement],
+    ) -> Result<Vec<Statement>, TypeFault>
         requires room { taken self.old +
             statements_nodes (statements_of (map statement_tree written.now)) < most_nodes }
         ensures made { Resolves (at_point self.new block_view) result
@@ -48,14 +51,14 @@ impl<'a> Body<'a> {
     {
         let mut made = Vec::new(self.alloc);
         for statement in written {
-            made.push(self.statement(statement)?)?;
+            made.push(self.resolve_statement(statement)?)?;
         }
         Ok(made)
     }
 
     /// The handlers of a `try`.
     #[cycle(block)]
-    fn catches(&mut self, written: &[Catch]) -> Result<Vec<Handler>, TypeFault>
+    fn resolve_catches(&mut self, written: &[Catch]) -> Result<Vec<Handler>, TypeFault>
         requires room { taken self.old + catches_nodes (catches_of (map catch_tree written.now)) <
             most_nodes }
         ensures made { Resolves (at_point self.new handlers_view) result
@@ -68,8 +71,8 @@ impl<'a> Body<'a> {
         let mut handlers = Vec::new(self.alloc);
         for one in written {
             let name = &one.exception;
-            let number = exception(self.meaning(name), name.at)?;
-            let body = self.block(&one.body)?;
+            let number = require_exception(self.look_up(name), name.at)?;
+            let body = self.resolve_block(&one.body)?;
             handlers.push(Handler {
                 at: name.at,
                 exception: number,
@@ -82,7 +85,7 @@ impl<'a> Body<'a> {
     /// A statement.
     #[cycle(block)]
     #[tactic(auto, unfolding(crate::specs::Statements::statement_finding))]
-    fn statement(&mut self, written: &syntax::Statement) -> Result<Statement, TypeFault>
+    fn resolve_statement(&mut self, written: &syntax::Statement) -> Result<Statement, TypeFault>
         requires room { taken self.old + statement_nodes (statement_tree written.now) < most_nodes }
         ensures made { Resolves (at_point self.new statement_of) result
             (statement_finding (setting_of self.old) (point_of self.old)
@@ -112,7 +115,7 @@ impl<'a> Body<'a> {
                 index,
                 value,
             } => self.store(array, index, value),
-            syntax::Statement::Call(call) => self.call_statement(call),
+            syntax::Statement::Call(call) => self.resolve_call_statement(call),
             syntax::Statement::Receive { at, channel } => self.receive(*at, channel),
             syntax::Statement::Send { at, channel, value } => self.send(*at, channel, value),
             syntax::Statement::If {
@@ -120,24 +123,24 @@ impl<'a> Body<'a> {
                 condition,
                 accepted,
                 otherwise,
-            } => self.choose(*at, condition, accepted, otherwise),
+            } => self.resolve_if(*at, condition, accepted, otherwise),
             syntax::Statement::While {
                 at,
                 condition,
                 body,
-            } => self.repeat(*at, condition, body),
+            } => self.resolve_while(*at, condition, body),
             syntax::Statement::Break { at } => Ok(Statement::Leave(*at, Exit::Break)),
             syntax::Statement::Continue { at } => Ok(Statement::Leave(*at, Exit::Continue)),
             syntax::Statement::Throw { at, exception } => self.throw(*at, exception),
             syntax::Statement::Return { at, value } => self.return_value(*at, value),
-            syntax::Statement::Try { at, body, catches } => self.attempt(*at, body, catches),
-            syntax::Statement::Nested(block) => self.nest(block),
+            syntax::Statement::Try { at, body, catches } => self.resolve_try(*at, body, catches),
+            syntax::Statement::Nested(block) => self.resolve_nested(block),
         }
     }
 
     /// A condition with a block or two.
     #[cycle(block)]
-    fn choose(
+    fn resolve_if(
         &mut self,
         at: usize,
         condition: &syntax::Expression,
@@ -156,12 +159,12 @@ impl<'a> Body<'a> {
             taken self.old + statement_nodes (if_tree at (expression_tree condition.now)
             (block_tree accepted.now) (optional_block_tree otherwise.now))) }
     {
-        let condition = self.typed(Base::Boolean, condition)?;
-        let accepted = self.block(accepted)?;
+        let condition = self.type_expression(Base::Boolean, condition)?;
+        let accepted = self.resolve_block(accepted)?;
         match otherwise {
             None => Ok(Statement::If(at, condition, accepted, Vec::new(self.alloc))),
             Some(otherwise) => {
-                let otherwise = self.block(otherwise)?;
+                let otherwise = self.resolve_block(otherwise)?;
                 Ok(Statement::If(at, condition, accepted, otherwise))
             }
         }
@@ -170,7 +173,7 @@ impl<'a> Body<'a> {
     /// A loop.
     #[cycle(block)]
     #[tactic(auto, unfolding(crate::specs::Statements::statement_finding))]
-    fn repeat(
+    fn resolve_while(
         &mut self,
         at: usize,
         condition: &syntax::Expression,
@@ -186,16 +189,16 @@ impl<'a> Body<'a> {
             taken self.old + statement_nodes (WhileTree at (expression_tree condition.now)
             (block_tree body.now))) }
     {
-        let condition = self.typed(Base::Boolean, condition)?;
+        let condition = self.type_expression(Base::Boolean, condition)?;
         let number = self.loops;
         self.loops += 1;
-        let body = self.block(body)?;
+        let body = self.resolve_block(body)?;
         Ok(Statement::While(at, number, condition, body))
     }
 
     /// A block with handlers.
     #[cycle(block)]
-    fn attempt(
+    fn resolve_try(
         &mut self,
         at: usize,
         body: &Block,
@@ -211,14 +214,14 @@ impl<'a> Body<'a> {
             taken self.old + statement_nodes (TryTree at (block_tree body.now)
             (catches_of (map catch_tree catches.now)))) }
     {
-        let body = self.block(body)?;
-        let handlers = self.catches(catches)?;
+        let body = self.resolve_block(body)?;
+        let handlers = self.resolve_catches(catches)?;
         Ok(Statement::Try(at, body, handlers))
     }
 
     /// A block among statements.
     #[cycle(block)]
-    fn nest(&mut self, block: &Block) -> Result<Statement, TypeFault>
+    fn resolve_nested(&mut self, block: &Block) -> Result<Statement, TypeFault>
         requires room { taken self.old + statement_nodes (NestedTree (block_tree block.now)) <
             most_nodes }
         ensures made { Resolves (at_point self.new statement_of) result
@@ -228,7 +231,7 @@ impl<'a> Body<'a> {
         ensures grows { OnOk result (taken self.new ≤
             taken self.old + statement_nodes (NestedTree (block_tree block.now))) }
     {
-        let body = self.block(block)?;
+        let body = self.resolve_block(block)?;
         Ok(Statement::Nested(block.at, body))
     }
 }

@@ -60,7 +60,7 @@ impl<'a> Body<'a> {
     }
 
     /// What a name stands for.
-    pub fn meaning(&self, name: &Name) -> Option<Meaning>
+    pub fn look_up(&self, name: &Name) -> Option<Meaning>
         ensures { result ≡ names_of self.now (name_tree name.now).text }
     {
         match find(&self.locals, name.text.as_str()) {

@@ -11,7 +11,7 @@ use crate::fault::{NameRefusal, TypeFault};
 use crate::operator::{
     base_of_prefix, combine, is_same, operands_base, prefix_of, use_of, value_base,
 };
-use crate::scope::{array, scalar};
+use crate::scope::{require_array, require_scalar};
 use resolved::expression::{Base, Expression};
 use syntax::{BinaryOperator, Name, UnaryOperator};
 
@@ -47,7 +47,10 @@ impl<'a> Body<'a> {
     /// An expression, and the type of its values.
     #[cycle(expression)]
     #[tactic(auto, unfolding(crate::specs::Expressions::expression_finding))]
-    pub fn expression(&self, written: &syntax::Expression) -> Result<TypedExpression, TypeFault>
+    pub fn resolve_expression(
+        &self,
+        written: &syntax::Expression,
+    ) -> Result<TypedExpression, TypeFault>
         ensures { Resolves typed_view result
             (expression_finding (names_of self.now) (expression_tree written.now)) }
     {
@@ -59,33 +62,39 @@ impl<'a> Body<'a> {
                 Ok(TypedExpression::new(Expression::Logical(*value), Base::Boolean))
             }
             syntax::Expression::Variable(name) => {
-                let found = scalar(self.meaning(name), name.at)?;
+                let found = require_scalar(self.look_up(name), name.at)?;
                 Ok(TypedExpression::new(Expression::Read(found.variable), found.base))
             }
-            syntax::Expression::Element { array, index } => self.element(array, index),
+            syntax::Expression::Element { array, index } => self.resolve_element(array, index),
             syntax::Expression::Unary {
                 operator,
                 operand,
                 ..
-            } => self.unary(*operator, operand),
+            } => self.resolve_unary(*operator, operand),
             syntax::Expression::Binary {
                 operator,
                 left,
                 right,
                 ..
-            } => self.binary(*operator, left, right),
+            } => self.resolve_binary(*operator, left, right),
         }
     }
 
     /// An element of an array.
     #[cycle(expression)]
     #[tactic(auto, unfolding(crate::specs::Expressions::expression_finding))]
-    fn element(&self, name: &Name, index: &syntax::Expression) -> Result<TypedExpression, TypeFault>
+    fn resolve_element(
+        &self,
+        name: &Name,
+        index: &syntax::Expression,
+    ) -> Result<TypedExpression, TypeFault>
         ensures { Resolves typed_view result (expression_finding (names_of self.now)
             (ElementTree (name_tree name.now) (expression_tree index.now))) }
     {
-        let found = array(self.meaning(name), name.at)?;
-        let index = self.expression(index)?.of_base(Base::Int, index.place())?;
+        let found = require_array(self.look_up(name), name.at)?;
+        let index = self
+            .resolve_expression(index)?
+            .of_base(Base::Int, index.place())?;
         let index = Box::new(self.alloc, index)?;
         let element = Expression::Element(found.variable, found.size, index);
         Ok(TypedExpression::new(element, found.base))
@@ -94,7 +103,7 @@ impl<'a> Body<'a> {
     /// An operator before its operand.
     #[cycle(expression)]
     #[tactic(auto, unfolding(crate::specs::Expressions::expression_finding))]
-    fn unary(
+    fn resolve_unary(
         &self,
         operator: UnaryOperator,
         operand: &syntax::Expression,
@@ -104,7 +113,9 @@ impl<'a> Body<'a> {
     {
         let prefix = prefix_of(operator);
         let base = base_of_prefix(prefix);
-        let operand = self.expression(operand)?.of_base(base, operand.place())?;
+        let operand = self
+            .resolve_expression(operand)?
+            .of_base(base, operand.place())?;
         let operand = Box::new(self.alloc, operand)?;
         Ok(TypedExpression::new(Expression::Unary(prefix, operand), base))
     }
@@ -112,7 +123,7 @@ impl<'a> Body<'a> {
     /// An operator between its operands.
     #[cycle(expression)]
     #[tactic(auto, unfolding(crate::specs::Expressions::expression_finding))]
-    fn binary(
+    fn resolve_binary(
         &self,
         operator: BinaryOperator,
         left: &syntax::Expression,
@@ -122,21 +133,28 @@ impl<'a> Body<'a> {
             (BinaryTree at operator (expression_tree left.now) (expression_tree right.now))) }
     {
         let used = use_of(operator);
-        let found = self.expression(left)?;
+        let found = self.resolve_expression(left)?;
         let base = operands_base(used, found.base);
         let given = found.base;
         let left = found.of_base(base, left.place())?;
-        let right = self.expression(right)?.of_base(base, right.place())?;
+        let right = self
+            .resolve_expression(right)?
+            .of_base(base, right.place())?;
         let made = combine(self.alloc, used, given, left, right)?;
         Ok(TypedExpression::new(made, value_base(used)))
     }
 
     /// An expression at a place that wants a type.
     #[tactic(auto, unfolding(crate::specs::Expressions::typed_finding))]
-    pub fn typed(&self, base: Base, written: &syntax::Expression) -> Result<Expression, TypeFault>
+    pub fn type_expression(
+        &self,
+        base: Base,
+        written: &syntax::Expression,
+    ) -> Result<Expression, TypeFault>
         ensures { Resolves expression_of result
             (typed_finding (names_of self.now) base (expression_tree written.now)) }
     {
-        self.expression(written)?.of_base(base, written.place())
+        self.resolve_expression(written)?
+            .of_base(base, written.place())
     }
 }

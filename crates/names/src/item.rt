@@ -10,7 +10,7 @@ ghost use Rattle.syntax.specs.Written.{Anywhere, IsWrittenConstant, IsWrittenGlo
 ghost use Rattle.syntax.specs.Limits.{longest_name};
 
 use crate::fault::{NameRefusal, TypeFault};
-use crate::label::label;
+use crate::label::resolve_label;
 use crate::operator::{base_of, is_same};
 use crate::statement::length_of;
 use principals::Hierarchy;
@@ -21,7 +21,7 @@ use syntax::{Constant, GlobalValue};
 
 /// A channel.
 #[tactic(auto, unfolding(crate::specs::Resolution::channel_finding))]
-pub fn channel(
+pub fn resolve_channel(
     alloc: Global,
     hierarchy: &Hierarchy,
     written: &syntax::Channel,
@@ -29,7 +29,7 @@ pub fn channel(
     ensures { Resolves channel_entry result
         (channel_finding hierarchy.now (channel_tree written.now)) }
 {
-    let label = label(alloc, hierarchy, &written.label)?;
+    let label = resolve_label(alloc, hierarchy, &written.label)?;
     Ok(Channel {
         direction: match written.direction {
             syntax::Direction::Input => Direction::Input,
@@ -82,7 +82,7 @@ fn zero_of(base: Base) -> Value
 
 /// The length of a global that is an array, and what its cells hold at first.
 #[tactic(auto, unfolding(crate::specs::Resolution::first_finding))]
-fn first(base: Base, value: &GlobalValue) -> Result<(Option<u32>, Value), TypeFault>
+fn resolve_first_value(base: Base, value: &GlobalValue) -> Result<(Option<u32>, Value), TypeFault>
     requires small { IsWrittenGlobalValue Anywhere longest_name (global_value_tree value.now) }
     ensures { Resolves first_view result (first_finding base (global_value_tree value.now)) }
 {
@@ -101,7 +101,7 @@ fn first(base: Base, value: &GlobalValue) -> Result<(Option<u32>, Value), TypeFa
 
 /// A global.
 #[tactic(auto, unfolding(crate::specs::Resolution::global_finding))]
-pub fn global(
+pub fn resolve_global(
     alloc: Global,
     hierarchy: &Hierarchy,
     written: &syntax::GlobalVariable,
@@ -111,9 +111,9 @@ pub fn global(
     ensures { Resolves global_entry result
         (global_finding hierarchy.now (global_tree written.now)) }
 {
-    let label = label(alloc, hierarchy, &written.label)?;
+    let label = resolve_label(alloc, hierarchy, &written.label)?;
     let base = base_of(written.base);
-    let (size, first) = first(base, &written.value)?;
+    let (size, first) = resolve_first_value(base, &written.value)?;
     Ok(GlobalVariable {
         name: String::from_str(alloc, written.name.text.as_str())?,
         base,

@@ -14,7 +14,7 @@ use syntax::{Name, WrittenLabel, WrittenPolicy};
 
 /// The number of a principal.
 #[tactic(auto, unfolding(crate::specs::Labels::principal_finding))]
-fn principal(hierarchy: &Hierarchy, name: &Name) -> Result<u32, TypeFault>
+fn find_principal(hierarchy: &Hierarchy, name: &Name) -> Result<u32, TypeFault>
     ensures { Resolves itself result (principal_finding hierarchy.now (name_tree name.now)) }
 {
     match hierarchy.find(name.text.as_str()) {
@@ -24,20 +24,24 @@ fn principal(hierarchy: &Hierarchy, name: &Name) -> Result<u32, TypeFault>
 }
 
 /// The numbers of readers.
-fn readers(alloc: Global, hierarchy: &Hierarchy, names: &[Name]) -> Result<Vec<u32>, TypeFault>
+fn resolve_readers(
+    alloc: Global,
+    hierarchy: &Hierarchy,
+    names: &[Name],
+) -> Result<Vec<u32>, TypeFault>
     ensures { Resolves (λ numbers. numbers.items) result
         (readers_finding hierarchy.now (map name_tree names.now)) }
 {
     let mut numbers = Vec::new(alloc);
     for name in names {
-        numbers.push(principal(hierarchy, name)?)?;
+        numbers.push(find_principal(hierarchy, name)?)?;
     }
     Ok(numbers)
 }
 
 /// A policy.
 #[tactic(auto, unfolding(crate::specs::Labels::policy_finding))]
-fn policy(
+fn resolve_policy(
     alloc: Global,
     hierarchy: &Hierarchy,
     written: &WrittenPolicy,
@@ -45,13 +49,13 @@ fn policy(
     ensures made { Resolves itself result (policy_finding hierarchy.now (policy_tree written.now)) }
     ensures canonical { IfOk result IsCanonicalPolicy }
 {
-    let owner = principal(hierarchy, &written.owner)?;
-    let readers = readers(alloc, hierarchy, written.readers.as_slice())?;
+    let owner = find_principal(hierarchy, &written.owner)?;
+    let readers = resolve_readers(alloc, hierarchy, written.readers.as_slice())?;
     Ok(Policy::written(owner, readers))
 }
 
 /// The policies of a label.
-fn policies(
+fn resolve_policies(
     alloc: Global,
     hierarchy: &Hierarchy,
     written: &[WrittenPolicy],
@@ -62,27 +66,27 @@ fn policies(
 {
     let mut policies = Vec::new(alloc);
     for one in written {
-        policies.push(policy(alloc, hierarchy, one)?)?;
+        policies.push(resolve_policy(alloc, hierarchy, one)?)?;
     }
     Ok(policies)
 }
 
 /// A label.
 #[tactic(auto, unfolding(crate::specs::Labels::label_finding))]
-pub fn label(
+pub fn resolve_label(
     alloc: Global,
     hierarchy: &Hierarchy,
     written: &WrittenLabel,
 ) -> Result<Label, TypeFault>
     ensures { Resolves itself result (label_finding hierarchy.now (label_tree written.now)) }
 {
-    let policies = policies(alloc, hierarchy, written.policies.as_slice())?;
+    let policies = resolve_policies(alloc, hierarchy, written.policies.as_slice())?;
     Ok(Label::written(policies))
 }
 
 /// A label that may be left out.
 #[tactic(auto, unfolding(crate::specs::Labels::optional_label_finding))]
-pub fn optional_label(
+pub fn resolve_optional_label(
     alloc: Global,
     hierarchy: &Hierarchy,
     written: &Option<WrittenLabel>,
@@ -92,6 +96,6 @@ pub fn optional_label(
 {
     match written {
         None => Ok(None),
-        Some(written) => Ok(Some(label(alloc, hierarchy, written)?)),
+        Some(written) => Ok(Some(resolve_label(alloc, hierarchy, written)?)),
     }
 }

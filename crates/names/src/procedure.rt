@@ -13,9 +13,9 @@ ghost use Rattle.syntax.specs.Tree.{written_result_tree, parameter_tree, procedu
 
 use crate::body::Body;
 use crate::fault::{NameRefusal, TypeFault};
-use crate::label::{label, optional_label};
+use crate::label::{resolve_label, resolve_optional_label};
 use crate::operator::base_of;
-use crate::scope::{Meaning, exception, find, fresh};
+use crate::scope::{Meaning, find, require_exception, require_fresh};
 use crate::top::{TopNames, result_of};
 use indexmap::IndexSet;
 use labels::{Label, Policy};
@@ -27,7 +27,7 @@ use syntax::{Parameter, WrittenResult};
 
 /// The value of a procedure, if it gives one, with its label.
 #[tactic(auto, unfolding(crate::specs::Resolution::result_finding))]
-fn result_type(
+fn resolve_result(
     alloc: Global,
     hierarchy: &Hierarchy,
     written: &WrittenResult,
@@ -41,7 +41,7 @@ fn result_type(
             base,
             label: written,
         } => {
-            let label = label(alloc, hierarchy, written)?;
+            let label = resolve_label(alloc, hierarchy, written)?;
             Ok(Some(ResultType {
                 base: base_of(*base),
                 label,
@@ -52,7 +52,7 @@ fn result_type(
 
 impl<'a> Body<'a> {
     /// Declares the next parameter.
-    fn parameter(&mut self, written: &Parameter) -> Result<(), TypeFault>
+    fn declare_parameter(&mut self, written: &Parameter) -> Result<(), TypeFault>
         requires room { taken self.old < most_nodes }
         ensures made { Resolves (λ _. point_of self.new) result
             (next_parameter self.old.hierarchy.now (point_of self.old)
@@ -60,17 +60,17 @@ impl<'a> Body<'a> {
         ensures later { OnOk result (IsLater self.old self.new) }
         ensures grows { OnOk result (taken self.new ≡ taken self.old + 1) }
     {
-        let label = label(self.alloc, self.hierarchy, &written.label)?;
-        fresh(self.meaning(&written.name), written.name.at)?;
+        let label = resolve_label(self.alloc, self.hierarchy, &written.label)?;
+        require_fresh(self.look_up(&written.name), written.name.at)?;
         let base = base_of(written.base);
         let variable = Variable::Local(self.slots.len() as u32);
-        let slot = self.slot(written.at, base, None, Some(label), &written.name)?;
+        let slot = self.make_slot(written.at, base, None, Some(label), &written.name)?;
         self.declare(slot, Meaning::Scalar(variable, base))?;
         Ok(())
     }
 
     /// Declares parameters.
-    fn parameters(&mut self, written: &[Parameter]) -> Result<(), TypeFault>
+    fn declare_parameters(&mut self, written: &[Parameter]) -> Result<(), TypeFault>
         requires room { taken self.old + length written.now < most_nodes }
         ensures made { Resolves (λ _. point_of self.new) result
             (along (next_parameter self.old.hierarchy.now) (point_of self.old)
@@ -79,7 +79,7 @@ impl<'a> Body<'a> {
         ensures grows { OnOk result (taken self.new ≡ taken self.old + length written.now) }
     {
         for one in written {
-            self.parameter(one)?;
+            self.declare_parameter(one)?;
         }
         Ok(())
     }
@@ -103,11 +103,11 @@ fn add_thrown(
         is_thrown (throws_view throws.new) number) }
 {
     let name = &written.name;
-    let number = exception(find(&top.names, name.text.as_str()), name.at)?;
+    let number = require_exception(find(&top.names, name.text.as_str()), name.at)?;
     if !seen.insert(number)? {
         return Err(TypeFault::Refused(NameRefusal::DeclaredTwice, name.at));
     }
-    let label = label(alloc, hierarchy, &written.label)?;
+    let label = resolve_label(alloc, hierarchy, &written.label)?;
     throws.push(Thrown {
         exception: number,
         label,
@@ -117,7 +117,7 @@ fn add_thrown(
 
 /// The exceptions that a procedure may let out.
 #[tactic(auto, unfolding(crate::specs::Resolution::throws_finding))]
-fn throws(
+fn resolve_throws(
     alloc: Global,
     hierarchy: &Hierarchy,
     top: &TopNames,
@@ -135,7 +135,7 @@ fn throws(
 }
 
 /// The begin label of a procedure.
-fn begin_label(alloc: Global, written: Option<Label>) -> Label
+fn make_begin_label(alloc: Global, written: Option<Label>) -> Label
     ensures { result ≡ begin_label_of written }
 {
     match written {
@@ -171,7 +171,7 @@ fn join_all(alloc: Global, first: &Label, throws: &[Thrown]) -> Result<Label, Al
 }
 
 /// The end label of a procedure.
-fn end_label(
+fn make_end_label(
     alloc: Global,
     written: Option<Label>,
     begin: &Label,
@@ -198,15 +198,15 @@ pub fn resolve_procedure<'a>(
     ensures { Resolves procedure_entry result (procedure_entry_finding hierarchy.now
         (top_view top.now) (procedure_tree written.now)) }
 {
-    let value = result_type(alloc, hierarchy, &written.result)?;
-    let begin = optional_label(alloc, hierarchy, &written.begin)?;
+    let value = resolve_result(alloc, hierarchy, &written.result)?;
+    let begin = resolve_optional_label(alloc, hierarchy, &written.begin)?;
     let mut body = Body::new(alloc, hierarchy, top, result_of(&written.result));
-    body.parameters(&written.parameters)?;
-    let end = optional_label(alloc, hierarchy, &written.end)?;
-    let throws = throws(alloc, hierarchy, top, &written.throws)?;
-    let statements = body.block(&written.body)?;
-    let begin_label = begin_label(alloc, begin);
-    let end_label = end_label(alloc, end, &begin_label, &throws)?;
+    body.declare_parameters(&written.parameters)?;
+    let end = resolve_optional_label(alloc, hierarchy, &written.end)?;
+    let throws = resolve_throws(alloc, hierarchy, top, &written.throws)?;
+    let statements = body.resolve_block(&written.body)?;
+    let begin_label = make_begin_label(alloc, begin);
+    let end_label = make_end_label(alloc, end, &begin_label, &throws)?;
     Ok(Procedure {
         at: written.name.at,
         name: String::from_str(alloc, written.name.text.as_str())?,

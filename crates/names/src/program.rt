@@ -13,7 +13,7 @@ ghost use Rattle.syntax.specs.Written.{Anywhere, IsWrittenItem};
 
 use crate::cells::{cells_of_globals, limit_frames};
 use crate::fault::{NameRefusal, TypeFault};
-use crate::item::{channel, global};
+use crate::item::{resolve_channel, resolve_global};
 use crate::procedure::resolve_procedure;
 use crate::scope::{Meaning, find};
 use crate::top::TopNames;
@@ -60,12 +60,12 @@ impl ItemTables {
             (item_tree item.now)) }
     {
         match item {
-            Item::Channel(one) => self.channels.push(channel(alloc, hierarchy, one)?)?,
+            Item::Channel(one) => self.channels.push(resolve_channel(alloc, hierarchy, one)?)?,
             Item::Exception { name, .. } => {
                 self.exceptions
                     .push(String::from_str(alloc, name.text.as_str())?)?
             }
-            Item::Global(one) => self.globals.push(global(alloc, hierarchy, one)?)?,
+            Item::Global(one) => self.globals.push(resolve_global(alloc, hierarchy, one)?)?,
             Item::Procedure(one) => {
                 self.procedures
                     .push(resolve_procedure(alloc, hierarchy, top, one)?)?
@@ -97,7 +97,7 @@ impl ItemTables {
 
 /// The number of the procedure at which a run begins.
 #[tactic(auto, unfolding(crate::specs::Resolution::main_finding))]
-pub fn main_number(found: Option<Meaning>, procedures: &[Procedure]) -> Result<u32, TypeFault>
+pub fn find_main(found: Option<Meaning>, procedures: &[Procedure]) -> Result<u32, TypeFault>
     ensures { Resolves itself result (main_finding found (map procedure_entry procedures.now)) }
 {
     let Some(Meaning::Procedure(number)) = found else {
@@ -127,7 +127,7 @@ fn tables_of(
 {
     let top = TopNames::of(alloc, items)?;
     let tables = ItemTables::of(alloc, hierarchy, &top, items)?;
-    let main = main_number(find(&top.names, "main"), tables.procedures.as_slice())?;
+    let main = find_main(find(&top.names, "main"), tables.procedures.as_slice())?;
     cells_of_globals(items)?;
     limit_frames(tables.procedures.as_slice())?;
     Ok((tables, main))

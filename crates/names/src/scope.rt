@@ -65,7 +65,7 @@ pub fn insert(
 
 /// Refuses the declaration of a name that stands for something already.
 #[tactic(auto, unfolding(crate::specs::Environment::fresh_finding))]
-pub fn fresh(found: Option<Meaning>, at: usize) -> Result<(), TypeFault>
+pub fn require_fresh(found: Option<Meaning>, at: usize) -> Result<(), TypeFault>
     ensures made { Resolves (λ _. tt) result (fresh_finding found at) }
     ensures none { OnOk result (found ≡ None) }
 {
@@ -77,7 +77,7 @@ pub fn fresh(found: Option<Meaning>, at: usize) -> Result<(), TypeFault>
 
 /// A scalar variable.
 #[tactic(auto, unfolding(crate::specs::Environment::scalar_finding))]
-pub fn scalar(found: Option<Meaning>, at: usize) -> Result<FoundScalar, TypeFault>
+pub fn require_scalar(found: Option<Meaning>, at: usize) -> Result<FoundScalar, TypeFault>
     ensures { Resolves scalar_use result (scalar_finding found at) }
 {
     match found {
@@ -89,7 +89,7 @@ pub fn scalar(found: Option<Meaning>, at: usize) -> Result<FoundScalar, TypeFaul
 
 /// An array.
 #[tactic(auto, unfolding(crate::specs::Environment::array_finding))]
-pub fn array(found: Option<Meaning>, at: usize) -> Result<FoundArray, TypeFault>
+pub fn require_array(found: Option<Meaning>, at: usize) -> Result<FoundArray, TypeFault>
     ensures { Resolves array_use result (array_finding found at) }
 {
     match found {
@@ -105,7 +105,7 @@ pub fn array(found: Option<Meaning>, at: usize) -> Result<FoundArray, TypeFault>
 
 /// The number of an input.
 #[tactic(auto, unfolding(crate::specs::Environment::input_finding))]
-pub fn input(found: Option<Meaning>, at: usize) -> Result<u32, TypeFault>
+pub fn require_input(found: Option<Meaning>, at: usize) -> Result<u32, TypeFault>
     ensures { Resolves itself result (input_finding found at) }
 {
     match found {
@@ -117,7 +117,7 @@ pub fn input(found: Option<Meaning>, at: usize) -> Result<u32, TypeFault>
 
 /// The number of an output.
 #[tactic(auto, unfolding(crate::specs::Environment::output_finding))]
-pub fn output(found: Option<Meaning>, at: usize) -> Result<u32, TypeFault>
+pub fn require_output(found: Option<Meaning>, at: usize) -> Result<u32, TypeFault>
     ensures { Resolves itself result (output_finding found at) }
 {
     match found {
@@ -129,7 +129,7 @@ pub fn output(found: Option<Meaning>, at: usize) -> Result<u32, TypeFault>
 
 /// The number of an exception.
 #[tactic(auto, unfolding(crate::specs::Environment::exception_finding))]
-pub fn exception(found: Option<Meaning>, at: usize) -> Result<u32, TypeFault>
+pub fn require_exception(found: Option<Meaning>, at: usize) -> Result<u32, TypeFault>
     ensures { Resolves itself result (exception_finding found at) }
 {
     match found {
@@ -141,7 +141,7 @@ pub fn exception(found: Option<Meaning>, at: usize) -> Result<u32, TypeFault>
 
 /// The number of a procedure.
 #[tactic(auto, unfolding(crate::specs::Environment::procedure_finding))]
-pub fn procedure(found: Option<Meaning>, at: usize) -> Result<u32, TypeFault>
+pub fn require_procedure(found: Option<Meaning>, at: usize) -> Result<u32, TypeFault>
     ensures { Resolves itself result (procedure_finding found at) }
 {
     match found {

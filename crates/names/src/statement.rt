@@ -11,9 +11,12 @@ ghost use Rattle.syntax.specs.Tree.{call_tree, expression_tree, name_tree, optio
 
 use crate::body::Body;
 use crate::fault::{NameRefusal, TypeFault};
-use crate::label::optional_label;
+use crate::label::resolve_optional_label;
 use crate::operator::is_same;
-use crate::scope::{Meaning, array, exception, fresh, input, output, procedure, scalar};
+use crate::scope::{
+    Meaning, require_array, require_exception, require_fresh, require_input, require_output,
+    require_procedure, require_scalar,
+};
 use labels::Label;
 use resolved::expression::{Base, Expression, Variable};
 use resolved::statement::{Exit, Statement};
@@ -47,7 +50,7 @@ pub fn length_of(size: Size) -> Result<u32, TypeFault>
 impl<'a> Body<'a> {
     /// The arguments of a call, at places that want the types of the parameters.
     #[tactic(auto, unfolding(crate::specs::Statements::arguments_finding))]
-    fn arguments(
+    fn resolve_arguments(
         &self,
         parameters: &[Base],
         written: &[syntax::Expression],
@@ -62,24 +65,24 @@ impl<'a> Body<'a> {
                 Some(base) => *base,
                 None => Base::Int,
             };
-            arguments.push(self.typed(base, argument)?)?;
+            arguments.push(self.type_expression(base, argument)?)?;
         }
         Ok(arguments)
     }
 
     /// A call.
     #[tactic(auto, unfolding(crate::specs::Statements::call_finding, crate::specs::Statements::applied_finding))]
-    fn call(&self, written: &Call) -> Result<UsedCall, TypeFault>
+    fn resolve_call(&self, written: &Call) -> Result<UsedCall, TypeFault>
         ensures { Resolves call_use result
             (call_finding (signatures_of self.now) (names_of self.now) (call_tree written.now)) }
     {
         let name = &written.procedure;
-        let number = procedure(self.meaning(name), name.at)?;
+        let number = require_procedure(self.look_up(name), name.at)?;
         let (parameters, value) = self.top.signature(number);
         if parameters.len() != written.arguments.len() {
             return Err(TypeFault::Refused(NameRefusal::WrongArgumentCount, name.at));
         }
-        let arguments = self.arguments(parameters, &written.arguments)?;
+        let arguments = self.resolve_arguments(parameters, &written.arguments)?;
         Ok(UsedCall {
             procedure: number,
             arguments,
@@ -89,7 +92,7 @@ impl<'a> Body<'a> {
 
     /// The assignment of a right side to a variable of a type, by a statement that begins at a byte.
     #[tactic(auto, unfolding(crate::specs::Statements::assigned_finding))]
-    fn assigned(
+    fn resolve_assigned(
         &self,
         at: usize,
         target: Variable,
@@ -108,22 +111,26 @@ impl<'a> Body<'a> {
                 if !is_same(Base::Int, base) {
                     return Err(TypeFault::Refused(NameRefusal::WrongType, *receive_at));
                 }
-                let number = input(self.meaning(channel), channel.at)?;
+                let number = require_input(self.look_up(channel), channel.at)?;
                 Ok(Statement::Receive(at, number, Some(target)))
             }
             RightSide::Call(call) => {
-                let made = self.call(call)?;
+                let made = self.resolve_call(call)?;
                 if !gives(base, made.result) {
                     return Err(TypeFault::Refused(NameRefusal::WrongType, call.procedure.at));
                 }
                 Ok(Statement::Call(at, made.procedure, made.arguments, Some(target)))
             }
-            RightSide::Value(value) => Ok(Statement::Assign(at, target, self.typed(base, value)?)),
+            RightSide::Value(value) => Ok(Statement::Assign(
+                at,
+                target,
+                self.type_expression(base, value)?,
+            )),
         }
     }
 
     /// The slot of a local that is declared next.
-    pub fn slot(
+    pub fn make_slot(
         &self,
         at: usize,
         base: Base,
@@ -166,11 +173,11 @@ impl<'a> Body<'a> {
         ensures later { OnOk result (IsLater self.old self.new) }
         ensures grows { OnOk result (taken self.new ≡ taken self.old + 1) }
     {
-        let written = optional_label(self.alloc, self.hierarchy, label)?;
-        fresh(self.meaning(name), name.at)?;
+        let written = resolve_optional_label(self.alloc, self.hierarchy, label)?;
+        require_fresh(self.look_up(name), name.at)?;
         let variable = Variable::Local(self.slots.len() as u32);
-        let statement = self.assigned(at, variable, base, value)?;
-        let slot = self.slot(at, base, None, written, name)?;
+        let statement = self.resolve_assigned(at, variable, base, value)?;
+        let slot = self.make_slot(at, base, None, written, name)?;
         self.declare(slot, Meaning::Scalar(variable, base))?;
         Ok(statement)
     }
@@ -192,11 +199,11 @@ impl<'a> Body<'a> {
         ensures later { OnOk result (IsLater self.old self.new) }
         ensures grows { OnOk result (taken self.new ≡ taken self.old + 1) }
     {
-        let label = optional_label(self.alloc, self.hierarchy, written)?;
-        fresh(self.meaning(name), name.at)?;
+        let label = resolve_optional_label(self.alloc, self.hierarchy, written)?;
+        require_fresh(self.look_up(name), name.at)?;
         let length = length_of(size)?;
         let number = self.slots.len() as u32;
-        let slot = self.slot(at, base, Some(length), label, name)?;
+        let slot = self.make_slot(at, base, Some(length), label, name)?;
         self.declare(slot, Meaning::Array(Variable::Local(number), base, length))?;
         Ok(Statement::Clear(at, number))
     }
@@ -207,8 +214,8 @@ impl<'a> Body<'a> {
             (assign_finding (signatures_of self.now) (names_of self.now) (name_tree target.now)
             (right_tree value.now)) }
     {
-        let found = scalar(self.meaning(target), target.at)?;
-        self.assigned(target.at, found.variable, found.base, value)
+        let found = require_scalar(self.look_up(target), target.at)?;
+        self.resolve_assigned(target.at, found.variable, found.base, value)
     }
 
     #[tactic(auto, unfolding(crate::specs::Statements::store_finding))]
@@ -222,19 +229,19 @@ impl<'a> Body<'a> {
             (store_finding (names_of self.now) (name_tree name.now) (expression_tree index.now)
             (expression_tree value.now)) }
     {
-        let found = array(self.meaning(name), name.at)?;
-        let index = self.typed(Base::Int, index)?;
-        let value = self.typed(found.base, value)?;
+        let found = require_array(self.look_up(name), name.at)?;
+        let index = self.type_expression(Base::Int, index)?;
+        let value = self.type_expression(found.base, value)?;
         Ok(Statement::Store(name.at, found.variable, found.size, index, value))
     }
 
     #[tactic(auto, unfolding(crate::specs::Statements::call_statement_finding))]
-    pub fn call_statement(&self, call: &Call) -> Result<Statement, TypeFault>
+    pub fn resolve_call_statement(&self, call: &Call) -> Result<Statement, TypeFault>
         ensures { Resolves statement_of result
             (call_statement_finding (signatures_of self.now) (names_of self.now)
             (call_tree call.now)) }
     {
-        let made = self.call(call)?;
+        let made = self.resolve_call(call)?;
         Ok(Statement::Call(call.procedure.at, made.procedure, made.arguments, None))
     }
 
@@ -243,7 +250,7 @@ impl<'a> Body<'a> {
         ensures { Resolves statement_of result
             (receive_finding (names_of self.now) at (name_tree channel.now)) }
     {
-        let number = input(self.meaning(channel), channel.at)?;
+        let number = require_input(self.look_up(channel), channel.at)?;
         Ok(Statement::Receive(at, number, None))
     }
 
@@ -258,8 +265,8 @@ impl<'a> Body<'a> {
             (send_finding (names_of self.now) at (name_tree channel.now)
             (expression_tree value.now)) }
     {
-        let number = output(self.meaning(channel), channel.at)?;
-        Ok(Statement::Send(at, number, self.typed(Base::Int, value)?))
+        let number = require_output(self.look_up(channel), channel.at)?;
+        Ok(Statement::Send(at, number, self.type_expression(Base::Int, value)?))
     }
 
     #[tactic(auto, unfolding(crate::specs::Statements::throw_finding))]
@@ -267,7 +274,7 @@ impl<'a> Body<'a> {
         ensures { Resolves statement_of result
             (throw_finding (names_of self.now) at (name_tree name.now)) }
     {
-        let number = exception(self.meaning(name), name.at)?;
+        let number = require_exception(self.look_up(name), name.at)?;
         Ok(Statement::Leave(at, Exit::Throw(number)))
     }
 
@@ -287,7 +294,7 @@ impl<'a> Body<'a> {
                 Some(_) => Err(TypeFault::Refused(NameRefusal::WrongType, at)),
             },
             Some(value) => {
-                let found = self.expression(value)?;
+                let found = self.resolve_expression(value)?;
                 match self.result {
                     None => Err(TypeFault::Refused(NameRefusal::WrongType, value.place())),
                     Some(base) => {

@@ -10,7 +10,7 @@ ghost use Rattle.syntax.specs.Tree.{global_value_tree, item_tree, name_tree, wri
 
 use crate::fault::TypeFault;
 use crate::operator::base_of;
-use crate::scope::{Meaning, find, fresh, insert};
+use crate::scope::{Meaning, find, insert, require_fresh};
 use indexmap::IndexMap;
 use resolved::expression::{Base, Variable};
 use std::alloc::{AllocError, Global};
@@ -62,7 +62,7 @@ pub fn result_of(written: &WrittenResult) -> Option<Base>
     }
 }
 
-fn signature(alloc: Global, procedure: &Procedure) -> Result<CodeSignature, AllocError>
+fn make_signature(alloc: Global, procedure: &Procedure) -> Result<CodeSignature, AllocError>
     ensures { IfOk result (λ signature. signature_view signature ≡
         signature_of (procedure_tree procedure.now)) }
 {
@@ -104,7 +104,7 @@ impl TopNames {
     }
 
     /// The top level before the first item.
-    fn built_in(alloc: Global) -> Result<TopNames, TypeFault>
+    fn declare_built_in(alloc: Global) -> Result<TopNames, TypeFault>
         ensures { Resolves top_view result (give built_in) }
     {
         let mut names = IndexMap::new(alloc);
@@ -150,13 +150,13 @@ impl TopNames {
     {
         let name = name_of(item);
         let meaning = self.meaning_of(item);
-        fresh(find(&self.names, name.text.as_str()), name.at)?;
+        require_fresh(find(&self.names, name.text.as_str()), name.at)?;
         insert(alloc, &mut self.names, name.text.as_str(), meaning)?;
         match item {
             Item::Channel(_) => self.channels += 1,
             Item::Exception { .. } => self.exceptions += 1,
             Item::Global(_) => self.globals += 1,
-            Item::Procedure(procedure) => self.signatures.push(signature(alloc, procedure)?)?,
+            Item::Procedure(procedure) => self.signatures.push(make_signature(alloc, procedure)?)?,
         }
         Ok(())
     }
@@ -167,7 +167,7 @@ impl TopNames {
         requires { length items.now < most_nodes }
         ensures { Resolves top_view result (top_finding (map item_tree items.now)) }
     {
-        let mut top = TopNames::built_in(alloc)?;
+        let mut top = TopNames::declare_built_in(alloc)?;
         for item in items {
             top.add(alloc, item)?;
         }

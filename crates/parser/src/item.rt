@@ -17,11 +17,11 @@ use syntax::{
 
 impl<'a> Parser<'a> {
     #[tactic(auto, unfolding(syntax::specs::Grammar::negative_constant, crate::specs::Reading::read))]
-    fn negative_constant(&mut self) -> Result<Constant, ParseFault>
+    fn parse_negative_constant(&mut self) -> Result<Constant, ParseFault>
         ensures { (room : ℕ) → IsRead constant_tree result self.new.rest.now (read room negative_constant (terminals_of self.old.rest.now)) }
     {
         let token = self.expect(Kind::Minus)?;
-        let (_, value) = self.integer()?;
+        let (_, value) = self.parse_integer()?;
         Ok(Constant::Integer {
             at: token.span.start,
             negative: true,
@@ -30,11 +30,11 @@ impl<'a> Parser<'a> {
     }
 
     #[tactic(auto, using(crate::proofs::Items::constant_reads))]
-    fn constant(&mut self) -> Result<Constant, ParseFault>
+    fn parse_constant(&mut self) -> Result<Constant, ParseFault>
         ensures { (room : ℕ) → IsRead constant_tree result self.new.rest.now (read room constant (terminals_of self.old.rest.now)) }
     {
         match self.kind() {
-            Kind::Minus => self.negative_constant(),
+            Kind::Minus => self.parse_negative_constant(),
             Kind::Integer(value) => {
                 let token = self.advance()?;
                 Ok(Constant::Integer {
@@ -62,38 +62,38 @@ impl<'a> Parser<'a> {
     }
 
     #[tactic(auto, unfolding(crate::specs::Reading::read))]
-    fn assigned_constant(&mut self) -> Result<Constant, ParseFault>
+    fn parse_assigned_constant(&mut self) -> Result<Constant, ParseFault>
         ensures { (room : ℕ) → IsRead constant_tree result self.new.rest.now (read room (Assign ▸ constant) (terminals_of self.old.rest.now)) }
     {
         self.expect(Kind::Assign)?;
-        self.constant()
+        self.parse_constant()
     }
 
     #[tactic(auto, using(crate::proofs::Items::global_value_reads))]
-    fn global_value(&mut self) -> Result<GlobalValue, ParseFault>
+    fn parse_global_value(&mut self) -> Result<GlobalValue, ParseFault>
         ensures { (room : ℕ) → IsRead global_value_tree result self.new.rest.now (read room global_value (terminals_of self.old.rest.now)) }
     {
         match self.kind() {
             Kind::Assign => {
-                let constant = self.assigned_constant()?;
+                let constant = self.parse_assigned_constant()?;
                 Ok(GlobalValue::Scalar(constant))
             }
             _ => {
-                let size = self.size()?;
+                let size = self.parse_size()?;
                 Ok(GlobalValue::Array(size))
             }
         }
     }
 
     #[tactic(auto, unfolding(syntax::specs::Grammar::global, crate::specs::Reading::read))]
-    fn global(&mut self) -> Result<Item, ParseFault>
+    fn parse_global(&mut self) -> Result<Item, ParseFault>
         ensures { (room : ℕ) → IsRead item_tree result self.new.rest.now (read room global (terminals_of self.old.rest.now)) }
     {
         let token = self.expect(Kind::Global)?;
-        let (_, base) = self.base()?;
-        let label = self.label()?;
-        let name = self.name()?;
-        let value = self.global_value()?;
+        let (_, base) = self.parse_base()?;
+        let label = self.parse_label()?;
+        let name = self.parse_name()?;
+        let value = self.parse_global_value()?;
         self.expect(Kind::Semicolon)?;
         Ok(Item::Global(GlobalVariable {
             at: token.span.start,
@@ -105,11 +105,11 @@ impl<'a> Parser<'a> {
     }
 
     #[tactic(auto, unfolding(syntax::specs::Grammar::exception, crate::specs::Reading::read))]
-    fn exception(&mut self) -> Result<Item, ParseFault>
+    fn parse_exception(&mut self) -> Result<Item, ParseFault>
         ensures { (room : ℕ) → IsRead item_tree result self.new.rest.now (read room exception (terminals_of self.old.rest.now)) }
     {
         let token = self.expect(Kind::Exception)?;
-        let name = self.name()?;
+        let name = self.parse_name()?;
         self.expect(Kind::Semicolon)?;
         Ok(Item::Exception {
             at: token.span.start,
@@ -118,7 +118,7 @@ impl<'a> Parser<'a> {
     }
 
     #[tactic(auto, using(crate::proofs::Items::direction_reads))]
-    fn direction(&mut self) -> Result<(usize, Direction), ParseFault>
+    fn parse_direction(&mut self) -> Result<(usize, Direction), ParseFault>
         ensures { (room : ℕ) → IsRead (λ found. (found.0, found.1)) result self.new.rest.now (read room direction (terminals_of self.old.rest.now)) }
     {
         match self.kind() {
@@ -135,12 +135,12 @@ impl<'a> Parser<'a> {
     }
 
     #[tactic(auto, unfolding(syntax::specs::Grammar::channel, crate::specs::Reading::read))]
-    fn channel(&mut self) -> Result<Item, ParseFault>
+    fn parse_channel(&mut self) -> Result<Item, ParseFault>
         ensures { (room : ℕ) → IsRead item_tree result self.new.rest.now (read room channel (terminals_of self.old.rest.now)) }
     {
-        let (at, direction) = self.direction()?;
-        let label = self.label()?;
-        let name = self.name()?;
+        let (at, direction) = self.parse_direction()?;
+        let label = self.parse_label()?;
+        let name = self.parse_name()?;
         self.expect(Kind::Semicolon)?;
         Ok(Item::Channel(Channel {
             at,
@@ -151,16 +151,16 @@ impl<'a> Parser<'a> {
     }
 
     #[tactic(auto, unfolding(syntax::specs::Grammar::valued, crate::specs::Reading::read))]
-    fn valued(&mut self) -> Result<(usize, WrittenResult), ParseFault>
+    fn parse_valued_result(&mut self) -> Result<(usize, WrittenResult), ParseFault>
         ensures { (room : ℕ) → IsRead (λ found. (found.0, written_result_tree found.1)) result self.new.rest.now (read room valued (terminals_of self.old.rest.now)) }
     {
-        let (at, base) = self.base()?;
-        let label = self.label()?;
+        let (at, base) = self.parse_base()?;
+        let label = self.parse_label()?;
         Ok((at, WrittenResult::Value { base, label }))
     }
 
     #[tactic(auto, using(crate::proofs::Items::written_result_reads))]
-    fn outcome(&mut self) -> Result<(usize, WrittenResult), ParseFault>
+    fn parse_result(&mut self) -> Result<(usize, WrittenResult), ParseFault>
         ensures { (room : ℕ) → IsRead (λ found. (found.0, written_result_tree found.1)) result self.new.rest.now (read room written_result (terminals_of self.old.rest.now)) }
     {
         match self.kind() {
@@ -168,17 +168,17 @@ impl<'a> Parser<'a> {
                 let token = self.advance()?;
                 Ok((token.span.start, WrittenResult::Nothing))
             }
-            _ => self.valued(),
+            _ => self.parse_valued_result(),
         }
     }
 
     #[tactic(auto, unfolding(syntax::specs::Grammar::parameter, crate::specs::Reading::read))]
-    fn parameter(&mut self) -> Result<Parameter, ParseFault>
+    fn parse_parameter(&mut self) -> Result<Parameter, ParseFault>
         ensures { (room : ℕ) → IsRead parameter_tree result self.new.rest.now (read room parameter (terminals_of self.old.rest.now)) }
     {
-        let (at, base) = self.base()?;
-        let label = self.label()?;
-        let name = self.name()?;
+        let (at, base) = self.parse_base()?;
+        let label = self.parse_label()?;
+        let name = self.parse_name()?;
         Ok(Parameter {
             at,
             base,
@@ -188,119 +188,119 @@ impl<'a> Parser<'a> {
     }
 
     #[tactic(auto, unfolding(crate::specs::Reading::read))]
-    fn another_parameter(&mut self) -> Result<Parameter, ParseFault>
+    fn parse_another_parameter(&mut self) -> Result<Parameter, ParseFault>
         ensures { (room : ℕ) → IsRead parameter_tree result self.new.rest.now (read room (Comma ▸ parameter) (terminals_of self.old.rest.now)) }
     {
         self.expect(Kind::Comma)?;
-        self.parameter()
+        self.parse_parameter()
     }
 
-    fn some_parameters(&mut self) -> Result<Vec<Parameter>, ParseFault>
+    fn parse_some_parameters(&mut self) -> Result<Vec<Parameter>, ParseFault>
         ensures { (room : ℕ) → IsRead (λ parameters. map parameter_tree parameters.items) result self.new.rest.now (read room (separated Comma parameter) (terminals_of self.old.rest.now)) }
     {
         let mut parameters = Vec::new(self.alloc);
-        let first = self.parameter()?;
+        let first = self.parse_parameter()?;
         parameters.push(first)?;
         while self.is_at(Kind::Comma) {
-            let parameter = self.another_parameter()?;
+            let parameter = self.parse_another_parameter()?;
             parameters.push(parameter)?;
         }
         Ok(parameters)
     }
 
     #[tactic(auto, using(crate::proofs::Items::parameters_reads))]
-    fn parameters(&mut self) -> Result<Vec<Parameter>, ParseFault>
+    fn parse_parameters(&mut self) -> Result<Vec<Parameter>, ParseFault>
         ensures { (room : ℕ) → IsRead (λ parameters. map parameter_tree parameters.items) result self.new.rest.now (read room parameters (terminals_of self.old.rest.now)) }
     {
         match self.kind() {
-            Kind::Int | Kind::Boolean => self.some_parameters(),
+            Kind::Int | Kind::Boolean => self.parse_some_parameters(),
             _ => Ok(Vec::new(self.alloc)),
         }
     }
 
     #[tactic(auto, unfolding(crate::specs::Reading::read))]
-    fn label_behind_colon(&mut self) -> Result<WrittenLabel, ParseFault>
+    fn parse_label_behind_colon(&mut self) -> Result<WrittenLabel, ParseFault>
         ensures { (room : ℕ) → IsRead label_tree result self.new.rest.now (read room (Colon ▸ label) (terminals_of self.old.rest.now)) }
     {
         self.expect(Kind::Colon)?;
-        self.label()
+        self.parse_label()
     }
 
     #[tactic(auto, using(crate::proofs::Items::end_label_reads))]
-    fn end_label(&mut self) -> Result<Option<WrittenLabel>, ParseFault>
+    fn parse_end_label(&mut self) -> Result<Option<WrittenLabel>, ParseFault>
         ensures { (room : ℕ) → IsRead optional_label_tree result self.new.rest.now (read room end_label (terminals_of self.old.rest.now)) }
     {
         if self.is_at(Kind::Colon) {
-            let label = self.label_behind_colon()?;
+            let label = self.parse_label_behind_colon()?;
             return Ok(Some(label));
         }
         Ok(None)
     }
 
     #[tactic(auto, unfolding(syntax::specs::Grammar::thrown, crate::specs::Reading::read))]
-    fn thrown(&mut self) -> Result<Thrown, ParseFault>
+    fn parse_thrown(&mut self) -> Result<Thrown, ParseFault>
         ensures { (room : ℕ) → IsRead thrown_tree result self.new.rest.now (read room thrown (terminals_of self.old.rest.now)) }
     {
-        let name = self.name()?;
-        let label = self.label()?;
+        let name = self.parse_name()?;
+        let label = self.parse_label()?;
         Ok(Thrown { name, label })
     }
 
     #[tactic(auto, unfolding(crate::specs::Reading::read))]
-    fn another_thrown(&mut self) -> Result<Thrown, ParseFault>
+    fn parse_another_thrown(&mut self) -> Result<Thrown, ParseFault>
         ensures { (room : ℕ) → IsRead thrown_tree result self.new.rest.now (read room (Comma ▸ thrown) (terminals_of self.old.rest.now)) }
     {
         self.expect(Kind::Comma)?;
-        self.thrown()
+        self.parse_thrown()
     }
 
-    fn thrown_list(&mut self) -> Result<Vec<Thrown>, ParseFault>
+    fn parse_thrown_list(&mut self) -> Result<Vec<Thrown>, ParseFault>
         ensures { (room : ℕ) → IsRead (λ list. map thrown_tree list.items) result self.new.rest.now (read room thrown_list (terminals_of self.old.rest.now)) }
     {
         let mut list = Vec::new(self.alloc);
-        let first = self.thrown()?;
+        let first = self.parse_thrown()?;
         list.push(first)?;
         while self.is_at(Kind::Comma) {
-            let thrown = self.another_thrown()?;
+            let thrown = self.parse_another_thrown()?;
             list.push(thrown)?;
         }
         Ok(list)
     }
 
     #[tactic(auto, unfolding(syntax::specs::Grammar::some_throws, crate::specs::Reading::read))]
-    fn some_throws(&mut self) -> Result<Vec<Thrown>, ParseFault>
+    fn parse_some_throws(&mut self) -> Result<Vec<Thrown>, ParseFault>
         ensures { (room : ℕ) → IsRead (λ list. map thrown_tree list.items) result self.new.rest.now (read room some_throws (terminals_of self.old.rest.now)) }
     {
         self.expect(Kind::Throws)?;
         self.expect(Kind::OpenParenthesis)?;
-        let list = self.thrown_list()?;
+        let list = self.parse_thrown_list()?;
         self.expect(Kind::CloseParenthesis)?;
         Ok(list)
     }
 
     #[tactic(auto, using(crate::proofs::Items::throws_reads))]
-    fn throws(&mut self) -> Result<Vec<Thrown>, ParseFault>
+    fn parse_throws(&mut self) -> Result<Vec<Thrown>, ParseFault>
         ensures { (room : ℕ) → IsRead (λ list. map thrown_tree list.items) result self.new.rest.now (read room throws (terminals_of self.old.rest.now)) }
     {
         if self.is_at(Kind::Throws) {
-            return self.some_throws();
+            return self.parse_some_throws();
         }
         Ok(Vec::new(self.alloc))
     }
 
     #[tactic(auto, unfolding(syntax::specs::Grammar::procedure, crate::specs::Reading::read))]
-    fn procedure(&mut self) -> Result<Item, ParseFault>
+    fn parse_procedure(&mut self) -> Result<Item, ParseFault>
         ensures { IsRead item_tree result self.new.rest.now (read 64 procedure (terminals_of self.old.rest.now)) }
     {
-        let (at, result) = self.outcome()?;
-        let name = self.name()?;
-        let begin = self.optional_label()?;
+        let (at, result) = self.parse_result()?;
+        let name = self.parse_name()?;
+        let begin = self.parse_optional_label()?;
         self.expect(Kind::OpenParenthesis)?;
-        let parameters = self.parameters()?;
+        let parameters = self.parse_parameters()?;
         self.expect(Kind::CloseParenthesis)?;
-        let end = self.end_label()?;
-        let throws = self.throws()?;
-        let body = self.block(MAX_LEVELS)?;
+        let end = self.parse_end_label()?;
+        let throws = self.parse_throws()?;
+        let body = self.parse_block(MAX_LEVELS)?;
         Ok(Item::Procedure(Procedure {
             at,
             result,
@@ -314,14 +314,14 @@ impl<'a> Parser<'a> {
     }
 
     #[tactic(auto, using(crate::proofs::Items::item_reads))]
-    fn item(&mut self) -> Result<Item, ParseFault>
+    fn parse_item(&mut self) -> Result<Item, ParseFault>
         ensures { IsRead item_tree result self.new.rest.now (read 64 item (terminals_of self.old.rest.now)) }
     {
         match self.kind() {
-            Kind::Input | Kind::Output => self.channel(),
-            Kind::Exception => self.exception(),
-            Kind::Global => self.global(),
-            _ => self.procedure(),
+            Kind::Input | Kind::Output => self.parse_channel(),
+            Kind::Exception => self.parse_exception(),
+            Kind::Global => self.parse_global(),
+            _ => self.parse_procedure(),
         }
     }
 
@@ -341,13 +341,13 @@ impl<'a> Parser<'a> {
     }
 
     /// The items up to the first token that begins none.
-    pub fn items(&mut self) -> Result<Vec<Item>, ParseFault>
+    pub fn parse_items(&mut self) -> Result<Vec<Item>, ParseFault>
         ensures { IsRead (λ list. map item_tree list.items) result self.new.rest.now
             (read 64 (many item) (terminals_of self.old.rest.now)) }
     {
         let mut items = Vec::new(self.alloc);
         while self.is_at_item() {
-            let item = self.item()?;
+            let item = self.parse_item()?;
             items.push(item)?;
         }
         Ok(items)

@@ -21,10 +21,10 @@ pub const MAX_LEVELS: u32 = 64;
 impl<'a> Parser<'a> {
     /// The items of a program, up to the end marker.
     #[tactic(auto, unfolding(syntax::specs::Grammar::program, crate::specs::Reading::read))]
-    fn program(&mut self) -> Result<Vec<Item>, ParseFault>
+    fn parse_program(&mut self) -> Result<Vec<Item>, ParseFault>
         ensures { IsRead (λ list. program_tree list.items) result self.new.rest.now (read 64 program (terminals_of self.old.rest.now)) }
     {
-        let items = self.items()?;
+        let items = self.parse_items()?;
         self.expect(Kind::End)?;
         Ok(items)
     }
@@ -60,7 +60,7 @@ pub fn parse(alloc: Global, tokens: &[Token<'_>]) -> Result<Program, ParseFault>
         alloc,
         rest: tokens,
     };
-    match parser.program() {
+    match parser.parse_program() {
         Ok(items) => Ok(Program::new(items)),
         Err(fault) => Err(fault),
     }

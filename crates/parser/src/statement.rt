@@ -31,43 +31,43 @@ pub enum Behind {
 
 impl<'a> Parser<'a> {
     #[tactic(auto, unfolding(crate::specs::Reading::read))]
-    fn another_expression(&mut self, room: u32) -> Result<Expression, ParseFault>
+    fn parse_another_expression(&mut self, room: u32) -> Result<Expression, ParseFault>
         ensures { IsRead expression_tree result self.new.rest.now (read room (Comma ▸ expression) (terminals_of self.old.rest.now)) }
     {
         self.expect(Kind::Comma)?;
-        self.expression(room)
+        self.parse_expression(room)
     }
 
     /// One expression or more, with commas between them.
-    fn some_expressions(&mut self, room: u32) -> Result<Vec<Expression>, ParseFault>
+    fn parse_some_expressions(&mut self, room: u32) -> Result<Vec<Expression>, ParseFault>
         ensures { IsRead (λ list. map expression_tree list.items) result self.new.rest.now (read room (separated Comma expression) (terminals_of self.old.rest.now)) }
     {
         let mut expressions = Vec::new(self.alloc);
-        let first = self.expression(room)?;
+        let first = self.parse_expression(room)?;
         expressions.push(first)?;
         while self.is_at(Kind::Comma) {
-            let expression = self.another_expression(room)?;
+            let expression = self.parse_another_expression(room)?;
             expressions.push(expression)?;
         }
         Ok(expressions)
     }
 
     #[tactic(auto, unfolding(syntax::specs::Grammar::condition, crate::specs::Reading::read))]
-    fn condition(&mut self, room: u32) -> Result<Expression, ParseFault>
+    fn parse_condition(&mut self, room: u32) -> Result<Expression, ParseFault>
         ensures { IsRead expression_tree result self.new.rest.now (read room condition (terminals_of self.old.rest.now)) }
     {
         self.expect(Kind::OpenParenthesis)?;
-        let condition = self.expression(room)?;
+        let condition = self.parse_expression(room)?;
         self.expect(Kind::CloseParenthesis)?;
         Ok(condition)
     }
 
     #[tactic(auto, unfolding(syntax::specs::Grammar::receive, crate::specs::Reading::read))]
-    fn receive(&mut self) -> Result<Statement, ParseFault>
+    fn parse_receive(&mut self) -> Result<Statement, ParseFault>
         ensures { (room : ℕ) → IsRead statement_tree result self.new.rest.now (read room receive (terminals_of self.old.rest.now)) }
     {
         let token = self.expect(Kind::Receive)?;
-        let channel = self.name()?;
+        let channel = self.parse_name()?;
         self.expect(Kind::Semicolon)?;
         Ok(Statement::Receive {
             at: token.span.start,
@@ -76,13 +76,13 @@ impl<'a> Parser<'a> {
     }
 
     #[tactic(auto, unfolding(syntax::specs::Grammar::send, crate::specs::Reading::read))]
-    fn send(&mut self, room: u32) -> Result<Statement, ParseFault>
+    fn parse_send(&mut self, room: u32) -> Result<Statement, ParseFault>
         ensures { IsRead statement_tree result self.new.rest.now (read room send (terminals_of self.old.rest.now)) }
     {
         let token = self.expect(Kind::Send)?;
-        let channel = self.name()?;
+        let channel = self.parse_name()?;
         self.expect(Kind::Comma)?;
-        let value = self.expression(room)?;
+        let value = self.parse_expression(room)?;
         self.expect(Kind::Semicolon)?;
         Ok(Statement::Send {
             at: token.span.start,
@@ -92,7 +92,7 @@ impl<'a> Parser<'a> {
     }
 
     #[tactic(auto, unfolding(syntax::specs::Grammar::break_statement, crate::specs::Reading::read))]
-    fn break_loop(&mut self) -> Result<Statement, ParseFault>
+    fn parse_break(&mut self) -> Result<Statement, ParseFault>
         ensures { (room : ℕ) → IsRead statement_tree result self.new.rest.now (read room break_statement (terminals_of self.old.rest.now)) }
     {
         let token = self.expect(Kind::Break)?;
@@ -103,11 +103,11 @@ impl<'a> Parser<'a> {
     }
 
     #[tactic(auto, unfolding(syntax::specs::Grammar::throw_statement, crate::specs::Reading::read))]
-    fn throw(&mut self) -> Result<Statement, ParseFault>
+    fn parse_throw(&mut self) -> Result<Statement, ParseFault>
         ensures { (room : ℕ) → IsRead statement_tree result self.new.rest.now (read room throw_statement (terminals_of self.old.rest.now)) }
     {
         let token = self.expect(Kind::Throw)?;
-        let exception = self.name()?;
+        let exception = self.parse_name()?;
         self.expect(Kind::Semicolon)?;
         Ok(Statement::Throw {
             at: token.span.start,
@@ -116,7 +116,7 @@ impl<'a> Parser<'a> {
     }
 
     #[tactic(auto, unfolding(syntax::specs::Grammar::continue_statement, crate::specs::Reading::read))]
-    fn continue_loop(&mut self) -> Result<Statement, ParseFault>
+    fn parse_continue(&mut self) -> Result<Statement, ParseFault>
         ensures { (room : ℕ) → IsRead statement_tree result self.new.rest.now (read room continue_statement (terminals_of self.old.rest.now)) }
     {
         let token = self.expect(Kind::Continue)?;
@@ -142,22 +142,22 @@ impl<'a> Parser<'a> {
     }
 
     #[tactic(auto, using(crate::proofs::Blocks::returned_reads))]
-    fn returned(&mut self, room: u32) -> Result<Option<Expression>, ParseFault>
+    fn parse_returned(&mut self, room: u32) -> Result<Option<Expression>, ParseFault>
         ensures { IsRead optional_expression_tree result self.new.rest.now (read room returned (terminals_of self.old.rest.now)) }
     {
         if self.is_at_expression() {
-            let value = self.expression(room)?;
+            let value = self.parse_expression(room)?;
             return Ok(Some(value));
         }
         Ok(None)
     }
 
     #[tactic(auto, unfolding(syntax::specs::Grammar::return_statement, crate::specs::Reading::read))]
-    fn return_value(&mut self, room: u32) -> Result<Statement, ParseFault>
+    fn parse_return(&mut self, room: u32) -> Result<Statement, ParseFault>
         ensures { IsRead statement_tree result self.new.rest.now (read room return_statement (terminals_of self.old.rest.now)) }
     {
         let token = self.expect(Kind::Return)?;
-        let value = self.returned(room)?;
+        let value = self.parse_returned(room)?;
         self.expect(Kind::Semicolon)?;
         Ok(Statement::Return {
             at: token.span.start,
@@ -188,12 +188,12 @@ impl<'a> Parser<'a> {
 
     #[cycle(statement)]
     #[tactic(auto, using(crate::proofs::Blocks::block_reads))]
-    pub fn block(&mut self, room: u32) -> Result<Block, ParseFault>
+    pub fn parse_block(&mut self, room: u32) -> Result<Block, ParseFault>
         ensures { IsRead block_tree result self.new.rest.now
             (read room block (terminals_of self.old.rest.now)) }
     {
         let token = self.enter(Kind::OpenBrace, room)?;
-        let statements = self.statements(room - 1)?;
+        let statements = self.parse_statements(room - 1)?;
         self.expect(Kind::CloseBrace)?;
         Ok(Block {
             at: token.span.start,
@@ -203,12 +203,12 @@ impl<'a> Parser<'a> {
 
     /// Statements up to the first token that begins none.
     #[cycle(statement)]
-    fn statements(&mut self, room: u32) -> Result<Vec<Statement>, ParseFault>
+    fn parse_statements(&mut self, room: u32) -> Result<Vec<Statement>, ParseFault>
         ensures { IsRead (λ list. map statement_tree list.items) result self.new.rest.now (read room (many statement_read) (terminals_of self.old.rest.now)) }
     {
         let mut statements = Vec::new(self.alloc);
         while self.is_at_statement() {
-            let statement = self.statement(room)?;
+            let statement = self.parse_statement(room)?;
             statements.push(statement)?;
         }
         Ok(statements)
@@ -216,20 +216,20 @@ impl<'a> Parser<'a> {
 
     #[cycle(statement)]
     #[tactic(auto, unfolding(crate::specs::Reading::read))]
-    fn else_block(&mut self, room: u32) -> Result<Block, ParseFault>
+    fn parse_else_block(&mut self, room: u32) -> Result<Block, ParseFault>
         ensures { IsRead block_tree result self.new.rest.now (read room (Else ▸ block) (terminals_of self.old.rest.now)) }
     {
         self.expect(Kind::Else)?;
-        self.block(room)
+        self.parse_block(room)
     }
 
     #[cycle(statement)]
     #[tactic(auto, using(crate::proofs::Blocks::otherwise_reads))]
-    fn otherwise(&mut self, room: u32) -> Result<Option<Block>, ParseFault>
+    fn parse_otherwise(&mut self, room: u32) -> Result<Option<Block>, ParseFault>
         ensures { IsRead optional_block_tree result self.new.rest.now (read room otherwise (terminals_of self.old.rest.now)) }
     {
         if self.is_at(Kind::Else) {
-            let block = self.else_block(room)?;
+            let block = self.parse_else_block(room)?;
             return Ok(Some(block));
         }
         Ok(None)
@@ -237,37 +237,37 @@ impl<'a> Parser<'a> {
 
     #[cycle(statement)]
     #[tactic(auto, unfolding(syntax::specs::Grammar::conditional, crate::specs::Reading::read))]
-    fn conditional(&mut self, room: u32) -> Result<Statement, ParseFault>
+    fn parse_if(&mut self, room: u32) -> Result<Statement, ParseFault>
         ensures { IsRead statement_tree result self.new.rest.now (read room conditional (terminals_of self.old.rest.now)) }
     {
         let token = self.expect(Kind::If)?;
-        let condition = self.condition(room)?;
-        let accepted = self.block(room)?;
-        let otherwise = self.otherwise(room)?;
+        let condition = self.parse_condition(room)?;
+        let accepted = self.parse_block(room)?;
+        let otherwise = self.parse_otherwise(room)?;
         Ok(Statement::make_if(token.span.start, condition, accepted, otherwise))
     }
 
     #[cycle(statement)]
     #[tactic(auto, unfolding(syntax::specs::Grammar::while_statement, crate::specs::Reading::read))]
-    fn while_loop(&mut self, room: u32) -> Result<Statement, ParseFault>
+    fn parse_while(&mut self, room: u32) -> Result<Statement, ParseFault>
         ensures { IsRead statement_tree result self.new.rest.now (read room while_statement (terminals_of self.old.rest.now)) }
     {
         let token = self.expect(Kind::While)?;
-        let condition = self.condition(room)?;
-        let body = self.block(room)?;
+        let condition = self.parse_condition(room)?;
+        let body = self.parse_block(room)?;
         Ok(Statement::make_while(token.span.start, condition, body))
     }
 
     #[cycle(statement)]
     #[tactic(auto, unfolding(syntax::specs::Grammar::catch, crate::specs::Reading::read))]
-    fn catch(&mut self, room: u32) -> Result<Catch, ParseFault>
+    fn parse_catch(&mut self, room: u32) -> Result<Catch, ParseFault>
         ensures { IsRead catch_tree result self.new.rest.now (read room catch (terminals_of self.old.rest.now)) }
     {
         let token = self.expect(Kind::Catch)?;
         self.expect(Kind::OpenParenthesis)?;
-        let exception = self.name()?;
+        let exception = self.parse_name()?;
         self.expect(Kind::CloseParenthesis)?;
-        let body = self.block(room)?;
+        let body = self.parse_block(room)?;
         Ok(Catch {
             at: token.span.start,
             exception,
@@ -277,14 +277,14 @@ impl<'a> Parser<'a> {
 
     /// Handlers, one at least.
     #[cycle(statement)]
-    fn catches(&mut self, room: u32) -> Result<Vec<Catch>, ParseFault>
+    fn parse_catches(&mut self, room: u32) -> Result<Vec<Catch>, ParseFault>
         ensures { IsRead (λ list. map catch_tree list.items) result self.new.rest.now (read room catches (terminals_of self.old.rest.now)) }
     {
         let mut catches = Vec::new(self.alloc);
-        let first = self.catch(room)?;
+        let first = self.parse_catch(room)?;
         catches.push(first)?;
         while self.is_at(Kind::Catch) {
-            let one = self.catch(room)?;
+            let one = self.parse_catch(room)?;
             catches.push(one)?;
         }
         Ok(catches)
@@ -292,47 +292,47 @@ impl<'a> Parser<'a> {
 
     #[cycle(statement)]
     #[tactic(auto, unfolding(syntax::specs::Grammar::attempt, crate::specs::Reading::read))]
-    fn attempt(&mut self, room: u32) -> Result<Statement, ParseFault>
+    fn parse_try(&mut self, room: u32) -> Result<Statement, ParseFault>
         ensures { IsRead statement_tree result self.new.rest.now (read room attempt (terminals_of self.old.rest.now)) }
     {
         let token = self.expect(Kind::Try)?;
-        let body = self.block(room)?;
-        let catches = self.catches(room)?;
+        let body = self.parse_block(room)?;
+        let catches = self.parse_catches(room)?;
         Ok(Statement::make_try(token.span.start, body, catches))
     }
 
     #[cycle(statement)]
     #[tactic(auto, unfolding(syntax::specs::Grammar::nested, crate::specs::Reading::read))]
-    fn nested(&mut self, room: u32) -> Result<Statement, ParseFault>
+    fn parse_nested(&mut self, room: u32) -> Result<Statement, ParseFault>
         ensures { IsRead statement_tree result self.new.rest.now (read room nested (terminals_of self.old.rest.now)) }
     {
-        let body = self.block(room)?;
+        let body = self.parse_block(room)?;
         Ok(Statement::make_nested(body))
     }
 
     #[cycle(statement)]
     #[tactic(auto, using(crate::proofs::Blocks::statement_reads))]
-    fn statement(&mut self, room: u32) -> Result<Statement, ParseFault>
+    fn parse_statement(&mut self, room: u32) -> Result<Statement, ParseFault>
         ensures { IsRead statement_tree result self.new.rest.now (read room statement_read (terminals_of self.old.rest.now)) }
     {
         match self.kind() {
-            Kind::Int | Kind::Boolean => self.declare(room),
-            Kind::Name => self.named(room),
-            Kind::Receive => self.receive(),
-            Kind::Send => self.send(room),
-            Kind::If => self.conditional(room),
-            Kind::While => self.while_loop(room),
-            Kind::Break => self.break_loop(),
-            Kind::Continue => self.continue_loop(),
-            Kind::Throw => self.throw(),
-            Kind::Return => self.return_value(room),
-            Kind::Try => self.attempt(room),
-            _ => self.nested(room),
+            Kind::Int | Kind::Boolean => self.parse_declaration(room),
+            Kind::Name => self.parse_named(room),
+            Kind::Receive => self.parse_receive(),
+            Kind::Send => self.parse_send(room),
+            Kind::If => self.parse_if(room),
+            Kind::While => self.parse_while(room),
+            Kind::Break => self.parse_break(),
+            Kind::Continue => self.parse_continue(),
+            Kind::Throw => self.parse_throw(),
+            Kind::Return => self.parse_return(room),
+            Kind::Try => self.parse_try(room),
+            _ => self.parse_nested(room),
         }
     }
 
     #[tactic(auto, using(crate::proofs::Steps::integer_reads))]
-    pub fn integer(&mut self) -> Result<(usize, u32), ParseFault>
+    pub fn parse_integer(&mut self) -> Result<(usize, u32), ParseFault>
         ensures { (room : ℕ) → IsRead (λ found. (found.0, found.1)) result self.new.rest.now
             (read room integer (terminals_of self.old.rest.now)) }
     {
@@ -346,111 +346,111 @@ impl<'a> Parser<'a> {
     }
 
     #[tactic(auto, unfolding(syntax::specs::Grammar::size, crate::specs::Reading::read))]
-    pub fn size(&mut self) -> Result<Size, ParseFault>
+    pub fn parse_size(&mut self) -> Result<Size, ParseFault>
         ensures { (room : ℕ) → IsRead size_tree result self.new.rest.now
             (read room size (terminals_of self.old.rest.now)) }
     {
         self.expect(Kind::OpenBracket)?;
-        let (at, size) = self.integer()?;
+        let (at, size) = self.parse_integer()?;
         self.expect(Kind::CloseBracket)?;
         Ok(Size { at, size })
     }
 
     #[tactic(auto, using(crate::proofs::Blocks::expressions_reads))]
-    fn expressions(&mut self, room: u32) -> Result<Vec<Expression>, ParseFault>
+    fn parse_expressions(&mut self, room: u32) -> Result<Vec<Expression>, ParseFault>
         ensures { IsRead (λ list. map expression_tree list.items) result self.new.rest.now (read room expressions (terminals_of self.old.rest.now)) }
     {
         if self.is_at_expression() {
-            return self.some_expressions(room);
+            return self.parse_some_expressions(room);
         }
         Ok(Vec::new(self.alloc))
     }
 
     /// The arguments of a call, in parentheses.
     #[tactic(auto, using(crate::proofs::Blocks::arguments_reads))]
-    fn arguments(&mut self, room: u32) -> Result<Vec<Expression>, ParseFault>
+    fn parse_arguments(&mut self, room: u32) -> Result<Vec<Expression>, ParseFault>
         ensures { IsRead (λ list. map expression_tree list.items) result self.new.rest.now (read room arguments (terminals_of self.old.rest.now)) }
     {
         self.enter(Kind::OpenParenthesis, room)?;
-        let arguments = self.expressions(room - 1)?;
+        let arguments = self.parse_expressions(room - 1)?;
         self.expect(Kind::CloseParenthesis)?;
         Ok(arguments)
     }
 
     /// A right side behind the name that it begins with: a call, or an expression.
     #[tactic(auto)]
-    fn right_by_name(&mut self, name: Name, room: u32) -> Result<RightSide, ParseFault>
+    fn parse_right_by_name(&mut self, name: Name, room: u32) -> Result<RightSide, ParseFault>
         ensures { IsRead right_tree result self.new.rest.now (right_behind room (name_tree name) (is_at OpenParenthesis (terminals_of self.old.rest.now)) (terminals_of self.old.rest.now)) }
     {
         if self.is_at(Kind::OpenParenthesis) {
-            let arguments = self.arguments(room)?;
+            let arguments = self.parse_arguments(room)?;
             return Ok(RightSide::Call(Call {
                 procedure: name,
                 arguments,
             }));
         }
-        let first = self.indexed(name, room)?;
+        let first = self.parse_indexed(name, room)?;
         let value = self.climb(first, room)?;
         Ok(RightSide::Value(value))
     }
 
     #[tactic(auto, using(crate::proofs::Rights::right_reads))]
-    fn right(&mut self, room: u32) -> Result<RightSide, ParseFault>
+    fn parse_right(&mut self, room: u32) -> Result<RightSide, ParseFault>
         ensures { IsRead right_tree result self.new.rest.now (read room right_read (terminals_of self.old.rest.now)) }
     {
         match self.kind() {
             Kind::Receive => {
                 let token = self.advance()?;
-                let channel = self.name()?;
+                let channel = self.parse_name()?;
                 Ok(RightSide::Receive {
                     at: token.span.start,
                     channel,
                 })
             }
             Kind::Name => {
-                let name = self.name()?;
-                self.right_by_name(name, room)
+                let name = self.parse_name()?;
+                self.parse_right_by_name(name, room)
             }
             _ => {
-                let value = self.expression(room)?;
+                let value = self.parse_expression(room)?;
                 Ok(RightSide::Value(value))
             }
         }
     }
 
     #[tactic(auto, unfolding(crate::specs::Reading::read))]
-    fn assigned(&mut self, room: u32) -> Result<RightSide, ParseFault>
+    fn parse_assigned(&mut self, room: u32) -> Result<RightSide, ParseFault>
         ensures { IsRead right_tree result self.new.rest.now (read room (Assign ▸ right_read) (terminals_of self.old.rest.now)) }
     {
         self.expect(Kind::Assign)?;
-        self.right(room)
+        self.parse_right(room)
     }
 
     /// What stands behind the name of a local.
     #[tactic(auto, using(crate::proofs::Rights::first_reads))]
-    fn first(&mut self, room: u32) -> Result<First, ParseFault>
+    fn parse_first_value(&mut self, room: u32) -> Result<First, ParseFault>
         ensures { IsRead first_tree result self.new.rest.now (read room first_read (terminals_of self.old.rest.now)) }
     {
         match self.kind() {
             Kind::Assign => {
-                let value = self.assigned(room)?;
+                let value = self.parse_assigned(room)?;
                 Ok(First::Value(value))
             }
             _ => {
-                let size = self.size()?;
+                let size = self.parse_size()?;
                 Ok(First::Array(size))
             }
         }
     }
 
     #[tactic(auto, unfolding(crate::specs::Reading::read, crate::specs::Reading::declare_read, crate::specs::Reading::first_read))]
-    fn declare(&mut self, room: u32) -> Result<Statement, ParseFault>
+    fn parse_declaration(&mut self, room: u32) -> Result<Statement, ParseFault>
         ensures { IsRead statement_tree result self.new.rest.now (read room declare_read (terminals_of self.old.rest.now)) }
     {
-        let (at, base) = self.base()?;
-        let label = self.optional_label()?;
-        let name = self.name()?;
-        let first = self.first(room)?;
+        let (at, base) = self.parse_base()?;
+        let label = self.parse_optional_label()?;
+        let name = self.parse_name()?;
+        let first = self.parse_first_value(room)?;
         self.expect(Kind::Semicolon)?;
         Ok(match first {
             First::Value(value) => Statement::Declare {
@@ -471,42 +471,42 @@ impl<'a> Parser<'a> {
     }
 
     #[tactic(auto, unfolding(crate::specs::Reading::read))]
-    fn element(&mut self, room: u32) -> Result<(Expression, Expression), ParseFault>
+    fn parse_element(&mut self, room: u32) -> Result<(Expression, Expression), ParseFault>
         ensures { IsRead (λ pair. AtIndexTree (expression_tree pair.0) (expression_tree pair.1)) result self.new.rest.now (read room (index ◂ Assign · expression gives λ pair. AtIndexTree pair.0 pair.1) (terminals_of self.old.rest.now)) }
     {
-        let index = self.index(room)?;
+        let index = self.parse_index(room)?;
         self.expect(Kind::Assign)?;
-        let value = self.expression(room)?;
+        let value = self.parse_expression(room)?;
         Ok((index, value))
     }
 
     /// What stands behind the name that a statement begins with.
     #[tactic(auto, using(crate::proofs::Rights::behind_reads))]
-    fn behind(&mut self, room: u32) -> Result<Behind, ParseFault>
+    fn parse_behind_name(&mut self, room: u32) -> Result<Behind, ParseFault>
         ensures { IsRead behind_tree result self.new.rest.now (read room behind_read (terminals_of self.old.rest.now)) }
     {
         match self.kind() {
             Kind::Assign => {
-                let value = self.assigned(room)?;
+                let value = self.parse_assigned(room)?;
                 Ok(Behind::Assigned(value))
             }
             Kind::OpenBracket => {
-                let (index, value) = self.element(room)?;
+                let (index, value) = self.parse_element(room)?;
                 Ok(Behind::Element { index, value })
             }
             _ => {
-                let arguments = self.arguments(room)?;
+                let arguments = self.parse_arguments(room)?;
                 Ok(Behind::Arguments(arguments))
             }
         }
     }
 
     #[tactic(auto, unfolding(crate::specs::Reading::read, crate::specs::Reading::named_read, crate::specs::Reading::behind_read))]
-    fn named(&mut self, room: u32) -> Result<Statement, ParseFault>
+    fn parse_named(&mut self, room: u32) -> Result<Statement, ParseFault>
         ensures { IsRead statement_tree result self.new.rest.now (read room named_read (terminals_of self.old.rest.now)) }
     {
-        let name = self.name()?;
-        let behind = self.behind(room)?;
+        let name = self.parse_name()?;
+        let behind = self.parse_behind_name(room)?;
         self.expect(Kind::Semicolon)?;
         Ok(match behind {
             Behind::Assigned(value) => Statement::Assign {

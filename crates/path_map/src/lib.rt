@@ -11,5 +11,5 @@ mod walk;
 
 pub use exits::{Exits, Raised};
 pub use fault::{EndDefect, EndRefusal, EndsFault};
-pub use map::{PathMap, ends};
+pub use map::{PathMap, find_ends};
 pub use raises::Raises;

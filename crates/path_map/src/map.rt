@@ -29,7 +29,7 @@ pub struct PathMap {
 /// The path map of a program, or the first fault of its ends.
 ///
 /// It takes time and memory in proportion to the program, and for each call and each `try` one step more for each 64 exceptions.
-pub fn ends(alloc: Global, core: &Core) -> Result<PathMap, EndsFault>
+pub fn find_ends(alloc: Global, core: &Core) -> Result<PathMap, EndsFault>
     ensures exact { IfOk result (λ found. found.entries.items
         ≡ map exits_of (program_paths (program_of core.now))) }
     ensures accepted { OnOk result (end_faults (program_of core.now) ≡ []) }

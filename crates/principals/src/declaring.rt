@@ -80,5 +80,5 @@ pub(crate) fn hierarchy_of(
             Statement::Relates(left, right) => pairs.push(relate(&names, left, right)?)?,
         }
     }
-    Ok(Hierarchy::closed(alloc, names, pairs)?)
+    Ok(Hierarchy::close(alloc, names, pairs)?)
 }

@@ -59,7 +59,7 @@ impl Clone for Hierarchy {
 }
 
 /// The names as a table, in their order.
-fn numbered(alloc: Global, names: Vec<String>) -> Result<IndexSet<String>, AllocError>
+fn number_names(alloc: Global, names: Vec<String>) -> Result<IndexSet<String>, AllocError>
     requires { AllDifferent (map (λ name. string_bytes name) names.items) }
     ensures { IfOk result (λ table. table.keys ≡ names.items) }
 {
@@ -86,12 +86,12 @@ impl Hierarchy {
             hierarchy.names ≡ map (λ name. string_bytes name) names.items) }
         ensures pairs { IfOk result (λ hierarchy. hierarchy.pairs ≡ pairs.items) }
     {
-        let names = numbered(alloc, names)?;
-        Hierarchy::closed(alloc, names, pairs)
+        let names = number_names(alloc, names)?;
+        Hierarchy::close(alloc, names, pairs)
     }
 
     // The hierarchy of a table of names and of written pairs.
-    fn closed(
+    fn close(
         alloc: Global,
         names: IndexSet<String>,
         pairs: Vec<(u32, u32)>,
@@ -102,7 +102,7 @@ impl Hierarchy {
         ensures names { IfOk result (λ hierarchy. hierarchy.names ≡ names_of names) }
         ensures pairs { IfOk result (λ hierarchy. hierarchy.pairs ≡ pairs.items) }
     {
-        let table = table::closed(alloc, names.len() as u32, pairs.as_slice())?;
+        let table = table::close_table(alloc, names.len() as u32, pairs.as_slice())?;
         Ok(Hierarchy {
             names,
             pairs,

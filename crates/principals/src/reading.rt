@@ -109,7 +109,7 @@ impl<'a> Progress<'a> {
     }
 
     /// The statement that one more token makes whole.
-    fn said(self, token: Token<'a>) -> Option<Statement<'a>>
+    fn complete(self, token: Token<'a>) -> Option<Statement<'a>>
         ensures { map (λ statement. entry_of statement) (option_to_list result) ≡ said (state_of self.entry) (terminal_of token.entry) }
     {
         match self {
@@ -135,7 +135,7 @@ pub(crate) fn statements<'a>(
         let Some(after) = progress.next(*token) else {
             return Err(HierFault::Syntax(token.span.start));
         };
-        if let Some(statement) = progress.said(*token) {
+        if let Some(statement) = progress.complete(*token) {
             statements.push(statement)?;
         }
         progress = after;

@@ -8,13 +8,13 @@ use crate::row::Row;
 use std::alloc::{AllocError, Global};
 
 /// The rows in which each number below `count` has itself and what is written for it.
-fn written(alloc: Global, count: u32, pairs: &[(u32, u32)]) -> Result<Vec<Row>, AllocError>
+fn relate_written(alloc: Global, count: u32, pairs: &[(u32, u32)]) -> Result<Vec<Row>, AllocError>
     requires few { count ≤ 256 }
     requires there { All (λ pair. (pair.0 < count) × (pair.1 < count)) pairs.now }
     ensures rows { IfOk result (λ table. length table.items ≡ count) }
     ensures written { IfOk result (λ table. (a b : ℕ) → a < count → related table.items a b ≡ is_written pairs.now a b) }
 {
-    let mut table = itself(alloc, count)?;
+    let mut table = relate_itself(alloc, count)?;
     for (left, right) in pairs {
         table[*left as usize].insert(*right);
     }
@@ -22,7 +22,7 @@ fn written(alloc: Global, count: u32, pairs: &[(u32, u32)]) -> Result<Vec<Row>, 
 }
 
 /// The rows in which each number below `count` has itself alone.
-fn itself(alloc: Global, count: u32) -> Result<Vec<Row>, AllocError>
+fn relate_itself(alloc: Global, count: u32) -> Result<Vec<Row>, AllocError>
     requires { count ≤ 256 }
     ensures rows { IfOk result (λ table. length table.items ≡ count) }
     ensures itself { IfOk result (λ table. (a b : ℕ) → a < count → related table.items a b ≡ is_written [] a b) }
@@ -49,7 +49,7 @@ fn join_by(table: &mut [Row], between: u32)
 }
 
 /// The table of acts-for among the numbers below `count`: after the turn of a number the rows have every way by numbers up to it.
-pub(crate) fn closed(
+pub(crate) fn close_table(
     alloc: Global,
     count: u32,
     pairs: &[(u32, u32)],
@@ -59,7 +59,7 @@ pub(crate) fn closed(
     ensures rows { IfOk result (λ table. length table.items ≡ count) }
     ensures closed { IfOk result (λ table. (a b : ℕ) → a < count → related table.items a b ≡ acts_for pairs.now a b) }
 {
-    let mut table = written(alloc, count, pairs)?;
+    let mut table = relate_written(alloc, count, pairs)?;
     for between in 0..count {
         join_by(&mut table, between);
     }

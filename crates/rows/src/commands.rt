@@ -8,7 +8,7 @@ use crate::fault::LineFault;
 use crate::line::words_of;
 use crate::texts::Texts;
 use channels::Device;
-use flowc::{Task, TaskFault, TaskResult, perform, task};
+use flowc::{Task, TaskFault, TaskResult, perform, read_task};
 use std::alloc::Global;
 
 /// Answers a command line, whose files are texts. The bytes that it leaves for a file become the text of that name.
@@ -30,7 +30,7 @@ pub fn answer_command(
 
 fn task_of(alloc: Global, line: &str) -> Result<Result<Task, TaskFault>, LineFault> {
     let words = words_of(alloc, line)?;
-    Ok(task(alloc, &words))
+    Ok(read_task(alloc, &words))
 }
 
 fn answer_task(texts: &mut Texts, asked: &Task, answer: &mut Vec<u8>) -> Result<(), LineFault> {

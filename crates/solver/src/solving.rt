@@ -45,14 +45,14 @@ pub fn solve<L: Lattice, T>(
     match first_breaker(alloc, lattice, written, constraints, rows.as_slice())? {
         None => Ok(Solution::of(count, rows)),
         Some(value) => {
-            let refusal = refusal(alloc, lattice, written, &edges, value)?;
+            let refusal = find_refusal(alloc, lattice, written, &edges, value)?;
             Err(SolveFault::Unmet(refusal))
         }
     }
 }
 
 // The refusal for a written element that breaks a constraint: the first one that it breaks.
-fn refusal<L: Lattice>(
+fn find_refusal<L: Lattice>(
     alloc: Global,
     lattice: &L,
     written: &[L::Elem],

@@ -8,7 +8,7 @@ ghost use Rattle.verifier.specs.Verified.{HasCodes, AddsVerifiedCode, IsFaultOf}
 
 use crate::body::Body;
 use crate::fault::{CodeFault, VerifyFault};
-use crate::fixed::body_fault;
+use crate::fixed::find_body_fault;
 use crate::parameters::PackedModule;
 use crate::positions::Code;
 use crate::search::{SearchStop, find_defect};
@@ -31,7 +31,7 @@ pub(crate) fn look_for_faults(
     let mut number = 0;
     for procedure in procedures {
         let body = Body::new(alloc, program, procedure)?;
-        if let Some(fault) = body_fault(&body, number) {
+        if let Some(fault) = find_body_fault(&body, number) {
             return Err(VerifyFault::Wrong(fault));
         }
         found = look_for_flow_fault(alloc, &body, number, found, &mut codes)?;

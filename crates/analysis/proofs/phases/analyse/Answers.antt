@@ -22,8 +22,8 @@ returns-in-Err-resolve-clause-first_fault c =
 pub returns-clause-first_fault : goal.returns-clause-first_fault
 returns-clause-first_fault c =
     rw c.of_end.ensures
-    (ended c.args.hierarchy.now c.args.source.now (program_of c.in-Ok-resolve.core) c.in-Err-ends.fault
-    (record { tree = program_tree c.in-Ok-read.tree; tree_of = subst (λ s. IsTreeOf s (program_tree c.in-Ok-read.tree)) c.in-Ok.ensures.same c.in-Ok-read.ensures.spelled; resolved = c.in-Ok-resolve.ensures.resolved }) c.in-Err-ends.ensures.first_fault)
+    (ended c.args.hierarchy.now c.args.source.now (program_of c.in-Ok-resolve.core) c.in-Err-find_ends.fault
+    (record { tree = program_tree c.in-Ok-read.tree; tree_of = subst (λ s. IsTreeOf s (program_tree c.in-Ok-read.tree)) c.in-Ok.ensures.same c.in-Ok-read.ensures.spelled; resolved = c.in-Ok-resolve.ensures.resolved }) c.in-Err-find_ends.ensures.first_fault)
 
 pub returns-in-Err-clause-before_labels : goal.returns-in-Err-clause-before_labels
 returns-in-Err-clause-before_labels c = early-text c.args.source.now c.in-Err.cause 0 c.in-Err.ensures.none
@@ -32,4 +32,4 @@ pub returns-in-Err-resolve-clause-before_labels : goal.returns-in-Err-resolve-cl
 returns-in-Err-resolve-clause-before_labels c = rw c.of_name.ensures (early-names c.in-Err-resolve.fault)
 
 pub returns-clause-before_labels : goal.returns-clause-before_labels
-returns-clause-before_labels c = rw c.of_end.ensures (early-ends c.in-Err-ends.fault)
+returns-clause-before_labels c = rw c.of_end.ensures (early-ends c.in-Err-find_ends.fault)

@@ -47,8 +47,8 @@ index-requires-2 c =
     let inside = right-inside c.args.system.now c.requires.in_range (last_of c.args.refusal.now.chain.items) c.index-constraints-chain.result at c.in-Written.to c.in-Written.is in
     omega (arith, inside, c.args.system.now.written.ok.0)
 
-pub uncovered-requires : goal.uncovered-requires
-uncovered-requires c =
+pub find_uncovered-requires : goal.find_uncovered-requires
+find_uncovered-requires c =
     let l = label_lattice c.args.core.hierarchy in
     let at = last-read l c.args.system.now c.args.refusal.now c.requires.refused
     c.as_slice-chain.result.now c.as_slice-constraints.result.now c.as_slice-chain.ensures.value c.as_slice-constraints.ensures.value
@@ -68,13 +68,13 @@ returns-clause-reported c =
     (flow-fails l c.args.system.now c.args.refusal.now c.requires.refused c.index-constraints-chain.result at c.in-Written.to c.in-Written.is)
     (right-inside c.args.system.now c.requires.in_range (last_of c.args.refusal.now.chain.items) c.index-constraints-chain.result at c.in-Written.to c.in-Written.is)
     c.index.ensures c.index-2.ensures in
-    let same : c.in_ok-policy.policy ≡ c.uncovered.result.now = c.in_ok-policy.ensures.cases in
+    let same : c.in_ok-policy.policy ≡ c.find_uncovered.result.now = c.in_ok-policy.ensures.cases in
     flow-reported c.args.core c.args.system.now c.args.refusal.now c.requires.gathered c.requires.refused c.index-constraints-chain.result at c.in-Written.to c.in-Written.is
     c.in_ok-policy.policy
     (subst (λ (v : Label). Contains v c.in_ok-policy.policy) read.from_is
-    (subst (λ (p : ReaderPolicy). Contains c.index.result.now p) (sym same) c.uncovered.ensures.contained))
+    (subst (λ (p : ReaderPolicy). Contains c.index.result.now p) (sym same) c.find_uncovered.ensures.contained))
     (subst (λ (v : Label). ¬ Covers c.args.core.hierarchy v c.in_ok-policy.policy) read.to_is
-    (subst (λ (p : ReaderPolicy). ¬ Covers c.args.core.hierarchy c.index-2.result.now p) (sym same) c.uncovered.ensures.uncovered))
+    (subst (λ (p : ReaderPolicy). ¬ Covers c.args.core.hierarchy c.index-2.result.now p) (sym same) c.find_uncovered.ensures.uncovered))
     c.in_ok-steps.steps
     (subst (λ (k : List ℕ). map reported_by c.in_ok-steps.steps.items ≡ flat_map (report_at c.args.system.now.constraints.items) k) c.as_slice-chain.ensures.value
     (subst (λ (cs : List (Constraint (Option Target))). map reported_by c.in_ok-steps.steps.items ≡ flat_map (report_at cs) c.as_slice-chain.result.now)

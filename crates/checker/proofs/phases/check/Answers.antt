@@ -6,11 +6,11 @@ use Rattle.checker.proofs.phases.check.Goals as goal
 
 pub returns-in-Err-clause-first_fault : goal.returns-in-Err-clause-first_fault
 returns-in-Err-clause-first_fault c =
-    rw c.before_labels.ensures (reported-before c.args.hierarchy.now c.args.source.now c.in-Err.fault c.in-Err.ensures.first_fault)
+    rw c.fault_before_labels.ensures (reported-before c.args.hierarchy.now c.args.source.now c.in-Err.fault c.in-Err.ensures.first_fault)
 
 pub returns-in-Err-clause-refused : goal.returns-in-Err-clause-refused
 returns-in-Err-clause-refused c =
-    rw c.before_labels.ensures
+    rw c.fault_before_labels.ensures
     (reported-refuses c.args.hierarchy.now c.args.source.now (fault_of c.in-Err.fault)
     (reported-before c.args.hierarchy.now c.args.source.now c.in-Err.fault c.in-Err.ensures.first_fault))
 
@@ -44,4 +44,4 @@ returns-in_err-checked-clause-flow c =
     rw (p.1, p.2) (flow-labels c.in-Ok.found.core c.in_err-checked.field-0.0 c.in_err-checked.ensures.refused)
 
 pub returns-in-Err-clause-flow : goal.returns-in-Err-clause-flow
-returns-in-Err-clause-flow c = rw c.before_labels.ensures (flow-before c.in-Err.fault c.in-Err.ensures.before_labels)
+returns-in-Err-clause-flow c = rw c.fault_before_labels.ensures (flow-before c.in-Err.fault c.in-Err.ensures.before_labels)

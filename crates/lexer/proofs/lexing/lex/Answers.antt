@@ -33,7 +33,7 @@ pushed c =
     let P : Option Kind → Type 0 = λ k. Reads (chars rest) k (chars left) in
     let read : Reads (chars rest) (Some c.in-Some-kind.kind) (chars left) = subst P c.in-Some-kind.is c.in_ok-kind.ensures in
     let tokens = c.loop-first.tokens.items in
-    let t = token c.args.src.now rest left c.front-text.result.now (terminals_of tokens) c.in-Some-kind.kind c.loop-first.invariant.0 left_ok c.front-text.utf8 c.loop-first.invariant.1 read c.front-text.ensures _ refl in
+    let t = token c.args.src.now rest left c.take_front-text.result.now (terminals_of tokens) c.in-Some-kind.kind c.loop-first.invariant.0 left_ok c.take_front-text.utf8 c.loop-first.invariant.1 read c.take_front-text.ensures _ refl in
     subst (GrowsBy c.args.src.now rest left) (sym (ap terminals_of c.in_ok-push.ensures.items ∙ map-append terminal_of tokens _)) t
 
 pub loop-first-smaller-in_ok-push : goal.loop-first-smaller-in_ok-push

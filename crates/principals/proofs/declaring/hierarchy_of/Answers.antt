@@ -74,16 +74,16 @@ returns-clause-said c =
     let past : length statements ≤ c.loop-statement.statement-index = omega arith in
     let whole : entries_of statements ≡ entries_of (take c.loop-statement.statement-index statements) =
     ap entries_of (sym (take_all c.loop-statement.statement-index statements past)) in
-    built_said (entries_of statements) c.in_ok-closed.field-0
-    (built_same whole c.in_ok-closed.ensures.names c.in_ok-closed.ensures.pairs c.loop-statement.invariant)
+    built_said (entries_of statements) c.in_ok-close.field-0
+    (built_same whole c.in_ok-close.ensures.names c.in_ok-close.ensures.pairs c.loop-statement.invariant)
 
 pub returns-clause-kept : goal.returns-clause-kept
 returns-clause-kept c =
     let built = c.loop-statement.invariant in
-    let hierarchy = c.in_ok-closed.field-0 in
+    let hierarchy = c.in_ok-close.field-0 in
     record {
-      few = subst (λ x. length x ≤ 256) (sym c.in_ok-closed.ensures.names) built.few;
-      different = subst AllDifferent (sym c.in_ok-closed.ensures.names) built.different;
-      there = subst (λ x. AllBelow (length x) hierarchy.pairs) (sym c.in_ok-closed.ensures.names)
-          (subst (λ x. AllBelow (length (names_of c.loop-statement.names)) x) (sym c.in_ok-closed.ensures.pairs) built.there);
+      few = subst (λ x. length x ≤ 256) (sym c.in_ok-close.ensures.names) built.few;
+      different = subst AllDifferent (sym c.in_ok-close.ensures.names) built.different;
+      there = subst (λ x. AllBelow (length x) hierarchy.pairs) (sym c.in_ok-close.ensures.names)
+          (subst (λ x. AllBelow (length (names_of c.loop-statement.names)) x) (sym c.in_ok-close.ensures.pairs) built.there);
     }

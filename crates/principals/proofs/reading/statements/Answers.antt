@@ -9,7 +9,7 @@ use Rattle.principals.specs.Reading.{ReadingState, Fresh, Ended, next, run, said
 use Rattle.principals.specs.declared.reading.Statement.{Statement}
 use Rattle.principals.proofs.Automaton.{run-push, read_is_open, is_prefix, stops, run_ends}
 use Rattle.principals.proofs.reading.statements.Goals as goal
-use Rattle.principals.proofs.reading.statements.Goals.{In-Some, in-Some-said+in_ok-push, in_default-said}
+use Rattle.principals.proofs.reading.statements.Goals.{In-Some, in-Some-complete+in_ok-push, in_default-complete}
 
 one_more : (tokens : List Token) (i : ℕ) (d : Token) → i < length tokens →
     terminals_of (take (i + 1) tokens) ≡ terminals_of (take i tokens) ++ terminal_of (get_or tokens i d) ∷ []
@@ -46,19 +46,19 @@ after_token c now h =
 pub loop-token-preserved : goal.loop-token-preserved
 loop-token-preserved c =
     let items = c.loop-token.statements.items in
-    let at_branch : (p : Progress) (statements : List Statement) → c.match-said.progress ≡ p → c.match-said.statements.items ≡ statements →
+    let at_branch : (p : Progress) (statements : List Statement) → c.match-complete.progress ≡ p → c.match-complete.statements.items ≡ statements →
     run Fresh (terminals_of (take (c.loop-token.token-index + 1) c.args.tokens.now)) ≡ Some (state_of p, entries_of statements) →
-    run Fresh (terminals_of (take (c.loop-token.token-index + 1) c.args.tokens.now)) ≡ Some (state_of c.match-said.progress, entries_of c.match-said.statements.items) =
+    run Fresh (terminals_of (take (c.loop-token.token-index + 1) c.args.tokens.now)) ≡ Some (state_of c.match-complete.progress, entries_of c.match-complete.statements.items) =
     λ p statements e f h. h ∙ (λ i. Some (state_of (sym e i), entries_of (sym f i))) in
-    elim c.match-said.branch [
-      | in-Some-said+in_ok-push w ↦
-          at_branch c.in-Some.after (items ++ w.in-Some-said.statement ∷ []) w.progress-is
+    elim c.match-complete.branch [
+      | in-Some-complete+in_ok-push w ↦
+          at_branch c.in-Some.after (items ++ w.in-Some-complete.statement ∷ []) w.progress-is
           (ap (λ v. v.items) w.statements-is ∙ w.in_ok-push.ensures.items)
-          (after_token (goal.at.loop-token-preserved c).In-Some (entries_of (items ++ w.in-Some-said.statement ∷ []))
-          (map_push entry_of items w.in-Some-said.statement ∙ ap (λ x. entries_of items ++ x) w.in-Some-said.ensures))
-      | in_default-said w ↦
+          (after_token (goal.at.loop-token-preserved c).In-Some (entries_of (items ++ w.in-Some-complete.statement ∷ []))
+          (map_push entry_of items w.in-Some-complete.statement ∙ ap (λ x. entries_of items ++ x) w.in-Some-complete.ensures))
+      | in_default-complete w ↦
           at_branch c.in-Some.after items w.progress-is (ap (λ v. v.items) w.statements-is)
-          (after_token (goal.at.loop-token-preserved c).In-Some (entries_of items) (sym (append-nil (entries_of items)) ∙ ap (λ x. entries_of items ++ x) w.in_default-said.ensures))
+          (after_token (goal.at.loop-token-preserved c).In-Some (entries_of items) (sym (append-nil (entries_of items)) ∙ ap (λ x. entries_of items ++ x) w.in_default-complete.ensures))
     ]
 
 pub returns-clause-form : goal.returns-clause-form

@@ -27,15 +27,15 @@ returns-in-None-clause-solved g c =
       least = solved-least l c.keep_laws.ensures table cs c.in_ok-edges.edges (are-edges c.args.system.now.constraints.items c.as_slice-constraints.result.now c.in_ok-edges.edges c.as_slice-constraints.ensures.value c.in_ok-edges.ensures.written c.in_ok-edges.ensures.unknown) c.args.system.now.unknowns c.requires rows c.in_ok-rows.ensures;
     })
 
-pub refusal-requires-clause-inside : goal.refusal-requires-clause-inside
-refusal-requires-clause-inside g c = unknowns-inside c.args.system.now.constraints.items c.in_ok-edges.edges (are-edges c.args.system.now.constraints.items c.as_slice-constraints.result.now c.in_ok-edges.edges c.as_slice-constraints.ensures.value c.in_ok-edges.ensures.written c.in_ok-edges.ensures.unknown) (length c.args.system.now.written.items) c.args.system.now.unknowns c.requires c.in_ok-edges.ensures.unknown_count
+pub find_refusal-requires-clause-inside : goal.find_refusal-requires-clause-inside
+find_refusal-requires-clause-inside g c = unknowns-inside c.args.system.now.constraints.items c.in_ok-edges.edges (are-edges c.args.system.now.constraints.items c.as_slice-constraints.result.now c.in_ok-edges.edges c.as_slice-constraints.ensures.value c.in_ok-edges.ensures.written c.in_ok-edges.ensures.unknown) (length c.args.system.now.written.items) c.args.system.now.unknowns c.requires c.in_ok-edges.ensures.unknown_count
 
-pub refusal-requires-clause-rights : goal.refusal-requires-clause-rights
-refusal-requires-clause-rights g c =
+pub find_refusal-requires-clause-rights : goal.find_refusal-requires-clause-rights
+find_refusal-requires-clause-rights g c =
     rights-inside c.args.system.now.constraints.items c.in_ok-edges.edges (are-edges c.args.system.now.constraints.items c.as_slice-constraints.result.now c.in_ok-edges.edges c.as_slice-constraints.ensures.value c.in_ok-edges.ensures.written c.in_ok-edges.ensures.unknown) (length c.args.system.now.written.items) c.args.system.now.unknowns c.requires (length c.as_slice-written.result.now) (ap length c.as_slice-written.ensures.value)
 
-pub refusal-requires-clause-breaks : goal.refusal-requires-clause-breaks
-refusal-requires-clause-breaks g c =
+pub find_refusal-requires-clause-breaks : goal.find_refusal-requires-clause-breaks
+find_refusal-requires-clause-breaks g c =
     let l = (g.L.Lattice.order c.args.lattice.now) in
     let table = c.args.system.now.written.items in
     let cs = c.args.system.now.constraints.items in

@@ -27,7 +27,7 @@ look_for_flow_fault-requires-clause-few c =
 pub look_for_flow_fault-requires-clause-boundaries : goal.look_for_flow_fault-requires-clause-boundaries
 look_for_flow_fault-requires-clause-boundaries c =
     boundaries c.in_ok-body.body.program.now c.in_ok-body.body.procedure.now
-    (own_right c.in_ok-body.body.program.now c.loop-procedure.number c.in_ok-body.body.procedure.now (sym c.in_default.is ∙ c.body_fault.ensures))
+    (own_right c.in_ok-body.body.program.now c.loop-procedure.number c.in_ok-body.body.procedure.now (sym c.in_default.is ∙ c.find_body_fault.ensures))
 
 pub returns-in-Some-clause-err : goal.returns-in-Some-clause-err
 returns-in-Some-clause-err c =
@@ -36,7 +36,7 @@ returns-in-Some-clause-err c =
     reported_first m c.in-Some.fault
     (sym (ap (λ all. slice_get (procedure_faults m 0 all) 0) (sym c.procedures-procedures.ensures.procedures)
     ∙ sym l.invariant.same
-    ∙ procedure_some m c.in_ok-body.body.program.now l.number l.procedure-index c.procedures-procedures.result.now c.procedure-item.result c.in_ok-body.body.procedure.now c.in_ok-body.ensures.program c.in_ok-body.ensures.procedure c.procedure-item.is c.loop-procedure-test.true c.body_fault.result c.body_fault.ensures c.in-Some.fault c.in-Some.is))
+    ∙ procedure_some m c.in_ok-body.body.program.now l.number l.procedure-index c.procedures-procedures.result.now c.procedure-item.result c.in_ok-body.body.procedure.now c.in_ok-body.ensures.program c.in_ok-body.ensures.procedure c.procedure-item.is c.loop-procedure-test.true c.find_body_fault.result c.find_body_fault.ensures c.in-Some.fault c.in-Some.is))
 
 pub loop-procedure-preserved : goal.loop-procedure-preserved
 loop-procedure-preserved c =
@@ -51,7 +51,7 @@ loop-procedure-preserved c =
     record {
       number_is = omega (arith, l.invariant.number_is);
       same =
-          sym (procedure_none m b.body.program.now l.number l.procedure-index procedures c.procedure-item.result b.body.procedure.now b.ensures.program b.ensures.procedure c.procedure-item.is c.loop-procedure-test.true c.body_fault.result c.body_fault.ensures c.in_default.is)
+          sym (procedure_none m b.body.program.now l.number l.procedure-index procedures c.procedure-item.result b.body.procedure.now b.ensures.program b.ensures.procedure c.procedure-item.is c.loop-procedure-test.true c.find_body_fault.result c.find_body_fault.ensures c.in_default.is)
           ∙ l.invariant.same;
       found = λ fault e. elim (subst (λ (o : Option CodeFault). IfSome o (λ f. (l.found ≡ Some f) ⊎ IsFaultOf b.body.program.now l.number b.body.procedure.now f)) e now.ensures.some) [
         | inl before ↦ l.invariant.found fault before

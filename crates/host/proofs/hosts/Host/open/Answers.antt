@@ -12,7 +12,7 @@ use Rattle.host.proofs.hosts.Host.open.Goals.{After-first_run}
 room : (c : After-first_run) → HasRoom MAX_SESSIONS (host_of c.args.self.now)
 room c =
     let inside : length c.self.inside.sessions.items < MAX_SESSIONS = omega arith in
-    has_room MAX_SESSIONS c.args.self.now c.self.inside.next c.self.inside.sessions.items c.self.view_is c.in-Some.id c.in-Some.is c.following-after.ensures.within inside
+    has_room MAX_SESSIONS c.args.self.now c.self.inside.next c.self.inside.sessions.items c.self.view_is c.in-Some.id c.in-Some.is c.next_id-after.ensures.within inside
 
 pub returns-in_err-run : goal.returns-in_err-run
 returns-in_err-run c =
@@ -30,6 +30,6 @@ returns c =
       (
         new.run.program,
         subst (λ (s : SessionRun). CanOpen c.args.bytes.now c.args.world s.run.program) (sym c.new.ensures) c.in_ok-run.ensures.can,
-        opened_as c.args.self.now c.self.inside.next c.following-after.result c.self.inside.sessions.items c.insert.new.self.items c.self.view_is c.in-Some.id c.in-Some.is c.following-after.ensures.next new c.in-Ok.ensures.items c.args.world (ap (λ (s : SessionRun). s.id) c.new.ensures) first,
+        opened_as c.args.self.now c.self.inside.next c.next_id-after.result c.self.inside.sessions.items c.insert.new.self.items c.self.view_is c.in-Some.id c.in-Some.is c.next_id-after.ensures.next new c.in-Ok.ensures.items c.args.world (ap (λ (s : SessionRun). s.id) c.new.ensures) first,
       ),
     )

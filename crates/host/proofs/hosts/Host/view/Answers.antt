@@ -31,9 +31,9 @@ returns-then-principal-count c =
     let count = counted after in
     ((contents_of c.index-session.result.now, found after, λ h. let low = c.if-principal-count.true in omega arith), refl)
 
-pub returns-in_default-seen : goal.returns-in_default-seen
-returns-in_default-seen c =
-    let after = (goal.at.returns-in_default-seen c).After-count in
+pub returns-in_default-pairs_for : goal.returns-in_default-pairs_for
+returns-in_default-pairs_for c =
+    let after = (goal.at.returns-in_default-pairs_for c).After-count in
     let count = counted after in
     ((contents_of c.index-session.result.now, found after, subst (λ n. c.args.principal < n) count c.if-principal-count.false), refl)
 

@@ -4,17 +4,17 @@ use Rattle.names.specs.Expressions.{expression_finding}
 use Rattle.names.specs.Views.{Resolves, names_of, typed_view}
 use Rattle.names.proofs.body.Body.+expression.Goals as goal
 
-pub expression-returns-in-Unary : goal.expression-returns-in-Unary
-expression-returns-in-Unary t c =
-    subst (λ one. Resolves typed_view c.unary.result (expression_finding (names_of c.args.self.now) one))
+pub resolve_expression-returns-in-Unary : goal.resolve_expression-returns-in-Unary
+resolve_expression-returns-in-Unary t c =
+    subst (λ one. Resolves typed_view c.resolve_unary.result (expression_finding (names_of c.args.self.now) one))
     (ap (λ e. UnaryTree c.in-Unary.at c.in-Unary.operator (expression_tree e)) c.deref-in-Unary.ensures ∙ sym (ap expression_tree c.in-Unary.is))
-    (c.unary.ensures c.in-Unary.at)
+    (c.resolve_unary.ensures c.in-Unary.at)
 
-pub expression-returns-in-Binary : goal.expression-returns-in-Binary
-expression-returns-in-Binary t c =
+pub resolve_expression-returns-in-Binary : goal.resolve_expression-returns-in-Binary
+resolve_expression-returns-in-Binary t c =
     let operator = c.in-Binary.operator in
-    subst (λ one. Resolves typed_view c.binary.result (expression_finding (names_of c.args.self.now) one))
+    subst (λ one. Resolves typed_view c.resolve_binary.result (expression_finding (names_of c.args.self.now) one))
     (ap (λ e. BinaryTree c.in-Binary.at operator (expression_tree e) (expression_tree c.deref-in-Binary-2.result.now)) c.deref-in-Binary.ensures
     ∙ ap (λ e. BinaryTree c.in-Binary.at operator (expression_tree c.in-Binary.left.value) (expression_tree e)) c.deref-in-Binary-2.ensures
     ∙ sym (ap expression_tree c.in-Binary.is))
-    (c.binary.ensures c.in-Binary.at)
+    (c.resolve_binary.ensures c.in-Binary.at)

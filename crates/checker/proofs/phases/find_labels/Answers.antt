@@ -1,0 +1,33 @@
+use Rattle.std.proofs.Common.{sym, subst, ℕ, List}
+use Rattle.labels.specs.Label.{Label}
+use Rattle.labels.specs.Constraints.{FitsAll, IsLeast, label_lattice}
+use Rattle.resolved.specs.CoreOf.{program_of}
+use Rattle.resolved.specs.Flow.{AreGathered, Gathered}
+use Rattle.gathering.specs.Names.{unwritten_number}
+use Rattle.gathering.specs.Walk.{gathered_constraints}
+use Rattle.gathering.proofs.Numbers.{numbered-gathered, numbered-numbers}
+use Rattle.solver.specs.System.{values_of}
+use Rattle.checker.proofs.Labels.{fitting-labelled, least-labels}
+use Rattle.checker.proofs.phases.find_labels.Goals as goal
+
+pub refuse_program-requires-clause-gathered : goal.refuse_program-requires-clause-gathered
+refuse_program-requires-clause-gathered c =
+    subst (λ (cs : List Gathered). AreGathered (program_of c.args.core) cs) (sym c.in-Ok.ensures.gathered)
+    (numbered-gathered (program_of c.args.core) c.args.core.well_formed c.requires.ended)
+
+pub returns-in-Ok-solve-clause-labelled : goal.returns-in-Ok-solve-clause-labelled
+returns-in-Ok-solve-clause-labelled c =
+    let program = program_of c.args.core in
+    let l = label_lattice c.args.core.hierarchy in
+    let values : ℕ → Label = values_of l c.in-Ok.system.written.items c.in-Ok-solve.solution in
+    fitting-labelled program (gathered_constraints program) (numbered-gathered program c.args.core.well_formed c.requires.ended) values
+    (subst (λ (cs : List Gathered). FitsAll l cs values) c.in-Ok.ensures.gathered c.in-Ok-solve.ensures.solved.fits)
+
+pub returns-in-Ok-solve-clause-least : goal.returns-in-Ok-solve-clause-least
+returns-in-Ok-solve-clause-least c =
+    let program = program_of c.args.core in
+    let l = label_lattice c.args.core.hierarchy in
+    let values : ℕ → Label = values_of l c.in-Ok.system.written.items c.in-Ok-solve.solution in
+    least-labels program (gathered_constraints program) (numbered-gathered program c.args.core.well_formed c.requires.ended) values
+    (unwritten_number program) (numbered-numbers program c.args.core.well_formed c.requires.ended)
+    (subst (λ (cs : List Gathered). IsLeast l cs values) c.in-Ok.ensures.gathered c.in-Ok-solve.ensures.solved.least)

@@ -1,0 +1,18 @@
+use Rattle.std.proofs.Common.{refl, sym, ap, ◌∙◌, unwrap_or}
+use Rattle.std.specs.Str.{chars}
+use Rattle.lexer.specs.Lexeme.{Word}
+use Rattle.lexer.specs.Words.{keywords, may_continue}
+use Rattle.lexer.specs.declared.token.Kind.TheVariants.{Name}
+use Rattle.lexer.proofs.Tables.{same_lookup}
+use Rattle.lexer.proofs.Reading.{moved, run_tail, word_read}
+use Rattle.lexer.proofs.pieces.cut_word.Goals as goal
+
+pub take_front-requires : goal.take_front-requires
+take_front-requires c = run_tail may_continue _ c.args.first (chars c.args.after.now) _ c.requires.split c.skip_run-rest.ensures
+
+pub returns : goal.returns
+returns c =
+    let front = c.take_front.result.now in
+    let read = word_read _ _ (chars c.args.after.now) _ (chars front) c.requires.split c.skip_run-rest.ensures c.requires.begins c.take_front.ensures in
+    let found = c.keyword.ensures ∙ same_lookup keywords refl front c.take_front.utf8 in
+    (chars front, moved _ _ _ _ _ _ _ _ refl (ap (λ o. Word (unwrap_or o Name)) (sym found) ∙ ap Word (sym c.unwrap_or-kind.ensures)) refl refl read)

@@ -1,0 +1,58 @@
+use Rattle.std.proofs.Common.{◌≡◌, ap, sym, ◌∙◌, subst, map, drop, ◌+◌, ◌∷◌, ◌++◌, [], rules, List}
+use Rattle.resolved.specs.CoreOf.{program_of}
+use Rattle.resolved.specs.EndFaults.{end_faults, procedure_faults}
+use Rattle.resolved.specs.Program.{ProcedureEntry}
+use Rattle.resolved.specs.ProgramOf.{procedure_entry}
+use Rattle.path_map.specs.Exits.{exits_of}
+use Rattle.path_map.specs.FirstFault.{IsFirstEndFault}
+use Rattle.path_map.specs.Paths.{block_paths}
+use Rattle.path_map.proofs.Procedures.{Beside, beside-begin, beside-first, beside-step, beside-end, beside-clean, next-procedure, last-procedure}
+use Rattle.path_map.proofs.map.find_ends.Goals as goal
+
+pub loop-procedure-init : goal.loop-procedure-init
+loop-procedure-init c =
+    let program = program_of c.args.core.now in
+    subst (λ list. Beside program (map procedure_entry c.args.core.now.procedures.items) (map procedure_entry list) c.new-entries.result.items)
+    (sym c.deref-procedure-items.ensures.value)
+    (beside-begin program (map procedure_entry c.args.core.now.procedures.items) c.new-entries.result.items c.new-entries.ensures.items)
+
+pub loop-procedure-preserved : goal.loop-procedure-preserved
+loop-procedure-preserved c =
+    let program = program_of c.args.core.now in
+    let procedure = procedure_entry c.procedure-item.result in
+    let all = map procedure_entry c.args.core.now.procedures.items in
+    let tail = map procedure_entry (drop (c.loop-procedure.procedure-index + 1) c.deref-procedure-items.result.now) in
+    beside-step program all procedure tail c.loop-procedure.entries.items c.walk_procedure.new.entries.items
+    (subst (λ list. Beside program all list c.loop-procedure.entries.items)
+    (next-procedure c.deref-procedure-items.result.now c.loop-procedure.procedure-index c.procedure-item.result c.loop-procedure-test.true c.procedure-item.is) c.loop-procedure.invariant)
+    (subst (λ core. c.walk_procedure.new.entries.items ≡ c.loop-procedure.entries.items ++ map exits_of (block_paths (program_of core) procedure.body)) c.in_ok-walk.ensures c.in_ok-walk_procedure.ensures.found)
+    (subst (λ core. procedure_faults (program_of core) procedure ≡ []) c.in_ok-walk.ensures c.in_ok-walk_procedure.ensures.accepted)
+
+pub returns-in_err-walk_procedure-clause-first_fault : goal.returns-in_err-walk_procedure-clause-first_fault
+returns-in_err-walk_procedure-clause-first_fault c =
+    let program = program_of c.args.core.now in
+    let procedure = procedure_entry c.procedure-item.result in
+    let all = map procedure_entry c.args.core.now.procedures.items in
+    let tail = map procedure_entry (drop (c.loop-procedure.procedure-index + 1) c.deref-procedure-items.result.now) in
+    let first : IsFirstEndFault (end_faults program) c.in_err-walk_procedure.field-0.0 =
+    beside-first program all procedure tail c.loop-procedure.entries.items c.in_err-walk_procedure.field-0.0
+    (subst (λ list. Beside program all list c.loop-procedure.entries.items)
+    (next-procedure c.deref-procedure-items.result.now c.loop-procedure.procedure-index c.procedure-item.result c.loop-procedure-test.true c.procedure-item.is) c.loop-procedure.invariant)
+    (subst (λ core. IsFirstEndFault (procedure_faults (program_of core) procedure) c.in_err-walk_procedure.field-0.0) c.in_ok-walk.ensures c.in_err-walk_procedure.ensures.first_fault) in
+    search (rules, first)
+
+pub returns-clause-exact : goal.returns-clause-exact
+returns-clause-exact c =
+    let program = program_of c.args.core.now in
+    let all = map procedure_entry c.args.core.now.procedures.items in
+    beside-end program all c.loop-procedure.entries.items
+    (subst (λ list. Beside program all list c.loop-procedure.entries.items)
+    (last-procedure c.deref-procedure-items.result.now c.loop-procedure.procedure-index c.loop-procedure-test.false) c.loop-procedure.invariant)
+
+pub returns-clause-accepted : goal.returns-clause-accepted
+returns-clause-accepted c =
+    let program = program_of c.args.core.now in
+    let all = map procedure_entry c.args.core.now.procedures.items in
+    beside-clean program all c.loop-procedure.entries.items
+    (subst (λ list. Beside program all list c.loop-procedure.entries.items)
+    (last-procedure c.deref-procedure-items.result.now c.loop-procedure.procedure-index c.loop-procedure-test.false) c.loop-procedure.invariant)
