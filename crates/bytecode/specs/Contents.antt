@@ -8,7 +8,7 @@ use Rattle.bytecode.specs.declared.value.Kind.{Kind}
 use Rattle.bytecode.specs.declared.declaration.Slot.{Slot}
 use Rattle.bytecode.specs.declared.declaration.Global.{Global}
 use Rattle.bytecode.specs.declared.declaration.Handler.{Handler}
-use Rattle.bytecode.specs.declared.declaration.Direction.{Direction}
+use Rattle.common.specs.declared.direction.Direction.{Direction}
 
 -- a channel: its direction, its name as bytes, and the label of what it carries
 pub record ChannelContents : Type 0 where

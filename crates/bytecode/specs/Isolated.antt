@@ -8,7 +8,7 @@ use Rattle.bytecode.specs.Contents.{ChannelContents, ModuleContents}
 use Rattle.bytecode.specs.Form.{Spells}
 use Rattle.bytecode.specs.Format.{module_file}
 use Rattle.bytecode.specs.Machine.{sent_after}
-use Rattle.bytecode.specs.declared.declaration.Direction.TheVariants.{Input}
+use Rattle.common.specs.declared.direction.Direction.TheVariants.{Input}
 
 -- the label of a channel of a module, by its number; the least label for a number that is not there
 abbrev pub label_in : Option ChannelContents → Label

@@ -2,7 +2,7 @@ ghost use Rattle.bytecode.specs.Contents.{ChannelContents};
 ghost use Rattle.std.specs.Prelude.{◌≡◌};
 ghost use Rattle.std.specs.String.{string_bytes};
 
-use crate::declaration::Direction;
+use common::Direction;
 use labels::Label;
 use std::marker::Model;
 

@@ -25,10 +25,3 @@ pub struct Handler {
     pub exception: u32,
     pub target: u32,
 }
-
-/// Whether numbers are received from a channel or sent on it.
-#[derive(Clone, Copy, Debug, PartialEq, Eq)]
-pub enum Direction {
-    Input,
-    Output,
-}

@@ -13,7 +13,7 @@ pub mod procedure;
 pub mod value;
 
 pub use channel::Channel;
-pub use declaration::{Direction, Global, Handler, Slot};
+pub use declaration::{Global, Handler, Slot};
 pub use fault::ModuleRefusal;
 pub use instruction::{Arithmetic, Comparison, Instruction};
 pub use module::Module;

@@ -8,7 +8,8 @@ use crate::defect::WorldFault;
 use crate::world::InputList;
 use crate::world_table::{Inputs, LineFault, entry_of, read_line};
 use crate::world_text::{lines_of, words_of};
-use bytecode::{Channel, Direction};
+use bytecode::Channel;
+use common::Direction;
 use std::alloc::{AllocError, Global};
 use std::collections::BTreeMap;
 

@@ -7,14 +7,14 @@ use Rattle.principals.proofs.Closure.{acts_for-decides}
 use Rattle.labels.specs.declared.sent.Pair.{Pair}
 use Rattle.labels.specs.Label.{Label, may_read}
 use Rattle.labels.specs.Sent.{pairs_for}
-use Rattle.resolved.specs.declared.tables.Direction.TheVariants as channel
+use Rattle.common.specs.declared.direction.Direction.TheVariants as channel
 use Rattle.resolved.specs.Isolated.{Agree}
 use Rattle.resolved.specs.Labelled.{channel_label}
 use Rattle.resolved.specs.Program.{Program, ChannelEntry, channel_at}
 use Rattle.resolved.specs.SourceState.{World}
 use Rattle.bytecode.specs.Contents.{ChannelContents, ModuleContents}
 use Rattle.bytecode.specs.Isolated.{label_in, channel_label as module_label, seen_of, AgreeOnInputs}
-use Rattle.lowering.specs.Interface.{direction_of, channel_contents}
+use Rattle.lowering.specs.Interface.{channel_contents}
 use Rattle.compiler.specs.Compiled.{HasInterfaceOf}
 
 -- what stands in a module's table of channels is what stands in the program's
@@ -56,6 +56,6 @@ module _ (program : Program) (m : ModuleContents) (same : HasInterfaceOf program
       agree n (record {
         channel = channel_contents (channel_at program n);
         there = ap (λ (all : List ChannelContents). slice_get all n) same.channels ∙ channel_there program.channels n (record { direction = channel.Output; name = []; label = [] }) there;
-        input = ap direction_of input;
+        input = input;
         reads = may_read-module p (channel_label program n) ∙ reads;
       })

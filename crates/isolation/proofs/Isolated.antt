@@ -8,8 +8,8 @@ use Rattle.resolved.specs.declared.expression.Variable.{Variable}
 use Rattle.resolved.specs.declared.expression.Variable.TheVariants.{Global, Local}
 use Rattle.resolved.specs.declared.expression.Value.{Value}
 use Rattle.resolved.specs.declared.statement.Exit.{Exit}
-use Rattle.resolved.specs.declared.tables.Direction.{Direction}
-use Rattle.resolved.specs.declared.tables.Direction.TheVariants.{Input, Output}
+use Rattle.common.specs.declared.direction.Direction.{Direction}
+use Rattle.common.specs.declared.direction.Direction.TheVariants.{Input, Output}
 use Rattle.resolved.specs.Tree.{Empty}
 use Rattle.resolved.specs.Program.{Program, ChannelEntry, ProcedureEntry, procedure_at, channel_at, slot_at}
 use Rattle.resolved.specs.SourceState.{SourceState, World, cells}

@@ -9,7 +9,7 @@ use Rattle.labels.specs.Sent.{pairs_for}
 use Rattle.resolved.specs.declared.expression.Base.TheVariants.{Int}
 use Rattle.resolved.specs.declared.expression.Variable.TheVariants.{Local}
 use Rattle.resolved.specs.declared.expression.Operator.TheVariants.{GreaterThan}
-use Rattle.resolved.specs.declared.tables.Direction.TheVariants.{Input, Output}
+use Rattle.common.specs.declared.direction.Direction.TheVariants.{Input, Output}
 use Rattle.resolved.specs.Tree.{Integer, Read, Binary, Assign, Receive, Send, While, Try, Block, Empty, Then, NoMore, Catch}
 use Rattle.resolved.specs.Program.{Program, ThrownEntry}
 use Rattle.resolved.specs.Value.{end_exception}

@@ -7,8 +7,8 @@ use Rattle.labels.specs.Printed.{printed_label}
 use Rattle.bytecode.specs.Code.{width_of}
 use Rattle.bytecode.specs.Contents.{ChannelContents, ModuleContents, ProcedureContents}
 use Rattle.bytecode.specs.Opcodes.{instruction_text}
-use Rattle.bytecode.specs.declared.declaration.Direction.{Direction}
-use Rattle.bytecode.specs.declared.declaration.Direction.TheVariants.{Input, Output}
+use Rattle.common.specs.declared.direction.Direction.{Direction}
+use Rattle.common.specs.declared.direction.Direction.TheVariants.{Input, Output}
 use Rattle.bytecode.specs.declared.declaration.Handler.{Handler}
 use Rattle.bytecode.specs.declared.instruction.Instruction.{Instruction}
 

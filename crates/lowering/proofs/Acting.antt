@@ -9,8 +9,8 @@ use Rattle.bytecode.specs.declared.value.Cell.{Cell}
 use Rattle.bytecode.specs.declared.value.Cell.TheVariants as cell
 use Rattle.bytecode.specs.declared.declaration.Slot.{Slot}
 use Rattle.bytecode.specs.declared.declaration.Slot.TheVariants as slot
-use Rattle.bytecode.specs.declared.declaration.Direction.{Direction}
-use Rattle.bytecode.specs.declared.declaration.Direction.TheVariants.{Input, Output}
+use Rattle.common.specs.declared.direction.Direction.{Direction}
+use Rattle.common.specs.declared.direction.Direction.TheVariants.{Input, Output}
 use Rattle.bytecode.specs.Machine.{Caller, State, Machine, Header, MachineCode, handled, unwound, raised, slot_at, with_slot, with_global, loads, stores, found, loads_element, changes, stores_element, clears, with_element, element_at, computed, pushes_number, computes, compares, same_truth, matches, drops, negates, inverts, branches, popped, enters, calls, takes, receives, sends, throws, act}
 
 module _ (p : MachineCode) (fetch : ℕ → ℕ → Option Instruction) where

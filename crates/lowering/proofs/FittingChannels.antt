@@ -10,8 +10,8 @@ use Rattle.labels.specs.Canonical.{IsCanonicalLabel}
 use Rattle.resolved.specs.Names.{IsShortName}
 use Rattle.resolved.specs.Program.{ChannelEntry}
 use Rattle.resolved.specs.WellFormed.{label_fits, label_nodes}
-use Rattle.bytecode.specs.declared.declaration.Direction.{Direction}
-use Rattle.bytecode.specs.declared.declaration.Direction.TheVariants.{Input, Output}
+use Rattle.common.specs.declared.direction.Direction.{Direction}
+use Rattle.common.specs.declared.direction.Direction.TheVariants.{Input, Output}
 use Rattle.bytecode.specs.Contents.{ChannelContents}
 use Rattle.bytecode.specs.Form.{Fits}
 use Rattle.bytecode.specs.Format.{is_among, built_in, is_built_in, direction, label, channel_after, channels, channel_names, declared}

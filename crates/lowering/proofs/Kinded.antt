@@ -9,7 +9,7 @@ use Rattle.resolved.specs.declared.expression.Prefix.{Prefix}
 use Rattle.resolved.specs.declared.expression.Prefix.TheVariants as prefix
 use Rattle.resolved.specs.declared.expression.Operator.{Operator}
 use Rattle.resolved.specs.declared.expression.Operator.TheVariants as operator
-use Rattle.resolved.specs.declared.tables.Direction.TheVariants as direction
+use Rattle.common.specs.declared.direction.Direction.TheVariants as direction
 use Rattle.resolved.specs.Program.{Program, ProcedureEntry, SlotEntry, ChannelEntry}
 use Rattle.resolved.specs.WellFormed.{VariableType, variable_type, scalar_by, array_by, has_length, channel_is, prefix_base, operand_base, result_base}
 use Rattle.resolved.proofs.Sound.Values.{both}

@@ -8,8 +8,8 @@ use Rattle.resolved.specs.declared.expression.Base.TheVariants as base
 use Rattle.resolved.specs.declared.expression.Variable.{Variable}
 use Rattle.resolved.specs.declared.expression.Variable.TheVariants.{Local}
 use Rattle.resolved.specs.declared.statement.Exit.TheVariants as exit
-use Rattle.resolved.specs.declared.tables.Direction.{Direction}
-use Rattle.resolved.specs.declared.tables.Direction.TheVariants.{Input, Output}
+use Rattle.common.specs.declared.direction.Direction.{Direction}
+use Rattle.common.specs.declared.direction.Direction.TheVariants.{Input, Output}
 use Rattle.resolved.specs.Tree.{Expression}
 use Rattle.resolved.specs.Program as resolved
 use Rattle.resolved.specs.SourceState as source
@@ -24,7 +24,6 @@ use Rattle.bytecode.specs.declared.value.Kind.{Kind}
 use Rattle.bytecode.specs.declared.value.Cell.TheVariants as cell
 use Rattle.bytecode.specs.declared.declaration.Slot.{Slot}
 use Rattle.bytecode.specs.declared.declaration.Slot.TheVariants as slot
-use Rattle.bytecode.specs.declared.declaration.Direction.{Direction as MachineDirection}
 use Rattle.bytecode.specs.declared.instruction.Instruction.{Instruction}
 use Rattle.bytecode.specs.declared.instruction.Instruction.TheVariants as instruction
 use Rattle.bytecode.specs.Machine as machine
@@ -40,7 +39,6 @@ use Rattle.lowering.proofs.Rows.{does, onward, slot_for, stores_element-is, stor
 use Rattle.lowering.proofs.Values.{Finds, finds-part, given-base, scalar-there, array-there}
 use Rattle.lowering.proofs.Expressions.{value-runs}
 use Rattle.lowering.proofs.Outcomes.{Runs, runs-at, evaluated-runs}
-use Rattle.bytecode.specs.declared.declaration.Direction.TheVariants as way
 use Rattle.lowering.proofs.Simple.{cleared_cells, stores-scalar, returns-value, taken_state, input_rest, kept-runs}
 
 module _ (g : Setting) (loop : Loop) (h : ℕ → Option ℕ) (k : ℕ) (s : source.SourceState) (fit : StateFits g.program g.procedure s) where
@@ -59,15 +57,15 @@ module _ (g : Setting) (loop : Loop) (h : ℕ → Option ℕ) (k : ℕ) (s : sou
       (λ b has. given-base b (value_of s e) v (value_fits g.program g.procedure s fit b e has) f)
       (stands-back g.code (value_code at e) (store_of x ∷ []) at n (value-sized e at) stands)))
 
-  send-channel : (channel : ℕ) → channel_is (slice_get g.program.channels channel) Output ≡ true → slice_get g.p.directions channel ≡ Some way.Output
+  send-channel : (channel : ℕ) → channel_is (slice_get g.program.channels channel) Output ≡ true → slice_get g.p.directions channel ≡ Some Output
   send-channel channel is_output = g.channels_there channel ∙ go (slice_get g.program.channels channel) is_output
     where
       by : (d : Direction) → Rattle.resolved.specs.WellFormed.same_direction d Output ≡ true
-          → ◌≡◌ {A = Option MachineDirection} (Some (Rattle.lowering.specs.Interface.direction_of d)) (Some way.Output)
+          → ◌≡◌ {A = Option Direction} (Some d) (Some Output)
       by Output e = refl
       by Input e = absurd (let no : false ≡ true = e in cc)
 
-      go : (o : Option resolved.ChannelEntry) → channel_is o Output ≡ true → direction_in o ≡ Some way.Output
+      go : (o : Option resolved.ChannelEntry) → channel_is o Output ≡ true → direction_in o ≡ Some Output
       go None e = absurd (let no : false ≡ true = e in cc)
       go (Some entry) e = by entry.direction e
 
@@ -75,7 +73,7 @@ module _ (g : Setting) (loop : Loop) (h : ℕ → Option ℕ) (k : ℕ) (s : sou
       → Stands g.code (instruction.Send channel ∷ more) at → Leads g.p (place g at (cell_of v ∷ []) s) (place g (at + 1) [] (sending channel v s))
   send-value channel at (Number z) more is_output typed stands =
       does g more (instruction.Send channel) at (cell.Int z ∷ []) s _ stands
-      (ap (λ (o : Option MachineDirection). sends g.p (state_at g at (cell.Int z ∷ []) s) channel o (cell.Int z ∷ [])) (send-channel channel is_output)
+      (ap (λ (o : Option Direction). sends g.p (state_at g at (cell.Int z ∷ []) s) channel o (cell.Int z ∷ [])) (send-channel channel is_output)
       ∙ onward g at (cell.Int z ∷ []) [] (sending channel (Number z) s))
   send-value channel at (Truth b) more is_output typed stands = absurd (let no : base.Boolean ≡ base.Int = typed in cc)
 
@@ -115,7 +113,7 @@ module _ (g : Setting) (loop : Loop) (h : ℕ → Option ℕ) (k : ℕ) (s : sou
       S : State
       S = state_at g at [] s
 
-      left : (left_of (slice_get g.program.channels channel) (s.inputs channel) (g.world channel) ≡ s.inputs channel) × (direction_in (slice_get g.program.channels channel) ≡ Some way.Input)
+      left : (left_of (slice_get g.program.channels channel) (s.inputs channel) (g.world channel) ≡ s.inputs channel) × (direction_in (slice_get g.program.channels channel) ≡ Some Input)
       left = input_rest g loop h k s channel is_input
 
       taken : machine.act g.p (instruction.Receive channel) S ≡ takes g.p S channel (left_of (slice_get g.program.channels channel) (s.inputs channel) (g.world channel))

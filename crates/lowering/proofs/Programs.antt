@@ -10,8 +10,8 @@ use Rattle.resolved.specs.declared.expression.Value.TheVariants.{Number, Truth}
 use Rattle.resolved.specs.declared.expression.Base.{Base}
 use Rattle.resolved.specs.declared.expression.Base.TheVariants as base
 use Rattle.resolved.specs.declared.statement.Exit.TheVariants.{Normal, Return, Break, Continue, Throw}
-use Rattle.resolved.specs.declared.tables.Direction.{Direction}
-use Rattle.resolved.specs.declared.tables.Direction.TheVariants.{Input, Output}
+use Rattle.common.specs.declared.direction.Direction.{Direction}
+use Rattle.common.specs.declared.direction.Direction.TheVariants.{Input, Output}
 use Rattle.resolved.specs.Program.{Program, ProcedureEntry, ResultEntry, GlobalEntry, ChannelEntry, procedure_at}
 use Rattle.resolved.specs.SourceState as source
 use Rattle.resolved.specs.Value.{base_of}

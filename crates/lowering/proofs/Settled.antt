@@ -8,7 +8,7 @@ use Rattle.resolved.specs.declared.expression.Variable.{Variable}
 use Rattle.resolved.specs.declared.expression.Variable.TheVariants.{Local}
 use Rattle.resolved.specs.declared.statement.Exit.{Exit}
 use Rattle.resolved.specs.declared.statement.Exit.TheVariants.{Normal, Return, Break, Continue, Throw}
-use Rattle.resolved.specs.declared.tables.Direction.TheVariants.{Input, Output}
+use Rattle.common.specs.declared.direction.Direction.TheVariants.{Input, Output}
 use Rattle.resolved.specs.Tree.{Expression, Statement, Assign, Clear, Store, Receive, Send, Call, If, While, Leave, ReturnWith, Try, Nested, Block, Empty, Then, Handlers, NoMore, Catch, place_of}
 use Rattle.resolved.specs.Program.{Program, ProcedureEntry, ResultEntry, SlotEntry, procedure_at}
 use Rattle.resolved.specs.Ends.{same_exit, has_end, statement_ends, block_ends}
@@ -19,7 +19,7 @@ use Rattle.resolved.proofs.Sound.Values.{both, same_base_is}
 use Rattle.isolation.proofs.Declared.{append-empty, no_fault-test}
 use Rattle.bytecode.specs.Contents.{ProcedureContents, ModuleContents}
 use Rattle.bytecode.specs.Machine.{Header, machine_code, header_of}
-use Rattle.bytecode.specs.declared.declaration.Direction.{Direction}
+use Rattle.common.specs.declared.direction.Direction.{Direction}
 use Rattle.bytecode.specs.declared.declaration.Handler.{Handler}
 use Rattle.bytecode.specs.declared.declaration.Slot.TheVariants as slot
 use Rattle.bytecode.specs.declared.instruction.Instruction.{Instruction}

@@ -9,8 +9,8 @@ use Rattle.resolved.specs.declared.expression.Base.TheVariants as base
 use Rattle.resolved.specs.declared.expression.Variable.{Variable}
 use Rattle.resolved.specs.declared.statement.Exit.{Exit}
 use Rattle.resolved.specs.declared.statement.Exit.TheVariants as exit
-use Rattle.resolved.specs.declared.tables.Direction.{Direction}
-use Rattle.resolved.specs.declared.tables.Direction.TheVariants.{Input, Output}
+use Rattle.common.specs.declared.direction.Direction.{Direction}
+use Rattle.common.specs.declared.direction.Direction.TheVariants.{Input, Output}
 use Rattle.resolved.specs.Program as resolved
 use Rattle.resolved.specs.SourceState as source
 use Rattle.resolved.specs.SourceState.{value_of, cells, cell_at, assigned, stored, cleared, updated, with_cells}
@@ -22,7 +22,6 @@ use Rattle.bytecode.specs.declared.value.Cell.{Cell}
 use Rattle.bytecode.specs.declared.value.Kind.{Kind}
 use Rattle.bytecode.specs.declared.value.Cell.TheVariants as cell
 use Rattle.bytecode.specs.declared.declaration.Slot.TheVariants as slot
-use Rattle.bytecode.specs.declared.declaration.Direction.{Direction as MachineDirection}
 use Rattle.bytecode.specs.declared.instruction.Instruction.{Instruction}
 use Rattle.bytecode.specs.declared.instruction.Instruction.TheVariants as instruction
 use Rattle.bytecode.specs.Values.{zero_of, has_kind}
@@ -131,17 +130,17 @@ module _ (g : Setting) (loop : Loop) (h : ℕ → Option ℕ) (k : ℕ) (s : sou
 
   pub input_rest : (channel : ℕ) → channel_is (slice_get g.program.channels channel) Input ≡ true
       → (left_of (slice_get g.program.channels channel) (s.inputs channel) (g.world channel) ≡ s.inputs channel)
-      × (direction_in (slice_get g.program.channels channel) ≡ Some Rattle.bytecode.specs.declared.declaration.Direction.TheVariants.Input)
+      × (direction_in (slice_get g.program.channels channel) ≡ Some Input)
   input_rest channel is_input = go (slice_get g.program.channels channel) is_input
     where
       by : (d : Direction) → Rattle.resolved.specs.WellFormed.same_direction d Input ≡ true
           → (left_by d (s.inputs channel) (g.world channel) ≡ s.inputs channel)
-          × (◌≡◌ {A = Option MachineDirection} (Some (Rattle.lowering.specs.Interface.direction_of d)) (Some Rattle.bytecode.specs.declared.declaration.Direction.TheVariants.Input))
+          × (◌≡◌ {A = Option Direction} (Some d) (Some Input))
       by Input e = (refl, refl)
       by Output e = absurd (let no : false ≡ true = e in cc)
 
       go : (o : Option resolved.ChannelEntry) → channel_is o Input ≡ true
-          → (left_of o (s.inputs channel) (g.world channel) ≡ s.inputs channel) × (direction_in o ≡ Some Rattle.bytecode.specs.declared.declaration.Direction.TheVariants.Input)
+          → (left_of o (s.inputs channel) (g.world channel) ≡ s.inputs channel) × (direction_in o ≡ Some Input)
       go None e = absurd (let no : false ≡ true = e in cc)
       go (Some entry) e = by entry.direction e
 

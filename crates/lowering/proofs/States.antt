@@ -7,8 +7,8 @@ use Rattle.resolved.specs.declared.expression.Value.TheVariants as value
 use Rattle.resolved.specs.declared.expression.Base.{Base}
 use Rattle.resolved.specs.declared.expression.Base.TheVariants as base
 use Rattle.resolved.specs.declared.expression.Variable.TheVariants.{Global, Local}
-use Rattle.resolved.specs.declared.tables.Direction.{Direction}
-use Rattle.resolved.specs.declared.tables.Direction.TheVariants.{Input, Output}
+use Rattle.common.specs.declared.direction.Direction.{Direction}
+use Rattle.common.specs.declared.direction.Direction.TheVariants.{Input, Output}
 use Rattle.resolved.specs.Program as resolved
 use Rattle.resolved.specs.SourceState as source
 use Rattle.resolved.specs.Value.{base_of}
@@ -16,11 +16,10 @@ use Rattle.resolved.specs.WellFormed.{VariableType, variable_type}
 use Rattle.bytecode.specs.declared.value.Cell.{Cell}
 use Rattle.bytecode.specs.declared.value.Cell.TheVariants as cell
 use Rattle.bytecode.specs.declared.declaration.Slot.{Slot}
-use Rattle.bytecode.specs.declared.declaration.Direction.{Direction as MachineDirection}
 use Rattle.bytecode.specs.declared.instruction.Instruction.{Instruction}
 use Rattle.bytecode.specs.Values.{has_kind}
 use Rattle.bytecode.specs.Machine.{Machine, Running, State, Frame, Caller, MachineCode, Header, slots_of, with_slot, with_global, handled, raised, unwound, leaves, leaves_value}
-use Rattle.lowering.specs.Interface.{kind_of_base, declared_slot, direction_of, returned_kind}
+use Rattle.lowering.specs.Interface.{kind_of_base, declared_slot, returned_kind}
 
 abbrev pub cell_of : Value → Cell
 cell_of (value.Number z) = cell.Int z
@@ -34,9 +33,9 @@ abbrev pub slot_of_type : Option VariableType → Option Slot
 slot_of_type None = None
 slot_of_type (Some type) = Some (declared_slot type.base type.size)
 
-abbrev pub direction_in : Option resolved.ChannelEntry → Option MachineDirection
+abbrev pub direction_in : Option resolved.ChannelEntry → Option Direction
 direction_in None = None
-direction_in (Some entry) = Some (direction_of entry.direction)
+direction_in (Some entry) = Some entry.direction
 
 -- what is left of a channel: of an input what the program has left, of another channel what the world has
 abbrev pub left_by : Direction → List ℤ → List ℤ → List ℤ

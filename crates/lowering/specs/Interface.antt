@@ -8,11 +8,7 @@ use Rattle.resolved.specs.declared.expression.Base.{Base}
 use Rattle.resolved.specs.declared.expression.Base.TheVariants as base
 use Rattle.resolved.specs.declared.expression.Value.{Value}
 use Rattle.resolved.specs.declared.expression.Value.TheVariants.{Number, Truth}
-use Rattle.resolved.specs.declared.tables.Direction.{Direction as ChannelDirection}
-use Rattle.resolved.specs.declared.tables.Direction.TheVariants as channel
 use Rattle.resolved.specs.Program.{ChannelEntry, GlobalEntry, SlotEntry, ResultEntry}
-use Rattle.bytecode.specs.declared.declaration.Direction.{Direction}
-use Rattle.bytecode.specs.declared.declaration.Direction.TheVariants.{Input, Output}
 use Rattle.bytecode.specs.declared.declaration.Slot.{Slot}
 use Rattle.bytecode.specs.declared.declaration.Slot.TheVariants as slot
 use Rattle.bytecode.specs.declared.declaration.Global.{Global}
@@ -26,13 +22,9 @@ use Rattle.bytecode.specs.Format.{pair_cmp}
 abbrev pub hierarchy_contents : PrincipalHierarchy → PrincipalHierarchy
 hierarchy_contents h = record { names = h.names; pairs = ascending_set pair_cmp h.pairs }
 
-abbrev pub direction_of : ChannelDirection → Direction
-direction_of channel.Input = Input
-direction_of channel.Output = Output
-
 -- a channel of a program as one of a graph: the same direction, name and label
 abbrev pub channel_contents : ChannelEntry → ChannelContents
-channel_contents entry = record { direction = direction_of entry.direction; name = entry.name; label = entry.label }
+channel_contents entry = record { direction = entry.direction; name = entry.name; label = entry.label }
 
 -- the kind of the values of a base type
 abbrev pub kind_of_base : Base → Kind

@@ -1,11 +1,11 @@
 //! What a graph shows before any run: the hierarchy, the exceptions, the channels and the globals.
 ghost use Rattle.resolved.specs.ProgramOf.{channel_entry, global_entry};
-ghost use Rattle.lowering.specs.Interface.{channel_contents, declared_global, direction_of, global_contents, hierarchy_contents, kind_of_base, scalar_global};
+ghost use Rattle.lowering.specs.Interface.{channel_contents, declared_global, global_contents, hierarchy_contents, kind_of_base, scalar_global};
 ghost use Rattle.lowering.specs.Fitting.{IsShortValue};
 ghost use Rattle.std.specs.Prelude.{All, IfOk, map, ◌≡◌};
 ghost use Rattle.std.specs.String.{string_bytes};
 
-use bytecode::{Channel, Direction, Kind};
+use bytecode::{Channel, Kind};
 use principals::Hierarchy;
 use resolved::expression::{Base, Value};
 use resolved::tables;
@@ -38,16 +38,6 @@ pub(crate) fn names_of(alloc: Global, names: &[String]) -> Result<Vec<String>, A
     Ok(made)
 }
 
-/// The same way.
-fn direction_of(direction: tables::Direction) -> Direction
-    ensures { result ≡ direction_of direction }
-{
-    match direction {
-        tables::Direction::Input => Direction::Input,
-        tables::Direction::Output => Direction::Output,
-    }
-}
-
 /// The same channels, in their order.
 pub(crate) fn channels_of(
     alloc: Global,
@@ -58,8 +48,11 @@ pub(crate) fn channels_of(
 {
     let mut made = Vec::new(alloc);
     for channel in channels {
-        let direction = direction_of(channel.direction);
-        made.push(Channel::new(direction, channel.name.clone()?, channel.label.clone()?))?;
+        made.push(Channel::new(
+            channel.direction,
+            channel.name.clone()?,
+            channel.label.clone()?,
+        ))?;
     }
     Ok(made)
 }

@@ -11,7 +11,7 @@ use crate::names::{read_exceptions, read_name, take, take_built_in};
 use crate::reading::{ReadError, read_byte, read_number, refuse};
 use bytecode::ModuleRefusal;
 use bytecode::channel::Channel;
-use bytecode::declaration::Direction;
+use common::Direction;
 use principals::Hierarchy;
 use std::alloc::Global;
 use std::collections::BTreeSet;

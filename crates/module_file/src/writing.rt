@@ -7,11 +7,12 @@ ghost use Rattle.std.specs.Prelude.{[], All, List, OnOk, ℕ, ◌++◌, ◌∷�
 ghost use Rattle.std.specs.String.{string_bytes};
 
 use bytecode::channel::Channel;
-use bytecode::declaration::{Direction, Global as Variable, Handler, Slot};
+use bytecode::declaration::{Global as Variable, Handler, Slot};
 use bytecode::instruction::Instruction;
 use bytecode::opcode::{Operand, row_of};
 use bytecode::value::Kind;
 use byteorder::{BigEndian, ByteOrder};
+use common::Direction;
 use labels::Policy;
 use std::alloc::AllocError;
 

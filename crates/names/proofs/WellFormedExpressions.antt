@@ -10,7 +10,7 @@ use Rattle.syntax.specs.Tree.{NameTree, ExpressionTree, IntegerTree, TruthTree, 
 use Rattle.syntax.specs.Written.{IsWrittenExpression}
 use Rattle.resolved.specs.declared.expression.Base.{Base}
 use Rattle.resolved.specs.declared.expression.Base.TheVariants.{Int, Boolean}
-use Rattle.resolved.specs.declared.tables.Direction.TheVariants as directions
+use Rattle.common.specs.declared.direction.Direction.TheVariants as directions
 use Rattle.resolved.specs.Program.{Program, ProcedureEntry, SlotEntry, ResultEntry}
 use Rattle.resolved.specs.Tree.{Expression}
 use Rattle.resolved.specs.WellFormed.{same_base, prefix_base, VariableType, variable_type, scalar_by, array_by, has_base, channel_is, is_exception, parameters_of, literal_limit, expression_nodes}

@@ -9,16 +9,14 @@ use Rattle.std.proofs.lemmas.List.Sums.{sum_by-cons, sum_by_push}
 use Rattle.std.proofs.lemmas.Option.{slice_get-map}
 use Rattle.std.proofs.lemmas.Result.{IfOk-weaker}
 use Rattle.principals.specs.ActsFor.{PrincipalHierarchy, IsHierarchy}
-use Rattle.syntax.specs.declared.tree.Direction.{Direction}
-use Rattle.syntax.specs.declared.tree.Direction.TheVariants as written_directions
+use Rattle.common.specs.declared.direction.Direction.{Direction}
+use Rattle.common.specs.declared.direction.Direction.TheVariants as directions
 use Rattle.syntax.specs.Nodes as tree
 use Rattle.syntax.specs.Tree.{ConstantTree, IntegerConstant, TruthConstant, GlobalValueTree, ScalarTree, ArrayTree, GlobalTree, ChannelTree, ItemTree, ChannelItem, ExceptionItem, GlobalItem, ProcedureItem, ProgramTree}
 use Rattle.syntax.specs.Written.{IsWrittenItem, IsWritten}
 use Rattle.resolved.specs.declared.expression.Base.{Base}
 use Rattle.resolved.specs.declared.expression.Base.TheVariants.{Int, Boolean}
 use Rattle.resolved.specs.declared.expression.Variable.TheVariants.{Global, Local}
-use Rattle.resolved.specs.declared.tables.Direction.{Direction as Way}
-use Rattle.resolved.specs.declared.tables.Direction.TheVariants as ways
 use Rattle.resolved.specs.Program.{Program, ChannelEntry, GlobalEntry, ProcedureEntry}
 use Rattle.resolved.specs.Value.{base_of as value_base}
 use Rattle.resolved.specs.WellFormed.{same_base, VariableType, global_type, parameters_of, same_direction, channel_is, label_fits, is_zero_value, first_fits, main_fits, cell_count, cell_limit, array_limit, principal_limit, node_limit, size_fits, label_nodes, procedure_nodes, program_nodes, procedure_fits, well_formed}
@@ -31,7 +29,7 @@ use Rattle.names.specs.Environment.{Environment, declaring, fresh_finding}
 use Rattle.names.specs.Labels.{label_finding}
 use Rattle.names.specs.Expressions.{base_of}
 use Rattle.names.specs.Statements.{Signature, signature_at, size_finding}
-use Rattle.names.specs.Resolution.{TopLevel, nothing_declared, built_in, item_name, channel_meaning, global_meaning, item_meaning, signature_of, counted, next_name, top_finding, direction_of, channel_finding, constant_value, constant_base, constant_place, FirstValue, first_finding, global_finding, zero_of, Tables, next_item, no_tables, items_finding, procedure_entry_finding, main_entry_finding, main_finding, global_cells, next_global_cells, global_cells_finding, frame_cells, next_frame, frames_finding, program_with, resolution}
+use Rattle.names.specs.Resolution.{TopLevel, nothing_declared, built_in, item_name, channel_meaning, global_meaning, item_meaning, signature_of, counted, next_name, top_finding, channel_finding, constant_value, constant_base, constant_place, FirstValue, first_finding, global_finding, zero_of, Tables, next_item, no_tables, items_finding, procedure_entry_finding, main_entry_finding, main_finding, global_cells, next_global_cells, global_cells_finding, frame_cells, next_frame, frames_finding, program_with, resolution}
 use Rattle.names.proofs.Passing.{then_finds, if_finds, demand_finds, any_finds}
 use Rattle.names.proofs.WellFormedExpressions.{given_base, slot_base, Signed, Stands}
 use Rattle.names.proofs.WellFormedLabels.{label_there, all_pushed}
@@ -74,7 +72,7 @@ each_pushed P (y ∷ xs) x all one = (all.0, each_pushed P xs x all.1 one)
 abbrev signature_from : ProcedureEntry → Signature
 signature_from entry = record { parameters = map slot_base (parameters_of entry); result = given_base entry.result }
 
-abbrev way_of : ChannelEntry → Way
+abbrev way_of : ChannelEntry → Direction
 way_of entry = entry.direction
 
 abbrev variable_of : GlobalEntry → VariableType
@@ -89,13 +87,13 @@ declared_variable global = record { base = base_of global.base; size = size_of g
 
 -- the channels, how many exceptions there are, the globals and the procedures
 record Shape : Type 0 where
-  pub directions : List Way
+  pub directions : List Direction
   pub exceptions : ℕ
   pub variables : List VariableType
   pub signatures : List Signature
 
 abbrev shape_with : Shape → ItemTree → Shape
-shape_with shape (ChannelItem channel) = record shape { directions = shape.directions ++ direction_of channel.direction ∷ [] }
+shape_with shape (ChannelItem channel) = record shape { directions = shape.directions ++ channel.direction ∷ [] }
 shape_with shape (ExceptionItem at name) = record shape { exceptions = shape.exceptions + 1 }
 shape_with shape (GlobalItem global) = record shape { variables = shape.variables ++ declared_variable global ∷ [] }
 shape_with shape (ProcedureItem procedure) = record shape { signatures = shape.signatures ++ signature_of procedure ∷ [] }
@@ -108,8 +106,8 @@ abbrev no_items : Shape
 no_items = record { directions = []; exceptions = 3; variables = []; signatures = [] }
 
 abbrev StandsIn : Shape → Meaning → Type 0
-StandsIn shape (Input channel) = slice_get shape.directions channel ≡ Some ways.Input
-StandsIn shape (Output channel) = slice_get shape.directions channel ≡ Some ways.Output
+StandsIn shape (Input channel) = slice_get shape.directions channel ≡ Some directions.Input
+StandsIn shape (Output channel) = slice_get shape.directions channel ≡ Some directions.Output
 StandsIn shape (Exception number) = number < shape.exceptions
 StandsIn shape (Procedure number) = number < length shape.signatures
 StandsIn shape (Scalar (Global n) base) = slice_get shape.variables n ≡ Some (record { base = base; size = None })
@@ -131,8 +129,8 @@ means_in_declaring shape name meaning names stands means other found e = go (byt
     go false e = means other found e
 
 stands_further : (shape : Shape) (item : ItemTree) (meaning : Meaning) → StandsIn shape meaning → StandsIn (shape_with shape item) meaning
-stands_further shape (ChannelItem channel) (Input n) e = still_is shape.directions (direction_of channel.direction ∷ []) n ways.Input e
-stands_further shape (ChannelItem channel) (Output n) e = still_is shape.directions (direction_of channel.direction ∷ []) n ways.Output e
+stands_further shape (ChannelItem channel) (Input n) e = still_is shape.directions (channel.direction ∷ []) n directions.Input e
+stands_further shape (ChannelItem channel) (Output n) e = still_is shape.directions (channel.direction ∷ []) n directions.Output e
 stands_further shape (ChannelItem channel) (Exception n) e = e
 stands_further shape (ChannelItem channel) (Procedure n) e = e
 stands_further shape (ChannelItem channel) (Scalar (Global n) base) e = e
@@ -179,11 +177,11 @@ record TopKept (shape : Shape) (top : TopLevel) : Type 0 where
 new_stands : (shape : Shape) (top : TopLevel) (item : ItemTree) → TopKept shape top → StandsIn (shape_with shape item) (item_meaning top item)
 new_stands shape top (ChannelItem channel) kept = go channel.direction
   where
-    go : (direction : Direction) → StandsIn (record shape { directions = shape.directions ++ direction_of direction ∷ [] }) (channel_meaning direction top.channels)
-    go written_directions.Input =
-        subst (λ n. slice_get (shape.directions ++ ways.Input ∷ []) n ≡ Some ways.Input) (sym kept.channels) (last_is shape.directions ways.Input)
-    go written_directions.Output =
-        subst (λ n. slice_get (shape.directions ++ ways.Output ∷ []) n ≡ Some ways.Output) (sym kept.channels) (last_is shape.directions ways.Output)
+    go : (direction : Direction) → StandsIn (record shape { directions = shape.directions ++ direction ∷ [] }) (channel_meaning direction top.channels)
+    go directions.Input =
+        subst (λ n. slice_get (shape.directions ++ directions.Input ∷ []) n ≡ Some directions.Input) (sym kept.channels) (last_is shape.directions directions.Input)
+    go directions.Output =
+        subst (λ n. slice_get (shape.directions ++ directions.Output ∷ []) n ≡ Some directions.Output) (sym kept.channels) (last_is shape.directions directions.Output)
 new_stands shape top (ExceptionItem at name) kept = omega (arith, kept.exceptions)
 new_stands shape top (GlobalItem global) kept = go global.value
   where
@@ -204,7 +202,7 @@ new_stands shape top (ProcedureItem procedure) kept =
 counted_kept : (shape : Shape) (top : TopLevel) (item : ItemTree) (names : Environment) → TopKept shape top → MeansIn (shape_with shape item) names
     → TopKept (shape_with shape item) (record (counted top item) { names = names })
 counted_kept shape top (ChannelItem channel) names kept means = record {
-  channels = omega (arith, kept.channels, length-append shape.directions (direction_of channel.direction ∷ []));
+  channels = omega (arith, kept.channels, length-append shape.directions (channel.direction ∷ []));
   exceptions = kept.exceptions;
   globals = kept.globals;
   signatures = kept.signatures;
@@ -263,7 +261,7 @@ built_in_kept = record {
 -- ---- channels and globals
 
 channel_there : (h : PrincipalHierarchy) (channel : ChannelTree)
-    → IfOk (channel_finding h channel) (λ (entry : ChannelEntry). (label_fits h entry.label ≡ true) × (entry.direction ≡ direction_of channel.direction) × (1 + label_nodes entry.label ≤ tree.label_nodes channel.label))
+    → IfOk (channel_finding h channel) (λ (entry : ChannelEntry). (label_fits h entry.label ≡ true) × (entry.direction ≡ channel.direction) × (1 + label_nodes entry.label ≤ tree.label_nodes channel.label))
 unfolding channel_finding
 channel_there h channel =
     then_finds (label_finding h channel.label) _ (λ found. (label_fits h found ≡ true) × (1 + label_nodes found ≤ tree.label_nodes channel.label)) _
@@ -351,7 +349,7 @@ module _ (placed : ℕ → Type 0) (longest : ℕ) (h : PrincipalHierarchy) (top
   unfolding next_item
   item_kept shape nodes tables (ChannelItem channel) is kept =
       then_finds (channel_finding h channel) _
-      (λ (entry : ChannelEntry). (label_fits h entry.label ≡ true) × (entry.direction ≡ direction_of channel.direction) × (1 + label_nodes entry.label ≤ tree.label_nodes channel.label)) _
+      (λ (entry : ChannelEntry). (label_fits h entry.label ≡ true) × (entry.direction ≡ channel.direction) × (1 + label_nodes entry.label ≤ tree.label_nodes channel.label)) _
       (channel_there h channel) (λ entry there. record {
         directions = map_push way_of tables.channels entry ∙ (λ i. kept.directions i ++ there.1 i ∷ []);
         exceptions = kept.exceptions;
@@ -488,15 +486,15 @@ main_found (Some (Array variable base size)) procedures = tt
 
 -- ---- what the names of the items mean in the program
 
-way_there : (found : Option ChannelEntry) (way : Way) → option_map way_of found ≡ Some way → channel_is found way ≡ true
+way_there : (found : Option ChannelEntry) (way : Direction) → option_map way_of found ≡ Some way → channel_is found way ≡ true
 way_there None way e = absurd (cc)
 way_there (Some entry) way e =
     let same : entry.direction ≡ way = cc in
     subst (λ one. same_direction one way ≡ true) (sym same) (itself way)
   where
-    itself : (way : Way) → same_direction way way ≡ true
-    itself ways.Input = refl
-    itself ways.Output = refl
+    itself : (way : Direction) → same_direction way way ≡ true
+    itself directions.Input = refl
+    itself directions.Output = refl
 
 type_there : (found : Option GlobalEntry) → global_type found ≡ option_map variable_of found
 type_there None = refl
@@ -506,7 +504,7 @@ module _ (h : PrincipalHierarchy) (top : TopLevel) (shape : Shape) (nodes : ℕ)
   abbrev program : Program
   program = program_with h tables main
 
-  way_at : (n : ℕ) (way : Way) → slice_get shape.directions n ≡ Some way → channel_is (slice_get tables.channels n) way ≡ true
+  way_at : (n : ℕ) (way : Direction) → slice_get shape.directions n ≡ Some way → channel_is (slice_get tables.channels n) way ≡ true
   way_at n way e =
       way_there (slice_get tables.channels n) way
       (sym (slice_get-map way_of tables.channels n) ∙ ap (λ one. slice_get one n) kept.directions ∙ e)
@@ -516,8 +514,8 @@ module _ (h : PrincipalHierarchy) (top : TopLevel) (shape : Shape) (nodes : ℕ)
       type_there (slice_get tables.globals n) ∙ sym (slice_get-map variable_of tables.globals n) ∙ ap (λ one. slice_get one n) kept.variables ∙ e
 
   stands_there : (procedure : ProcedureEntry) (meaning : Meaning) → StandsIn shape meaning → Stands program procedure top.signatures meaning
-  stands_there procedure (Input n) e = way_at n ways.Input e
-  stands_there procedure (Output n) e = way_at n ways.Output e
+  stands_there procedure (Input n) e = way_at n directions.Input e
+  stands_there procedure (Output n) e = way_at n directions.Output e
   stands_there procedure (Exception n) e = lt-ltb n (3 + length tables.exceptions) (omega (arith, e, kept.exceptions))
   stands_there procedure (Procedure n) e =
       let long : length (map signature_from tables.procedures) ≡ length shape.signatures = ap length kept.signatures in

@@ -16,7 +16,7 @@ use Rattle.resolved.specs.declared.expression.Base.{Base}
 use Rattle.resolved.specs.declared.expression.Base.TheVariants.{Int, Boolean}
 use Rattle.resolved.specs.declared.expression.Variable.{Variable}
 use Rattle.resolved.specs.declared.expression.Variable.TheVariants.{Local}
-use Rattle.resolved.specs.declared.tables.Direction.TheVariants as directions
+use Rattle.common.specs.declared.direction.Direction.TheVariants as directions
 use Rattle.resolved.specs.declared.statement.Exit.TheVariants as exits
 use Rattle.resolved.specs.Program.{Program, ProcedureEntry, SlotEntry, ResultEntry}
 use Rattle.resolved.specs.Tree.{Expression, Statement, Call, If, While, Leave, ReturnWith, Try, Nested, Block, Empty, Handlers, Catch}

@@ -6,16 +6,14 @@ use Rattle.std.specs.List.{list_any}
 use Rattle.principals.specs.ActsFor.{PrincipalHierarchy}
 use Rattle.labels.specs.Label.{Label}
 use Rattle.labels.specs.Canonical.{joined}
-use Rattle.syntax.specs.declared.tree.Direction.{Direction}
-use Rattle.syntax.specs.declared.tree.Direction.TheVariants as directions
+use Rattle.common.specs.declared.direction.Direction.{Direction}
+use Rattle.common.specs.declared.direction.Direction.TheVariants as directions
 use Rattle.syntax.specs.Tree.{NameTree, ConstantTree, IntegerConstant, TruthConstant, GlobalValueTree, ScalarTree, ArrayTree, GlobalTree, ChannelTree, WrittenResultTree, NothingTree, ResultTree, ParameterTree, ThrownTree, ProcedureTree, ItemTree, ChannelItem, ExceptionItem, GlobalItem, ProcedureItem, ProgramTree}
 use Rattle.resolved.specs.declared.expression.Base.{Base}
 use Rattle.resolved.specs.declared.expression.Base.TheVariants.{Int, Boolean}
 use Rattle.resolved.specs.declared.expression.Value.{Value}
 use Rattle.resolved.specs.declared.expression.Value.TheVariants.{Number, Truth}
 use Rattle.resolved.specs.declared.expression.Variable.TheVariants.{Global, Local}
-use Rattle.resolved.specs.declared.tables.Direction.{Direction as ChannelDirection}
-use Rattle.resolved.specs.declared.tables.Direction.TheVariants as channel_directions
 use Rattle.resolved.specs.Program.{Program, ChannelEntry, GlobalEntry, SlotEntry, ResultEntry, ThrownEntry, ProcedureEntry}
 use Rattle.resolved.specs.WellFormed.{same_base, cell_count, cell_limit}
 use Rattle.names.specs.declared.fault.NameRefusal.TheVariants as refusals
@@ -103,14 +101,10 @@ top_finding items = along next_name built_in items
 
 -- ---- channels and globals
 
-abbrev pub direction_of : Direction → ChannelDirection
-direction_of directions.Input = channel_directions.Input
-direction_of directions.Output = channel_directions.Output
-
 unfoldable pub channel_finding : PrincipalHierarchy → ChannelTree → Finding ChannelEntry
 channel_finding h channel = do
   label ← label_finding h channel.label
-  give (record { direction = direction_of channel.direction; name = channel.name.text; label = label })
+  give (record { direction = channel.direction; name = channel.name.text; label = label })
 
 abbrev pub constant_value : ConstantTree → Value
 constant_value (IntegerConstant at negative value) = Number (if negative then neg_ℤ (pos value) else pos value)

@@ -15,7 +15,7 @@ use crate::operator::{base_of, is_same};
 use crate::statement::length_of;
 use principals::Hierarchy;
 use resolved::expression::{Base, Value};
-use resolved::tables::{Channel, Direction, GlobalVariable};
+use resolved::tables::{Channel, GlobalVariable};
 use std::alloc::Global;
 use syntax::{Constant, GlobalValue};
 
@@ -31,10 +31,7 @@ pub fn resolve_channel(
 {
     let label = resolve_label(alloc, hierarchy, &written.label)?;
     Ok(Channel {
-        direction: match written.direction {
-            syntax::Direction::Input => Direction::Input,
-            syntax::Direction::Output => Direction::Output,
-        },
+        direction: written.direction,
         name: String::from_str(alloc, written.name.text.as_str())?,
         label,
     })

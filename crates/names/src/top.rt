@@ -11,10 +11,11 @@ ghost use Rattle.syntax.specs.Tree.{global_value_tree, item_tree, name_tree, wri
 use crate::fault::TypeFault;
 use crate::operator::base_of;
 use crate::scope::{Meaning, find, insert, require_fresh};
+use common::Direction;
 use indexmap::IndexMap;
 use resolved::expression::{Base, Variable};
 use std::alloc::{AllocError, Global};
-use syntax::{Direction, GlobalValue, Item, Name, Procedure, WrittenResult};
+use syntax::{GlobalValue, Item, Name, Procedure, WrittenResult};
 
 /// What a call has to know of a procedure: the types of its parameters, and the type of its value, if it gives one.
 #[derive(Drop)]

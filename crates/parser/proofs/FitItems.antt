@@ -4,7 +4,7 @@ use Rattle.std.specs.Prelude.{Option}
 use Rattle.std.specs.List.{All}
 use Rattle.std.proofs.lemmas.List.Elements.{All-nil}
 use Rattle.lexer.specs.declared.token.Kind.TheVariants as kinds
-use Rattle.syntax.specs.declared.tree.Direction.{Direction}
+use Rattle.common.specs.declared.direction.Direction.{Direction}
 use Rattle.syntax.specs.Form.{Form, many, ◌·◌}
 use Rattle.syntax.specs.Grammar.{at, key, ◌◂◌, base, name, optional_label, label, direction, channel, exception, negative_constant, constant, global_value, global, valued, written_result, parameter, parameters, end_label, thrown, thrown_list, some_throws, throws, procedure, item, program}
 use Rattle.syntax.specs.Nesting.{IsNestedItem, IsNested}

@@ -9,9 +9,10 @@ ghost use Rattle.parser.specs.Reading.{IsRead, read, kind_at, begins_item};
 use crate::cursor::Parser;
 use crate::fault::ParseFault;
 use crate::program::MAX_LEVELS;
+use common::Direction;
 use lexer::Kind;
 use syntax::{
-    Channel, Constant, Direction, GlobalValue, GlobalVariable, Item, Parameter, Procedure, Thrown,
+    Channel, Constant, GlobalValue, GlobalVariable, Item, Parameter, Procedure, Thrown,
     WrittenLabel, WrittenResult,
 };
 

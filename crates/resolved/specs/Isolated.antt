@@ -4,7 +4,7 @@ use Rattle.std.specs.Prelude.{◌≡◌, ℕ, ◌<◌, length, ◌⊎◌, IsTrue
 use Rattle.principals.specs.ActsFor.{PrincipalHierarchy}
 use Rattle.labels.specs.Label.{Label, may_read}
 use Rattle.labels.specs.Sent.{IsPrefix, pairs_for}
-use Rattle.resolved.specs.declared.tables.Direction.TheVariants.{Input}
+use Rattle.common.specs.declared.direction.Direction.TheVariants.{Input}
 use Rattle.resolved.specs.Program.{Program, channel_at}
 use Rattle.resolved.specs.SourceState.{World}
 use Rattle.resolved.specs.Meaning.{sent_by}

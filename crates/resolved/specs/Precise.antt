@@ -9,7 +9,7 @@ use Rattle.resolved.specs.declared.expression.Connective.TheVariants.{And}
 use Rattle.resolved.specs.declared.expression.Operator.TheVariants.{Divide, LessThan, GreaterThan, Equal}
 use Rattle.resolved.specs.declared.expression.Variable.TheVariants.{Local}
 use Rattle.resolved.specs.declared.statement.Exit.TheVariants.{Throw}
-use Rattle.resolved.specs.declared.tables.Direction.TheVariants.{Output}
+use Rattle.common.specs.declared.direction.Direction.TheVariants.{Output}
 use Rattle.resolved.specs.Tree.{Expression, Integer, Read, Binary, Short, Statement, Assign, Send, Call, If, Leave, ReturnWith, Try, Block, Empty, Then, NoMore, Catch}
 use Rattle.resolved.specs.Value.{arith_exception}
 use Rattle.resolved.specs.Program.{Program, ProcedureEntry, SlotEntry}

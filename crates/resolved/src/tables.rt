@@ -2,14 +2,8 @@
 
 use crate::expression::{Base, Value};
 use crate::statement::Statement;
+use common::Direction;
 use labels::Label;
-
-/// Whether a channel is read or written.
-#[derive(Clone, Copy, Debug, PartialEq, Eq)]
-pub enum Direction {
-    Input,
-    Output,
-}
 
 /// An input or an output.
 #[derive(Drop)]

@@ -18,7 +18,7 @@ use Rattle.syntax.specs.declared.tree.Statement as declared_statement
 use Rattle.syntax.specs.declared.tree.Statement.{Statement, Row_of-Statement, end_of-Statement, more_of-Statement, Row_of-Catch, end_of-Catch, more_of-Catch, Held-Statement-If-3}
 use Rattle.syntax.specs.declared.tree.Block.{Block}
 use Rattle.syntax.specs.declared.tree.Catch.{Catch}
-use Rattle.syntax.specs.declared.tree.Direction.{Direction}
+use Rattle.common.specs.declared.direction.Direction.{Direction}
 use Rattle.syntax.specs.declared.tree.Channel.{Channel}
 use Rattle.syntax.specs.declared.tree.Constant.{Constant}
 use Rattle.syntax.specs.declared.tree.Constant.TheVariants as constants

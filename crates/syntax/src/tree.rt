@@ -4,6 +4,8 @@
 ghost use Rattle.std.specs.Prelude.{◌≡◌, map};
 ghost use Rattle.syntax.specs.Tree.{expression_tree, expression_place, statement_tree, statement_place, item_tree, item_place, block_tree, optional_block_tree, catch_tree, catches_of, if_tree, WhileTree, TryTree, NestedTree};
 
+use common::Direction;
+
 /// A name, and where it stands.
 #[derive(Debug, Drop)]
 pub struct Name {
@@ -217,13 +219,6 @@ pub struct Catch {
     pub at: usize,
     pub exception: Name,
     pub body: Block,
-}
-
-/// Whether a program reads a channel or writes it.
-#[derive(Clone, Copy, Debug, PartialEq, Eq)]
-pub enum Direction {
-    Input,
-    Output,
 }
 
 /// The declaration of a channel.

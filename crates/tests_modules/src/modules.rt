@@ -1,10 +1,10 @@
 //! Modules that are read and written again, and what they lend.
 
 use bytecode::{
-    Arithmetic, Cell, Comparison, Direction, Global, Handler, Instruction, Kind, Module, Procedure,
-    Slot,
+    Arithmetic, Cell, Comparison, Global, Handler, Instruction, Kind, Module, Procedure, Slot,
 };
 use channels::{Device, ViewFault};
+use common::Direction;
 use listing::write_listing;
 use module_file::{decode, encode, laws};
 use std::alloc::Global as Heap;

@@ -13,8 +13,8 @@ use Rattle.bytecode.specs.declared.value.Cell.{Cell}
 use Rattle.bytecode.specs.declared.value.Cell.TheVariants as cell
 use Rattle.bytecode.specs.declared.declaration.Slot.{Slot}
 use Rattle.bytecode.specs.declared.declaration.Slot.TheVariants as slot
-use Rattle.bytecode.specs.declared.declaration.Direction.{Direction}
-use Rattle.bytecode.specs.declared.declaration.Direction.TheVariants.{Input, Output}
+use Rattle.common.specs.declared.direction.Direction.{Direction}
+use Rattle.common.specs.declared.direction.Direction.TheVariants.{Input, Output}
 use Rattle.verifier.specs.Faults.{HasNoFault}
 use Rattle.verifier.specs.Fixed.{is_scalar, is_array, is_input, is_output}
 use Rattle.bytecode.specs.Targets.{target_of}

@@ -9,8 +9,8 @@ use Rattle.bytecode.specs.declared.instruction.Instruction.TheVariants.{Push, Pu
 use Rattle.bytecode.specs.declared.declaration.Slot.{Slot}
 use Rattle.bytecode.specs.declared.declaration.Slot.TheVariants as slot
 use Rattle.bytecode.specs.declared.declaration.Handler.{Handler}
-use Rattle.bytecode.specs.declared.declaration.Direction.{Direction}
-use Rattle.bytecode.specs.declared.declaration.Direction.TheVariants.{Input, Output}
+use Rattle.common.specs.declared.direction.Direction.{Direction}
+use Rattle.common.specs.declared.direction.Direction.TheVariants.{Input, Output}
 use Rattle.verifier.specs.declared.fault.Defect.{Defect}
 use Rattle.verifier.specs.declared.fault.Defect.TheVariants as defect
 use Rattle.verifier.specs.declared.fault.CodeFault.{CodeFault}

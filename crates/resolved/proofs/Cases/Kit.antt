@@ -11,7 +11,7 @@ use Rattle.resolved.specs.declared.expression.Base.TheVariants.{Int}
 use Rattle.resolved.specs.declared.expression.Variable.TheVariants.{Local}
 use Rattle.resolved.specs.declared.expression.Operator.TheVariants.{GreaterThan}
 use Rattle.resolved.specs.declared.expression.Prefix.TheVariants.{Negate}
-use Rattle.resolved.specs.declared.tables.Direction.TheVariants.{Input, Output}
+use Rattle.common.specs.declared.direction.Direction.TheVariants.{Input, Output}
 use Rattle.resolved.specs.declared.statement.Exit.TheVariants.{Normal, Throw}
 use Rattle.resolved.specs.Tree.{Expression, Integer, Read, Unary, Binary, Statement, Assign, Receive, Send, If, While, Try, Block, Empty, Then, Handlers, NoMore, Catch}
 use Rattle.resolved.specs.Program.{Program, ProcedureEntry, ThrownEntry, GlobalEntry, SlotEntry}
