@@ -14,11 +14,12 @@ ghost use Rattle.syntax.specs.Tree.{program_tree};
 use crate::causes::{of_end, of_name, of_tokens, of_tree};
 use crate::fault::AnalysisFault;
 use acceptance::Cause;
+use common::limits::MAX_TEXT;
 use lexer::lex;
 use names::resolve;
 use parser::parse;
 use path_map::{PathMap, find_ends};
-use principals::{Hierarchy, MAX_TEXT};
+use principals::Hierarchy;
 use resolved::program::Core;
 use std::alloc::Global;
 

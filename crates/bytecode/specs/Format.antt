@@ -1,6 +1,7 @@
 -- The module file: the one spelling of each module, field by field, and with it the first refusal of other bytes.
 -- Source: our own.
 use Rattle.std.specs.Prelude.{ℕ, ◌+◌, ◌-◌, ◌==◌, nat_lt, nat_le, Bool, true, false, not, ◌&&◌, ◌||◌, if◌then◌else◌, List, [], ◌∷◌, length, map, sum_by, slice_get, codes, Option, Some, None, is_none, bytes_eq}
+use Rattle.common.specs.declared.limits.TheConstants.{MAX_CELLS, MAX_ELEMENTS, MAX_PRINCIPALS}
 use Rattle.std.specs.Int.{w32, cast_signed, cast_unsigned}
 use Rattle.std.specs.List.{list_any}
 use Rattle.std.specs.Ordering.{nat_cmp, on, then_cmp}
@@ -28,14 +29,14 @@ use Rattle.bytecode.specs.Opcodes.{instructions}
 -- ---- limits and tests
 
 abbrev pub max_principals : ℕ
-max_principals = 256
+max_principals = MAX_PRINCIPALS
 
 -- elements of an array, and cells of a frame or of all globals
 abbrev pub max_elements : ℕ
-max_elements = 65536
+max_elements = MAX_ELEMENTS
 
 abbrev pub max_cells : ℕ
-max_cells = 1048576
+max_cells = MAX_CELLS
 
 -- any count will do
 abbrev pub any : ℕ → Bool

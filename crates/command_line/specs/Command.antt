@@ -1,6 +1,7 @@
 -- The command that the program takes, as a value: its subcommands, and the words of each.
 -- Source: our own.
 use Rattle.std.specs.Prelude.{true, List, [], ◌∷◌, Some, codes, fold}
+use Rattle.command_line.specs.declared.request.TheConstants.{MAX_STEPS}
 use Rattle.clap.specs.Words.{App, Rule, Text, new_app, new_rule, with_rule, with_subcommand}
 use Rattle.clap.specs.Simple.{on_top}
 use Rattle.clap.specs.declared.builder.action.ArgAction.TheVariants.{Set}
@@ -15,9 +16,9 @@ file_rule id = record (new_rule id) { required = true; action = Some Set }
 abbrev pub option_rule : Text → Rule
 option_rule name = record (new_rule name) { long = Some name; action = Some Set; value_names = 1 }
 
--- whole numbers from 0 to 1000000000000
+-- whole numbers from 0 to the most steps
 abbrev pub step_numbers : ValueParser
-step_numbers = Unsigned 0 1000000000000
+step_numbers = Unsigned 0 MAX_STEPS
 
 -- `--observer NAME`
 abbrev pub observer_rule : Rule

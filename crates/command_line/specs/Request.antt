@@ -6,6 +6,7 @@ use Rattle.std.specs.Fmt.{decimal}
 use Rattle.std.specs.String.{string_bytes}
 use Rattle.std.specs.declared.alloc.Global.{Global}
 use Rattle.std.specs.Str.Parse.{starts_with_minus}
+use Rattle.command_line.specs.declared.request.TheConstants.{MAX_STEPS, USUAL_STEPS}
 use Rattle.clap.specs.Words.{Text}
 use Rattle.command_line.specs.declared.request.Task.{Task}
 use Rattle.command_line.specs.declared.request.TaskFault.{TaskFault}
@@ -49,7 +50,7 @@ IsPlainRequest (to_check hierarchy source) = IsNoOption hierarchy × IsNoOption 
 IsPlainRequest (to_build hierarchy source out) = IsNoOption hierarchy × IsNoOption source × IsNoOption out
 IsPlainRequest (to_run file world observer steps) =
     IsNoOption file × IsNoOption world × IfSome observer IsNoOption
-    × IfSome steps (λ n. n ≤ 1000000000000)
+    × IfSome steps (λ n. n ≤ MAX_STEPS)
 IsPlainRequest (to_list file) = IsNoOption file
 IsPlainRequest (to_explain hierarchy source) = IsNoOption hierarchy × IsNoOption source
 
@@ -65,7 +66,7 @@ pub data Grants (request : Request) (task : Task) : Type 0 where
   run : (file world : String Global) (observer : Option (String Global)) (steps : Option ℕ)
       → request
       ≡ to_run (string_bytes file) (string_bytes world) (option_map string_bytes observer) steps
-      → task ≡ Run file world observer (unwrap_or steps 1000000) → Grants request task
+      → task ≡ Run file world observer (unwrap_or steps USUAL_STEPS) → Grants request task
   list : (file : String Global) → request ≡ to_list (string_bytes file)
       → task ≡ ListModule file → Grants request task
   explain : (hierarchy source : String Global)

@@ -202,7 +202,7 @@ fn steps<'a>(alloc: Global) -> Arg<'a>
         .long("steps")
         .value_name("N")
         .action(ArgAction::Set)
-        .value_parser(value_parser!(u64).range(0..=1_000_000_000_000))
+        .value_parser(value_parser!(u64).range(0..=MAX_STEPS as i64))
         .help("at most so many steps, 1000000 if not given")
 }
 

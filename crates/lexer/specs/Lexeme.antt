@@ -2,6 +2,7 @@
 -- A text is the list of its characters, each by its code.
 -- Source: the usual notion of a lexeme in lexical analysis; which lexemes there are is our own.
 use Rattle.std.specs.Prelude.{◌≡◌, ◌≢◌, ℕ, ◌<◌, ◌≤◌, ◌==◌, not, List, [], ◌∷◌, ◌++◌, Option, Some, bytes_eq, codes, length, IsTrue}
+use Rattle.common.specs.declared.limits.TheConstants.{MAX_INTEGER}
 use Rattle.std.specs.Char.{is_ascii_digit}
 use Rattle.std.specs.List.{list_all}
 use Rattle.std.specs.Map.{lookup}
@@ -31,7 +32,7 @@ pub record IsNumeral (cs : List ℕ) : Type 0 where
 
 -- the greatest integer that a program may write
 abbrev pub greatest_literal : ℕ
-greatest_literal = 2147483647
+greatest_literal = MAX_INTEGER
 
 -- no character is a line feed
 abbrev pub IsInLine : List ℕ → Type 0

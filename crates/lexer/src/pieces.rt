@@ -10,9 +10,7 @@ ghost use Rattle.std.specs.Str.{chars};
 use crate::fault::LexFault;
 use crate::names::{begins_name, continues_name, keyword};
 use crate::token::Kind;
-
-/// The greatest integer that a program may write.
-const MAX_LITERAL: u32 = 2_147_483_647;
+use common::limits::MAX_INTEGER;
 
 /// The lexeme at the front of a text: the kind of its token, or none if it is white space or a
 /// comment; and what follows it.
@@ -86,7 +84,7 @@ fn cut_literal<'a>(
 {
     let rest = skip_run(after, Class::Digit);
     match take_front(text, rest).parse::<u32>() {
-        Ok(value) if value <= MAX_LITERAL => Ok(Piece {
+        Ok(value) if value <= MAX_INTEGER => Ok(Piece {
             kind: Some(Kind::Integer(value)),
             rest,
         }),

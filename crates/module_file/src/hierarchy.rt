@@ -7,12 +7,10 @@ ghost use Rattle.module_file.specs.Reading.{Decodes, texts};
 use crate::names::read_first_names;
 use crate::reading::{Element, ReadError, read_each, read_number, refuse};
 use bytecode::ModuleRefusal;
+use common::limits::MAX_PRINCIPALS;
 use labels::{Label, Policy};
 use principals::Hierarchy;
 use std::alloc::Global;
-
-/// The most principals of a hierarchy.
-const MAX_PRINCIPALS: u32 = 256;
 
 /// The number of one of so many things.
 #[tactic(auto, unfolding(bytecode::specs::Format::number_below))]

@@ -3,11 +3,7 @@
 ghost use Rattle.bytecode.specs.Format.{cells_of_size, is_size, max_cells};
 ghost use Rattle.std.specs.Prelude.{◌≡◌, ◌≤◌};
 
-/// The most elements of an array.
-const MAX_ELEMENTS: u32 = 65_536;
-
-/// The most cells of a frame, and of all globals.
-const MAX_CELLS: u32 = 1_048_576;
+use common::limits::{MAX_CELLS, MAX_ELEMENTS};
 
 /// The cells of a variable by its size, which is 0 for a scalar.
 pub(crate) fn cells_of_size(size: u32) -> u32

@@ -9,11 +9,9 @@ ghost use Rattle.std.specs.Prelude.{IfOk, map, nat_le, ◌≡◌, ◌≤◌};
 ghost use Rattle.syntax.specs.Tree.{global_value_tree, item_tree};
 
 use crate::fault::{NameRefusal, TypeFault};
+use common::limits::MAX_CELLS;
 use resolved::tables::{Procedure, Slot};
 use syntax::{GlobalValue, Item};
-
-/// How many cells the globals may have together, and the parameters and locals of a procedure.
-pub const MAX_CELLS: u32 = 1_048_576;
 
 fn cells_of_global(value: &GlobalValue) -> u32
     ensures { result ≡ global_cells (global_value_tree value.now) }

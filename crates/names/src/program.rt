@@ -17,6 +17,7 @@ use crate::item::{resolve_channel, resolve_global};
 use crate::procedure::resolve_procedure;
 use crate::scope::{Meaning, find};
 use crate::top::TopNames;
+use common::limits::MAX_PRINCIPALS;
 use principals::Hierarchy;
 use resolved::program::Core;
 use resolved::tables::{Channel, GlobalVariable, Procedure};
@@ -153,7 +154,7 @@ pub fn resolve(
     ensures refused { IfErr result (λ fault.
         ResolvingFails fault (resolution hierarchy.now (program_tree program.now))) }
 {
-    prove!(hierarchy.count() <= 256);
+    prove!(hierarchy.count() <= MAX_PRINCIPALS);
     let (tables, main) = tables_of(alloc, hierarchy, program.items())?;
     Ok(Core {
         hierarchy: hierarchy.clone()?,

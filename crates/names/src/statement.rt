@@ -17,15 +17,13 @@ use crate::scope::{
     Meaning, require_array, require_exception, require_fresh, require_input, require_output,
     require_procedure, require_scalar,
 };
+use common::limits::MAX_ELEMENTS;
 use labels::Label;
 use resolved::expression::{Base, Expression, Variable};
 use resolved::statement::{Exit, Statement};
 use resolved::tables::Slot;
 use std::alloc::AllocError;
 use syntax::{Call, Name, RightSide, Size, WrittenLabel};
-
-/// The greatest length of an array.
-pub const MAX_LENGTH: u32 = 65_536;
 
 /// A call: its procedure, its arguments, and the type of its value, if it gives one.
 #[derive(Drop)]
@@ -40,7 +38,7 @@ pub struct UsedCall {
 pub fn length_of(size: Size) -> Result<u32, TypeFault>
     ensures { Resolves itself result (size_finding (size_tree size)) }
 {
-    if 0 < size.size && size.size <= MAX_LENGTH {
+    if 0 < size.size && size.size <= MAX_ELEMENTS {
         Ok(size.size)
     } else {
         Err(TypeFault::Refused(NameRefusal::ArraySize, size.at))

@@ -8,8 +8,8 @@ ghost use Rattle.parser.specs.Reading.{IsRead, read, kind_at, begins_item};
 
 use crate::cursor::Parser;
 use crate::fault::ParseFault;
-use crate::program::MAX_LEVELS;
 use common::Direction;
+use common::limits::MAX_LEVELS;
 use lexer::Kind;
 use syntax::{
     Channel, Constant, GlobalValue, GlobalVariable, Item, Parameter, Procedure, Thrown,
@@ -291,7 +291,7 @@ impl<'a> Parser<'a> {
 
     #[tactic(auto, unfolding(syntax::specs::Grammar::procedure, crate::specs::Reading::read))]
     fn parse_procedure(&mut self) -> Result<Item, ParseFault>
-        ensures { IsRead item_tree result self.new.rest.now (read 64 procedure (terminals_of self.old.rest.now)) }
+        ensures { IsRead item_tree result self.new.rest.now (read MAX_LEVELS procedure (terminals_of self.old.rest.now)) }
     {
         let (at, result) = self.parse_result()?;
         let name = self.parse_name()?;
@@ -316,7 +316,7 @@ impl<'a> Parser<'a> {
 
     #[tactic(auto, using(crate::proofs::Items::item_reads))]
     fn parse_item(&mut self) -> Result<Item, ParseFault>
-        ensures { IsRead item_tree result self.new.rest.now (read 64 item (terminals_of self.old.rest.now)) }
+        ensures { IsRead item_tree result self.new.rest.now (read MAX_LEVELS item (terminals_of self.old.rest.now)) }
     {
         match self.kind() {
             Kind::Input | Kind::Output => self.parse_channel(),
@@ -344,7 +344,7 @@ impl<'a> Parser<'a> {
     /// The items up to the first token that begins none.
     pub fn parse_items(&mut self) -> Result<Vec<Item>, ParseFault>
         ensures { IsRead (λ list. map item_tree list.items) result self.new.rest.now
-            (read 64 (many item) (terminals_of self.old.rest.now)) }
+            (read MAX_LEVELS (many item) (terminals_of self.old.rest.now)) }
     {
         let mut items = Vec::new(self.alloc);
         while self.is_at_item() {

@@ -10,4 +10,4 @@ pub mod program;
 mod statement;
 
 pub use fault::ParseFault;
-pub use program::{MAX_LEVELS, one_reading, parse, spelling_laws};
+pub use program::{one_reading, parse, spelling_laws};

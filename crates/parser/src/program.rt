@@ -11,18 +11,16 @@ ghost use Rattle.parser.specs.Refusal.{AnswersOnly, AnswersUnexpected, AnswersTo
 
 use crate::cursor::Parser;
 use crate::fault::ParseFault;
+use common::limits::MAX_LEVELS;
 use lexer::{Kind, Token};
 use std::alloc::Global;
 use syntax::{Item, Program};
-
-/// How many levels may be open at a time.
-pub const MAX_LEVELS: u32 = 64;
 
 impl<'a> Parser<'a> {
     /// The items of a program, up to the end marker.
     #[tactic(auto, unfolding(syntax::specs::Grammar::program, crate::specs::Reading::read))]
     fn parse_program(&mut self) -> Result<Vec<Item>, ParseFault>
-        ensures { IsRead (λ list. program_tree list.items) result self.new.rest.now (read 64 program (terminals_of self.old.rest.now)) }
+        ensures { IsRead (λ list. program_tree list.items) result self.new.rest.now (read MAX_LEVELS program (terminals_of self.old.rest.now)) }
     {
         let items = self.parse_items()?;
         self.expect(Kind::End)?;

@@ -9,12 +9,10 @@ ghost use Rattle.std.specs.Prelude.{IfOk, OnOk, map, ℕ, ◌||◌, ◌≡◌};
 
 use crate::exits::Raised;
 use crate::set::ExceptionSet;
+use common::limits::MAX_INTEGER;
 use resolved::exceptions::{ARITH, BOUNDS};
 use resolved::expression::{Expression, Operator, Prefix};
 use std::alloc::AllocError;
-
-// The greatest number; literals above it mean negative numbers.
-const MAX_NUMBER: u32 = 2_147_483_647;
 
 /// Whether an expression, or one of several, can raise `Arith` and `Bounds`. It can raise no other exception.
 #[derive(Clone, Copy, Debug, PartialEq, Eq)]
@@ -121,7 +119,7 @@ pub fn index_can_raise(index: &Expression, length: u32) -> bool
 fn is_in_range(literal: u32, length: u32) -> bool
     ensures { result ≡ in_range (literal_number literal) length }
 {
-    literal <= MAX_NUMBER && literal < length
+    literal <= MAX_INTEGER && literal < length
 }
 
 /// Whether a divisor may be 0: not if it is a nonzero literal, or a minus sign before one.

@@ -1,6 +1,7 @@
 -- Principals, and which of them acts for which: the principal hierarchy of the decentralized label model.
 -- Source: Myers and Liskov 1997 and 2000.
 use Rattle.std.specs.Prelude.{◌≡◌, ◌≢◌, ℕ, ◌<◌, ◌≤◌, List, [], ◌∷◌, length, Bool, ◌&&◌, ◌||◌, ◌==◌, Option, Some, slice_get, position, bytes_eq, Contains, All, AllPairs}
+use Rattle.common.specs.declared.limits.TheConstants.{MAX_PRINCIPALS}
 
 -- a hierarchy: the names of its principals, which are numbered from 0 in this order, and the written pairs, where (a, b) says
 -- that a acts for b
@@ -29,7 +30,7 @@ AllBelow limit pairs = All (λ pair. (pair.0 < limit) × (pair.1 < limit)) pairs
 
 -- what every hierarchy keeps: at most 256 principals, names that are all different, and pairs of principals that are there
 pub record IsHierarchy (hierarchy : PrincipalHierarchy) : Type 0 where
-  pub few : length hierarchy.names ≤ 256
+  pub few : length hierarchy.names ≤ MAX_PRINCIPALS
   pub different : AllDifferent hierarchy.names
   pub there : AllBelow (length hierarchy.names) hierarchy.pairs
 

@@ -1,5 +1,6 @@
 -- The text of a principal hierarchy: its form, what it declares and writes, and the first refusal in it. Our own.
 use Rattle.std.specs.Prelude.{◌≡◌, ◌≢◌, ◌⊎◌, ℕ, ◌<◌, ◌≤◌, List, [], ◌∷◌, ◌++◌, length, codes, Contains, IsCharBoundary}
+use Rattle.common.specs.declared.limits.TheConstants.{MAX_PRINCIPALS, MAX_TEXT}
 use Rattle.std.specs.List.{AllZip}
 use Rattle.lexer.specs.Cut.{IsCut, IsTextRefused}
 use Rattle.lexer.specs.Terminal.{Terminal}
@@ -85,7 +86,7 @@ written (Relates left right ∷ entries) = (left.text, right.text) ∷ written e
 -- an entry is refused, where these names are declared before it; of two refusals of one entry the first is reported
 pub data IsEntryRefusal (names : List (List ℕ)) : Entry → HierFault → Type 0 where
   Twice : (name : Terminal) → Contains names name.text → IsEntryRefusal names (Declares name) (DeclaredTwice name.start)
-  Crowded : (name : Terminal) → (Contains names name.text → ⊥) → 256 ≤ length names
+  Crowded : (name : Terminal) → (Contains names name.text → ⊥) → MAX_PRINCIPALS ≤ length names
       → IsEntryRefusal names (Declares name) (TooManyPrincipals name.start)
   UnknownLeft : (left right : Terminal) → (Contains names left.text → ⊥)
       → IsEntryRefusal names (Relates left right) (UnknownPrincipal left.start)
@@ -116,7 +117,7 @@ pub record IsSaid (entries : List Entry) (hierarchy : PrincipalHierarchy) : Type
 
 -- the greatest length of a text in bytes
 abbrev pub greatest_text : ℕ
-greatest_text = 1048576
+greatest_text = MAX_TEXT
 
 -- a text of this form, with its entries
 pub record Says (text : List ℕ) (entries : List Entry) : Type 0 where

@@ -1,5 +1,6 @@
 -- A text of a hierarchy, read one token after another. No public contract cites this file. Our own.
 use Rattle.std.specs.Prelude.{◌≡◌, ℕ, ◌≤◌, length, slice_get, List, [], ◌∷◌, ◌++◌, Option, None, Some, if◌then◌else◌, bytes_eq, codes, option_map, map}
+use Rattle.common.specs.declared.limits.TheConstants.{MAX_PRINCIPALS}
 use Rattle.std.specs.List.{AllZip}
 use Rattle.principals.specs.ActsFor.{AllDifferent, AllBelow}
 use Rattle.std.specs.Option.{option_and_then}
@@ -96,7 +97,7 @@ HaveNames names texts pairs = AllZip (λ text pair. (slice_get names pair.0 ≡ 
 -- what entries that are all accepted build
 pub record Built (entries : List Entry) (names : List (List ℕ)) (pairs : List (ℕ × ℕ)) : Type 0 where
   pub same_names : names ≡ declared entries
-  pub few : length names ≤ 256
+  pub few : length names ≤ MAX_PRINCIPALS
   pub different : AllDifferent names
   pub there : AllBelow (length names) pairs
   pub accepted : AllAccepted entries

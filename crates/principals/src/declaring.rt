@@ -12,6 +12,7 @@ use crate::Hierarchy;
 use crate::fault::HierFault;
 use crate::reading::Statement;
 use crate::row::Row;
+use common::limits::MAX_PRINCIPALS;
 use indexmap::IndexSet;
 use lexer::Token;
 use std::alloc::Global;
@@ -20,7 +21,7 @@ use std::alloc::Global;
 fn declare(alloc: Global, names: &mut IndexSet<String>, name: &Token<'_>) -> Result<(), HierFault>
     ensures added { OnOk result (names_of names.new ≡ names_of names.old ++ name.now.text.now ∷ []) }
     ensures fresh { OnOk result (¬ Contains (names_of names.old) name.now.text.now) }
-    ensures room { OnOk result (length (names_of names.old) < 256) }
+    ensures room { OnOk result (length (names_of names.old) < MAX_PRINCIPALS) }
     ensures refused { IfErr result (IsBuildFault (names_of names.old) (Declares (terminal_of name.now))) }
 {
     let full = names.len() >= Row::LIMIT;
@@ -36,7 +37,7 @@ fn declare(alloc: Global, names: &mut IndexSet<String>, name: &Token<'_>) -> Res
 
 /// The number of a principal that was declared before.
 fn number(names: &IndexSet<String>, name: &Token<'_>) -> Result<u32, HierFault>
-    requires { length (names_of names.now) ≤ 256 }
+    requires { length (names_of names.now) ≤ MAX_PRINCIPALS }
     ensures found { IfOk result (λ number. slice_get (names_of names.now) number ≡ Some name.now.text.now) }
     ensures unknown { IfErr result (λ fault. (fault ≡ UnknownPrincipal name.now.span.start)
         × (¬ Contains (names_of names.now) name.now.text.now)) }
@@ -53,7 +54,7 @@ fn relate(
     left: &Token<'_>,
     right: &Token<'_>,
 ) -> Result<(u32, u32), HierFault>
-    requires { length (names_of names.now) ≤ 256 }
+    requires { length (names_of names.now) ≤ MAX_PRINCIPALS }
     ensures left { IfOk result (λ pair. slice_get (names_of names.now) pair.0 ≡ Some left.now.text.now) }
     ensures right { IfOk result (λ pair. slice_get (names_of names.now) pair.1 ≡ Some right.now.text.now) }
     ensures refused { IfErr result (IsBuildFault (names_of names.now) (Relates (terminal_of left.now) (terminal_of right.now))) }

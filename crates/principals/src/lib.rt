@@ -14,9 +14,9 @@ mod reading;
 mod row;
 mod table;
 
+use common::limits::MAX_PRINCIPALS;
 pub use fault::HierFault;
 use indexmap::IndexSet;
-pub use read::MAX_TEXT;
 pub use row::Row;
 use std::alloc::{AllocError, Global};
 use std::marker::Model;
@@ -79,7 +79,7 @@ impl Hierarchy {
         names: Vec<String>,
         pairs: Vec<(u32, u32)>,
     ) -> Result<Hierarchy, AllocError>
-        requires few { vec_len names ≤ 256 }
+        requires few { vec_len names ≤ MAX_PRINCIPALS }
         requires different { AllDifferent (map (λ name. string_bytes name) names.items) }
         requires there { AllBelow (vec_len names) pairs.items }
         ensures names { IfOk result (λ hierarchy.
@@ -96,7 +96,7 @@ impl Hierarchy {
         names: IndexSet<String>,
         pairs: Vec<(u32, u32)>,
     ) -> Result<Hierarchy, AllocError>
-        requires few { length (names_of names) ≤ 256 }
+        requires few { length (names_of names) ≤ MAX_PRINCIPALS }
         requires different { AllDifferent (names_of names) }
         requires there { AllBelow (length (names_of names)) pairs.items }
         ensures names { IfOk result (λ hierarchy. hierarchy.names ≡ names_of names) }

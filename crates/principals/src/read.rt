@@ -10,11 +10,9 @@ use crate::Hierarchy;
 use crate::declaring::hierarchy_of;
 use crate::fault::HierFault;
 use crate::reading::statements;
+use common::limits::MAX_TEXT;
 use lexer::lex;
 use std::alloc::Global;
-
-/// The greatest length of a text in bytes.
-pub const MAX_TEXT: usize = 1_048_576;
 
 impl Hierarchy {
     /// The hierarchy of a text, or the first refusal in it.

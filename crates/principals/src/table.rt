@@ -5,11 +5,12 @@ ghost use Rattle.principals.specs.Table.{is_written, related};
 ghost use Rattle.std.specs.Prelude.{All, IfOk, [], length, ℕ, ◌&&◌, ◌<◌, ◌||◌, ◌≡◌, ◌≤◌};
 
 use crate::row::Row;
+use common::limits::MAX_PRINCIPALS;
 use std::alloc::{AllocError, Global};
 
 /// The rows in which each number below `count` has itself and what is written for it.
 fn relate_written(alloc: Global, count: u32, pairs: &[(u32, u32)]) -> Result<Vec<Row>, AllocError>
-    requires few { count ≤ 256 }
+    requires few { count ≤ MAX_PRINCIPALS }
     requires there { All (λ pair. (pair.0 < count) × (pair.1 < count)) pairs.now }
     ensures rows { IfOk result (λ table. length table.items ≡ count) }
     ensures written { IfOk result (λ table. (a b : ℕ) → a < count → related table.items a b ≡ is_written pairs.now a b) }
@@ -23,7 +24,7 @@ fn relate_written(alloc: Global, count: u32, pairs: &[(u32, u32)]) -> Result<Vec
 
 /// The rows in which each number below `count` has itself alone.
 fn relate_itself(alloc: Global, count: u32) -> Result<Vec<Row>, AllocError>
-    requires { count ≤ 256 }
+    requires { count ≤ MAX_PRINCIPALS }
     ensures rows { IfOk result (λ table. length table.items ≡ count) }
     ensures itself { IfOk result (λ table. (a b : ℕ) → a < count → related table.items a b ≡ is_written [] a b) }
 {
@@ -54,7 +55,7 @@ pub(crate) fn close_table(
     count: u32,
     pairs: &[(u32, u32)],
 ) -> Result<Vec<Row>, AllocError>
-    requires few { count ≤ 256 }
+    requires few { count ≤ MAX_PRINCIPALS }
     requires there { All (λ pair. (pair.0 < count) × (pair.1 < count)) pairs.now }
     ensures rows { IfOk result (λ table. length table.items ≡ count) }
     ensures closed { IfOk result (λ table. (a b : ℕ) → a < count → related table.items a b ≡ acts_for pairs.now a b) }

@@ -2,6 +2,7 @@
 -- has sent.
 -- Source: our own; a big-step meaning with counted turns, as textbooks give it for programs that may not end.
 use Rattle.std.specs.Prelude.{ℕ, zero, suc, List, [], ◌∷◌, ◌++◌, ℤ, ◌==◌, if◌then◌else◌, Option, Some, None, replicate, slice_get}
+use Rattle.common.specs.declared.limits.TheConstants.{MAX_FRAMES}
 use Rattle.labels.specs.declared.sent.Pair.{Pair}
 use Rattle.resolved.specs.declared.expression.Variable.{Variable}
 use Rattle.resolved.specs.declared.expression.Value.{Value}
@@ -213,7 +214,7 @@ run_within frames program world k = calls_with program k frames program.main [] 
 
 -- how many frames a run may have in use
 unfoldable pub frame_limit : ℕ
-frame_limit = 512
+frame_limit = MAX_FRAMES
 
 abbrev pub state_after : Outcome → SourceState
 state_after (Ended exit returned s) = s

@@ -3,6 +3,7 @@
 -- source gets which breaks it; those without a number are kept by whatever makes a program.
 -- Source: our own.
 use Rattle.std.specs.Prelude.{ℕ, suc, ◌+◌, List, [], ◌∷◌, ◌++◌, Bool, true, false, not, ◌==◌, ◌&&◌, ◌||◌, Option, Some, None, is_none, length, take, sum_by, slice_get, nat_lt, nat_le}
+use Rattle.common.specs.declared.limits.TheConstants.{MAX_CELLS, MAX_ELEMENTS, MAX_INTEGER, MAX_PRINCIPALS, MAX_TEXT}
 use Rattle.std.specs.List.{list_all, list_any}
 use Rattle.principals.specs.ActsFor.{PrincipalHierarchy}
 use Rattle.labels.specs.Label.{Label, ReaderPolicy}
@@ -26,7 +27,7 @@ use Rattle.resolved.specs.Value.{base_of, is_zero}
 
 -- the greatest literal
 abbrev pub literal_limit : ℕ
-literal_limit = 2147483647
+literal_limit = MAX_INTEGER
 
 -- ---- types
 abbrev pub same_base : Base → Base → Bool
@@ -284,16 +285,16 @@ main_fits (Some procedure) = procedure.parameters == 0 && is_none procedure.resu
 -- ---- limits
 -- the greatest length of an array; the cells of the globals, and those of a frame; the principals; the nodes of a tree
 abbrev pub array_limit : ℕ
-array_limit = 65536
+array_limit = MAX_ELEMENTS
 
 abbrev pub cell_limit : ℕ
-cell_limit = 1048576
+cell_limit = MAX_CELLS
 
 abbrev pub principal_limit : ℕ
-principal_limit = 256
+principal_limit = MAX_PRINCIPALS
 
 abbrev pub node_limit : ℕ
-node_limit = 1048576
+node_limit = MAX_TEXT
 
 -- the cells of a variable
 abbrev pub cell_count : Option ℕ → ℕ

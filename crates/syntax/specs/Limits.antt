@@ -1,6 +1,7 @@
 -- What holds of every program that was read.
 -- Source: our own; the limits are those of a text of 1 MiB, which has at most that many tokens and the end marker.
-use Rattle.std.specs.Prelude.{ℕ, ◌≤◌}
+use Rattle.std.specs.Prelude.{ℕ, ◌+◌, ◌≤◌}
+use Rattle.common.specs.declared.limits.TheConstants.{MAX_LEVELS, MAX_TEXT}
 use Rattle.syntax.specs.Nesting.{IsNested}
 use Rattle.syntax.specs.Nodes.{program_nodes}
 use Rattle.syntax.specs.Tree.{ProgramTree}
@@ -8,13 +9,13 @@ use Rattle.syntax.specs.Written.{Anywhere, IsWritten}
 
 -- the most bytes of a name, the most nodes of a program, the most levels that are open at a time
 abbrev pub longest_name : ℕ
-longest_name = 1048576
+longest_name = MAX_TEXT
 
 abbrev pub most_nodes : ℕ
-most_nodes = 1048577
+most_nodes = MAX_TEXT + 1
 
 abbrev pub most_levels : ℕ
-most_levels = 64
+most_levels = MAX_LEVELS
 
 pub record IsProgram (program : ProgramTree) : Type 0 where
   pub written : IsWritten Anywhere longest_name program

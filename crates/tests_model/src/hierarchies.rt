@@ -1,7 +1,8 @@
 //! Lookups by number and by name in a hierarchy, and the laws of acts-for.
 
+use common::limits::MAX_TEXT;
 use principals::laws::Relation;
-use principals::{HierFault, Hierarchy, MAX_TEXT, laws};
+use principals::{HierFault, Hierarchy, laws};
 use std::alloc::Global;
 use std::test::Fail;
 
