@@ -11,7 +11,8 @@ use Rattle.principals.proofs.Total.{said_is_hierarchy}
 use Rattle.parser.proofs.Spelled.{cut_of_text, spelled_program}
 use Rattle.syntax.specs.Limits.{IsProgram}
 use Rattle.syntax.specs.Tree.{ProgramTree}
-use Rattle.resolved.specs.Names.{IsShortName, built_in_names, kept_names}
+use Rattle.common.specs.Exceptions.{built_in_names}
+use Rattle.resolved.specs.Names.{IsShortName, kept_names}
 use Rattle.resolved.specs.Program.{Program}
 use Rattle.names.specs.Laws.{channel_names, global_names, procedure_names, item_names, IsProperName, HasUtf8Names, NamesAreProper, NamesAreDifferent, NamesAreUtf8, HierarchyIsKept, ChannelLabelsAreCanonical}
 use Rattle.acceptance.specs.Accepted.{IsTreeOf, HasHierarchy}

@@ -1,6 +1,7 @@
 -- The module file: the one spelling of each module, field by field, and with it the first refusal of other bytes.
 -- Source: our own.
-use Rattle.std.specs.Prelude.{ℕ, ◌+◌, ◌-◌, ◌==◌, nat_lt, nat_le, Bool, true, false, not, ◌&&◌, ◌||◌, if◌then◌else◌, List, [], ◌∷◌, length, map, sum_by, slice_get, codes, Option, Some, None, is_none, bytes_eq}
+use Rattle.std.specs.Prelude.{ℕ, ◌+◌, ◌-◌, ◌==◌, nat_lt, nat_le, Bool, true, false, not, ◌&&◌, ◌||◌, if◌then◌else◌, List, length, map, sum_by, slice_get, Option, Some, None, is_none, bytes_eq}
+use Rattle.common.specs.Exceptions.{built_in_names}
 use Rattle.common.specs.declared.limits.TheConstants.{MAX_CELLS, MAX_ELEMENTS, MAX_PRINCIPALS}
 use Rattle.std.specs.Int.{w32, cast_signed, cast_unsigned}
 use Rattle.std.specs.List.{list_any}
@@ -101,7 +102,7 @@ hierarchy =
 -- ---- exceptions and channels, which share one space of names
 
 abbrev pub built_in : List (List ℕ)
-built_in = codes "Arith" ∷ codes "Bounds" ∷ codes "End" ∷ []
+built_in = built_in_names
 
 abbrev pub is_built_in : List ℕ → Bool
 is_built_in name = is_among built_in name

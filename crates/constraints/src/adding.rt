@@ -9,9 +9,9 @@ ghost use Rattle.std.specs.Prelude.{IfOk, List, OnOk, ℕ, ◌++◌};
 
 use crate::table::Table;
 use crate::takers::{Entry, Takers};
+use common::exceptions::{ARITH, BOUNDS};
 use gathering::unknowns::number_after;
 use path_map::Raises;
-use resolved::exceptions::{ARITH, BOUNDS};
 use resolved::statement::Exit;
 use resolved::target::Target;
 use solver::{Atom, Constraint};

@@ -9,6 +9,7 @@ ghost use Rattle.std.specs.String.{string_bytes};
 
 use crate::reading::{ReadError, read_number, read_text, refuse};
 use bytecode::ModuleRefusal;
+use common::exceptions::{ARITH_NAME, BOUNDS_NAME, END_NAME};
 use lexer::is_name;
 use std::alloc::{AllocError, Global};
 use std::collections::BTreeSet;
@@ -95,9 +96,9 @@ pub(crate) fn take_built_in(alloc: Global) -> Result<BTreeSet<String>, AllocErro
     ensures { IfOk result (λ taken. (q : List ℕ) → contains_text taken q ≡ is_built_in q) }
 {
     let mut taken = BTreeSet::new(alloc);
-    take(alloc, &mut taken, "Arith")?;
-    take(alloc, &mut taken, "Bounds")?;
-    take(alloc, &mut taken, "End")?;
+    take(alloc, &mut taken, ARITH_NAME)?;
+    take(alloc, &mut taken, BOUNDS_NAME)?;
+    take(alloc, &mut taken, END_NAME)?;
     Ok(taken)
 }
 

@@ -1,5 +1,6 @@
 -- The names of the items of a program are names and all different, and so are those of what it resolves to.
 use Rattle.std.proofs.Common.{◌≡◌, ◌≢◌, refl, sym, ◌∙◌, subst, ap, ℕ, List, [], ◌∷◌, ◌++◌, map, Bool, true, false, cond, append-nil, append_assoc, arith}
+use Rattle.common.specs.Exceptions.{built_in_names}
 use Rattle.std.specs.Prelude.{All, IfOk, Option, Some, None, bytes_eq, codes, ◌==◌}
 use Rattle.std.proofs.lemmas.Bool.{eq-eqb}
 use Rattle.std.proofs.lemmas.List.{map_push}
@@ -90,9 +91,6 @@ bytes_eq-itself (x ∷ name) = both_back (x == x) (bytes_eq name name) (eq-eqb x
 
 now_declared : (names : Environment) (name : List ℕ) (meaning : Meaning) → IsDeclared (declaring name meaning names) name
 now_declared names name meaning = (meaning, ap (λ b. cond b (Some meaning) (names name)) (bytes_eq-itself name))
-
-abbrev pub built_in_names : List (List ℕ)
-built_in_names = codes "Arith" ∷ codes "Bounds" ∷ codes "End" ∷ []
 
 -- names that are declared and different, as are the built-in ones, and that are names
 record NamesKept (names : Environment) (all : List (List ℕ)) : Type 0 where
@@ -307,7 +305,7 @@ names_hold P h written all =
 
 pub record ProgramNames (program : Program) : Type 0 where
   pub proper : All IsProperName (item_names program)
-  pub different : AllDifferent (codes "Arith" ∷ codes "Bounds" ∷ codes "End" ∷ item_names program)
+  pub different : AllDifferent (built_in_names ++ item_names program)
 
 pub program_names : (h : PrincipalHierarchy) (written : ProgramTree) → IsWritten Anywhere longest_name written → IfOk (resolution h written) ProgramNames
 unfolding resolution top_finding items_finding

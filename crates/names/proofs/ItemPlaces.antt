@@ -1,5 +1,6 @@
 -- The names of the items of a program stand for the entries of those names.
 use Rattle.std.proofs.Common.{◌≡◌, refl, sym, ◌∙◌, subst, ap, ℕ, List, [], ◌∷◌, ◌++◌, length, Bool, true, false, cond, Ok, Err, arith}
+use Rattle.common.specs.Exceptions.{built_in_names}
 use Rattle.std.specs.Prelude.{IfOk, Option, Some, None, slice_get, bytes_eq, codes, ◌==◌, ◌&&◌, is_none}
 use Rattle.std.proofs.lemmas.Bool.{eqb-true}
 use Rattle.std.proofs.lemmas.List.{length-append}
@@ -20,7 +21,7 @@ use Rattle.names.specs.Resolution.{TopLevel, nothing_declared, built_in, item_na
 use Rattle.names.proofs.Passing.{then_finds, if_finds, any_finds}
 use Rattle.names.proofs.Tables.{ok_inside}
 use Rattle.names.proofs.WellFormedPrograms.{last_is, still_is}
-use Rattle.names.proofs.ItemNames.{ItemNames, names_with, names_all, no_names, built_in_names, TableNames, items_named}
+use Rattle.names.proofs.ItemNames.{ItemNames, names_with, names_all, no_names, TableNames, items_named}
 
 same_bytes : (a b : List ℕ) → bytes_eq a b ≡ true → a ≡ b
 same_bytes [] [] e = refl

@@ -1,6 +1,7 @@
 -- Laws of the programs that trees stand for.
 -- Source: our own.
-use Rattle.std.specs.Prelude.{◌≡◌, ℕ, ◌≤◌, List, ◌∷◌, ◌++◌, map, length, All, IsTrue, Some, slice_get, codes, IsUtf8}
+use Rattle.std.specs.Prelude.{◌≡◌, ℕ, ◌≤◌, List, ◌++◌, map, length, All, IsTrue, Some, slice_get, codes, IsUtf8}
+use Rattle.common.specs.Exceptions.{built_in_names}
 use Rattle.lexer.specs.Words.{is_name_text}
 use Rattle.principals.specs.ActsFor.{PrincipalHierarchy, IsHierarchy, AllDifferent}
 use Rattle.labels.specs.Canonical.{IsCanonicalLabel}
@@ -49,7 +50,7 @@ NamesAreProper =
 abbrev pub NamesAreDifferent : Type 0
 NamesAreDifferent =
     (h : PrincipalHierarchy) (tree : ProgramTree) (program : Program) → IsProgram tree → resolution h tree ≡ give program
-    → AllDifferent (codes "Arith" ∷ codes "Bounds" ∷ codes "End" ∷ item_names program)
+    → AllDifferent (built_in_names ++ item_names program)
 
 -- where the names of the items of a tree are UTF-8, those of the program that it stands for are too
 abbrev pub HasUtf8Names : ProgramTree → Type 0
@@ -79,7 +80,7 @@ abbrev pub MeaningHasName : Program → Meaning → List ℕ → Type 0
 MeaningHasName program (Input number) name = slice_get (channel_names program) number ≡ Some name
 MeaningHasName program (Output number) name = slice_get (channel_names program) number ≡ Some name
 MeaningHasName program (Exception number) name =
-    slice_get (codes "Arith" ∷ codes "Bounds" ∷ codes "End" ∷ program.exceptions) number ≡ Some name
+    slice_get (built_in_names ++ program.exceptions) number ≡ Some name
 MeaningHasName program (Procedure number) name = slice_get (procedure_names program) number ≡ Some name
 MeaningHasName program (Scalar (Global number) base) name = slice_get (global_names program) number ≡ Some name
 MeaningHasName program (Scalar (Local number) base) name = ⊥

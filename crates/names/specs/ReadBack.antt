@@ -20,7 +20,7 @@ use Rattle.resolved.specs.declared.expression.Operator.TheVariants as operators
 use Rattle.resolved.specs.declared.expression.Connective.{Connective}
 use Rattle.resolved.specs.declared.expression.Connective.TheVariants as connectives
 use Rattle.resolved.specs.declared.statement.Exit.TheVariants as exits
-use Rattle.resolved.specs.Names.{built_in_names}
+use Rattle.common.specs.Exceptions.{built_in_names}
 use Rattle.resolved.specs.Program.{Program, SlotEntry, ThrownEntry, ProcedureEntry}
 use Rattle.resolved.specs.Tree.{Expression, Integer, Logical, Read, Element, Unary, Binary, Short, Statement, Assign, Clear, Store, Receive, Send, Call, If, While, Leave, ReturnWith, Try, Nested, Block, Empty, Then, Handlers, NoMore, Catch}
 use Rattle.names.specs.Laws.{channel_names, global_names, procedure_names}

@@ -2,6 +2,7 @@
 -- items, each from left to right with its body, then `main` (304), and last the cells of the globals and of each procedure (704).
 -- Source: our own; what is left out of the labels of a procedure as in JFlow (Myers 1999).
 use Rattle.std.specs.Prelude.{ℕ, ◌+◌, List, [], ◌∷◌, ◌++◌, map, length, sum_by, Bool, false, not, ◌==◌, ◌&&◌, nat_le, if◌then◌else◌, codes, is_none, Option, Some, None, unwrap_or, slice_get, pos, neg_ℤ}
+use Rattle.common.specs.declared.exceptions.TheConstants.{ARITH, ARITH_NAME, BOUNDS, BOUNDS_NAME, END, END_NAME}
 use Rattle.std.specs.List.{list_any}
 use Rattle.principals.specs.ActsFor.{PrincipalHierarchy}
 use Rattle.labels.specs.Label.{Label}
@@ -40,9 +41,9 @@ nothing_declared name = None
 
 abbrev pub built_in : TopLevel
 built_in = record {
-  names = declaring (codes "End") (meanings.Exception 2)
-      (declaring (codes "Bounds") (meanings.Exception 1)
-      (declaring (codes "Arith") (meanings.Exception 0) nothing_declared));
+  names = declaring END_NAME.now (meanings.Exception END)
+      (declaring BOUNDS_NAME.now (meanings.Exception BOUNDS)
+      (declaring ARITH_NAME.now (meanings.Exception ARITH) nothing_declared));
   channels = 0;
   exceptions = 3;
   globals = 0;

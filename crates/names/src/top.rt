@@ -12,6 +12,7 @@ use crate::fault::TypeFault;
 use crate::operator::base_of;
 use crate::scope::{Meaning, find, insert, require_fresh};
 use common::Direction;
+use common::exceptions::{ARITH, ARITH_NAME, BOUNDS, BOUNDS_NAME, END, END_NAME};
 use indexmap::IndexMap;
 use resolved::expression::{Base, Variable};
 use std::alloc::{AllocError, Global};
@@ -109,9 +110,9 @@ impl TopNames {
         ensures { Resolves top_view result (give built_in) }
     {
         let mut names = IndexMap::new(alloc);
-        insert(alloc, &mut names, "Arith", Meaning::Exception(0))?;
-        insert(alloc, &mut names, "Bounds", Meaning::Exception(1))?;
-        insert(alloc, &mut names, "End", Meaning::Exception(2))?;
+        insert(alloc, &mut names, ARITH_NAME, Meaning::Exception(ARITH))?;
+        insert(alloc, &mut names, BOUNDS_NAME, Meaning::Exception(BOUNDS))?;
+        insert(alloc, &mut names, END_NAME, Meaning::Exception(END))?;
         Ok(TopNames {
             names,
             channels: 0,

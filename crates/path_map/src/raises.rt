@@ -9,8 +9,8 @@ ghost use Rattle.std.specs.Prelude.{IfOk, OnOk, map, ℕ, ◌||◌, ◌≡◌};
 
 use crate::exits::Raised;
 use crate::set::ExceptionSet;
+use common::exceptions::{ARITH, BOUNDS};
 use common::limits::MAX_INTEGER;
-use resolved::exceptions::{ARITH, BOUNDS};
 use resolved::expression::{Expression, Operator, Prefix};
 use std::alloc::AllocError;
 

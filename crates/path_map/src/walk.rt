@@ -20,7 +20,7 @@ use crate::exits::{Exits, Raised};
 use crate::fault::{EndDefect, EndRefusal, EndsFault};
 use crate::raises::{Raises, index_can_raise, raises_of, raises_of_all, raises_of_some};
 use crate::set::ExceptionSet;
-use resolved::exceptions::END;
+use common::exceptions::END;
 use resolved::expression::Expression;
 use resolved::statement::{Exit, Handler, Statement};
 use std::alloc::AllocError;

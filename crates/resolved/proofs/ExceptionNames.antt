@@ -1,7 +1,7 @@
 -- The names of exceptions.
 use Rattle.std.proofs.Common.{◌≡◌, ℕ, suc, List, ◌++◌, ap}
 use Rattle.std.specs.Prelude.{slice_get}
-use Rattle.resolved.specs.Names.{built_in_names}
+use Rattle.common.specs.Exceptions.{built_in_names}
 
 -- behind the names that every program has stand the declared ones
 pub declared_name : (declared : List (List ℕ)) (exception k : ℕ) → exception ≡ suc (suc (suc k))

@@ -1,6 +1,7 @@
 -- The names of a program and the form of its channels' labels, beside its being well-formed: what a file that holds them wants.
 -- Source: our own.
-use Rattle.std.specs.Prelude.{ℕ, List, ◌++◌, map, All, codes, [], ◌∷◌}
+use Rattle.std.specs.Prelude.{ℕ, List, ◌++◌, map, All}
+use Rattle.common.specs.Exceptions.{built_in_names}
 use Rattle.common.specs.declared.limits.TheConstants.{MAX_TEXT}
 use Rattle.principals.specs.ActsFor.{AllDifferent, IsHierarchy}
 use Rattle.principals.specs.Laws.{IsNameWithin}
@@ -10,10 +11,6 @@ use Rattle.resolved.specs.Program.{Program, ChannelEntry}
 -- a name in UTF-8 of at most 1 MiB
 abbrev pub IsShortName : List ℕ → Type 0
 IsShortName name = IsNameWithin MAX_TEXT name
-
--- the exceptions that every program has
-abbrev pub built_in_names : List (List ℕ)
-built_in_names = codes "Arith" ∷ codes "Bounds" ∷ codes "End" ∷ []
 
 -- the names that a module file keeps: those of declared exceptions, then those of channels
 abbrev pub kept_names : Program → List (List ℕ)

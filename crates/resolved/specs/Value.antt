@@ -1,6 +1,7 @@
 -- Values, and what the operators make of them.
 -- Source: our own language; whole numbers reduced to 32 bits, with division toward zero.
 use Rattle.std.specs.Prelude.{ℕ, Bool, true, false, not, ◌==◌, ℤ, pos, negsuc, ◌+ℤ◌, ◌-ℤ◌, ◌*ℤ◌, neg_ℤ, int_lt, int_le, int_div, int_rem, nat_lt, if◌then◌else◌}
+use Rattle.common.specs.declared.exceptions.TheConstants.{ARITH, BOUNDS, END}
 use Rattle.std.specs.Int.{int_wrap}
 use Rattle.std.specs.Ordering.{int_eq}
 use mir.Syntax.{w32}
@@ -17,13 +18,13 @@ use Rattle.resolved.specs.declared.expression.Connective.TheVariants.{And, Or}
 
 -- the built-in exceptions
 abbrev pub arith_exception : ℕ
-arith_exception = 0
+arith_exception = ARITH
 
 abbrev pub bounds_exception : ℕ
-bounds_exception = 1
+bounds_exception = BOUNDS
 
 abbrev pub end_exception : ℕ
-end_exception = 2
+end_exception = END
 
 -- what evaluation comes to: a result, or the exception that was raised
 pub data Evaluated (A : Type 0) : Type 0 where

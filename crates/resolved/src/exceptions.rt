@@ -4,23 +4,16 @@ ghost use Rattle.resolved.specs.Exceptions as spec;
 ghost use Rattle.std.specs.Prelude.{[], map, slice_get, unwrap_or, ◌≡◌};
 ghost use Rattle.std.specs.String.{string_bytes};
 
-/// Raised by a division by zero.
-pub const ARITH: u32 = 0;
-
-/// Raised by an index that is out of range.
-pub const BOUNDS: u32 = 1;
-
-/// Raised where an input has no further number.
-pub const END: u32 = 2;
+use common::exceptions::{ARITH, ARITH_NAME, BOUNDS, BOUNDS_NAME, END, END_NAME};
 
 /// The name of an exception, where these are the declared ones; empty where there is none of this number.
 pub fn exception_name(declared: &[String], exception: u32) -> &str
     ensures { result.now ≡ spec.exception_name (map string_bytes declared.now) exception }
 {
     match exception {
-        ARITH => "Arith",
-        BOUNDS => "Bounds",
-        END => "End",
+        ARITH => ARITH_NAME,
+        BOUNDS => BOUNDS_NAME,
+        END => END_NAME,
         _ => declared_name(declared, (exception - 3) as usize),
     }
 }
