@@ -19,8 +19,10 @@ pub mod Stepping
 pub mod Places
 pub mod Fusing
 pub mod Each
-pub mod OnOperations
 pub mod Switching
 pub mod Turning
 pub mod OnWindow
 pub mod OpenCells
+pub mod Entering
+pub mod Looping
+pub mod Linking

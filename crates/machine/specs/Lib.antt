@@ -1,4 +1,5 @@
 pub mod Slab
+pub mod Points
 pub mod Frames
 pub mod Globals
 pub mod Index
@@ -9,4 +10,6 @@ pub mod Steps
 pub mod Operations
 pub mod Fusing
 pub mod OpenCells
+pub mod Linked
+pub mod Linking
 pub mod Inner

@@ -11,6 +11,7 @@ mod inner;
 mod input;
 mod inside;
 mod landing;
+mod linked;
 mod live;
 mod operation;
 pub mod run;
@@ -18,6 +19,7 @@ mod shape;
 mod slab;
 mod special;
 pub mod status;
+mod values;
 mod window;
 
 pub use fault::NewFault;
