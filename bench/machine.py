@@ -342,7 +342,12 @@ def row(cells):
 
 def main():
     program, lua = sys.argv[1], sys.argv[2] if len(sys.argv) > 2 else "lua5.4"
-    folder = Path(tempfile.mkdtemp())
+    with tempfile.TemporaryDirectory() as folder:
+        measure(program, lua, Path(folder))
+
+
+def measure(program, lua, folder):
+    """Prints a row for each program."""
     rust = interpreter(folder)
     others = ["Lua", "Rust"] if rust else ["Lua"]
     heads = ["Program", *others]
