@@ -1,26 +1,26 @@
 -- Each phase lets a text pass or refuses it, for one cause at one byte.
 use Rattle.std.proofs.Common.{◌≡◌, ℕ, ◌≤◌, refl, sym, ap, ◌∙◌, subst, Bool, true, false, List, [], ◌∷◌, length, ◌⊎◌, inl, inr, ⊎_elim, arith}
-use Rattle.std.specs.Prelude.{Option, Some, Ok, Err}
+use Rattle.std.specs.Prelude.{Ok, Err}
 use Rattle.std.specs.Str.{is_utf8}
 use Rattle.std.proofs.lemmas.Str.{IsUtf8-from_is_utf8}
 use Rattle.std.proofs.lemmas.Bool.Decides.{leb_tells}
 use Rattle.lexer.specs.Cut.{IsCut}
 use Rattle.lexer.specs.Cut as lexer
 use Rattle.lexer.specs.Terminal.{Terminal}
-use Rattle.lexer.specs.declared.fault.LexFault.{LexFault}
-use Rattle.lexer.specs.declared.fault.LexFault.TheVariants as lexical
+use Rattle.lexer.specs.declared.fault.LexRefusal.{LexRefusal}
+use Rattle.lexer.specs.declared.fault.LexRefusal.TheVariants as lexical
 use Rattle.lexer.proofs.Cutting.{has_one_cut, not_cut_and_refused, has_one_refusal}
 use Rattle.lexer.proofs.Total.{is_cut_or_refused}
 use Rattle.lexer.proofs.Listed.{listed}
 use Rattle.parser.specs.Refusal as parser
-use Rattle.parser.specs.declared.fault.ParseFault.{ParseFault}
-use Rattle.parser.specs.declared.fault.ParseFault.TheVariants as syntactic
+use Rattle.parser.specs.declared.fault.ParseRefusal.{ParseRefusal}
+use Rattle.parser.specs.declared.fault.ParseRefusal.TheVariants as syntactic
 use Rattle.parser.proofs.Programs.{one_tree}
 use Rattle.parser.proofs.Refusals.{spelled_or_refused, spelled_not_refused, one_refusal}
 use Rattle.principals.specs.ActsFor.{PrincipalHierarchy}
 use Rattle.principals.specs.HierarchyText.{greatest_text, IsRefusedText}
-use Rattle.principals.specs.declared.fault.HierFault.{HierFault}
-use Rattle.principals.specs.declared.fault.HierFault.TheVariants as hierarchies
+use Rattle.principals.specs.declared.fault.HierarchyRefusal.{HierarchyRefusal}
+use Rattle.principals.specs.declared.fault.HierarchyRefusal.TheVariants as hierarchies
 use Rattle.principals.specs.Laws.{HasOneHierarchy, IsReadOrRefused, IsNotReadAndRefused, HasOneRefusal}
 use Rattle.syntax.specs.Grammar.{SpellsProgram}
 use Rattle.syntax.specs.Tree.{ProgramTree}
@@ -30,10 +30,11 @@ use Rattle.resolved.specs.EndFaults.{EndFault, end_faults}
 use Rattle.resolved.specs.Labelled.{Demand, Labelled}
 use Rattle.resolved.specs.Flow as flow
 use Rattle.resolved.proofs.Flow.{labelled-or_refused, chain-refuses}
-use Rattle.names.specs.Finding.{Finding, PlacedRefusal}
+use Rattle.names.specs.Finding.{Finding}
+use Rattle.names.specs.declared.fault.NameRefusal.{NameRefusal}
 use Rattle.names.specs.Resolution.{resolution}
 use Rattle.acceptance.specs.Accepted.{IsText, IsTreeOf, IsResolvedFrom, IsAccepted, HasHierarchy, StandFor}
-use Rattle.acceptance.specs.Refused.{IsNoText, TooLong, NotUtf8, IsHierarchyRefused, Unreadable, Wrong, IsSourceRefused, NoText, NoTokens, NoTree, WrongName, WrongEnd, WrongFlow, AreTextsRefusedAt, Hierarchy, Source, hierarchy_refusal, lexical_refusal, parse_refusal, cause_of_name, cause_of_end}
+use Rattle.acceptance.specs.Refused.{IsNoText, TooLong, NotUtf8, IsHierarchyRefused, Unreadable, Wrong, IsSourceRefused, NoText, NoTokens, NoTree, WrongName, WrongEnd, WrongFlow, AreTextsRefusedAt, Hierarchy, Source, hierarchy_cause, lexical_cause, parse_cause, cause_of_name, cause_of_end}
 use Rattle.acceptance.specs.Laws.{Verdict, Accepted, Refused, IsVerdict, HasVerdict, HasOneVerdict}
 use Rattle.acceptance.specs.declared.cause.Cause.{Cause}
 use Rattle.acceptance.specs.declared.cause.Cause.TheVariants as causes
@@ -45,12 +46,9 @@ use Rattle.acceptance.proofs.Demands.{one_last}
 abbrev pub Same : Cause → ℕ → Cause → ℕ → Type 0
 Same cause at other there = (cause ≡ other) × (at ≡ there)
 
-same_some : (cause other : Cause) (at there : ℕ) (found : Option (Cause × ℕ)) → found ≡ Some (cause, at) → found ≡ Some (other, there) → Same cause at other there
-same_some cause other at there found one two =
-    let first : Cause × ℕ = (cause, at) in
-    let second : Cause × ℕ = (other, there) in
-    let both : Some first ≡ Some second = sym one ∙ two in
-    let same : first ≡ second = cc in
+same_pair : (cause other : Cause) (at there : ℕ) (found : Cause × ℕ) → found ≡ (cause, at) → found ≡ (other, there) → Same cause at other there
+same_pair cause other at there found one two =
+    let same : (cause, at) ≡ (other, there) = sym one ∙ two in
     (ap (λ (pair : Cause × ℕ). pair.0) same, ap (λ (pair : Cause × ℕ). pair.1) same)
 
 -- ---- bytes that are no text
@@ -75,13 +73,13 @@ readable bytes =
 
 -- ---- the source: what a phase let pass is not what an earlier one refused
 
-cut_refused : (source : List ℕ) (tokens : List Terminal) (fault : LexFault) → IsCut source tokens → lexer.IsTextRefused source fault → ⊥
+cut_refused : (source : List ℕ) (tokens : List Terminal) (fault : LexRefusal) → IsCut source tokens → lexer.IsTextRefused source fault → ⊥
 cut_refused source tokens fault cut refused = not_cut_and_refused source tokens fault cut refused
 
 same_tokens : (source : List ℕ) (tree : ProgramTree) (of : IsTreeOf source tree) (tokens : List Terminal) → IsCut source tokens → of.tokens ≡ tokens
 same_tokens source tree of tokens cut = has_one_cut source of.tokens tokens of.cut cut
 
-tree_refused : (source : List ℕ) (tree : ProgramTree) (tokens : List Terminal) (fault : ParseFault) → IsTreeOf source tree → IsCut source tokens → parser.AreTokensRefused tokens fault → ⊥
+tree_refused : (source : List ℕ) (tree : ProgramTree) (tokens : List Terminal) (fault : ParseRefusal) → IsTreeOf source tree → IsCut source tokens → parser.AreTokensRefused tokens fault → ⊥
 tree_refused source tree tokens fault of cut refused =
     spelled_not_refused tokens tree fault (subst (λ ts. SpellsProgram ts tree) (same_tokens source tree of tokens cut) of.spelled) refused
 
@@ -90,13 +88,13 @@ same_tree source tree other one two =
     one_tree two.tokens tree other (subst (λ ts. SpellsProgram ts tree) (same_tokens source tree one two.tokens two.cut) one.spelled) two.spelled
 
 module _ (h : PrincipalHierarchy) (source : List ℕ) where
-  named_refused : (tree : ProgramTree) (fault : PlacedRefusal) (program : Program) → IsTreeOf source tree → resolution h tree ≡ Err fault → IsResolvedFrom h source program → ⊥
+  named_refused : (tree : ProgramTree) (fault : NameRefusal) (program : Program) → IsTreeOf source tree → resolution h tree ≡ Err fault → IsResolvedFrom h source program → ⊥
   named_refused tree fault program of refused resolved =
       let same = same_tree source tree resolved.tree of resolved.tree_of in
       let both : Err fault ≡ Ok program = sym refused ∙ (ap (resolution h) same ∙ resolved.resolved) in
       cc
 
-  same_fault : (tree other : ProgramTree) (fault again : PlacedRefusal) → IsTreeOf source tree → IsTreeOf source other → resolution h tree ≡ Err fault → resolution h other ≡ Err again → fault ≡ again
+  same_fault : (tree other : ProgramTree) (fault again : NameRefusal) → IsTreeOf source tree → IsTreeOf source other → resolution h tree ≡ Err fault → resolution h other ≡ Err again → fault ≡ again
   same_fault tree other fault again one two e f =
       let both : Err fault ≡ Err again = sym e ∙ (ap (resolution h) (same_tree source tree other one two) ∙ f) in cc
 
@@ -118,7 +116,7 @@ module _ (h : PrincipalHierarchy) (source : List ℕ) where
       one_last other policy other_policy chain others last again (subst (λ p. flow.IsProgramRefused p policy chain last) same one) two
 
   -- what an earlier phase refuses does not come to a later one
-  lexed_later : (fault : LexFault) → lexer.IsTextRefused source fault → (tree : ProgramTree) → IsTreeOf source tree → ⊥
+  lexed_later : (fault : LexRefusal) → lexer.IsTextRefused source fault → (tree : ProgramTree) → IsTreeOf source tree → ⊥
   lexed_later fault refused tree of = cut_refused source of.tokens fault of.cut refused
 
   source_once : (cause other : Cause) (at there : ℕ) → IsSourceRefused h source cause at → IsSourceRefused h source other there → Same cause at other there
@@ -130,7 +128,7 @@ module _ (h : PrincipalHierarchy) (source : List ℕ) where
   source_once cause _ at _ (NoText _ _ one) (WrongFlow program from ended policy chain last refused) = absurd (text_or_none source cause at one from.tree_of.text)
   source_once cause other at there (NoTokens _ _ text _ _ _) (NoText _ _ two) = absurd (text_or_none source other there two text)
   source_once cause other at there (NoTokens _ _ _ fault refused named) (NoTokens _ _ _ again refused_too named_too) =
-      same_some cause other at there (lexical_refusal fault) named (ap lexical_refusal (has_one_refusal source fault again refused refused_too) ∙ named_too)
+      same_pair cause other at there (lexical_cause fault) named (ap lexical_cause (has_one_refusal source fault again refused refused_too) ∙ named_too)
   source_once cause other at there (NoTokens _ _ _ fault refused named) (NoTree _ _ _ tokens cut _ _ _) = absurd (cut_refused source tokens fault cut refused)
   source_once cause _ at _ (NoTokens _ _ _ fault refused named) (WrongName tree of wrong e) = absurd (lexed_later fault refused tree of)
   source_once cause _ at _ (NoTokens _ _ _ fault refused named) (WrongEnd program from wrong others e) = absurd (lexed_later fault refused from.tree from.tree_of)
@@ -139,8 +137,8 @@ module _ (h : PrincipalHierarchy) (source : List ℕ) where
   source_once cause other at there (NoTree _ _ _ tokens cut _ _ _) (NoTokens _ _ _ fault refused named) = absurd (cut_refused source tokens fault cut refused)
   source_once cause other at there (NoTree _ _ _ tokens cut fault refused named) (NoTree _ _ _ others cut_too again refused_too named_too) =
       let same : tokens ≡ others = has_one_cut source tokens others cut cut_too in
-      same_some cause other at there (parse_refusal fault) named
-      (ap parse_refusal (one_refusal others fault again (subst (λ ts. parser.AreTokensRefused ts fault) same refused) refused_too) ∙ named_too)
+      same_pair cause other at there (parse_cause fault) named
+      (ap parse_cause (one_refusal others fault again (subst (λ ts. parser.AreTokensRefused ts fault) same refused) refused_too) ∙ named_too)
   source_once cause _ at _ (NoTree _ _ _ tokens cut fault refused named) (WrongName tree of wrong e) = absurd (tree_refused source tree tokens fault of cut refused)
   source_once cause _ at _ (NoTree _ _ _ tokens cut fault refused named) (WrongEnd program from wrong others e) = absurd (tree_refused source from.tree tokens fault from.tree_of cut refused)
   source_once cause _ at _ (NoTree _ _ _ tokens cut fault refused named) (WrongFlow program from ended policy chain last unmet) = absurd (tree_refused source from.tree tokens fault from.tree_of cut refused)
@@ -149,7 +147,7 @@ module _ (h : PrincipalHierarchy) (source : List ℕ) where
   source_once _ other _ there (WrongName tree of wrong e) (NoTree _ _ _ tokens cut fault refused named) = absurd (tree_refused source tree tokens fault of cut refused)
   source_once _ _ _ _ (WrongName tree of wrong e) (WrongName other of_too again f) =
       let same : wrong ≡ again = same_fault tree other wrong again of of_too e f in
-      (ap (λ (fault : PlacedRefusal). cause_of_name fault.refusal) same, ap (λ (fault : PlacedRefusal). fault.at) same)
+      (ap (λ (fault : NameRefusal). cause_of_name fault.defect) same, ap (λ (fault : NameRefusal). fault.at) same)
   source_once _ _ _ _ (WrongName tree of wrong e) (WrongEnd program from fault others f) = absurd (named_refused tree wrong program of e from)
   source_once _ _ _ _ (WrongName tree of wrong e) (WrongFlow program from ended policy chain last unmet) = absurd (named_refused tree wrong program of e from)
   source_once _ other _ there (WrongEnd program from wrong others e) (NoText _ _ two) = absurd (text_or_none source other there two from.tree_of.text)
@@ -202,7 +200,7 @@ module _ (h : PrincipalHierarchy) (source : List ℕ) where
     where
       by_finding : (finding : Finding Program) → resolution h tree ≡ finding → ((found : Program) × IsAccepted h source found) ⊎ Refusal
       by_finding (Ok program) e = checked program (record { tree = tree; tree_of = of; resolved = e })
-      by_finding (Err fault) e = inr (cause_of_name fault.refusal, fault.at, WrongName tree of fault e)
+      by_finding (Err fault) e = inr (cause_of_name fault.defect, fault.at, WrongName tree of fault e)
 
   parsed : (text : IsText source) (tokens : List Terminal) → IsCut source tokens → ((found : Program) × IsAccepted h source found) ⊎ Refusal
   parsed text tokens cut =
@@ -211,8 +209,7 @@ module _ (h : PrincipalHierarchy) (source : List ℕ) where
       (λ found. inr (by_fault found.0 found.1))
       (spelled_or_refused tokens (listed source tokens (IsUtf8-from_is_utf8 source text.characters) cut).terminated)
     where
-      by_fault : (fault : ParseFault) → parser.AreTokensRefused tokens fault → Refusal
-      by_fault syntactic.NoMemory refused = absurd refused
+      by_fault : (fault : ParseRefusal) → parser.AreTokensRefused tokens fault → Refusal
       by_fault (syntactic.Unexpected at) refused = (causes.UnexpectedToken, at, NoTree causes.UnexpectedToken at text tokens cut (syntactic.Unexpected at) refused refl)
       by_fault (syntactic.TooDeep at) refused = (causes.TooDeep, at, NoTree causes.TooDeep at text tokens cut (syntactic.TooDeep at) refused refl)
 
@@ -220,8 +217,7 @@ module _ (h : PrincipalHierarchy) (source : List ℕ) where
   lexed text =
       ⊎_elim (λ found. parsed text found.0 found.1) (λ found. inr (by_fault found.0 found.1)) (is_cut_or_refused source (IsUtf8-from_is_utf8 source text.characters))
     where
-      by_fault : (fault : LexFault) → lexer.IsTextRefused source fault → Refusal
-      by_fault lexical.NoMemory refused = absurd refused.stuck
+      by_fault : (fault : LexRefusal) → lexer.IsTextRefused source fault → Refusal
       by_fault (lexical.NoToken at) refused = (causes.NoToken, at, NoTokens causes.NoToken at text (lexical.NoToken at) refused refl)
       by_fault (lexical.LiteralTooLarge at) refused = (causes.LiteralTooLarge, at, NoTokens causes.LiteralTooLarge at text (lexical.LiteralTooLarge at) refused refl)
       by_fault (lexical.UnclosedComment at) refused = (causes.OpenComment, at, NoTokens causes.OpenComment at text (lexical.UnclosedComment at) refused refl)
@@ -245,7 +241,7 @@ module _ (laws : HierarchyLaws) where
   hierarchy_once text cause other at there (Wrong _ _ is_text fault refused named) (Unreadable _ _ two) = absurd (text_or_none text other there two is_text)
   hierarchy_once text cause other at there (Wrong _ _ _ fault refused named) (Wrong _ _ _ again refused_too named_too) =
       let same : fault ≡ again = laws.one_refusal text fault again refused refused_too in
-      same_some cause other at there (hierarchy_refusal fault) named (ap hierarchy_refusal same ∙ named_too)
+      same_pair cause other at there (hierarchy_cause fault) named (ap hierarchy_cause same ∙ named_too)
 
   hierarchy_or_refused : (text : List ℕ) (h : PrincipalHierarchy) (cause : Cause) (at : ℕ) → HasHierarchy text h → IsHierarchyRefused text cause at → ⊥
   hierarchy_or_refused text h cause at has (Unreadable _ _ no_text) =
@@ -255,8 +251,7 @@ module _ (laws : HierarchyLaws) where
   hierarchy_read : (text : List ℕ) → ((h : PrincipalHierarchy) × HasHierarchy text h) ⊎ ((cause : Cause) × (at : ℕ) × IsHierarchyRefused text cause at)
   hierarchy_read text = ⊎_elim reads (λ none. inr (none.0, none.1, Unreadable none.0 none.1 none.2)) (readable text)
     where
-      refused_by : (fault : HierFault) → IsText text → IsRefusedText text fault → (cause : Cause) × (at : ℕ) × IsHierarchyRefused text cause at
-      refused_by hierarchies.NoMemory is_text r = absurd r
+      refused_by : (fault : HierarchyRefusal) → IsText text → IsRefusedText text fault → (cause : Cause) × (at : ℕ) × IsHierarchyRefused text cause at
       refused_by hierarchies.TooLong is_text r = absurd (omega (arith, r, is_text.short))
       refused_by (hierarchies.Syntax at) is_text r = (causes.Syntax, at, Wrong causes.Syntax at is_text (hierarchies.Syntax at) r refl)
       refused_by (hierarchies.DeclaredTwice at) is_text r = (causes.PrincipalTwice, at, Wrong causes.PrincipalTwice at is_text (hierarchies.DeclaredTwice at) r refl)

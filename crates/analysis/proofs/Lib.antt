@@ -1,2 +1,1 @@
-mod Early
 mod Faults

@@ -6,5 +6,5 @@ mod causes;
 pub mod fault;
 pub mod phases;
 
-pub use fault::AnalysisFault;
+pub use fault::{SourceFault, SourceRefusal};
 pub use phases::{Analysed, analyse, text_of};

@@ -2,7 +2,9 @@
 
 ghost use Rattle.acceptance.specs.Accepted.{IsResolvedFrom, IsText, IsTreeOf};
 ghost use Rattle.acceptance.specs.Refused.{IsNoText};
-ghost use Rattle.analysis.specs.Reported.{IsBeforeLabels, ReportsFault};
+ghost use Rattle.analysis.specs.Reported.{IsBeforeLabels, IsSourceRefusal, of_cause};
+ghost use Rattle.common.specs.Answers.{IfRefused};
+ghost use Rattle.common.specs.declared.fault.OrNoMemory.TheVariants.{Refused};
 ghost use Rattle.path_map.specs.Exits.{exits_of};
 ghost use Rattle.path_map.specs.Paths.{program_paths};
 ghost use Rattle.principals.specs.ActsFor.{PrincipalHierarchy};
@@ -11,9 +13,9 @@ ghost use Rattle.resolved.specs.EndFaults.{end_faults};
 ghost use Rattle.std.specs.Prelude.{IfErr, IfOk, OnOk, [], map, ◌≡◌};
 ghost use Rattle.syntax.specs.Tree.{program_tree};
 
-use crate::causes::{of_end, of_name, of_tokens, of_tree};
-use crate::fault::AnalysisFault;
+use crate::fault::{SourceFault, SourceRefusal};
 use acceptance::Cause;
+use common::OrNoMemory;
 use common::limits::MAX_TEXT;
 use lexer::lex;
 use names::resolve;
@@ -36,11 +38,7 @@ pub struct Analysed {
 /// # Errors
 ///
 /// The first fault of the source before its labels, with its byte; or out of memory.
-pub fn analyse(
-    alloc: Global,
-    hierarchy: &Hierarchy,
-    source: &[u8],
-) -> Result<Analysed, AnalysisFault>
+pub fn analyse(alloc: Global, hierarchy: &Hierarchy, source: &[u8]) -> Result<Analysed, SourceFault>
     // The program is the one that the source stands for, and has no fault of its ends.
     ensures resolved { IfOk result (λ found.
         IsResolvedFrom hierarchy.now source.now (program_of found.core)) }
@@ -51,42 +49,35 @@ pub fn analyse(
         ≡ map exits_of (program_paths (program_of found.core))) }
 
     // A refusal is the first fault, at its byte, and not one of labels.
-    ensures first_fault { IfErr result (ReportsFault hierarchy.now source.now) }
-    ensures before_labels { IfErr result IsBeforeLabels }
+    ensures first_fault { IfErr result (IfRefused
+        (IsSourceRefusal hierarchy.now source.now)) }
+    ensures before_labels { IfErr result (IfRefused IsBeforeLabels) }
 {
-    let text = match text_of(source) {
-        Ok(text) => text,
-        Err(cause) => return Err(AnalysisFault::Refused(cause, 0)),
-    };
-    let tree = match read(alloc, text) {
-        Ok(tree) => tree,
-        Err(fault) => return Err(fault),
-    };
-    let core = match resolve(alloc, hierarchy, &tree) {
-        Ok(core) => core,
-        Err(fault) => return Err(of_name(fault)),
-    };
-    match find_ends(alloc, &core) {
-        Ok(ends) => Ok(Analysed { core, ends }),
-        Err(fault) => Err(of_end(fault)),
-    }
+    let text = text_of(source).map_err(refuse_bytes)?;
+    let tree = read(alloc, text)?;
+    let core = resolve(alloc, hierarchy, &tree).map_err(OrNoMemory::cast)?;
+    let ends = find_ends(alloc, &core).map_err(OrNoMemory::cast)?;
+    Ok(Analysed { core, ends })
+}
+
+// The fault of bytes that are no text, which stands at the first of them.
+fn refuse_bytes(cause: Cause) -> SourceFault
+    ensures { result ≡ Refused (of_cause (cause, 0)) }
+{
+    OrNoMemory::Refused(SourceRefusal { cause, at: 0 })
 }
 
 // The tree that a source spells.
-fn read(alloc: Global, source: &str) -> Result<syntax::Program, AnalysisFault>
+fn read(alloc: Global, source: &str) -> Result<syntax::Program, SourceFault>
     requires text { IsText source.now }
     ensures spelled { IfOk result (λ tree. IsTreeOf source.now (program_tree tree)) }
-    ensures first_fault { IfErr result (λ fault. (h : PrincipalHierarchy) → ReportsFault h source.now fault) }
-    ensures before_labels { IfErr result IsBeforeLabels }
+    ensures first_fault { (h : PrincipalHierarchy) → IfErr result (IfRefused
+        (IsSourceRefusal h source.now)) }
+    ensures before_labels { IfErr result (IfRefused IsBeforeLabels) }
 {
-    let tokens = match lex(alloc, source) {
-        Ok(tokens) => tokens,
-        Err(fault) => return Err(of_tokens(fault)),
-    };
-    match parse(alloc, tokens.as_slice()) {
-        Ok(tree) => Ok(tree),
-        Err(fault) => Err(of_tree(fault)),
-    }
+    let tokens = lex(alloc, source).map_err(OrNoMemory::cast)?;
+    let tree = parse(alloc, tokens.as_slice()).map_err(OrNoMemory::cast)?;
+    Ok(tree)
 }
 
 /// The text that some bytes are.

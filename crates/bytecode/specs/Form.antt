@@ -4,9 +4,9 @@
 use Rattle.std.specs.Prelude.{◌≡◌, ℕ, zero, suc, ◌-◌, ◌^◌, ◌<◌, Bool, true, List, [], ◌∷◌, ◌++◌, length, take, drop, Option, Some, None, Result, Ok, Err, nat_lt, ◌==◌, if◌then◌else◌}
 use Rattle.std.specs.Int.{w32, to_be_bytes, from_be_bytes}
 use Rattle.std.specs.List.{flat_map, AllByRecursion}
-use Rattle.bytecode.specs.declared.fault.ModuleRefusal.{ModuleRefusal}
+use Rattle.bytecode.specs.declared.fault.ModuleDefect.{ModuleDefect}
 use Rattle.bytecode.specs.declared.fault.ReadStop.{ReadStop}
-use Rattle.bytecode.specs.declared.fault.ModuleRefusal.TheVariants.{Short, BadValue, Trailing}
+use Rattle.bytecode.specs.declared.fault.ModuleDefect.TheVariants.{Short, BadValue, Trailing}
 
 -- how instructions are spelled: an opcode, which says how many bytes of operand follow (none where there is no such opcode),
 -- and the instruction that an opcode and an operand spell, if any
@@ -26,10 +26,10 @@ pub data Form : Type 0 → Type 1 where
   Text : Form (List ℕ)
   -- no byte at all, for one value
   Nothing : {A : Type 0} → A → Form A
-  -- a given number in four bytes, whose absence is the given refusal, and then a value
-  Marked : {A : Type 0} → ModuleRefusal → ℕ → Form A → Form A
-  -- a value that passes a test, whose failure is the given refusal at the value's first byte
-  Checked : {A : Type 0} → ModuleRefusal → (A → Bool) → Form A → Form A
+  -- a given number in four bytes, whose absence is the given defect, and then a value
+  Marked : {A : Type 0} → ModuleDefect → ℕ → Form A → Form A
+  -- a value that passes a test, whose failure is the given defect at the value's first byte
+  Checked : {A : Type 0} → ModuleDefect → (A → Bool) → Form A → Form A
   -- a value, and then another one of a format that may depend on the first
   Then : {A B : Type 0} → Form A → (A → Form B) → Form (A × B)
   -- a count that passes a test, and then that many values, each of a format that may depend on those before it
@@ -59,8 +59,8 @@ spelled Byte b = b ∷ []
 spelled Number n = to_be_bytes w32 n
 spelled Text text = to_be_bytes w32 (length text) ++ text
 spelled (Nothing a) x = []
-spelled (Marked refusal n form) x = to_be_bytes w32 n ++ spelled form x
-spelled (Checked refusal test form) x = spelled form x
+spelled (Marked defect n form) x = to_be_bytes w32 n ++ spelled form x
+spelled (Checked defect test form) x = spelled form x
 spelled (Then first second) x = spelled first x.0 ++ spelled (second x.0) x.1
 spelled (Counted test one) xs = to_be_bytes w32 (length xs) ++ spelled_each (λ before x. spelled (one before) x) [] xs
 spelled (Code coding) xs = to_be_bytes w32 (length (spelled_code coding xs)) ++ spelled_code coding xs
@@ -84,8 +84,8 @@ Fits Byte b = b < 256
 Fits Number n = n < 2 ^ 32
 Fits Text text = length text < 2 ^ 32
 Fits (Nothing a) x = x ≡ a
-Fits (Marked refusal n form) x = Fits form x
-Fits (Checked refusal test form) x = Fits form x × (test x ≡ true)
+Fits (Marked defect n form) x = Fits form x
+Fits (Checked defect test form) x = Fits form x × (test x ≡ true)
 Fits (Then first second) x = Fits first x.0 × Fits (second x.0) x.1
 Fits (Counted test one) xs = (length xs < 2 ^ 32) × (test (length xs) ≡ true) × FitEach (λ before x. Fits (one before) x) [] xs
 Fits (Code coding) xs = (length (spelled_code coding xs) < 2 ^ 32) × AllByRecursion (IsCoded coding) xs
@@ -97,13 +97,13 @@ Spells form x bytes = Fits form x × (bytes ≡ spelled form x)
 
 -- ---- reading, and the first refusal
 
--- a refusal at the offset where these bytes are left
-abbrev pub stop_at : ModuleRefusal → List ℕ → ReadStop
-stop_at refusal bytes = record { refusal = refusal; left = length bytes }
+-- a defect at the offset where these bytes are left
+abbrev pub stop_at : ModuleDefect → List ℕ → ReadStop
+stop_at defect bytes = record { defect = defect; left = length bytes }
 
 -- the bytes end inside a field or before it: nothing is left at the end
 abbrev pub short : ReadStop
-short = record { refusal = Short; left = 0 }
+short = record { defect = Short; left = 0 }
 
 infixl 10 ◌>>=◌
 abbrev pub ◌>>=◌ : {A B : Type 0} → Result A ReadStop → (A → Result B ReadStop) → Result B ReadStop
@@ -132,7 +132,7 @@ each_at one (suc count) before bytes = do
   x ← one before bytes
   each_at one count (before ++ x.0 ∷ []) x.1
 
--- what an operand was found to spell; where it has no meaning, a refusal at the operand
+-- what an operand was found to spell; where it has no meaning, a defect at the operand
 abbrev pub meant : {A : Type 0} → Option A → List ℕ → List ℕ → Read A
 meant None bytes rest = Err (stop_at BadValue bytes)
 meant (Some x) bytes rest = Ok (x, rest)
@@ -166,12 +166,12 @@ read Text bytes = do
   size ← number_at bytes
   bytes_at size.0 size.1
 read (Nothing a) bytes = Ok (a, bytes)
-read (Marked refusal n form) bytes = do
+read (Marked defect n form) bytes = do
   found ← number_at bytes
-  if found.0 == n then read form found.1 else Err (stop_at refusal bytes)
-read (Checked refusal test form) bytes = do
+  if found.0 == n then read form found.1 else Err (stop_at defect bytes)
+read (Checked defect test form) bytes = do
   found ← read form bytes
-  if test found.0 then Ok found else Err (stop_at refusal bytes)
+  if test found.0 then Ok found else Err (stop_at defect bytes)
 read (Then first second) bytes = do
   a ← read first bytes
   b ← read (second a.0) a.1

@@ -13,7 +13,7 @@ use Rattle.lexer.specs.Words.{is_name_text}
 use Rattle.principals.specs.ActsFor.{PrincipalHierarchy}
 use Rattle.labels.specs.Label.{ReaderPolicy, Label}
 use Rattle.labels.specs.Canonical.{policy_cmp}
-use Rattle.bytecode.specs.declared.fault.ModuleRefusal.TheVariants.{Magic, Version, BadValue, NotCanonical}
+use Rattle.bytecode.specs.declared.fault.ModuleDefect.TheVariants.{Magic, Version, BadValue, NotCanonical}
 use Rattle.bytecode.specs.declared.value.Kind.{Kind}
 use Rattle.bytecode.specs.declared.value.Kind.TheVariants as kind
 use Rattle.bytecode.specs.declared.declaration.Slot.{Slot}

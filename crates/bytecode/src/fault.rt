@@ -1,11 +1,11 @@
-//! Why bytes spell no module.
+//! What is wrong with bytes that spell no module.
 
-ghost use Rattle.bytecode.specs.Faults.{refusal_number, refusal_words};
+ghost use Rattle.bytecode.specs.Faults.{module_defect_number, module_defect_words};
 ghost use Rattle.std.specs.Prelude.{◌≡◌};
 
-/// Why bytes spell no module.
+/// What is wrong with bytes that spell no module.
 #[derive(Clone, Copy, Debug, PartialEq, Eq)]
-pub enum ModuleRefusal {
+pub enum ModuleDefect {
     /// They do not begin with `FLOB`.
     Magic,
     /// They are of another version of the format.
@@ -20,39 +20,39 @@ pub enum ModuleRefusal {
     Trailing,
 }
 
-impl ModuleRefusal {
-    /// The number that the refusal is reported by, 801 to 806.
+impl ModuleDefect {
+    /// The number that the defect is reported by, 801 to 806.
     pub fn number(self) -> u32
-        ensures { result ≡ refusal_number self }
+        ensures { result ≡ module_defect_number self }
     {
         match self {
-            ModuleRefusal::Magic => 801,
-            ModuleRefusal::Version => 802,
-            ModuleRefusal::Short => 803,
-            ModuleRefusal::BadValue => 804,
-            ModuleRefusal::NotCanonical => 805,
-            ModuleRefusal::Trailing => 806,
+            ModuleDefect::Magic => 801,
+            ModuleDefect::Version => 802,
+            ModuleDefect::Short => 803,
+            ModuleDefect::BadValue => 804,
+            ModuleDefect::NotCanonical => 805,
+            ModuleDefect::Trailing => 806,
         }
     }
 
-    /// The words that the refusal is reported by.
+    /// The words that the defect is reported by.
     pub fn words(self) -> &'static str
-        ensures { result.now ≡ refusal_words self }
+        ensures { result.now ≡ module_defect_words self }
     {
         match self {
-            ModuleRefusal::Magic => "magic",
-            ModuleRefusal::Version => "version",
-            ModuleRefusal::Short => "short",
-            ModuleRefusal::BadValue => "bad value",
-            ModuleRefusal::NotCanonical => "not canonical",
-            ModuleRefusal::Trailing => "trailing bytes",
+            ModuleDefect::Magic => "magic",
+            ModuleDefect::Version => "version",
+            ModuleDefect::Short => "short",
+            ModuleDefect::BadValue => "bad value",
+            ModuleDefect::NotCanonical => "not canonical",
+            ModuleDefect::Trailing => "trailing bytes",
         }
     }
 }
 
-/// A refusal, and where it stands, as how many bytes are left from there to the end.
+/// A defect, and where it stands, as how many bytes are left from there to the end.
 #[derive(Clone, Copy, Debug)]
 pub struct ReadStop {
-    pub refusal: ModuleRefusal,
+    pub defect: ModuleDefect,
     pub left: usize,
 }

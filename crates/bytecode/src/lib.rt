@@ -14,7 +14,7 @@ pub mod value;
 
 pub use channel::Channel;
 pub use declaration::{Global, Handler, Slot};
-pub use fault::ModuleRefusal;
+pub use fault::ModuleDefect;
 pub use instruction::{Arithmetic, Comparison, Instruction};
 pub use module::Module;
 pub use procedure::Procedure;

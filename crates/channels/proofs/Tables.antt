@@ -1,5 +1,5 @@
 -- The table of inputs after lines of a world's text.
-use Rattle.std.proofs.Common.{◌≡◌, ℕ, zero, suc, ◌+◌, ◌<◌, Bool, true, false, not, ◌||◌, cond, List, [], ◌∷◌, ◌++◌, length, map, take, get_or, Option, Some, None, is_some, ℤ, refl, sym, ap, ◌∙◌, arith, append_assoc, eqb, below_more, Bor}
+use Rattle.std.proofs.Common.{◌≡◌, ℕ, zero, suc, ◌+◌, ◌<◌, Bool, true, false, not, ◌||◌, cond, List, [], ◌∷◌, ◌++◌, length, map, take, get_or, Option, Some, None, is_some, ℤ, refl, sym, ap, subst, ◌∙◌, arith, append_assoc, eqb, below_more, Bor}
 use Rattle.std.specs.Option.{option_map}
 use Rattle.std.specs.BTreeMap.{get_by}
 use Rattle.std.specs.Cmp.Lexicographic.{slice_cmp}
@@ -10,12 +10,14 @@ use Rattle.std.proofs.lemmas.List.{take_more, map_push}
 use Rattle.std.proofs.lemmas.List.Folds.{list_any-append}
 use Rattle.std.specs.List.{slice_split}
 use Rattle.channels.specs.Table.{Inputs, table_of}
-use Rattle.channels.specs.declared.world_table.LineFault.{LineFault}
-use Rattle.channels.specs.declared.world_table.LineFault.TheVariants.{NoMemory, Wrong}
+use Rattle.common.specs.Answers.{IfRefused, IsCast}
+use Rattle.common.specs.declared.fault.OrNoMemory.{OrNoMemory}
+use Rattle.common.proofs.Casting.{cast-refused}
+use Rattle.channels.specs.declared.defect.WorldRefusal.{WorldRefusal}
 use Rattle.std.specs.List.{list_all, list_any}
 use Rattle.std.specs.Str.{bytes_eq}
 use Rattle.std.proofs.lemmas.Slice.Eq.{bytes_eq-Decides}
-use Rattle.channels.specs.WorldText.{Table, table_after, table_with, table_defect, entry_defect, given_by, gives_to, numbers_of, numbers_given, has_form, is_int, defect_of, world_of, numbers_in, input_of, texts_of, lines_of, words_of, defect_at, IsRightBefore, IsLineFault, IsTextFault, at_line}
+use Rattle.channels.specs.WorldText.{Table, table_after, table_with, table_defect, entry_defect, given_by, gives_to, numbers_of, numbers_given, has_form, is_int, defect_of, world_of, numbers_in, input_of, texts_of, lines_of, words_of, defect_at, IsRightBefore, IsFirstDefect}
 use Rattle.channels.specs.declared.defect.WorldDefect.{WorldDefect}
 use Rattle.channels.specs.declared.defect.WorldDefect.TheVariants.{Syntax, UnknownChannel, RepeatedChannel, NumberOutOfRange}
 
@@ -188,7 +190,11 @@ module _ (text : List ℕ) (lines : List (Bor (List ℕ))) (cut : texts_of lines
         ∙ ap (λ (ls : List (List (List ℕ))). table_after names ls name) (sym more)
 
     -- the first wrong line
-    pub line_reported : (fault : LineFault) (number : ℕ) → number ≡ k + 1 → IsRightBefore names (lines_of text) k → IsLineFault table words fault → IsTextFault names (lines_of text) (at_line fault number)
-    line_reported NoMemory number e before h = tt
-    line_reported (Wrong defect) number e before h =
-        record { place = k; line_is = e; there = line_within; wrong = defect_here ∙ h; first = before }
+    pub line_reported : (given : OrNoMemory WorldDefect) (number : ℕ) (fault : OrNoMemory WorldRefusal) → number ≡ k + 1
+        → IsRightBefore names (lines_of text) k → IsCast (λ (defect : WorldDefect) (refusal : WorldRefusal). refusal ≡ record { line = number; defect = defect }) given fault
+        → IfRefused (λ defect. table_defect table words ≡ Some defect) given → IfRefused (IsFirstDefect names (lines_of text)) fault
+    line_reported given number fault e before is h = cast-refused given _ _ first fault is h
+      where
+        first : (defect : WorldDefect) (refusal : WorldRefusal) → refusal ≡ record { line = number; defect = defect } → table_defect table words ≡ Some defect → IsFirstDefect names (lines_of text) refusal
+        first defect refusal placed wrong =
+            subst (IsFirstDefect names (lines_of text)) (sym placed) (record { place = k; line_is = e; there = line_within; wrong = defect_here ∙ wrong; first = before })

@@ -1,5 +1,5 @@
 -- The text of a view grows at its end, a pair at a time.
-use Rattle.std.proofs.Common.{Bool, Result, Ok, Err, OnErr, ◌≡◌, ◌∙◌, ap, subst, ℕ, ◌+◌, ◌<◌, ◌≤◌, true, false, List, [], ◌∷◌, ◌++◌, length, take, drop, refl, sym, get_or, append_assoc, Option, Some, None}
+use Rattle.std.proofs.Common.{Result, Ok, Err, OnErr, ◌≡◌, ◌∙◌, ap, subst, ℕ, ◌+◌, ◌<◌, ◌≤◌, true, false, List, [], ◌∷◌, ◌++◌, length, take, drop, refl, sym, get_or, append_assoc, Option, Some, None}
 use Rattle.std.proofs.Math.Numerals.{add-one}
 use Rattle.std.proofs.Math.Seq.{take-suc}
 use Rattle.std.proofs.KnownBytes.{Appends-nil, Appends-trans}

@@ -8,10 +8,7 @@ use Rattle.std.specs.Str.{bytes_eq}
 use Rattle.std.specs.Str.Parse.{digits_value}
 use Rattle.lexer.specs.Words.{is_name_text}
 use Rattle.channels.specs.World.{InputNumbers}
-use Rattle.channels.specs.declared.world_table.LineFault.{LineFault}
-use Rattle.channels.specs.declared.world_table.LineFault.TheVariants.{NoMemory, Wrong}
-use Rattle.channels.specs.declared.defect.WorldFault.{WorldFault}
-use Rattle.channels.specs.declared.defect.WorldFault.TheVariants as fault
+use Rattle.channels.specs.declared.defect.WorldRefusal.{WorldRefusal}
 use Rattle.channels.specs.declared.defect.WorldDefect.{WorldDefect}
 use Rattle.channels.specs.declared.defect.WorldDefect.TheVariants.{Syntax, UnknownChannel, RepeatedChannel, NumberOutOfRange}
 
@@ -84,12 +81,12 @@ IsRightBefore inputs lines end = (place : ℕ) → place < end → defect_at inp
 abbrev pub IsWorldText : List (List ℕ) → List (List (List ℕ)) → Type 0
 IsWorldText inputs lines = IsRightBefore inputs lines (length lines)
 
--- the first wrong line is the one of this number, counted from 1, and this is what is wrong with it
-pub record IsFirstDefect (inputs : List (List ℕ)) (lines : List (List (List ℕ))) (line : ℕ) (defect : WorldDefect) : Type 0 where
+-- the refusal names the first wrong line, by its number from 1, and what is wrong with it
+pub record IsFirstDefect (inputs : List (List ℕ)) (lines : List (List (List ℕ))) (refusal : WorldRefusal) : Type 0 where
   pub place : ℕ
-  pub line_is : line ≡ place + 1
+  pub line_is : refusal.line ≡ place + 1
   pub there : place < length lines
-  pub wrong : defect_at inputs lines place ≡ Some defect
+  pub wrong : defect_at inputs lines place ≡ Some refusal.defect
   pub first : IsRightBefore inputs lines place
 
 -- the numbers that lines give to a channel: those of the line that names it, and none where no line does
@@ -134,10 +131,6 @@ abbrev pub table_with : Table → List (List ℕ) → Table
 table_with table [] name = table name
 table_with table (first ∷ rest) name = if bytes_eq first name then Some (Some (numbers_of (first ∷ rest))) else table name
 
-abbrev pub IsLineFault : Table → List (List ℕ) → LineFault → Type 0
-IsLineFault table line NoMemory = Unit {0}
-IsLineFault table line (Wrong defect) = table_defect table line ≡ Some defect
-
 -- what a table has of a name, as a list of numbers
 abbrev pub numbers_in : Option (Option (List ℤ)) → List ℤ
 numbers_in None = []
@@ -146,13 +139,3 @@ numbers_in (Some (Some numbers)) = numbers
 
 abbrev pub input_of : Table → List ℕ → InputNumbers
 input_of table name = record { name = name; numbers = numbers_in (table name) }
-
--- the answer of a reader that refuses a text: out of memory, or the first wrong line
-abbrev pub IsTextFault : List (List ℕ) → List (List (List ℕ)) → WorldFault → Type 0
-IsTextFault inputs lines fault.NoMemory = Unit {0}
-IsTextFault inputs lines (fault.Line line defect) = IsFirstDefect inputs lines line defect
-
--- a fault of a line as that of the text
-abbrev pub at_line : LineFault → ℕ → WorldFault
-at_line NoMemory line = fault.NoMemory
-at_line (Wrong defect) line = fault.Line line defect

@@ -1,6 +1,7 @@
 ghost use Rattle.channels.specs.Words.{world_number, world_words};
 ghost use Rattle.std.specs.Prelude.{◌≡◌};
 
+use common::OrNoMemory;
 use thiserror::Error;
 
 /// What is wrong with a line of a world's text.
@@ -42,13 +43,13 @@ impl WorldDefect {
     }
 }
 
-/// A world was not read.
+/// What is wrong with the text of a world: this line, counted from 1, is the first wrong one.
 #[derive(Clone, Copy, Debug, PartialEq, Eq, Error)]
-pub enum WorldFault {
-    /// Memory ran out.
-    #[error("no memory")]
-    NoMemory,
-    /// This line, counted from 1, is the first wrong one.
-    #[error("a wrong line in the text of a world")]
-    Line { line: usize, defect: WorldDefect },
+#[error("a wrong line in the text of a world")]
+pub struct WorldRefusal {
+    pub line: usize,
+    pub defect: WorldDefect,
 }
+
+/// Why a world was not read.
+pub type WorldFault = OrNoMemory<WorldRefusal>;

@@ -10,7 +10,7 @@ mod world_read;
 mod world_table;
 mod world_text;
 
-pub use defect::{WorldDefect, WorldFault};
+pub use defect::{WorldDefect, WorldFault, WorldRefusal};
 pub use labels::Pair;
 pub use sent::Sent;
 pub use sink::{Device, Sink, SinkFault, write_all};

@@ -100,9 +100,9 @@ impl<W: Write> Sink for Device<W> {
 ///
 /// A fault at the first write that fails; what the sink took then is a prefix of the bytes.
 pub fn write_all<S: Sink>(sink: &mut S, bytes: &[u8]) -> Result<(), SinkFault>
-    ensures written { OnOk result (Appends (S.taken sink.old) (S.taken sink.new) bytes.now) }
+    ensures accepted { OnOk result (Appends (S.taken sink.old) (S.taken sink.new) bytes.now) }
     ensures prefix { OnErr result (AppendsPrefix (S.taken sink.old) (S.taken sink.new) bytes.now) }
-    ensures failed { OnErr result (IsTrue (S.has_failed sink.new)) }
+    ensures rejected { OnErr result (IsTrue (S.has_failed sink.new)) }
 {
     let mut rest = bytes;
     while !rest.is_empty() {

@@ -5,53 +5,27 @@ ghost use Rattle.channels.specs.Sink.{AppendsPrefix};
 ghost use Rattle.channels.specs.View as view;
 ghost use Rattle.channels.specs.View.{ShowsAll, ShowsPrefix, answers_for, is_shown, name_in, pair_line, readable, view_for, view_text};
 ghost use Rattle.std.specs.Io.KnownBytes.{Appends};
-ghost use Rattle.std.specs.Prelude.{◌≡◌, Err, IfOk, IsTrue, OnErr, OnOk, filter, slice_get};
+ghost use Rattle.common.specs.Answers.{IfRefused};
+ghost use Rattle.std.specs.Prelude.{◌≡◌, IfErr, IfOk, IsTrue, OnErr, OnOk, filter, slice_get};
 ghost use Rattle.std.specs.String.{string_bytes};
 
 use crate::sent::Sent;
 use crate::sink::{Sink, SinkFault, write_all};
 use bytecode::Module;
+use common::OrNoMemory;
 use labels::{Pair, may_read};
-use std::alloc::{AllocError, AllocFailed, Global};
-use thiserror::Error;
+use std::alloc::{AllocError, Global};
 
-/// Why a view was not written to its end.
-#[derive(Clone, Copy, Debug, PartialEq, Eq, Error)]
-pub enum ViewFault {
-    /// The sink did not take what was written.
-    #[error("cannot write")]
-    Sink,
-    #[error("out of memory")]
-    NoMemory,
-}
-
-impl From<AllocError> for ViewFault {
-    ghost use Rattle.channels.specs.declared.view.ViewFault.TheVariants.{NoMemory};
-
-    ghost from_gives = { λ _ fault. fault ≡ NoMemory };
-
-    fn from(_error: AllocError) -> ViewFault {
-        ViewFault::NoMemory
-    }
-}
-
-impl<T: Drop> From<AllocFailed<T>> for ViewFault {
-    ghost use Rattle.channels.specs.declared.view.ViewFault.TheVariants.{NoMemory};
-
-    ghost from_gives = { λ _ fault. fault ≡ NoMemory };
-
-    fn from(_error: AllocFailed<T>) -> ViewFault {
-        ViewFault::NoMemory
-    }
-}
+/// Why a view was not written to its end: memory ran out, or the sink did not take what was written.
+pub type ViewFault = OrNoMemory<SinkFault>;
 
 impl From<SinkFault> for ViewFault {
-    ghost use Rattle.channels.specs.declared.view.ViewFault.TheVariants.{Sink};
+    ghost use Rattle.common.specs.declared.fault.OrNoMemory.TheVariants.{Refused};
 
-    ghost from_gives = { λ _ fault. fault ≡ Sink };
+    ghost from_gives = { λ refusal fault. fault ≡ Refused refusal };
 
-    fn from(_fault: SinkFault) -> ViewFault {
-        ViewFault::Sink
+    fn from(refusal: SinkFault) -> ViewFault {
+        OrNoMemory::Refused(refusal)
     }
 }
 
@@ -148,13 +122,13 @@ fn write_lines<S: Sink>(
     pairs: &[Pair],
     out: &mut S,
 ) -> Result<(), ViewFault>
-    ensures sink { result ≡ Err ViewFault.Sink → IsTrue (S.has_failed out.new) }
-    ensures prefix { OnErr result (AppendsPrefix (S.taken out.old) (S.taken out.new)
-        (view_text observer.now.program.now (view_for observer.now.program.now observer.now.principal
-        pairs.now))) }
     ensures accepted { OnOk result (Appends (S.taken out.old) (S.taken out.new)
         (view_text observer.now.program.now (view_for observer.now.program.now observer.now.principal
         pairs.now))) }
+    ensures prefix { OnErr result (AppendsPrefix (S.taken out.old) (S.taken out.new)
+        (view_text observer.now.program.now (view_for observer.now.program.now observer.now.principal
+        pairs.now))) }
+    ensures rejected { IfErr result (IfRefused (λ _. IsTrue (S.has_failed out.new))) }
 {
     for pair in pairs {
         if observer.sees(*pair) {
@@ -170,7 +144,7 @@ fn write_lines<S: Sink>(
 ///
 /// # Errors
 ///
-/// `Sink` where the sink failed, `NoMemory` where an allocation failed. What went out then is a prefix of the text.
+/// The fault of the sink where that failed, or out of memory. What went out then is a prefix of the text.
 pub fn write_view<S: Sink>(
     alloc: Global,
     sent: &Sent,
@@ -182,7 +156,7 @@ pub fn write_view<S: Sink>(
         (S.taken out.new)) }
     ensures prefix { OnErr result (ShowsPrefix program.now observer sent.now (S.taken out.old)
         (S.taken out.new)) }
-    ensures sink { result ≡ Err ViewFault.Sink → IsTrue (S.has_failed out.new) }
+    ensures rejected { IfErr result (IfRefused (λ _. IsTrue (S.has_failed out.new))) }
 {
     let viewer = Observer::of(alloc, program, observer)?;
     write_lines(alloc, &viewer, sent.pairs(), out)

@@ -1,5 +1,6 @@
 ghost use Rattle.channels.specs.World.{input_names};
-ghost use Rattle.channels.specs.WorldText.{IsTextFault, IsWorldText, lines_of, world_of};
+ghost use Rattle.channels.specs.WorldText.{IsFirstDefect, IsWorldText, lines_of, world_of};
+ghost use Rattle.common.specs.Answers.{IfRefused};
 ghost use Rattle.std.specs.Prelude.{◌≡◌, IfErr, IfOk, OnOk};
 ghost use Rattle.std.specs.String.{string_bytes};
 
@@ -84,16 +85,12 @@ impl World {
         ensures accepted { OnOk result (IsWorldText (input_names program.now) (lines_of text.now)) }
         ensures exact { IfOk result (λ world. world
             ≡ world_of (input_names program.now) (lines_of text.now)) }
-        ensures first_fault { IfErr result (λ fault. IsTextFault (input_names program.now)
-            (lines_of text.now) fault) }
+        ensures first_fault { IfErr result (IfRefused (IsFirstDefect (input_names program.now)
+            (lines_of text.now))) }
     {
-        let Ok(names) = names_of(alloc, program.channels()) else {
-            return Err(WorldFault::NoMemory);
-        };
+        let names = names_of(alloc, program.channels())?;
         let table = read_lines(alloc, &names, text)?;
-        let Ok(inputs) = inputs_of(alloc, &names, &table) else {
-            return Err(WorldFault::NoMemory);
-        };
+        let inputs = inputs_of(alloc, &names, &table)?;
         Ok(World { inputs })
     }
 

@@ -1,15 +1,16 @@
 ghost use Rattle.channels.specs.Table.{table_of};
 ghost use Rattle.channels.specs.World.{is_input};
 ghost use Rattle.channels.specs.WorldText as spec;
-ghost use Rattle.channels.specs.WorldText.{IsWorldText, input_of, numbers_in, table_after, texts_of};
+ghost use Rattle.channels.specs.WorldText.{IsFirstDefect, IsWorldText, input_of, numbers_in, table_after, texts_of};
+ghost use Rattle.common.specs.Answers.{IfRefused, IsCast};
 ghost use Rattle.std.specs.Prelude.{[], ◌≡◌, ℕ, List, IfErr, IfOk, OnOk, filter, map};
 
-use crate::defect::WorldFault;
+use crate::defect::{WorldFault, WorldRefusal};
 use crate::world::InputList;
 use crate::world_table::{Inputs, LineFault, entry_of, read_line};
 use crate::world_text::{lines_of, words_of};
 use bytecode::Channel;
-use common::Direction;
+use common::{Direction, OrNoMemory};
 use std::alloc::{AllocError, Global};
 use std::collections::BTreeMap;
 
@@ -45,24 +46,18 @@ pub fn read_lines<'a>(
     names: &[&'a str],
     text: &'a str,
 ) -> Result<Inputs<'a>, WorldFault>
-    ensures right { OnOk result (IsWorldText (texts_of names.now) (spec.lines_of text.now)) }
+    ensures accepted { OnOk result (IsWorldText (texts_of names.now) (spec.lines_of text.now)) }
     ensures table { IfOk result (λ inputs. (name : List ℕ) → table_of inputs name
         ≡ table_after (texts_of names.now) (spec.lines_of text.now) name) }
-    ensures wrong { IfErr result (λ fault. spec.IsTextFault (texts_of names.now)
-        (spec.lines_of text.now) fault) }
+    ensures first_fault { IfErr result (IfRefused (IsFirstDefect (texts_of names.now)
+        (spec.lines_of text.now))) }
 {
-    let Ok(mut inputs) = empty_table(alloc, names) else {
-        return Err(WorldFault::NoMemory);
-    };
-    let Ok(lines) = lines_of(alloc, text) else {
-        return Err(WorldFault::NoMemory);
-    };
+    let mut inputs = empty_table(alloc, names)?;
+    let lines = lines_of(alloc, text)?;
     let mut number = 0;
     for line in &lines {
         number += 1;
-        let Ok(words) = words_of(alloc, line) else {
-            return Err(WorldFault::NoMemory);
-        };
+        let words = words_of(alloc, line)?;
         match read_line(alloc, &mut inputs, &words) {
             Ok(()) => {}
             Err(fault) => return Err(at_line(fault, number)),
@@ -73,11 +68,12 @@ pub fn read_lines<'a>(
 
 // A fault of a line as that of the text.
 fn at_line(fault: LineFault, line: usize) -> WorldFault
-    ensures { result ≡ spec.at_line fault line }
+    ensures { IsCast (λ defect refusal. refusal ≡ record { line = line; defect = defect })
+        fault result }
 {
     match fault {
-        LineFault::NoMemory => WorldFault::NoMemory,
-        LineFault::Wrong(defect) => WorldFault::Line { line, defect },
+        OrNoMemory::NoMemory => OrNoMemory::NoMemory,
+        OrNoMemory::Refused(defect) => OrNoMemory::Refused(WorldRefusal { line, defect }),
     }
 }
 

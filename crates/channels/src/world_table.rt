@@ -1,12 +1,14 @@
 ghost use Rattle.channels.specs.Table.{table_of};
 ghost use Rattle.channels.specs.WorldText as spec;
 ghost use Rattle.channels.specs.WorldText.{table_defect, table_with, texts_of};
+ghost use Rattle.common.specs.Answers.{IfRefused};
 ghost use Rattle.std.specs.List.{list_all};
 ghost use Rattle.std.specs.Option.{option_map};
 ghost use Rattle.std.specs.Prelude.{◌≡◌, ℕ, List, IfErr, IfOk, IsTrue, None, OnOk, Some, if◌then◌else◌, map};
 
 use crate::defect::WorldDefect;
 use crate::world_text::{has_form, number_of};
+use common::OrNoMemory;
 use std::alloc::{AllocError, Global};
 use std::collections::BTreeMap;
 
@@ -15,11 +17,7 @@ use std::collections::BTreeMap;
 pub type Inputs<'a> = BTreeMap<&'a str, Option<Vec<i32>>>;
 
 /// Why a line was not read.
-#[derive(Clone, Copy, Debug, PartialEq, Eq)]
-pub enum LineFault {
-    NoMemory,
-    Wrong(WorldDefect),
-}
+pub type LineFault = OrNoMemory<WorldDefect>;
 
 // The numbers that words write, where each has 32 bits.
 fn numbers_of(alloc: Global, words: &[&str]) -> Result<Option<Vec<i32>>, AllocError>
@@ -51,31 +49,27 @@ pub fn read_line<'a>(
     inputs: &mut Inputs<'a>,
     words: &[&'a str],
 ) -> Result<(), LineFault>
-    ensures right { OnOk result (table_defect (table_of inputs.old) (texts_of words.now) ≡ None) }
+    ensures accepted { OnOk result
+        (table_defect (table_of inputs.old) (texts_of words.now) ≡ None) }
     ensures table { OnOk result ((name : List ℕ) → table_of inputs.new name
         ≡ table_with (table_of inputs.old) (texts_of words.now) name) }
-    ensures wrong { IfErr result (λ fault. spec.IsLineFault (table_of inputs.old)
-        (texts_of words.now) fault) }
+    ensures rejected { IfErr result (IfRefused (λ defect.
+        table_defect (table_of inputs.old) (texts_of words.now) ≡ Some defect)) }
 {
     if !has_form(words) {
-        return Err(LineFault::Wrong(WorldDefect::Syntax));
+        return Err(OrNoMemory::Refused(WorldDefect::Syntax));
     }
     let [name, _, rest @ ..] = words else {
         return Ok(());
     };
     match entry_of(inputs, name) {
-        None => return Err(LineFault::Wrong(WorldDefect::UnknownChannel)),
-        Some(Some(_)) => return Err(LineFault::Wrong(WorldDefect::RepeatedChannel)),
+        None => return Err(OrNoMemory::Refused(WorldDefect::UnknownChannel)),
+        Some(Some(_)) => return Err(OrNoMemory::Refused(WorldDefect::RepeatedChannel)),
         Some(None) => {}
     }
-    let Ok(numbers) = numbers_of(alloc, rest) else {
-        return Err(LineFault::NoMemory);
+    let Some(numbers) = numbers_of(alloc, rest)? else {
+        return Err(OrNoMemory::Refused(WorldDefect::NumberOutOfRange));
     };
-    let Some(numbers) = numbers else {
-        return Err(LineFault::Wrong(WorldDefect::NumberOutOfRange));
-    };
-    let Ok(_) = inputs.insert(*name, Some(numbers)) else {
-        return Err(LineFault::NoMemory);
-    };
+    inputs.insert(*name, Some(numbers))?;
     Ok(())
 }

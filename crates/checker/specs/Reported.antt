@@ -1,7 +1,7 @@
--- What a fault of a check reports of a source: why it is refused and at which byte, and for a flow that no labels allow its policy and
--- the steps of its chain.
+-- What a refusal of a check reports of a source: why it is refused and at which byte, and for a flow that no labels allow its policy
+-- and the steps of its chain.
 -- Source: our own.
-use Rattle.std.specs.Prelude.{◌≡◌, ◌≢◌, ℕ, List, [], ◌∷◌, map, Option, Some, None, slice_get}
+use Rattle.std.specs.Prelude.{◌≡◌, ℕ, List, [], ◌∷◌, map, Option, Some, None, slice_get}
 use Rattle.principals.specs.ActsFor.{PrincipalHierarchy}
 use Rattle.labels.specs.Constraints.{report_some, reported_steps}
 use Rattle.resolved.specs.declared.target.Target.{Target}
@@ -13,19 +13,11 @@ use Rattle.resolved.specs.Labelled.{Demand}
 use Rattle.resolved.specs.Flow.{IsProgramRefused, ReportedStep, reported_step}
 use Rattle.solver.specs.declared.system.Constraint.{Constraint}
 use Rattle.acceptance.specs.Accepted.{IsAccepted, IsResolvedFrom}
-use Rattle.acceptance.specs.Refused.{IsSourceRefused}
-use Rattle.acceptance.specs.declared.cause.Cause.TheVariants as causes
-use Rattle.analysis.specs.declared.fault.AnalysisFault as before
-use Rattle.analysis.specs.declared.fault.AnalysisFault.TheVariants as earlier
-use Rattle.checker.specs.declared.fault.CheckFault.{CheckFault}
-use Rattle.checker.specs.declared.fault.CheckFault.TheVariants.{NoMemory, Refused, FlowNotAllowed}
+use Rattle.analysis.specs.Reported.{IsBeforeLabels, IsSourceRefusal}
+use Rattle.checker.specs.declared.fault.CheckRefusal.{CheckRefusal}
+use Rattle.checker.specs.declared.fault.CheckRefusal.TheVariants.{BeforeLabels, FlowNotAllowed}
 use Rattle.checker.specs.declared.fault.RefusedFlow.{RefusedFlow}
 use Rattle.checker.specs.declared.fault.Step.{Step}
-
--- a fault of the phases before labels
-abbrev pub fault_of : before.AnalysisFault → CheckFault
-fault_of earlier.NoMemory = NoMemory
-fault_of (earlier.Refused cause at) = Refused cause at
 
 -- a step, as one of the definitions
 abbrev pub reported_by : Step → ReportedStep
@@ -51,10 +43,9 @@ pub record ReportsFlow (flow : RefusedFlow) : Type 0 where
   pub at_is : flow.at ≡ last.at
   pub steps_are : map reported_by flow.steps.items ≡ reported_steps reported_step chain
 
--- what a fault reports of a program without a fault of its ends
-abbrev pub RefusesProgram : Core → CheckFault → Type 0
-RefusesProgram core NoMemory = Unit {0}
-RefusesProgram core (Refused cause at) = ⊥
+-- why a program without a fault of its ends is refused
+abbrev pub RefusesProgram : Core → CheckRefusal → Type 0
+RefusesProgram core (BeforeLabels refusal) = ⊥
 RefusesProgram core (FlowNotAllowed flow) = (flow.core ≡ core) × ReportsFlow flow
 
 -- a source is refused for a flow: it stands for the program, which has no fault of its ends
@@ -63,20 +54,16 @@ pub record RefusesFlow (h : PrincipalHierarchy) (source : List ℕ) (flow : Refu
   pub ended : end_faults (program_of flow.core) ≡ []
   pub reported : ReportsFlow flow
 
--- the source is refused so; out of memory says nothing of it
-abbrev pub ReportsFault : PrincipalHierarchy → (source : List ℕ) → CheckFault → Type 0
-ReportsFault h source NoMemory = Unit {0}
-ReportsFault h source (Refused cause at) = IsSourceRefused h source cause at
-ReportsFault h source (FlowNotAllowed flow) = RefusesFlow h source flow
+-- the source is refused so
+abbrev pub IsCheckRefusal : PrincipalHierarchy → (source : List ℕ) → CheckRefusal → Type 0
+IsCheckRefusal h source (BeforeLabels refusal) = IsSourceRefusal h source refusal
+IsCheckRefusal h source (FlowNotAllowed flow) = RefusesFlow h source flow
 
--- no program is accepted of it
-abbrev pub IsNotAccepted : PrincipalHierarchy → (source : List ℕ) → CheckFault → Type 0
-IsNotAccepted h source NoMemory = Unit {0}
-IsNotAccepted h source (Refused cause at) = (program : Program) → ¬ IsAccepted h source program
-IsNotAccepted h source (FlowNotAllowed flow) = (program : Program) → ¬ IsAccepted h source program
+-- no program is accepted of the source
+abbrev pub IsNotAccepted : PrincipalHierarchy → (source : List ℕ) → Type 0
+IsNotAccepted h source = (program : Program) → ¬ IsAccepted h source program
 
 -- a source that is refused for a flow is reported with that flow
-abbrev pub HasFlow : CheckFault → Type 0
-HasFlow NoMemory = Unit {0}
-HasFlow (Refused cause at) = cause ≢ causes.FlowNotAllowed
+abbrev pub HasFlow : CheckRefusal → Type 0
+HasFlow (BeforeLabels refusal) = IsBeforeLabels refusal
 HasFlow (FlowNotAllowed flow) = Unit {0}

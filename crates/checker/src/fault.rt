@@ -1,6 +1,10 @@
 //! Why a source was not accepted.
 
-use acceptance::Cause;
+ghost use Rattle.checker.specs.declared.fault.CheckRefusal.TheVariants.{BeforeLabels};
+ghost use Rattle.std.specs.Prelude.{◌≡◌};
+
+use analysis::SourceRefusal;
+use common::OrNoMemory;
 use labels::Policy;
 use resolved::program::Core;
 use resolved::target::Target;
@@ -29,13 +33,22 @@ pub struct RefusedFlow {
     pub steps: Vec<Step>,
 }
 
-/// Why a source was not accepted.
+/// Why a source is not accepted.
 #[derive(Drop)]
-pub enum CheckFault {
-    /// Memory ran out.
-    NoMemory,
-    /// The source has a fault before its labels: which, and the byte at which that stands.
-    Refused(Cause, usize),
-    /// The source asks for a flow that no labels allow.
+pub enum CheckRefusal {
+    /// It is refused before its labels are looked at.
+    BeforeLabels(SourceRefusal),
+    /// It asks for a flow that no labels allow.
     FlowNotAllowed(RefusedFlow),
+}
+
+/// Why a check accepted no program.
+pub type CheckFault = OrNoMemory<CheckRefusal>;
+
+impl From<SourceRefusal> for CheckRefusal {
+    ghost from_gives = { λ refusal given. given ≡ BeforeLabels refusal };
+
+    fn from(refusal: SourceRefusal) -> CheckRefusal {
+        CheckRefusal::BeforeLabels(refusal)
+    }
 }

@@ -1,46 +1,23 @@
 //! What is reported of a program whose constraints the solver refuses: the policy, and the steps of the chain.
-ghost use Rattle.checker.specs.Reported.{RefusesProgram, ReportsFlow, report_at, reported_by, reported_of};
+ghost use Rattle.checker.specs.Reported.{ReportsFlow, report_at, reported_by, reported_of};
 ghost use Rattle.labels.specs.Constraints.{label_lattice};
 ghost use Rattle.labels.specs.Label.{Covers, flows};
 ghost use Rattle.resolved.specs.CoreOf.{program_of};
 ghost use Rattle.resolved.specs.Flow.{AreGathered, reported_step};
 ghost use Rattle.solver.specs.Links.{InRange};
-ghost use Rattle.solver.specs.System.{IsSolveRefusal, Refuses, constraints_of};
+ghost use Rattle.solver.specs.System.{IsSolveRefusal, constraints_of};
 ghost use Rattle.std.specs.Prelude.{Contains, IfOk, IsFalse, flat_map, length, map, ◌≡◌};
 
-use crate::fault::{CheckFault, RefusedFlow, Step};
+use crate::fault::{RefusedFlow, Step};
 use labels::{Label, Policy};
 use principals::Hierarchy;
 use resolved::program::Core;
 use resolved::target::Target;
-use solver::{Atom, Constraint, SolveFault, SolveRefusal, System};
+use solver::{Atom, Constraint, SolveRefusal, System};
 use std::alloc::{AllocError, Global};
 
-/// The fault of a program whose constraints are not solved.
-pub(crate) fn refuse_program(
-    alloc: Global,
-    core: Core,
-    system: &System<Label, Option<Target>>,
-    fault: SolveFault,
-) -> CheckFault
-    requires gathered { AreGathered (program_of core)
-        (constraints_of (label_lattice (program_of core).hierarchy) system.now) }
-    requires in_range { InRange (length system.now.written.items) system.now.unknowns
-        system.now.constraints.items }
-    requires refused { Refuses (label_lattice (program_of core).hierarchy) system.now fault }
-    ensures { RefusesProgram core result }
-{
-    match fault {
-        SolveFault::NoMemory => CheckFault::NoMemory,
-        SolveFault::Unmet(refusal) => match flow_of(alloc, core, system, &refusal) {
-            Ok(flow) => CheckFault::FlowNotAllowed(flow),
-            Err(_) => CheckFault::NoMemory,
-        },
-    }
-}
-
-// The flow for which a program is refused.
-fn flow_of(
+/// The flow for which a program is refused.
+pub(crate) fn flow_of(
     alloc: Global,
     core: Core,
     system: &System<Label, Option<Target>>,

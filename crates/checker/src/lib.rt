@@ -8,5 +8,5 @@ mod flow;
 pub mod phases;
 
 pub use checked::Checked;
-pub use fault::{CheckFault, RefusedFlow, Step};
+pub use fault::{CheckFault, CheckRefusal, RefusedFlow, Step};
 pub use phases::check;

@@ -1,7 +1,8 @@
 //! All phases, from the bytes of a source to an accepted program.
 ghost use Rattle.acceptance.specs.Accepted.{IsAccepted};
 ghost use Rattle.checker.specs.Least.{least_label};
-ghost use Rattle.checker.specs.Reported.{HasFlow, IsNotAccepted, RefusesProgram, ReportsFault, fault_of};
+ghost use Rattle.checker.specs.Reported.{HasFlow, IsCheckRefusal, IsNotAccepted, RefusesProgram};
+ghost use Rattle.common.specs.Answers.{IfRefused};
 ghost use Rattle.path_map.specs.Exits.{exits_of};
 ghost use Rattle.path_map.specs.Paths.{program_paths};
 ghost use Rattle.resolved.specs.CoreOf.{program_of};
@@ -12,9 +13,10 @@ ghost use Rattle.resolved.specs.Labelled.{Labelled};
 ghost use Rattle.std.specs.Prelude.{IfErr, IfOk, [], map, ◌≡◌};
 
 use crate::checked::Checked;
-use crate::fault::CheckFault;
-use crate::flow::refuse_program;
+use crate::fault::{CheckFault, CheckRefusal};
+use crate::flow::flow_of;
 use analysis::{Analysed, analyse};
+use common::OrNoMemory;
 use constraints::gather;
 use labels::LabelLattice;
 use path_map::PathMap;
@@ -40,29 +42,17 @@ pub fn check(alloc: Global, hierarchy: &Hierarchy, source: &[u8]) -> Result<Chec
         AreLeast (program_of checked.core) (least_label checked)) }
 
     // A refusal is the first fault, at its byte, and of a source that stands for no program.
-    ensures first_fault { IfErr result (ReportsFault hierarchy.now source.now) }
-    ensures refused { IfErr result (IsNotAccepted hierarchy.now source.now) }
+    ensures first_fault { IfErr result (IfRefused
+        (IsCheckRefusal hierarchy.now source.now)) }
+    ensures rejected { IfErr result (IfRefused (λ _. IsNotAccepted hierarchy.now source.now)) }
 
     // One for a flow names the flow.
-    ensures flow { IfErr result HasFlow }
+    ensures flow { IfErr result (IfRefused HasFlow) }
 {
     isolation::noninterference::labelled_programs_are_isolated();
-    let Analysed { core, ends } = match analyse(alloc, hierarchy, source) {
-        Ok(found) => found,
-        Err(fault) => return Err(fault_before_labels(fault)),
-    };
+    let Analysed { core, ends } = analyse(alloc, hierarchy, source).map_err(OrNoMemory::cast)?;
     let checked = find_labels(alloc, core, &ends)?;
     Ok(checked)
-}
-
-// A fault of the phases before labels.
-fn fault_before_labels(fault: analysis::AnalysisFault) -> CheckFault
-    ensures { result ≡ fault_of fault }
-{
-    match fault {
-        analysis::AnalysisFault::NoMemory => CheckFault::NoMemory,
-        analysis::AnalysisFault::Refused(cause, at) => CheckFault::Refused(cause, at),
-    }
 }
 
 // A program without a fault of its ends, with its least labels if it is labelled.
@@ -73,11 +63,9 @@ fn find_labels(alloc: Global, core: Core, ends: &PathMap) -> Result<Checked, Che
     ensures labelled { IfOk result (λ checked. Labelled (program_of checked.core)) }
     ensures least { IfOk result (λ checked.
         AreLeast (program_of checked.core) (least_label checked)) }
-    ensures refused { IfErr result (RefusesProgram core) }
+    ensures rejected { IfErr result (IfRefused (RefusesProgram core)) }
 {
-    let Ok(system) = gather(alloc, &core, ends) else {
-        return Err(CheckFault::NoMemory);
-    };
+    let system = gather(alloc, &core, ends)?;
     let lattice = LabelLattice {
         hierarchy: &core.hierarchy,
     };
@@ -90,6 +78,10 @@ fn find_labels(alloc: Global, core: Core, ends: &PathMap) -> Result<Checked, Che
                 solution,
             })
         }
-        Err(fault) => Err(refuse_program(alloc, core, &system, fault)),
+        Err(OrNoMemory::NoMemory) => Err(OrNoMemory::NoMemory),
+        Err(OrNoMemory::Refused(refusal)) => {
+            let flow = flow_of(alloc, core, &system, &refusal)?;
+            Err(OrNoMemory::Refused(CheckRefusal::FlowNotAllowed(flow)))
+        }
     }
 }

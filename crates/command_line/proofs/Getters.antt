@@ -1,6 +1,9 @@
 -- What the getters of the matches read, by the rows, and how an answer of the parser is passed on.
-use Rattle.std.proofs.Common.{◌≡◌, ◌∙◌, [], Option, Some, None, Result, Ok, Err, IfOk, true, refl, sym, ap, subst, true≢false, ⊎_elim}
+use Rattle.std.proofs.Common.{◌≡◌, ◌∙◌, [], Option, Some, None, true, refl, sym, ap, subst, true≢false, ⊎_elim}
 use Rattle.std.specs.Prelude.{IsSome, is_some, option_map}
+use Rattle.common.specs.Answers.{IfRefused}
+use Rattle.common.specs.declared.fault.OrNoMemory.{OrNoMemory}
+use Rattle.common.specs.declared.fault.OrNoMemory.TheVariants.{NoMemory, Refused}
 use Rattle.clap.specs.Words.{HasKind, Kinds, Text, kind_of}
 use Rattle.clap.specs.declared.error.Error.{Error}
 use Rattle.clap.specs.declared.error.kind.ErrorKind.TheVariants.{OutOfMemory}
@@ -10,9 +13,10 @@ pub given_read : {X : Type 0} (now : X → Text) (read : Option X) (word : Optio
 given_read now None word same given = absurd (true≢false (sym given ∙ sym (ap is_some same)))
 given_read now (Some x) word same given = refl
 
-pub always_ok : {T E : Type 0} (r : Result T E) (P : Type 0) → P → IfOk r (λ _. P)
-always_ok (Ok x) P p = p
-always_ok (Err e) P p = tt
+-- a fault that is out of memory wherever P holds is a refusal only where it does not
+pub refused_without : {R : Type 0} (P : Type 0) (fault : OrNoMemory R) → (P → fault ≡ NoMemory) → IfRefused (λ _. P → ⊥) fault
+refused_without P NoMemory memory = tt
+refused_without P (Refused r) memory = λ holds. let no : Refused r ≡ NoMemory = memory holds in absurd cc
 
 -- an error where no kind comes is out of memory
 pub memory_only : (kinds : Kinds) (error : Error) → HasKind kinds error → kinds ≡ [] → kind_of error ≡ OutOfMemory

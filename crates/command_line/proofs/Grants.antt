@@ -1,6 +1,6 @@
 -- The task that a plain request is taken for is the one that is asked for.
-use Rattle.std.proofs.Common.{◌≡◌, ◌∙◌, ◌++◌, ◌≤◌, ℕ, List, [], ◌∷◌, Option, Some, None, Result, Ok, Err, IfErr, IfOk, codes, refl, sym, ap, ap₂, subst, false, true≢false}
-use Rattle.std.specs.Prelude.{IfSome, MatchResult, unwrap_or}
+use Rattle.std.proofs.Common.{◌≡◌, ◌≢◌, ◌∙◌, ◌++◌, ◌≤◌, ℕ, List, [], ◌∷◌, Option, Some, None, Result, Ok, Err, IfErr, IfOk, codes, refl, sym, ap, ap₂, subst, false, true≢false}
+use Rattle.std.specs.Prelude.{IfSome, unwrap_or}
 use Rattle.std.specs.Str.{bytes_eq}
 use Rattle.std.proofs.lemmas.Slice.Eq.{bytes_eq-Decides}
 use Rattle.std.specs.String.{string_bytes}
@@ -10,8 +10,10 @@ use Rattle.command_line.specs.Task.{AsksFor, IsTaskOf, steps_in}
 use Rattle.command_line.specs.Request.{Grants, build, check, explain, list, run, HasNoOption, IsPlainRequest, IsSpelling, Request, spelled, to_build, to_check, to_explain, to_list, to_run}
 use Rattle.command_line.specs.declared.request.Task.{Task}
 use Rattle.command_line.specs.declared.request.Task.TheVariants.{Check, Build, Run, Explain, List as ListModule}
-use Rattle.command_line.specs.declared.request.TaskFault.{TaskFault}
-use Rattle.command_line.specs.declared.request.TaskFault.TheVariants.{NoMemory}
+use Rattle.command_line.specs.declared.request.TaskRefusal.{TaskRefusal}
+use Rattle.common.specs.Answers.{Answers, IfRefused}
+use Rattle.common.specs.declared.fault.OrNoMemory.{OrNoMemory}
+use Rattle.common.proofs.Casting.{refused-weaker}
 use Rattle.command_line.proofs.Only.{spelled_so}
 use Rattle.command_line.proofs.Plain.{decimal_read, met_by, observer_rows, row, steps_rows, request_taken}
 
@@ -70,16 +72,18 @@ grants (to_explain hierarchy source) (ListModule f) plain asks = other_name _ _ 
 grants (to_explain hierarchy source) (Explain h s) plain asks = explain h s (ap₂ to_explain (found_word asks.1) (found_word asks.2)) refl
 
 -- what is answered to the words of a plain request
-pub request_granted : (r : Result Task TaskFault) (words : List Text) → IfOk r (IsTaskOf (subcommand_of flowc_command words))
-    → IfErr r (λ fault. fault_of flowc_command words ≡ [] → fault ≡ NoMemory)
-    → (program : Text) (request : Request) → IsPlainRequest request → words ≡ program ∷ spelled request → MatchResult r (Grants request) (λ fault. fault ≡ NoMemory)
-request_granted (Ok task) words matched taken program request plain is =
+pub request_granted : (r : Result Task (OrNoMemory TaskRefusal)) (words : List Text) → IfOk r (IsTaskOf (subcommand_of flowc_command words))
+    → IfErr r (IfRefused (λ _. fault_of flowc_command words ≢ []))
+    → (program : Text) (request : Request) → IsPlainRequest request → words ≡ program ∷ spelled request → Answers (Grants request) (λ _. ⊥) r
+request_granted (Ok task) words matched rejected program request plain is =
     let meets = ap (subcommand_of flowc_command) is ∙ (request_taken program request plain).meets in
     grants request task plain (subst (λ met. IsTaskOf met task) meets matched)
-request_granted (Err fault) words matched taken program request plain is = taken (ap (fault_of flowc_command) is ∙ (request_taken program request plain).passes)
+request_granted (Err fault) words matched rejected program request plain is =
+    let passes = ap (fault_of flowc_command) is ∙ (request_taken program request plain).passes in
+    refused-weaker _ _ (λ _ differ. differ passes) fault rejected
 
 -- what is taken of the words, where none looks like an option
-pub only_granted : (r : Result Task TaskFault) (words : List Text) → IfOk r (IsTaskOf (subcommand_of flowc_command words)) → IfOk r (λ _. fault_of flowc_command words ≡ [])
+pub only_granted : (r : Result Task (OrNoMemory TaskRefusal)) (words : List Text) → IfOk r (IsTaskOf (subcommand_of flowc_command words)) → IfOk r (λ _. fault_of flowc_command words ≡ [])
     → HasNoOption words → IfOk r (IsSpelling words)
 only_granted (Err fault) words matched passed plain = tt
 only_granted (Ok task) words matched passed plain =

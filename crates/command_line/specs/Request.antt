@@ -1,6 +1,6 @@
 -- What a command line may ask for, and how that is written plainly.
 -- Source: our own.
-use Rattle.std.specs.Prelude.{◌≡◌, ◌≤◌, ◌++◌, ℕ, false, List, [], ◌∷◌, Option, Some, None, IfSome, MatchResult, Result, String, codes, drop, option_map, unwrap_or}
+use Rattle.std.specs.Prelude.{◌≡◌, ◌≤◌, ◌++◌, ℕ, false, List, [], ◌∷◌, Option, Some, None, IfSome, Result, String, codes, drop, option_map, unwrap_or}
 use Rattle.std.specs.List.{list_any}
 use Rattle.std.specs.Fmt.{decimal}
 use Rattle.std.specs.String.{string_bytes}
@@ -9,8 +9,9 @@ use Rattle.std.specs.Str.Parse.{starts_with_minus}
 use Rattle.command_line.specs.declared.request.TheConstants.{MAX_STEPS, USUAL_STEPS}
 use Rattle.clap.specs.Words.{Text}
 use Rattle.command_line.specs.declared.request.Task.{Task}
-use Rattle.command_line.specs.declared.request.TaskFault.{TaskFault}
-use Rattle.command_line.specs.declared.request.TaskFault.TheVariants.{NoMemory}
+use Rattle.command_line.specs.declared.request.TaskRefusal.{TaskRefusal}
+use Rattle.common.specs.Answers.{Answers}
+use Rattle.common.specs.declared.fault.OrNoMemory.{OrNoMemory}
 use Rattle.command_line.specs.declared.request.Task.TheVariants.{Check, Build, Run, Explain, List as ListModule}
 
 -- a task in plain values; an observer and a number of steps may be left out
@@ -75,11 +76,11 @@ pub data Grants (request : Request) (task : Task) : Type 0 where
 
 -- where the words are the program's name and a request that is written plainly, its task is
 -- answered, or out of memory
-abbrev pub GrantsPlainRequests : List Text → Result Task TaskFault → Type 0
+abbrev pub GrantsPlainRequests : List Text → Result Task (OrNoMemory TaskRefusal) → Type 0
 GrantsPlainRequests words answer =
     (program : Text) (request : Request) → IsPlainRequest request
     → words ≡ program ∷ spelled request
-    → MatchResult answer (Grants request) (λ fault. fault ≡ NoMemory)
+    → Answers (Grants request) (λ _. ⊥) answer
 
 -- no word after the program's name looks like an option
 abbrev pub HasNoOption : List Text → Type 0

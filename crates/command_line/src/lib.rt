@@ -4,5 +4,5 @@
 mod request;
 mod words;
 
-pub use request::{MAX_STEPS, Task, TaskFault, USUAL_STEPS};
+pub use request::{MAX_STEPS, Task, TaskFault, TaskRefusal, USUAL_STEPS};
 pub use words::read_task;

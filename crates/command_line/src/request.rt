@@ -1,7 +1,4 @@
-ghost use Rattle.std.specs.Prelude.{◌≡◌};
-ghost use Rattle.command_line.specs.declared.request.TaskFault.TheVariants.{NoMemory};
-
-use std::alloc::{AllocError, AllocFailed};
+use common::OrNoMemory;
 use thiserror::Error;
 
 /// The most steps that `--steps` takes.
@@ -66,28 +63,12 @@ impl Task {
     }
 }
 
-/// Why a command line is no task.
+/// Wrong words, or words that ask for help: the text for standard error.
 #[derive(Debug, Drop, Error)]
-pub enum TaskFault {
-    /// Wrong words, or words that ask for help: the text for standard error.
-    #[error("{0}")]
-    Words(String),
-    #[error("no memory")]
-    NoMemory,
+#[error("{text}")]
+pub struct TaskRefusal {
+    pub text: String,
 }
 
-impl From<AllocError> for TaskFault {
-    ghost from_gives = { λ _ fault. fault ≡ NoMemory };
-
-    fn from(_error: AllocError) -> TaskFault {
-        TaskFault::NoMemory
-    }
-}
-
-impl<T: Drop> From<AllocFailed<T>> for TaskFault {
-    ghost from_gives = { λ _ fault. fault ≡ NoMemory };
-
-    fn from(_error: AllocFailed<T>) -> TaskFault {
-        TaskFault::NoMemory
-    }
-}
+/// Why a command line is no task.
+pub type TaskFault = OrNoMemory<TaskRefusal>;

@@ -5,13 +5,15 @@ ghost use Rattle.command_line.specs.Command.{build_command, check_command, expla
 ghost use Rattle.command_line.specs.Matched.{Enters, HasBuildWords, HasCheckWords, HasExplainWords, HasListWords, HasRunWords, HasStepsInRange, IsGiven, rows_in};
 ghost use Rattle.command_line.specs.Task.{AsksFor, IsTaskOf, IsWordOf, steps_in, steps_of};
 ghost use Rattle.command_line.specs.Request.{GrantsPlainRequests, HasNoOption, IsSpelling};
-ghost use Rattle.command_line.specs.declared.request.TaskFault.TheVariants.{NoMemory};
+ghost use Rattle.common.specs.Answers.{IfRefused};
+ghost use Rattle.common.specs.declared.fault.OrNoMemory.TheVariants.{NoMemory};
 ghost use Rattle.std.specs.String.{string_bytes};
-ghost use Rattle.std.specs.Prelude.{◌≡◌, ◌≤◌, ◌∷◌, ℕ, IfErr, IfOk, List, MatchResult, [], codes, false, option_map};
+ghost use Rattle.std.specs.Prelude.{◌≡◌, ◌≢◌, ◌≤◌, ◌∷◌, ℕ, IfErr, IfOk, List, [], codes, false, option_map};
 
-use crate::request::{MAX_STEPS, Task, TaskFault, USUAL_STEPS};
+use crate::request::{MAX_STEPS, Task, TaskFault, TaskRefusal, USUAL_STEPS};
 use clap::error::ErrorKind;
 use clap::{Arg, ArgAction, ArgMatches, Command, value_parser};
+use common::OrNoMemory;
 use std::alloc::{AllocError, Global};
 
 /// The task that the words of a command line ask for. The first word is the program's name.
@@ -23,25 +25,24 @@ use std::alloc::{AllocError, Global};
 pub fn read_task<'a>(alloc: Global, words: &'a [&'a str]) -> Result<Task, TaskFault>
     ensures matched { IfOk result (IsTaskOf (subcommand_of flowc_command (texts words.now))) }
     ensures steps { IfOk result (λ task. steps_of task ≤ MAX_STEPS) }
-    ensures refused { IfOk result (λ _. fault_of flowc_command (texts words.now) ≡ []) }
-    ensures taken { IfErr result (λ fault.
-        fault_of flowc_command (texts words.now) ≡ [] → fault ≡ NoMemory) }
-    ensures plain { GrantsPlainRequests (texts words.now) result }
-    ensures only { HasNoOption (texts words.now) → IfOk result (IsSpelling (texts words.now)) }
+    ensures accepted { IfOk result (λ _. fault_of flowc_command (texts words.now) ≡ []) }
+    ensures exact { GrantsPlainRequests (texts words.now) result }
+    ensures rejected { IfErr result (IfRefused (λ _.
+        fault_of flowc_command (texts words.now) ≢ [])) }
+    ensures spelled { HasNoOption (texts words.now) → IfOk result (IsSpelling (texts words.now)) }
 {
     let command = make_command(alloc)?;
     match command.try_get_matches_from(words) {
-        Ok(matches) => read_matches(alloc, &matches),
+        Ok(matches) => Ok(read_matches(alloc, &matches)?),
         Err(error) => Err(words_fault(alloc, &error)),
     }
 }
 
 // The task that the subcommand asks for, under which the parser left each word that it needs.
-fn read_matches(alloc: Global, matches: &ArgMatches<'_>) -> Result<Task, TaskFault>
+fn read_matches(alloc: Global, matches: &ArgMatches<'_>) -> Result<Task, AllocError>
     requires met { Enters (subcommand_rows_of matches.now) }
     ensures matched { IfOk result (IsTaskOf (subcommand_rows_of matches.now)) }
     ensures steps { IfOk result (λ task. steps_of task ≤ MAX_STEPS) }
-    ensures taken { IfErr result (λ fault. fault ≡ NoMemory) }
 {
     match matches.subcommand() {
         Some(("check", inner)) => read_check(alloc, inner),
@@ -211,19 +212,18 @@ fn words_fault(alloc: Global, error: &clap::Error) -> TaskFault
     ensures memory { kind_of error.now ≡ ErrorKind.OutOfMemory → result ≡ NoMemory }
 {
     if error.kind() == ErrorKind::OutOfMemory {
-        return TaskFault::NoMemory;
+        return OrNoMemory::NoMemory;
     }
     match format!(in alloc; "{error}") {
-        Ok(text) => TaskFault::Words(text),
-        Err(_) => TaskFault::NoMemory,
+        Ok(text) => OrNoMemory::Refused(TaskRefusal { text }),
+        Err(_) => OrNoMemory::NoMemory,
     }
 }
 
-fn read_check(alloc: Global, matches: &ArgMatches<'_>) -> Result<Task, TaskFault>
+fn read_check(alloc: Global, matches: &ArgMatches<'_>) -> Result<Task, AllocError>
     requires given { HasCheckWords (rows_in matches.now) }
     ensures matched { IfOk result (AsksFor (codes "check") (rows_in matches.now)) }
     ensures steps { IfOk result (λ task. steps_of task ≤ MAX_STEPS) }
-    ensures taken { IfErr result (λ fault. fault ≡ NoMemory) }
 {
     Ok(Task::Check {
         hier: read_word(alloc, matches, "HIER")?,
@@ -231,11 +231,10 @@ fn read_check(alloc: Global, matches: &ArgMatches<'_>) -> Result<Task, TaskFault
     })
 }
 
-fn read_build(alloc: Global, matches: &ArgMatches<'_>) -> Result<Task, TaskFault>
+fn read_build(alloc: Global, matches: &ArgMatches<'_>) -> Result<Task, AllocError>
     requires given { HasBuildWords (rows_in matches.now) }
     ensures matched { IfOk result (AsksFor (codes "build") (rows_in matches.now)) }
     ensures steps { IfOk result (λ task. steps_of task ≤ MAX_STEPS) }
-    ensures taken { IfErr result (λ fault. fault ≡ NoMemory) }
 {
     Ok(Task::Build {
         hier: read_word(alloc, matches, "HIER")?,
@@ -244,11 +243,10 @@ fn read_build(alloc: Global, matches: &ArgMatches<'_>) -> Result<Task, TaskFault
     })
 }
 
-fn read_run(alloc: Global, matches: &ArgMatches<'_>) -> Result<Task, TaskFault>
+fn read_run(alloc: Global, matches: &ArgMatches<'_>) -> Result<Task, AllocError>
     requires given { HasRunWords (rows_in matches.now) }
     ensures matched { IfOk result (AsksFor (codes "run") (rows_in matches.now)) }
     ensures steps { IfOk result (λ task. steps_of task ≤ MAX_STEPS) }
-    ensures taken { IfErr result (λ fault. fault ≡ NoMemory) }
 {
     Ok(Task::Run {
         file: read_word(alloc, matches, "MODULE")?,
@@ -258,22 +256,20 @@ fn read_run(alloc: Global, matches: &ArgMatches<'_>) -> Result<Task, TaskFault>
     })
 }
 
-fn read_list(alloc: Global, matches: &ArgMatches<'_>) -> Result<Task, TaskFault>
+fn read_list(alloc: Global, matches: &ArgMatches<'_>) -> Result<Task, AllocError>
     requires given { HasListWords (rows_in matches.now) }
     ensures matched { IfOk result (AsksFor (codes "list") (rows_in matches.now)) }
     ensures steps { IfOk result (λ task. steps_of task ≤ MAX_STEPS) }
-    ensures taken { IfErr result (λ fault. fault ≡ NoMemory) }
 {
     Ok(Task::List {
         file: read_word(alloc, matches, "MODULE")?,
     })
 }
 
-fn read_explain(alloc: Global, matches: &ArgMatches<'_>) -> Result<Task, TaskFault>
+fn read_explain(alloc: Global, matches: &ArgMatches<'_>) -> Result<Task, AllocError>
     requires given { HasExplainWords (rows_in matches.now) }
     ensures matched { IfOk result (AsksFor (codes "explain") (rows_in matches.now)) }
     ensures steps { IfOk result (λ task. steps_of task ≤ MAX_STEPS) }
-    ensures taken { IfErr result (λ fault. fault ≡ NoMemory) }
 {
     Ok(Task::Explain {
         hier: read_word(alloc, matches, "HIER")?,

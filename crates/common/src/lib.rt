@@ -1,8 +1,11 @@
-//! What several crates share, and what knows none of them: the directions of channels, limits, and the built-in exceptions.
+//! What several crates share, and what knows none of them: the directions of channels, limits, the built-in exceptions, and the
+//! shape of faults.
 #![tactic(auto)]
 
 pub mod direction;
 pub mod exceptions;
+pub mod fault;
 pub mod limits;
 
 pub use direction::Direction;
+pub use fault::OrNoMemory;

@@ -1,17 +1,16 @@
 -- Lines and columns, character by character.
-use Rattle.std.proofs.Common.{◌≡◌, ℕ, ◌+◌, ◌/◌, ◌%◌, ◌<◌, ◌≤◌, ◌==◌, Bool, true, false, not, cond, nat_lt, List, [], ◌∷◌, ◌++◌, take, refl, ap, sym, ◌∙◌, ◌⊎◌, inl, inr, arith, append-nil, append_assoc}
+use Rattle.std.proofs.Common.{◌≡◌, ℕ, ◌+◌, ◌/◌, ◌%◌, ◌<◌, ◌≤◌, Bool, true, false, not, cond, nat_lt, List, [], ◌∷◌, ◌++◌, take, refl, ap, sym, ◌∙◌, ◌⊎◌, inl, inr, arith, append-nil, append_assoc}
 use Rattle.std.specs.List.{count_by, prefix_len, take_while}
 use Rattle.std.specs.Prelude.{reverse}
 use Rattle.std.specs.Char.{encode_utf8}
-use Rattle.std.specs.Str.{chars, encode_utf8_all, IsCharBoundary, IsUtf8}
+use Rattle.std.specs.Str.{chars, encode_utf8_all}
 use Rattle.std.proofs.lemmas.Bool.{lt-ltb, le-ltb, ltb-true, ltb-false}
 use Rattle.std.proofs.lemmas.Bool.Decides.{nat_tests}
 use Rattle.std.proofs.lemmas.List.{reverse-append}
 use Rattle.std.proofs.lemmas.List.Sums.{sum_by-append, sum_by-cons, take_while-cons}
 use Rattle.std.proofs.lemmas.Str.{encodes-chars, IsUtf8-take}
-use Rattle.compiler.specs.Position.{begins_character, is_line_feed, bytes_of_line, column_of, line_of}
+use Rattle.compiler.specs.Position.{begins_character, is_line_feed}
 use Rattle.compiler.proofs.Lines.{no_line_feed}
-use Rattle.lexer.specs.Position as lexer
 use Rattle.compiler.specs.Characters.{LinesAgree, ColumnsAgree}
 
 test_one : (c : ℕ) → c < 128 → begins_character c ≡ true

@@ -1,30 +1,30 @@
 //! The compiler: from a hierarchy text and a source to the bytes of a module.
 
-ghost use Rattle.acceptance.specs.Accepted.{HasHierarchy, IsText, StandFor};
+ghost use Rattle.acceptance.specs.Accepted.{HasHierarchy, StandFor};
+ghost use Rattle.acceptance.specs.Refused.{hierarchy_cause};
+ghost use Rattle.common.specs.Answers.{IfRefused};
 ghost use Rattle.compiler.specs.Compiled.{IsCodeOf, IsCompiled};
 ghost use Rattle.checker.specs.Least.{least_label};
-ghost use Rattle.compiler.specs.Position.{place_at};
-ghost use Rattle.compiler.specs.Reported.{AsksForFlow, IsFlowFault, IsFaultOfTexts, ReportsFault, not_accepted};
-ghost use Rattle.principals.specs.HierarchyText.{IsRefusedText};
+ghost use Rattle.compiler.specs.Reported.{AsksForFlow, IsFirstFault, IsFlowRefusal, StandForNone, not_accepted, refusal_at};
 ghost use Rattle.resolved.specs.CoreOf.{program_of};
 ghost use Rattle.resolved.specs.EndFaults.{end_faults};
 ghost use Rattle.resolved.specs.Flow.{AreLeast};
 ghost use Rattle.resolved.specs.Isolated.{Isolated};
 ghost use Rattle.resolved.specs.Names.{HasNames};
-ghost use Rattle.resolved.specs.Program.{Program};
-ghost use Rattle.std.specs.Prelude.{IfErr, IfOk, IfSome, IsSome, List, [], ℕ, ◌↔◌, ◌≡◌, ◌⊎◌};
+ghost use Rattle.std.specs.Prelude.{IfErr, IfOk, IfSome, IsSome, List, [], ℕ, ◌↔◌, ◌≡◌};
 
-use crate::fault::{CompileFault, NotAccepted};
+use crate::fault::{CompileFault, CompileRefusal, NotAccepted};
 use crate::position::place_of;
 use acceptance::laws::{one_verdict, resolved_programs_have_names};
 use acceptance::{Cause, Text};
-use analysis::text_of;
-use checker::{CheckFault, Checked, check};
+use analysis::{SourceRefusal, text_of};
+use checker::{CheckRefusal, Checked, check};
+use common::OrNoMemory;
 use layout::emit;
 use lowering::laws::{modules_are_never_stuck, modules_have_no_fault, modules_keep_meaning};
 use lowering::lower;
 use module_file::encode;
-use principals::{HierFault, Hierarchy};
+use principals::{Hierarchy, HierarchyRefusal};
 use resolved::program::Core;
 use std::alloc::{AllocError, Global};
 
@@ -38,18 +38,17 @@ use std::alloc::{AllocError, Global};
 /// The first fault of the two texts, at its line and column; or out of memory.
 pub fn compile(alloc: Global, hierarchy: &[u8], source: &[u8]) -> Result<Vec<u8>, CompileFault>
     // The bytes are code of the program that the two texts stand for.
-    ensures compiled { IfOk result (λ code. IsCompiled hierarchy.now source.now code.items) }
+    ensures accepted { IfOk result (λ code. IsCompiled hierarchy.now source.now code.items) }
 
     // A refusal is the first fault of the two texts, at its line and column.
-    ensures first_fault { IfErr result (ReportsFault hierarchy.now source.now) }
+    ensures first_fault { IfErr result (IfRefused (IsFirstFault hierarchy.now source.now)) }
 
     // And two texts that are refused stand for no program.
-    ensures refused { IfErr result (λ fault. IsFaultOfTexts fault →
-        (program : Program) → ¬ StandFor hierarchy.now source.now program) }
+    ensures rejected { IfErr result (IfRefused (λ _. StandForNone hierarchy.now source.now)) }
 {
     one_verdict();
     resolved_programs_have_names();
-    let checked = check_texts(alloc, hierarchy, source)?;
+    let checked = check_texts(alloc, hierarchy, source).map_err(OrNoMemory::cast)?;
     let code = code_of(alloc, &checked.core)?;
     Ok(code)
 }
@@ -59,7 +58,11 @@ pub fn compile(alloc: Global, hierarchy: &[u8], source: &[u8]) -> Result<Vec<u8>
 /// # Errors
 ///
 /// The first fault of the two texts, at its line and column, with the flow where one is not allowed; or out of memory.
-pub fn check_texts(alloc: Global, hierarchy: &[u8], source: &[u8]) -> Result<Checked, NotAccepted>
+pub fn check_texts(
+    alloc: Global,
+    hierarchy: &[u8],
+    source: &[u8],
+) -> Result<Checked, OrNoMemory<NotAccepted>>
     // The two texts stand for the program, which is isolated; the labels of its locals and loops are the least.
     ensures accepted { IfOk result (λ checked.
         StandFor hierarchy.now source.now (program_of checked.core)) }
@@ -68,53 +71,58 @@ pub fn check_texts(alloc: Global, hierarchy: &[u8], source: &[u8]) -> Result<Che
         AreLeast (program_of checked.core) (least_label checked)) }
 
     // A refusal is the first fault of the two texts, which stand for no program.
-    ensures first_fault { IfErr result (λ refused.
-        ReportsFault hierarchy.now source.now refused.fault) }
-    ensures refused { IfErr result (λ refused. IsFaultOfTexts refused.fault →
-        (program : Program) → ¬ StandFor hierarchy.now source.now program) }
+    ensures first_fault { IfErr result (IfRefused (λ refused.
+        IsFirstFault hierarchy.now source.now refused.refusal)) }
+    ensures rejected { IfErr result (IfRefused (λ _. StandForNone hierarchy.now source.now)) }
 
     // There is a flow exactly where one is not allowed, and it is the one that the source asks for.
-    ensures flow { IfErr result (λ refused.
-        IsFlowFault refused.fault ↔ IsSome refused.flow) }
-    ensures asked { IfErr result (λ refused. IfSome refused.flow
-        (AsksForFlow hierarchy.now source.now refused.fault)) }
+    ensures flow { IfErr result (IfRefused (λ refused.
+        IsFlowRefusal refused.refusal ↔ IsSome refused.flow)) }
+    ensures asked { IfErr result (IfRefused (λ refused. IfSome refused.flow
+        (AsksForFlow hierarchy.now source.now refused.refusal))) }
 {
     one_verdict();
-    let principals = principals_of(alloc, hierarchy)?;
+    let principals = principals_of(alloc, hierarchy).map_err(OrNoMemory::cast)?;
     match check(alloc, &principals, source) {
         Ok(checked) => Ok(checked),
-        Err(fault) => Err(not_accepted(source, fault)),
+        Err(OrNoMemory::NoMemory) => Err(OrNoMemory::NoMemory),
+        Err(OrNoMemory::Refused(refusal)) => {
+            Err(OrNoMemory::Refused(not_accepted(source, refusal)))
+        }
     }
 }
 
 // The hierarchy of a text.
 fn principals_of(alloc: Global, bytes: &[u8]) -> Result<Hierarchy, CompileFault>
     ensures has { IfOk result (HasHierarchy bytes.now) }
-    ensures first_fault { IfErr result (λ fault.
-        (source : List ℕ) → ReportsFault bytes.now source fault) }
-    ensures no_flow { IfErr result (λ fault. ¬ IsFlowFault fault) }
+    ensures first_fault { (source : List ℕ) →
+        IfErr result (IfRefused (IsFirstFault bytes.now source)) }
+    ensures no_flow { IfErr result (IfRefused (λ refusal. ¬ IsFlowRefusal refusal)) }
 {
     let text = match text_of(bytes) {
         Ok(text) => text,
-        Err(cause) => return Err(fault_at(Text::Hierarchy, bytes, cause, 0)),
+        Err(cause) => return Err(OrNoMemory::Refused(refusal_at(Text::Hierarchy, bytes, cause, 0))),
     };
     match Hierarchy::read(alloc, text) {
         Ok(principals) => Ok(principals),
-        Err(fault) => Err(hierarchy_fault(bytes, fault)),
+        Err(OrNoMemory::NoMemory) => Err(OrNoMemory::NoMemory),
+        Err(OrNoMemory::Refused(refusal)) => {
+            let (cause, at) = hierarchy_cause(refusal);
+            Err(OrNoMemory::Refused(refusal_at(Text::Hierarchy, bytes, cause, at)))
+        }
     }
 }
 
-// Why a source is not accepted, by the fault of its check.
-fn not_accepted(source: &[u8], fault: CheckFault) -> NotAccepted
-    ensures { result ≡ not_accepted source.now fault }
+// Why a source is not accepted, by the refusal of its check.
+fn not_accepted(source: &[u8], refusal: CheckRefusal) -> NotAccepted
+    ensures { result ≡ not_accepted source.now refusal }
 {
-    match fault {
-        CheckFault::NoMemory => NotAccepted::from(CompileFault::NoMemory),
-        CheckFault::Refused(cause, at) => {
-            NotAccepted::from(fault_at(Text::Source, source, cause, at))
+    match refusal {
+        CheckRefusal::BeforeLabels(SourceRefusal { cause, at }) => {
+            NotAccepted::from(refusal_at(Text::Source, source, cause, at))
         }
-        CheckFault::FlowNotAllowed(flow) => NotAccepted {
-            fault: fault_at(Text::Source, source, Cause::FlowNotAllowed, flow.at),
+        CheckRefusal::FlowNotAllowed(flow) => NotAccepted {
+            refusal: refusal_at(Text::Source, source, Cause::FlowNotAllowed, flow.at),
             flow: Some(flow),
         },
     }
@@ -138,36 +146,26 @@ fn code_of(alloc: Global, core: &Core) -> Result<Vec<u8>, AllocError>
     Ok(code)
 }
 
-// The fault of a text whose bytes are refused for a cause at one of them.
-fn fault_at(text: Text, bytes: &[u8], cause: Cause, at: usize) -> CompileFault
-    ensures { result ≡ CompileFault.Refused text cause (place_at bytes.now at) }
+// The refusal of a text for a cause at one of its bytes.
+fn refusal_at(text: Text, bytes: &[u8], cause: Cause, at: usize) -> CompileRefusal
+    ensures { result ≡ refusal_at text bytes.now cause at }
 {
-    CompileFault::Refused {
+    CompileRefusal {
         text,
         cause,
         at: place_of(bytes, at),
     }
 }
 
-// The fault that a refusal of a hierarchy text is.
-fn hierarchy_fault(bytes: &[u8], fault: HierFault) -> CompileFault
-    ensures first_fault { (source : List ℕ) → IsText bytes.now
-        → (fault ≡ HierFault.NoMemory) ⊎ IsRefusedText bytes.now fault
-        → ReportsFault bytes.now source result }
-    ensures no_flow { ¬ IsFlowFault result }
+// The cause of the refusal of a hierarchy text, and its byte.
+fn hierarchy_cause(refusal: HierarchyRefusal) -> (Cause, usize)
+    ensures { result ≡ hierarchy_cause refusal }
 {
-    match fault {
-        HierFault::NoMemory => CompileFault::NoMemory,
-        HierFault::TooLong => fault_at(Text::Hierarchy, bytes, Cause::TextTooLong, 0),
-        HierFault::Syntax(at) => fault_at(Text::Hierarchy, bytes, Cause::Syntax, at),
-        HierFault::DeclaredTwice(at) => {
-            fault_at(Text::Hierarchy, bytes, Cause::PrincipalTwice, at)
-        }
-        HierFault::UnknownPrincipal(at) => {
-            fault_at(Text::Hierarchy, bytes, Cause::UnknownPrincipal, at)
-        }
-        HierFault::TooManyPrincipals(at) => {
-            fault_at(Text::Hierarchy, bytes, Cause::TooManyPrincipals, at)
-        }
+    match refusal {
+        HierarchyRefusal::TooLong => (Cause::TextTooLong, 0),
+        HierarchyRefusal::Syntax(at) => (Cause::Syntax, at),
+        HierarchyRefusal::DeclaredTwice(at) => (Cause::PrincipalTwice, at),
+        HierarchyRefusal::UnknownPrincipal(at) => (Cause::UnknownPrincipal, at),
+        HierarchyRefusal::TooManyPrincipals(at) => (Cause::TooManyPrincipals, at),
     }
 }

@@ -1,10 +1,11 @@
 //! Why a flow is refused, as lines.
 
 ghost use Rattle.channels.specs.Sink.{AppendsPrefix};
+ghost use Rattle.common.specs.Answers.{IfRefused};
 ghost use Rattle.explaining.specs.Flow.{flow_text, policy_line, step_line};
 ghost use Rattle.resolved.specs.CoreOf.{program_of};
 ghost use Rattle.std.specs.Io.KnownBytes.{Appends};
-ghost use Rattle.std.specs.Prelude.{Err, IfOk, IsTrue, OnErr, OnOk, flat_map, ◌≡◌};
+ghost use Rattle.std.specs.Prelude.{IfErr, IfOk, IsTrue, OnErr, OnOk, flat_map, ◌≡◌};
 ghost use Rattle.std.specs.String.{string_bytes};
 
 use crate::marks::MarkedText;
@@ -22,18 +23,18 @@ use std::alloc::{AllocError, Global};
 ///
 /// # Errors
 ///
-/// `Sink` where the sink failed, `NoMemory` where an allocation failed. What went out then is a prefix of the text.
+/// The fault of the sink where that failed, or out of memory. What went out then is a prefix of the text.
 pub fn write_flow<O: Sink>(
     alloc: Global,
     flow: &RefusedFlow,
     source: &[u8],
     out: &mut O,
 ) -> Result<(), ViewFault>
-    ensures written { OnOk result (Appends (O.taken out.old) (O.taken out.new)
+    ensures accepted { OnOk result (Appends (O.taken out.old) (O.taken out.new)
         (flow_text source.now flow.now)) }
     ensures prefix { OnErr result (AppendsPrefix (O.taken out.old) (O.taken out.new)
         (flow_text source.now flow.now)) }
-    ensures failed { result ≡ Err ViewFault.Sink → IsTrue (O.has_failed out.new) }
+    ensures rejected { IfErr result (IfRefused (λ _. IsTrue (O.has_failed out.new))) }
 {
     let marked = MarkedText::of(alloc, source)?;
     let line = line_of_policy(alloc, &flow.core.hierarchy, &flow.policy)?;
@@ -68,11 +69,11 @@ fn write_steps<O: Sink>(
     steps: &[Step],
     out: &mut O,
 ) -> Result<(), ViewFault>
-    ensures written { OnOk result (Appends (O.taken out.old) (O.taken out.new)
+    ensures accepted { OnOk result (Appends (O.taken out.old) (O.taken out.new)
         (flat_map (step_line marked.now.text.now (program_of core.now)) steps.now)) }
     ensures prefix { OnErr result (AppendsPrefix (O.taken out.old) (O.taken out.new)
         (flat_map (step_line marked.now.text.now (program_of core.now)) steps.now)) }
-    ensures failed { result ≡ Err ViewFault.Sink → IsTrue (O.has_failed out.new) }
+    ensures rejected { IfErr result (IfRefused (λ _. IsTrue (O.has_failed out.new))) }
 {
     for step in steps {
         let line = line_of_step(alloc, core, marked, *step)?;

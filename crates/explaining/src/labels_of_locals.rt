@@ -1,11 +1,12 @@
 //! The least labels of locals, as lines.
 
+ghost use Rattle.common.specs.Answers.{IfRefused};
 ghost use Rattle.explaining.specs.Locals.{AreLines, IsLocalLine, WritesLabels, WritesSomeLabels, if_unlabelled, local_of, locals_in};
 ghost use Rattle.explaining.specs.Text.{Writes, WritesPrefix};
 ghost use Rattle.gathering.specs.Names.{unknowns_before};
 ghost use Rattle.resolved.specs.CoreOf.{program_of};
 ghost use Rattle.resolved.specs.ProgramOf.{slot_entry};
-ghost use Rattle.std.specs.Prelude.{Err, IfOk, IsTrue, OnErr, OnOk, map, ◌≡◌};
+ghost use Rattle.std.specs.Prelude.{IfErr, IfOk, IsTrue, OnErr, OnOk, map, ◌≡◌};
 ghost use Rattle.std.specs.String.{string_bytes};
 
 use crate::marks::MarkedText;
@@ -22,18 +23,18 @@ use std::alloc::{AllocError, Global};
 ///
 /// # Errors
 ///
-/// `Sink` where the sink failed, `NoMemory` where an allocation failed. What went out then is a prefix of such a text.
+/// The fault of the sink where that failed, or out of memory. What went out then is a prefix of such a text.
 pub fn write_labels<O: Sink>(
     alloc: Global,
     checked: &Checked,
     source: &[u8],
     out: &mut O,
 ) -> Result<(), ViewFault>
-    ensures listed { OnOk result (WritesLabels checked.now source.now
+    ensures accepted { OnOk result (WritesLabels checked.now source.now
         (O.taken out.old) (O.taken out.new)) }
     ensures prefix { OnErr result (WritesSomeLabels checked.now source.now
         (O.taken out.old) (O.taken out.new)) }
-    ensures failed { result ≡ Err ViewFault.Sink → IsTrue (O.has_failed out.new) }
+    ensures rejected { IfErr result (IfRefused (λ _. IsTrue (O.has_failed out.new))) }
 {
     let marked = MarkedText::of(alloc, source)?;
     let mut first = 0;
@@ -57,11 +58,11 @@ fn write_locals<O: Sink>(
     out: &mut O,
 ) -> Result<(), ViewFault>
     requires { first ≡ unknowns_before (program_of checked.now.core) procedure }
-    ensures written { OnOk result (Writes (AreLines marked.now.text.now checked.now
+    ensures accepted { OnOk result (Writes (AreLines marked.now.text.now checked.now
         (locals_in procedure 0 (map slot_entry slots.now))) (O.taken out.old) (O.taken out.new)) }
     ensures prefix { OnErr result (WritesPrefix (AreLines marked.now.text.now checked.now
         (locals_in procedure 0 (map slot_entry slots.now))) (O.taken out.old) (O.taken out.new)) }
-    ensures failed { result ≡ Err ViewFault.Sink → IsTrue (O.has_failed out.new) }
+    ensures rejected { IfErr result (IfRefused (λ _. IsTrue (O.has_failed out.new))) }
 {
     for (number, slot) in slots.iter().enumerate() {
         write_local(alloc, checked, marked, procedure, first, number, slot, out)?;
@@ -81,13 +82,13 @@ fn write_local<O: Sink>(
     out: &mut O,
 ) -> Result<(), ViewFault>
     requires { first ≡ unknowns_before (program_of checked.now.core) procedure }
-    ensures written { OnOk result (Writes (AreLines marked.now.text.now checked.now
+    ensures accepted { OnOk result (Writes (AreLines marked.now.text.now checked.now
         (if_unlabelled (local_of procedure number (slot_entry slot.now)) slot.now.written))
         (O.taken out.old) (O.taken out.new)) }
     ensures prefix { OnErr result (WritesPrefix (AreLines marked.now.text.now checked.now
         (if_unlabelled (local_of procedure number (slot_entry slot.now)) slot.now.written))
         (O.taken out.old) (O.taken out.new)) }
-    ensures failed { result ≡ Err ViewFault.Sink → IsTrue (O.has_failed out.new) }
+    ensures rejected { IfErr result (IfRefused (λ _. IsTrue (O.has_failed out.new))) }
 {
     if slot.written.is_some() {
         return Ok(());

@@ -4,49 +4,39 @@ use Rattle.std.specs.Prelude.{◌↔◌, Option, Some, None, IfErr, IfSome, IsSo
 use Rattle.std.specs.Io.KnownBytes.{Appends}
 use Rattle.channels.specs.Sink.{AppendsPrefix}
 use Rattle.checker.specs.declared.fault.RefusedFlow.{RefusedFlow}
-use Rattle.compiler.specs.Reported.{AsksForFlow, IsFlowFault, IsFaultOfTexts, ReportsFault}
-use Rattle.compiler.specs.declared.fault.CompileFault.{CompileFault}
-use Rattle.compiler.specs.declared.fault.CompileFault.TheVariants as texts
+use Rattle.compiler.specs.Reported.{AsksForFlow, IsFirstFault, IsFlowRefusal}
+use Rattle.compiler.specs.declared.fault.CompileRefusal.{CompileRefusal}
 use Rattle.explaining.specs.Flow.{flow_text}
-use Rattle.flowc.proofs.Cut.{appended_all}
 use Rattle.flowc.specs.Explained.{IsRefusedFor, Explains, ExplainsRefusal, ExplainsSome, ShowsChain}
-use Rattle.flowc.specs.Explained.ExplainsSome.{chain, nothing}
+use Rattle.flowc.specs.Explained.ExplainsSome.{chain}
 use Rattle.flowc.specs.Task.{status_of_fault}
 use Rattle.flowc.specs.declared.ended.Ended.{Ended}
 use Rattle.flowc.specs.declared.fault.PerformFault.{PerformFault}
 use Rattle.flowc.specs.declared.fault.PerformFault.TheVariants.{Refused, CannotWrite, NoMemory}
 
--- a flow that is not allowed is why texts are refused
-flow_is_refusal : (fault : CompileFault) → IsFlowFault fault → IsFaultOfTexts fault
-flow_is_refusal texts.NoMemory is = is
-flow_is_refusal (texts.Refused text cause place) is = tt
-
-with_flow : (h s : List ℕ) (fault : CompileFault) (found : Option RefusedFlow) (flow : RefusedFlow) → found ≡ Some flow → ReportsFault h s fault
-    → (IsFlowFault fault ↔ IsSome found) → IfSome found (AsksForFlow h s fault) → IsRefusedFor h s fault (Some flow)
-with_flow h s fault found flow is first has asked =
-    let has_some : IsFlowFault fault ↔ IsSome (Some flow) = subst (λ (f : Option RefusedFlow). IsFlowFault fault ↔ IsSome f) is has in
-    record {
-      refusal = flow_is_refusal fault (has_some.1 refl);
-      first = first;
-      has_flow = has_some;
-      asked = subst (λ (f : Option RefusedFlow). IfSome f (AsksForFlow h s fault)) is asked;
-    }
+with_flow : (h s : List ℕ) (refusal : CompileRefusal) (found : Option RefusedFlow) (flow : RefusedFlow) → found ≡ Some flow → IsFirstFault h s refusal
+    → (IsFlowRefusal refusal ↔ IsSome found) → IfSome found (AsksForFlow h s refusal) → IsRefusedFor h s refusal (Some flow)
+with_flow h s refusal found flow is first has asked = record {
+  first = first;
+  has_flow = subst (λ (f : Option RefusedFlow). IsFlowRefusal refusal ↔ IsSome f) is has;
+  asked = subst (λ (f : Option RefusedFlow). IfSome f (AsksForFlow h s refusal)) is asked;
+}
 
 -- a prefix of the chain of the flow went out
-pub chain_of : (h s : List ℕ) (fault : CompileFault) (found : Option RefusedFlow) (flow : RefusedFlow) (old new : Option (List ℕ)) → found ≡ Some flow → ReportsFault h s fault
-    → (IsFlowFault fault ↔ IsSome found) → IfSome found (AsksForFlow h s fault) → AppendsPrefix old new (flow_text s flow) → ExplainsSome h s old new
-chain_of h s fault found flow old new is first has asked out = chain fault flow (with_flow h s fault found flow is first has asked) out
+pub chain_of : (h s : List ℕ) (refusal : CompileRefusal) (found : Option RefusedFlow) (flow : RefusedFlow) (old new : Option (List ℕ)) → found ≡ Some flow → IsFirstFault h s refusal
+    → (IsFlowRefusal refusal ↔ IsSome found) → IfSome found (AsksForFlow h s refusal) → AppendsPrefix old new (flow_text s flow) → ExplainsSome h s old new
+chain_of h s refusal found flow old new is first has asked out = chain refusal flow (with_flow h s refusal found flow is first has asked) out
 
--- the whole chain went out, and then its fault was reported
-pub reported_chain : (h s : List ℕ) (fault : CompileFault) (found : Option RefusedFlow) (flow : RefusedFlow) (old new : Option (List ℕ)) → found ≡ Some flow → ReportsFault h s fault
-    → (IsFlowFault fault ↔ IsSome found) → IfSome found (AsksForFlow h s fault) → Appends old new (flow_text s flow) → ExplainsRefusal h s old new
-reported_chain h s fault found flow old new is first has asked out = (fault, Some flow, with_flow h s fault found flow is first has asked, out)
+-- the whole chain went out, and then its refusal is reported
+pub reported_chain : (h s : List ℕ) (refusal : CompileRefusal) (found : Option RefusedFlow) (flow : RefusedFlow) (old new : Option (List ℕ)) → found ≡ Some flow → IsFirstFault h s refusal
+    → (IsFlowRefusal refusal ↔ IsSome found) → IfSome found (AsksForFlow h s refusal) → Appends old new (flow_text s flow) → ExplainsRefusal h s old new
+reported_chain h s refusal found flow old new is first has asked out = (refusal, Some flow, with_flow h s refusal found flow is first has asked, out)
 
--- another fault was reported, and nothing went out
-pub reported_fault : (h s : List ℕ) (fault : CompileFault) (found : Option RefusedFlow) (old new : Option (List ℕ)) → found ≡ None → ReportsFault h s fault
-    → (IsFlowFault fault ↔ IsSome found) → IfSome found (AsksForFlow h s fault) → IsFaultOfTexts fault → old ≡ new → ExplainsRefusal h s old new
-reported_fault h s fault found old new is first has asked refusal same =
-    (fault, found, record { refusal = refusal; first = first; has_flow = has; asked = asked }, subst (λ (f : Option RefusedFlow). ShowsChain s f old new) (sym is) same)
+-- another refusal is reported, and nothing went out
+pub reported_other : (h s : List ℕ) (refusal : CompileRefusal) (found : Option RefusedFlow) (old new : Option (List ℕ)) → found ≡ None → IsFirstFault h s refusal
+    → (IsFlowRefusal refusal ↔ IsSome found) → IfSome found (AsksForFlow h s refusal) → old ≡ new → ExplainsRefusal h s old new
+reported_other h s refusal found old new is first has asked same =
+    (refusal, found, record { first = first; has_flow = has; asked = asked }, subst (λ (f : Option RefusedFlow). ShowsChain s f old new) (sym is) same)
 
 -- what an explanation shows, or why it shows nothing
 pub explain_shows : (h s h' s' : List ℕ) (status : ℕ) (old new : Option (List ℕ)) (outcome : Result Ended PerformFault)

@@ -27,6 +27,9 @@ use Rattle.machine.proofs.Reporting.{exec_more}
 use Rattle.machine.specs.Run.{HasEnded}
 use Rattle.machine.specs.declared.status.Status.{Status}
 use Rattle.verifier.specs.Faults.{HasNoFault}
+use Rattle.verifier.specs.Loaded.{CannotLoad}
+use Rattle.verifier.specs.declared.loading.LoadRefusal.{LoadRefusal}
+use Rattle.verifier.specs.declared.loading.LoadRefusal.TheVariants.{Bytes, Code}
 use Rattle.host.specs.Laws as sessions
 use Rattle.host.specs.Meaning.{CanOpen}
 use Rattle.host.proofs.Ends.{end_of_status, same_at}
@@ -35,8 +38,7 @@ use Rattle.flowc.specs.Lines.{end_line}
 use Rattle.flowc.specs.Promises.{RunsAreIsolated, RunsEndAsTheSource, RunsShowThemselves, SessionsAreIsolated, SessionsEndAsTheSource, SessionsShowNoLess, SessionsShowNoMore, SilentModulesShowLess, SomeSessionsShowAll, StandardErrorIsFixed, module_in, program_in, seen_by}
 use Rattle.flowc.specs.Stdout.{CanRun, numbers_in, text_shown}
 use Rattle.flowc.specs.Task.{reported_status}
-use Rattle.flowc.specs.Messages.{IsModuleLine, IsObserverLine, IsRefusedLine, IsWorldLine, reported_line}
-use Rattle.flowc.specs.Messages.IsModuleLine.{faulty, refused}
+use Rattle.flowc.specs.Messages.{IsObserverLine, IsRefusedLine, IsWorldLine, reported_line}
 use Rattle.flowc.specs.Messages.IsRefusedLine.{of_module, of_observer, of_world}
 use Rattle.flowc.specs.Messages.IsWorldLine.{no_text, wrong}
 use Rattle.flowc.specs.View.{IsObserver, view_text}
@@ -238,18 +240,18 @@ module _ (one : (m n : ModuleContents) (bytes : List ℕ) → Spells module_file
 
   -- what can be run is not refused
   module _ (not_refused : (m : ModuleContents) (bytes : List ℕ) → Spells module_file m bytes → first_refusal bytes ≡ None) where
-    right_module : (path code line : List ℕ) (m : ModuleContents) → Spells module_file m code → HasNoFault m → IsModuleLine path code line → ⊥
-    right_module path code line m spelled faultless (refused refusal offset found says) =
+    right_module : (code : List ℕ) (m : ModuleContents) → Spells module_file m code → HasNoFault m → (refusal : LoadRefusal) → CannotLoad code refusal → ⊥
+    right_module code m spelled faultless (Bytes refusal) found =
         let none = not_refused m code spelled in
         cc
-    right_module path code line m spelled faultless (faulty other fault spelled_too reported says) =
-        reported_is_fault other fault reported (subst (λ (w : ModuleContents). HasNoFault w) (one m other code spelled spelled_too) faultless)
+    right_module code m spelled faultless (Code refusal) of_code =
+        reported_is_fault of_code.0 refusal of_code.2 (subst (λ (w : ModuleContents). HasNoFault w) (one m of_code.0 code spelled of_code.1) faultless)
 
     right_world : (path text line : List ℕ) (m other : ModuleContents) → m ≡ other → IsUtf8 text → IsWorldText (input_names m) (lines_of text)
         → IsWorldLine other path text line → ⊥
     right_world path text line m other same encoded right (no_text none says) = none encoded
-    right_world path text line m other same encoded right (wrong number defect encoded_too first says) =
-        wrong_is_no_world (input_names other) (lines_of text) number defect first
+    right_world path text line m other same encoded right (wrong refusal encoded_too first says) =
+        wrong_is_no_world (input_names other) (lines_of text) refusal first
         (subst (λ (w : ModuleContents). IsWorldText (input_names w) (lines_of text)) same right)
 
     right_observer : (name line : List ℕ) (m other : ModuleContents) (principal : Option ℕ) → m ≡ other → IsObserver m.hierarchy (Some name) principal
@@ -263,7 +265,7 @@ module _ (one : (m n : ModuleContents) (bytes : List ℕ) → Spells module_file
     right_run : (code_path text_path code text name line : List ℕ) (m : ModuleContents) (principal : Option ℕ) → CanRun code text (Some name) m principal
         → IsRefusedLine code_path text_path code text (Some name) line → ⊥
     right_run code_path text_path code text name line m principal can (of_module wrong_module) =
-        right_module code_path code line m can.spelled can.faultless wrong_module
+        right_module code m can.spelled can.faultless wrong_module.refusal wrong_module.refused
     right_run code_path text_path code text name line m principal can (of_world other spelled faultless wrong_world) =
         right_world text_path text line m other (one m other code can.spelled spelled) can.encoded can.right wrong_world
     right_run code_path text_path code text name line m principal can (of_observer other spelled faultless encoded right unknown) =

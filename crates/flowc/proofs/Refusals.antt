@@ -2,31 +2,34 @@
 use Rattle.std.proofs.Common.{◌≡◌, ap, sym, ◌∙◌, ℕ, List, [], ◌∷◌, refl, inl, inr, ◌⊎◌, Option, Result, Ok, Err, IfOk, IfErr, OnErr, MatchResult}
 use Rattle.bytecode.specs.Contents.{ModuleContents}
 use Rattle.channels.specs.World.{InputNumbers, input_names}
-use Rattle.channels.specs.WorldText.{IsTextFault, IsWorldText, world_of}
-use Rattle.channels.specs.declared.defect.WorldDefect.{WorldDefect}
-use Rattle.channels.specs.declared.defect.WorldFault.TheVariants.{Line}
+use Rattle.channels.specs.WorldText.{IsFirstDefect, IsWorldText, world_of}
+use Rattle.channels.specs.declared.defect.WorldRefusal.{WorldRefusal}
+use Rattle.common.specs.declared.fault.OrNoMemory.{OrNoMemory}
+use Rattle.common.specs.declared.fault.OrNoMemory.TheVariants as or
 use Rattle.machine.specs.Run.{names_of}
+use Rattle.machine.specs.declared.fault.NewRefusal.{NewRefusal}
+use Rattle.machine.specs.declared.fault.NewRefusal.TheVariants.{UnknownChannel}
 use Rattle.verifier.specs.Faults.{HasNoFault, IsReported, IsReportedAfter}
 use Rattle.verifier.specs.Fixed.{fixed_faults}
-use Rattle.verifier.specs.declared.fault.CodeFault.{CodeFault}
+use Rattle.verifier.specs.declared.fault.CodeRefusal.{CodeRefusal}
 use Rattle.flowc.specs.Stdout.{CannotRun, ShowsRun, ShowsSome}
 use Rattle.flowc.specs.Task.{status_of_fault}
 use Rattle.flowc.specs.declared.ended.Ended.{Ended}
 use Rattle.flowc.specs.declared.fault.PerformFault.{PerformFault}
 use Rattle.flowc.specs.declared.fault.PerformFault.TheVariants.{Refused, CannotWrite, NoMemory}
 
-reported_after : (m : ModuleContents) (faults : List CodeFault) (fault : CodeFault) → IsReportedAfter m faults fault → faults ≡ [] → ((other : CodeFault) → IsReportedAfter m [] other → ⊥) → ⊥
+reported_after : (m : ModuleContents) (faults : List CodeRefusal) (fault : CodeRefusal) → IsReportedAfter m faults fault → faults ≡ [] → ((other : CodeRefusal) → IsReportedAfter m [] other → ⊥) → ⊥
 reported_after m [] fault reported fixed flow = flow fault reported
 reported_after m (first ∷ more) fault reported fixed flow = cc
 
 -- a module with a fault that may be reported is not without one
-pub reported_is_fault : (m : ModuleContents) (fault : CodeFault) → IsReported m fault → HasNoFault m → ⊥
+pub reported_is_fault : (m : ModuleContents) (fault : CodeRefusal) → IsReported m fault → HasNoFault m → ⊥
 reported_is_fault m fault reported none = reported_after m (fixed_faults m) fault reported none.fixed none.flow
 
 -- a text with a wrong line is no world
-pub wrong_is_no_world : (inputs : List (List ℕ)) (lines : List (List (List ℕ))) (line : ℕ) (defect : WorldDefect)
-    → IsTextFault inputs lines (Line line defect) → IsWorldText inputs lines → ⊥
-wrong_is_no_world inputs lines line defect wrong right =
+pub wrong_is_no_world : (inputs : List (List ℕ)) (lines : List (List (List ℕ))) (refusal : WorldRefusal)
+    → IsFirstDefect inputs lines refusal → IsWorldText inputs lines → ⊥
+wrong_is_no_world inputs lines refusal wrong right =
     let here = right wrong.place wrong.there in
     let there = wrong.wrong in
     cc
@@ -41,6 +44,11 @@ pub named_world : (m w : ModuleContents) (numbers : List InputNumbers) (lines : 
     → numbers ≡ world_of (input_names w) lines → names_of numbers ≡ input_names m
 named_world m w numbers lines is read =
     ap names_of read ∙ names_of-world_of (input_names w) lines ∙ ap input_names is
+
+-- a machine is refused for the names of the inputs alone
+pub unknown_channel : {T : Type 0} (fault : OrNoMemory NewRefusal) (refusal : NewRefusal) → fault ≡ or.Refused refusal
+    → ◌≡◌ {A = Result T (OrNoMemory NewRefusal)} (Err fault) (Err (or.Refused UnknownChannel))
+unknown_channel fault UnknownChannel is = ap (λ f. Err f) is
 
 -- what a run shows, or why it shows nothing
 pub run_shows : (code text code' text' : List ℕ) (name name' : Option (List ℕ)) (steps status : ℕ) (old new : Option (List ℕ)) (outcome : Result Ended PerformFault)

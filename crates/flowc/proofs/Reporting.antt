@@ -1,5 +1,5 @@
 -- What is written to standard error, from what the steps of a task report.
-use Rattle.std.proofs.Common.{◌≡◌, ◌∙◌, sym, subst, refl, ℕ, List, [], Bool, true, false, inl, inr, Option, Result, Ok, Err, IfOk, IfErr, MatchResult}
+use Rattle.std.proofs.Common.{◌≡◌, ◌∙◌, sym, subst, arith, refl, ℕ, List, [], Bool, true, false, IsTrue, inl, inr, Option, Result, Ok, Err, IfOk, IfErr, MatchResult}
 use Rattle.std.specs.String.{string_bytes}
 use Rattle.std.specs.Str.{IsUtf8}
 use Rattle.std.proofs.lemmas.Result.{err_from_is_err_and}
@@ -8,21 +8,19 @@ use Rattle.std.specs.Result.{IsErrAnd}
 use Rattle.bytecode.specs.Contents.{ModuleContents}
 use Rattle.bytecode.specs.Form.{Spells}
 use Rattle.bytecode.specs.Format.{module_file}
-use Rattle.bytecode.specs.declared.fault.ModuleRefusal.{ModuleRefusal}
+use Rattle.common.specs.Answers.{IfRefused}
+use Rattle.common.specs.declared.fault.OrNoMemory.{OrNoMemory}
+use Rattle.common.specs.declared.fault.OrNoMemory.TheVariants as or
 use Rattle.channels.specs.World.{input_names}
-use Rattle.channels.specs.WorldText.{IsFirstDefect, IsTextFault, IsWorldText, lines_of}
-use Rattle.channels.specs.declared.defect.WorldDefect.{WorldDefect}
-use Rattle.channels.specs.declared.defect.WorldFault.{WorldFault}
-use Rattle.channels.specs.declared.defect.WorldFault.TheVariants.{Line}
+use Rattle.channels.specs.WorldText.{IsFirstDefect, IsWorldText, lines_of}
+use Rattle.channels.specs.declared.defect.WorldRefusal.{WorldRefusal}
+use Rattle.channels.specs.declared.sink.SinkFault.{SinkFault}
 use Rattle.verifier.specs.Faults.{HasNoFault}
 use Rattle.verifier.specs.Loaded.{CannotLoad}
-use Rattle.verifier.specs.declared.loading.LoadFault.{LoadFault}
-use Rattle.verifier.specs.declared.loading.LoadFault.TheVariants as load
-use Rattle.verifier.specs.declared.fault.CodeFault.{CodeFault}
-use Rattle.flowc.specs.Lines.{IsPerformFault, cannot_write, fault_line, line_of_fault, no_memory, refusal_line, world_line}
-use Rattle.flowc.specs.Task.{status_of_fault}
+use Rattle.verifier.specs.declared.loading.LoadRefusal.{LoadRefusal}
+use Rattle.flowc.specs.Lines.{IsPerformFault, cannot_write, line_of_fault, module_line, no_memory, world_line}
+use Rattle.flowc.specs.Task.{fault_of_view, status_of_fault}
 use Rattle.flowc.specs.Messages.{IsEndLine, IsFaultLine, IsModuleLine, IsObserverLine, IsRefusedLine, IsRunLine, IsTextsLine, IsWorldLine, WroteLine}
-use Rattle.flowc.specs.Messages.IsModuleLine.{faulty, refused}
 use Rattle.flowc.specs.Messages.IsRefusedLine.{of_module, of_observer, of_world}
 use Rattle.flowc.specs.Messages.IsWorldLine.{wrong}
 use Rattle.flowc.specs.declared.ended.Ended.{Ended}
@@ -75,28 +73,45 @@ observer_message outcome m h code_path text_path code text observer failed fault
 
 -- ---- refusals
 
--- the first refusal of bytes
-pub first_refused : (path code line : List ℕ) (fault : LoadFault) (refusal : ModuleRefusal) (offset : ℕ) → fault ≡ load.Bytes refusal offset
-    → CannotLoad code fault → line ≡ refusal_line path refusal offset → IsModuleLine path code line
-first_refused path code line fault refusal offset is message says =
-    refused refusal offset (subst (λ (f : LoadFault). CannotLoad code f) is message) says
-
--- a fault of the code of the module that bytes spell
-pub faulty_code : (path code line : List ℕ) (answer : LoadFault) (fault : CodeFault) → answer ≡ load.Code fault
-    → CannotLoad code answer → line ≡ fault_line path fault → IsModuleLine path code line
-faulty_code path code line answer fault is message says =
-    let of_code = subst (λ (f : LoadFault). CannotLoad code f) is message in
-    faulty of_code.0 fault of_code.1 of_code.2 says
+-- why bytes are not loaded
+pub refused_module : (path code line : List ℕ) (fault : OrNoMemory LoadRefusal) (refusal : LoadRefusal) → fault ≡ or.Refused refusal
+    → IfRefused (CannotLoad code) fault → line ≡ module_line path refusal → IsModuleLine path code line
+refused_module path code line fault refusal is message says =
+    record { refusal = refusal; refused = subst (IfRefused (CannotLoad code)) is message; says = says }
 
 -- the first wrong line of a text, which is those bytes
-pub wrong_line : (m : ModuleContents) (path text bytes line : List ℕ) (fault : WorldFault) (number : ℕ) (defect : WorldDefect) → fault ≡ Line number defect
-    → IsTextFault (input_names m) (lines_of text) fault → text ≡ bytes → IsUtf8 bytes → line ≡ world_line path number defect
+pub wrong_line : (m : ModuleContents) (path text bytes line : List ℕ) (fault : OrNoMemory WorldRefusal) (refusal : WorldRefusal) → fault ≡ or.Refused refusal
+    → IfRefused (IsFirstDefect (input_names m) (lines_of text)) fault → text ≡ bytes → IsUtf8 bytes → line ≡ world_line path refusal
     → IsWorldLine m path bytes line
-wrong_line m path text bytes line fault number defect is message same encoded says =
-    wrong number defect encoded
-    (subst (λ (b : List ℕ). IsFirstDefect (input_names m) (lines_of b) number defect) same
-    (subst (λ (f : WorldFault). IsTextFault (input_names m) (lines_of text) f) is message))
+wrong_line m path text bytes line fault refusal is message same encoded says =
+    wrong refusal encoded
+    (subst (λ (b : List ℕ). IsFirstDefect (input_names m) (lines_of b) refusal) same
+    (subst (IfRefused (IsFirstDefect (input_names m) (lines_of text))) is message))
     says
+
+-- ---- texts that were not written to their end
+
+view_message : (P : List ℕ → Type 0) (failed : Bool) (given : OrNoMemory SinkFault) → IfRefused (λ _. IsTrue failed) given → IsPerformFault P failed (fault_of_view given)
+view_message P failed or.NoMemory holds = tt
+view_message P failed (or.Refused fault) holds = holds
+
+-- standard output has failed, or memory ran out
+pub unwritten_message : {X : Type 0} (outcome : Result X PerformFault) (P : List ℕ → Type 0) (failed : Bool) (given : OrNoMemory SinkFault)
+    → IsErrAnd outcome (λ other. other ≡ fault_of_view given) → IfRefused (λ _. IsTrue failed) given → IfErr outcome (IsPerformFault P failed)
+unwritten_message outcome P failed given is holds =
+    let same = err_from_is_err_and outcome is in
+    rw (same.1, same.2) (view_message P failed given holds)
+
+view_status : (given : OrNoMemory SinkFault) → status_of_fault (fault_of_view given) ≡ 1 → ⊥
+view_status or.NoMemory one = omega (arith, one)
+view_status (or.Refused fault) one = omega (arith, one)
+
+-- which is no refusal
+pub unwritten_status : {X : Type 0} (outcome : Result X PerformFault) (P : Type 0) (given : OrNoMemory SinkFault)
+    → IsErrAnd outcome (λ other. other ≡ fault_of_view given) → IfErr outcome (λ fault. status_of_fault fault ≡ 1 → P)
+unwritten_status outcome P given is =
+    let same = err_from_is_err_and outcome is in
+    rw (same.1, same.2) (λ one. absurd (view_status given one))
 
 -- ---- tasks
 
@@ -118,13 +133,13 @@ fault_message line_of status_of (Err NoMemory) P Q status out_failed old new fai
     (no_memory, inr (inr (is, inr refl)), out)
 
 -- a line that reports two texts reports the same texts under other names
-pub texts_line : (hierarchy_path source_path hierarchy source hierarchy_path' source_path' hierarchy' source' : List ℕ)
+pub texts_named : (hierarchy_path source_path hierarchy source hierarchy_path' source_path' hierarchy' source' : List ℕ)
     → hierarchy_path' ≡ hierarchy_path → source_path' ≡ source_path → hierarchy' ≡ hierarchy → source' ≡ source
     → (line : List ℕ) → IsTextsLine hierarchy_path' source_path' hierarchy' source' line → IsTextsLine hierarchy_path source_path hierarchy source line
-texts_line hp sp h s hp' sp' h' s' p q e f line message = rw (sym p, sym q, sym e, sym f) message
+texts_named hp sp h s hp' sp' h' s' p q e f line message = rw (sym p, sym q, sym e, sym f) message
 
-pub module_line : (path code path' code' : List ℕ) → path' ≡ path → code' ≡ code → (line : List ℕ) → IsModuleLine path' code' line → IsModuleLine path code line
-module_line path code path' code' p e line message = rw (sym p, sym e) message
+pub module_named : (path code path' code' : List ℕ) → path' ≡ path → code' ≡ code → (line : List ℕ) → IsModuleLine path' code' line → IsModuleLine path code line
+module_named path code path' code' p e line message = rw (sym p, sym e) message
 
 -- what a run reports
 pub run_message : (outcome : Result Ended PerformFault) (code_path text_path code text code_path' text_path' code' text' : List ℕ)

@@ -1,5 +1,9 @@
 -- What the status of a check or a build says of the texts.
 use Rattle.std.proofs.Common.{◌≡◌, ◌∙◌, sym, subst, arith, refl, ℕ, List, Result, Ok, Err, OnOk, IfOk, IfErr, MatchResult}
+use Rattle.common.specs.Answers.{IfRefused}
+use Rattle.common.specs.declared.fault.OrNoMemory.{OrNoMemory}
+use Rattle.common.specs.declared.fault.OrNoMemory.TheVariants as or
+use Rattle.compiler.specs.Reported.{StandForNone}
 use Rattle.flowc.specs.Compiled.{AreAccepted}
 use Rattle.flowc.specs.Task.{status_of_fault}
 use Rattle.flowc.specs.declared.fault.PerformFault.{PerformFault}
@@ -24,7 +28,12 @@ pub ok_is_zero : {X : Type 0} (outcome : Result X PerformFault) → IfOk outcome
 ok_is_zero (Ok x) = refl
 ok_is_zero (Err fault) = tt
 
--- the same of the texts under other names
+-- texts that are refused are not accepted
+pub not_accepted : {R : Type 0} (h s : List ℕ) (fault : OrNoMemory R) (refusal : R) → fault ≡ or.Refused refusal
+    → IfRefused (λ _. StandForNone h s) fault → ¬ AreAccepted h s
+not_accepted h s fault refusal is none accepted = subst (IfRefused (λ _. StandForNone h s)) is none accepted.0 accepted.1
+
+-- what is accepted is so under other names
 pub accepted_along : (h s h' s' : List ℕ) → h ≡ h' → s ≡ s' → AreAccepted h s → AreAccepted h' s'
 accepted_along h s h' s' eh es accepted =
     subst (λ (source : List ℕ). AreAccepted h' source) es (subst (λ (hierarchy : List ℕ). AreAccepted hierarchy s) eh accepted)

@@ -3,18 +3,17 @@
 use Rattle.std.specs.Prelude.{ℕ, List, ◌++◌, codes, Bool, IsTrue}
 use Rattle.std.specs.Fmt.{decimal}
 use Rattle.std.specs.String.{string_bytes}
-use Rattle.bytecode.specs.Faults.{refusal_number, refusal_words}
-use Rattle.bytecode.specs.declared.fault.ModuleRefusal.{ModuleRefusal}
-use Rattle.channels.specs.declared.defect.WorldDefect.{WorldDefect}
+use Rattle.bytecode.specs.Faults.{module_defect_number, module_defect_words}
+use Rattle.channels.specs.declared.defect.WorldRefusal.{WorldRefusal}
 use Rattle.channels.specs.Words.{world_number, world_words}
-use Rattle.acceptance.specs.declared.cause.Cause.{Cause}
 use Rattle.acceptance.specs.Causes.{cause_number, cause_words}
-use Rattle.lexer.specs.declared.token.Place.{Place}
+use Rattle.compiler.specs.declared.fault.CompileRefusal.{CompileRefusal}
 use Rattle.resolved.specs.Exceptions.{exception_name}
 use Rattle.machine.specs.declared.status.Status.{Status}
 use Rattle.machine.specs.declared.status.Status.TheVariants as status
-use Rattle.verifier.specs.Words.{defect_number, defect_words}
-use Rattle.verifier.specs.declared.fault.CodeFault.{CodeFault}
+use Rattle.verifier.specs.Words.{code_defect_number, code_defect_words}
+use Rattle.verifier.specs.declared.loading.LoadRefusal.{LoadRefusal}
+use Rattle.verifier.specs.declared.loading.LoadRefusal.TheVariants.{Bytes, Code}
 use Rattle.flowc.specs.declared.fault.PerformFault.{PerformFault}
 use Rattle.flowc.specs.declared.fault.PerformFault.TheVariants.{Refused, CannotWrite, NoMemory}
 
@@ -31,26 +30,25 @@ at_one path first rest = path ++ (codes ":" ++ (decimal first ++ rest))
 abbrev pub at_two : (path : List ℕ) → (first second : ℕ) → (rest : List ℕ) → List ℕ
 at_two path first second rest = at_one path first (codes ":" ++ (decimal second ++ rest))
 
--- a refusal of a module's bytes, at a byte offset
-abbrev pub refusal_line : (path : List ℕ) → ModuleRefusal → (offset : ℕ) → List ℕ
-refusal_line path refusal offset = at_one path offset (saying (refusal_number refusal) (refusal_words refusal))
-
--- a fault of a module's code, at a procedure and a byte offset
-abbrev pub fault_line : (path : List ℕ) → CodeFault → List ℕ
-fault_line path fault =
-    at_two path fault.procedure fault.offset (saying (defect_number fault.defect) (defect_words fault.defect))
+-- why the bytes of a module are refused: at a byte offset; or where its code is, at a procedure and a byte offset of it
+abbrev pub module_line : (path : List ℕ) → LoadRefusal → List ℕ
+module_line path (Bytes refusal) =
+    at_one path refusal.offset (saying (module_defect_number refusal.defect) (module_defect_words refusal.defect))
+module_line path (Code refusal) =
+    at_two path refusal.procedure refusal.offset (saying (code_defect_number refusal.defect) (code_defect_words refusal.defect))
 
 -- bytes that are to be the text of a world and are no text
 abbrev pub encoding_line : (path : List ℕ) → List ℕ
 encoding_line path = at_one path 1 (saying 100 (codes "not UTF-8"))
 
 -- what is wrong with the text of a world, at a line
-abbrev pub world_line : (path : List ℕ) → (line : ℕ) → WorldDefect → List ℕ
-world_line path line defect = at_one path line (saying (world_number defect) (world_words defect))
+abbrev pub world_line : (path : List ℕ) → WorldRefusal → List ℕ
+world_line path refusal = at_one path refusal.line (saying (world_number refusal.defect) (world_words refusal.defect))
 
 -- what is wrong with a hierarchy text or a source, at a line and a column
-abbrev pub cause_line : (path : List ℕ) → Cause → Place → List ℕ
-cause_line path cause at = at_two path at.line at.column (saying (cause_number cause) (cause_words cause))
+abbrev pub text_line : (path : List ℕ) → CompileRefusal → List ℕ
+text_line path refusal =
+    at_two path refusal.at.line refusal.at.column (saying (cause_number refusal.cause) (cause_words refusal.cause))
 
 -- no principal of a module has the name of an observer
 abbrev pub observer_line : (name : List ℕ) → List ℕ

@@ -6,30 +6,27 @@ use Rattle.std.specs.String.{string_bytes}
 use Rattle.std.specs.declared.alloc.Global.{Global}
 use Rattle.std.specs.declared.vec.Vec.{Vec}
 use Rattle.principals.specs.ActsFor.{PrincipalHierarchy, HasName}
-use Rattle.lexer.specs.declared.token.Place.{Place}
 use Rattle.bytecode.specs.Contents.{ModuleContents}
-use Rattle.module_file.specs.Decoded.{first_refusal}
 use Rattle.bytecode.specs.Form.{Spells}
 use Rattle.bytecode.specs.Format.{module_file}
 use Rattle.bytecode.specs.Machine.{after_steps, machine_code}
-use Rattle.bytecode.specs.declared.fault.ModuleRefusal.{ModuleRefusal}
 use Rattle.channels.specs.Sink.{AppendsPrefix}
 use Rattle.channels.specs.World.{input_names}
 use Rattle.channels.specs.WorldText.{IsFirstDefect, IsWorldText, lines_of}
-use Rattle.channels.specs.declared.defect.WorldDefect.{WorldDefect}
-use Rattle.acceptance.specs.declared.cause.Cause.{Cause}
+use Rattle.channels.specs.declared.defect.WorldRefusal.{WorldRefusal}
 use Rattle.acceptance.specs.declared.cause.Text.{Text}
 use Rattle.acceptance.specs.declared.cause.Text.TheVariants.{Hierarchy, Source}
 use Rattle.compiler.specs.Reported.{IsFirstFault}
+use Rattle.compiler.specs.declared.fault.CompileRefusal.{CompileRefusal}
 use Rattle.machine.specs.Run.{ReportsStatus}
 use Rattle.machine.specs.declared.status.Status.{Status}
-use Rattle.verifier.specs.Faults as faults
 use Rattle.verifier.specs.Faults.{HasNoFault}
-use Rattle.verifier.specs.declared.fault.CodeFault.{CodeFault}
+use Rattle.verifier.specs.Loaded.{CannotLoad}
+use Rattle.verifier.specs.declared.loading.LoadRefusal.{LoadRefusal}
 use Rattle.command_line.specs.declared.request.Task.{Task}
 use Rattle.command_line.specs.declared.request.Task.TheVariants.{Check, Build, Run, Explain, List as ListModule}
 use Rattle.flowc.specs.Compiled.{bytes_at}
-use Rattle.flowc.specs.Lines.{cannot_write, cause_line, encoding_line, end_line, fault_line, no_memory, observer_line, refusal_line, world_line}
+use Rattle.flowc.specs.Lines.{cannot_write, encoding_line, end_line, module_line, no_memory, observer_line, text_line, world_line}
 use Rattle.flowc.specs.Stdout.{CanRun, numbers_in}
 use Rattle.flowc.specs.Task.{reported_status}
 
@@ -46,21 +43,21 @@ path_of hierarchy source Source = source
 
 -- the line reports the first fault of two texts, with the path of the text that it is in
 pub record IsTextsLine (hierarchy_path source_path hierarchy source line : List ℕ) : Type 0 where
-  pub text : Text
-  pub cause : Cause
-  pub at : Place
-  pub first : IsFirstFault hierarchy source text cause at
-  pub says : line ≡ cause_line (path_of hierarchy_path source_path text) cause at
+  pub refusal : CompileRefusal
+  pub first : IsFirstFault hierarchy source refusal
+  pub says : line ≡ text_line (path_of hierarchy_path source_path refusal.text) refusal
 
--- the line reports the first refusal of the bytes of a module, or a fault of its code
-pub data IsModuleLine (path code line : List ℕ) : Type 0 where
-  refused : (refusal : ModuleRefusal) (offset : ℕ) → first_refusal code ≡ Some (refusal, offset) → line ≡ refusal_line path refusal offset → IsModuleLine path code line
-  faulty : (program : ModuleContents) (fault : CodeFault) → Spells module_file program code → faults.IsReported program fault → line ≡ fault_line path fault → IsModuleLine path code line
+-- the line reports why the bytes of a module cannot be loaded: their first refusal, or a fault of the code of the module that they
+-- spell
+pub record IsModuleLine (path code line : List ℕ) : Type 0 where
+  pub refusal : LoadRefusal
+  pub refused : CannotLoad code refusal
+  pub says : line ≡ module_line path refusal
 
 -- the line says that the bytes of a world are no text, or the first wrong line of the text for a module
 pub data IsWorldLine (program : ModuleContents) (path text line : List ℕ) : Type 0 where
   no_text : ¬ IsUtf8 text → line ≡ encoding_line path → IsWorldLine program path text line
-  wrong : (number : ℕ) (defect : WorldDefect) → IsUtf8 text → IsFirstDefect (input_names program) (lines_of text) number defect → line ≡ world_line path number defect → IsWorldLine program path text line
+  wrong : (refusal : WorldRefusal) → IsUtf8 text → IsFirstDefect (input_names program) (lines_of text) refusal → line ≡ world_line path refusal → IsWorldLine program path text line
 
 -- the line says that no principal has the name of the observer
 pub record IsObserverLine (hierarchy : PrincipalHierarchy) (observer : Option (List ℕ)) (line : List ℕ) : Type 0 where

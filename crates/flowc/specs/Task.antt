@@ -1,6 +1,9 @@
 -- What a task asks for, and with which status it may end.
 -- Source: our own.
 use Rattle.std.specs.Prelude.{ℕ, ◌==◌, ◌||◌, length, Bool, true, false, Option, Some, None}
+use Rattle.common.specs.declared.fault.OrNoMemory.{OrNoMemory}
+use Rattle.common.specs.declared.fault.OrNoMemory.TheVariants as or
+use Rattle.channels.specs.declared.sink.SinkFault.{SinkFault}
 use Rattle.command_line.specs.Task.{paths_of}
 use Rattle.command_line.specs.declared.request.Task.{Task}
 use Rattle.command_line.specs.declared.request.Task.TheVariants.{Check, Build, Run, Explain, List as ListModule}
@@ -47,6 +50,11 @@ abbrev pub status_of_fault : PerformFault → ℕ
 status_of_fault (Refused line) = 1
 status_of_fault CannotWrite = 3
 status_of_fault NoMemory = 3
+
+-- the fault of a task that has not written a text to its end
+abbrev pub fault_of_view : OrNoMemory SinkFault → PerformFault
+fault_of_view or.NoMemory = NoMemory
+fault_of_view (or.Refused failed) = CannotWrite
 
 -- whether a status is that of a task that is done or has a fault, or one that reports the end of a run
 abbrev pub is_plain_status : ℕ → Bool

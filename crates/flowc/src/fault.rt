@@ -1,9 +1,10 @@
 ghost use Rattle.flowc.specs.Lines.{line_of_fault};
-ghost use Rattle.flowc.specs.Task.{status_of_fault};
+ghost use Rattle.flowc.specs.Task.{fault_of_view, status_of_fault};
 ghost use Rattle.flowc.specs.declared.fault.PerformFault.TheVariants.{CannotWrite, NoMemory};
 ghost use Rattle.std.specs.Prelude.{◌≡◌};
 
-use channels::SinkFault;
+use channels::{SinkFault, ViewFault};
+use common::OrNoMemory;
 use std::alloc::{AllocError, AllocFailed};
 
 /// Why a task failed.
@@ -51,5 +52,16 @@ impl From<SinkFault> for PerformFault {
 
     fn from(_fault: SinkFault) -> PerformFault {
         PerformFault::CannotWrite
+    }
+}
+
+impl From<ViewFault> for PerformFault {
+    ghost from_gives = { λ given fault. fault ≡ fault_of_view given };
+
+    fn from(fault: ViewFault) -> PerformFault {
+        match fault {
+            OrNoMemory::NoMemory => PerformFault::NoMemory,
+            OrNoMemory::Refused(SinkFault) => PerformFault::CannotWrite,
+        }
     }
 }

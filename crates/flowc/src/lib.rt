@@ -11,15 +11,20 @@ mod reading;
 mod running;
 mod tasks;
 mod texts;
-mod view;
 
 pub use acceptance::{Cause, Text};
-pub use bytecode::{Module, ModuleRefusal};
-pub use channels::{Device, Pair, Sink, SinkFault, World, WorldDefect, WorldFault};
-pub use command_line::{MAX_STEPS, Task, TaskFault, USUAL_STEPS, read_task};
-pub use compiler::{CompileFault, NotAccepted, check_texts, compile};
-pub use host::{Answer, Event, Host, HostFault, Id, MAX_SESSIONS};
-pub use machine::Status;
-pub use module_file::{FormatFault, decode};
+pub use bytecode::{Module, ModuleDefect};
+pub use channels::{
+    Device, Pair, Sink, SinkFault, ViewFault, World, WorldDefect, WorldFault, WorldRefusal,
+};
+pub use checker::{CheckFault, CheckRefusal};
+pub use command_line::{MAX_STEPS, Task, TaskFault, TaskRefusal, USUAL_STEPS, read_task};
+pub use common::OrNoMemory;
+pub use compiler::{CompileFault, CompileRefusal, NotAccepted, check_texts, compile};
+pub use host::{Answer, Event, Host, HostFault, HostRefusal, Id, MAX_SESSIONS};
+pub use machine::{NewFault, NewRefusal, Status};
+pub use module_file::{ModuleFault, ModuleRefusal, decode};
 pub use tasks::{TaskResult, perform};
-pub use verifier::{CodeFault, Defect, LoadFault, Verified, VerifyFault, load, verify};
+pub use verifier::{
+    CodeDefect, CodeRefusal, LoadFault, LoadRefusal, Verified, VerifyFault, load, verify,
+};

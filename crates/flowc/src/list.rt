@@ -10,7 +10,7 @@ ghost use Rattle.std.specs.String.{string_bytes};
 use crate::ended::Ended;
 use crate::fault::PerformFault;
 use crate::reading::{File, read_module};
-use channels::{Sink, ViewFault};
+use channels::Sink;
 use listing::write_listing;
 use std::alloc::Global;
 
@@ -21,11 +21,11 @@ pub fn list_module<O: Sink>(
     out: &mut O,
 ) -> Result<Ended, PerformFault>
     ensures listed { OnOk result (Lists code.entry.bytes.now (O.taken out.old) (O.taken out.new)) }
-    ensures some { OnErr result (ListsSome
+    ensures prefix { OnErr result (ListsSome
         code.entry.bytes.now (O.taken out.old) (O.taken out.new)) }
-    ensures refused { IfErr result (λ fault. status_of_fault fault ≡ 1 →
+    ensures rejected { IfErr result (λ fault. status_of_fault fault ≡ 1 →
         CannotList code.entry.bytes.now) }
-    ensures quiet { IfErr result (λ fault. status_of_fault fault ≡ 1 →
+    ensures unchanged { IfErr result (λ fault. status_of_fault fault ≡ 1 →
         O.taken out.old ≡ O.taken out.new) }
     ensures status { IfOk result (λ ended. ended.status ≡ 0) }
     ensures silent { IfOk result (λ ended. string_bytes ended.line ≡ []) }
@@ -33,9 +33,6 @@ pub fn list_module<O: Sink>(
         (IsModuleLine code.entry.path.now code.entry.bytes.now) (O.has_failed out.new)) }
 {
     let verified = read_module(alloc, code)?;
-    match write_listing(alloc, verified.module(), out) {
-        Ok(()) => Ok(Ended::silent(alloc)),
-        Err(ViewFault::Sink) => Err(PerformFault::CannotWrite),
-        Err(ViewFault::NoMemory) => Err(PerformFault::NoMemory),
-    }
+    write_listing(alloc, verified.module(), out)?;
+    Ok(Ended::silent(alloc))
 }

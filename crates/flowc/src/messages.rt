@@ -5,11 +5,11 @@ ghost use Rattle.std.specs.Prelude.{◌≡◌, IfOk};
 ghost use Rattle.std.specs.String.{string_bytes};
 
 use acceptance::Cause;
-use bytecode::ModuleRefusal;
-use channels::WorldDefect;
-use lexer::Place;
+use channels::WorldRefusal;
+use compiler::CompileRefusal;
+use module_file::ModuleRefusal;
 use std::alloc::{AllocError, Global};
-use verifier::CodeFault;
+use verifier::{CodeRefusal, LoadRefusal};
 
 // The line that reports a number with its words, at one number that says where in a file.
 fn line_at(
@@ -40,37 +40,33 @@ fn line_at_two(
     format!(in alloc; "{path}:{first}:{second}: {number} {words}\n")
 }
 
-/// The line that reports a refusal of a module's bytes, at a byte offset.
-pub fn refusal_line(
-    alloc: Global,
-    path: &str,
-    refusal: ModuleRefusal,
-    offset: usize,
-) -> Result<String, AllocError>
-    ensures { IfOk result (λ line. string_bytes line ≡ lines.refusal_line path.now refusal offset) }
+/// The line that reports why the bytes of a module are refused: at a byte offset, or at a procedure and a byte offset of its code.
+pub fn module_line(alloc: Global, path: &str, refusal: LoadRefusal) -> Result<String, AllocError>
+    ensures { IfOk result (λ line. string_bytes line ≡ lines.module_line path.now refusal) }
 {
-    line_at(alloc, path, offset, refusal.number(), refusal.words())
-}
-
-/// The line that reports a fault of a module's code, at a procedure and a byte offset.
-pub fn fault_line(alloc: Global, path: &str, fault: CodeFault) -> Result<String, AllocError>
-    ensures { IfOk result (λ line. string_bytes line ≡ lines.fault_line path.now fault) }
-{
-    let (procedure, offset) = (fault.procedure as usize, fault.offset as usize);
-    let (number, words) = (fault.defect.number(), fault.defect.words());
-    line_at_two(alloc, path, procedure, offset, number, words)
+    match refusal {
+        LoadRefusal::Bytes(ModuleRefusal { defect, offset }) => {
+            line_at(alloc, path, offset, defect.number(), defect.words())
+        }
+        LoadRefusal::Code(
+            CodeRefusal {
+                defect,
+                procedure,
+                offset,
+            },
+        ) => {
+            let (first, second) = (procedure as usize, offset as usize);
+            line_at_two(alloc, path, first, second, defect.number(), defect.words())
+        }
+    }
 }
 
 /// The line that reports what is wrong with a world's text, at a line.
-pub fn world_line(
-    alloc: Global,
-    path: &str,
-    line: usize,
-    defect: WorldDefect,
-) -> Result<String, AllocError>
-    ensures { IfOk result (λ text. string_bytes text ≡ lines.world_line path.now line defect) }
+pub fn world_line(alloc: Global, path: &str, refusal: WorldRefusal) -> Result<String, AllocError>
+    ensures { IfOk result (λ line. string_bytes line ≡ lines.world_line path.now refusal) }
 {
-    line_at(alloc, path, line, defect.number(), defect.words())
+    let defect = refusal.defect;
+    line_at(alloc, path, refusal.line, defect.number(), defect.words())
 }
 
 /// The line that says that the bytes of a world are no text.
@@ -81,18 +77,13 @@ pub fn encoding_line(alloc: Global, path: &str) -> Result<String, AllocError>
     line_at(alloc, path, 1, cause.number(), cause.words())
 }
 
-/// The line that reports what is wrong with a text, at a line and a column.
-pub fn cause_line(alloc: Global, path: &str, cause: Cause, at: Place) -> Result<String, AllocError>
-    ensures { IfOk result (λ text. string_bytes text ≡ lines.cause_line path.now cause at) }
+/// The line that reports what is wrong with a hierarchy text or a source, at a line and a column.
+pub fn text_line(alloc: Global, path: &str, refusal: CompileRefusal) -> Result<String, AllocError>
+    ensures { IfOk result (λ line. string_bytes line ≡ lines.text_line path.now refusal) }
 {
-    line_at_two(
-        alloc,
-        path,
-        at.line,
-        at.column,
-        cause.number(),
-        cause.words(),
-    )
+    let (at, cause) = (refusal.at, refusal.cause);
+    let (number, words) = (cause.number(), cause.words());
+    line_at_two(alloc, path, at.line, at.column, number, words)
 }
 
 /// The line that says that no principal of a module has the name of an observer.

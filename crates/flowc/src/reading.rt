@@ -6,17 +6,19 @@ ghost use Rattle.bytecode.specs.Format.{module_file};
 ghost use Rattle.channels.specs.World.{input_names};
 ghost use Rattle.channels.specs.WorldText.{IsWorldText, lines_of, world_of};
 ghost use Rattle.flowc.specs.Lines.{IsPerformFault};
-ghost use Rattle.flowc.specs.Task.{status_of_fault};
 ghost use Rattle.flowc.specs.Messages.{IsModuleLine, IsWorldLine};
+ghost use Rattle.flowc.specs.Task.{status_of_fault};
 ghost use Rattle.std.specs.Prelude.{◌≡◌, IfErr, IfOk, IsUtf8, OnOk, false};
 ghost use Rattle.verifier.specs.Faults.{HasNoFault};
+ghost use Rattle.verifier.specs.Loaded.{IsLoaded};
 
 use crate::fault::PerformFault;
-use crate::messages::{encoding_line, fault_line, refusal_line, world_line};
+use crate::messages::{encoding_line, module_line, world_line};
 use bytecode::Module;
-use channels::{World, WorldFault};
+use channels::World;
+use common::OrNoMemory;
 use std::alloc::Global;
-use verifier::{LoadFault, Verified, load};
+use verifier::{Verified, load};
 
 /// A file that was read: its path and its bytes.
 #[derive(Clone, Copy)]
@@ -27,11 +29,8 @@ pub struct File<'a> {
 
 /// The verified module that the bytes of a file spell.
 pub fn read_module(alloc: Global, file: File<'_>) -> Result<Verified, PerformFault>
-    ensures spelled { IfOk result (λ verified. Spells module_file verified file.entry.bytes.now) }
-    ensures only { IfOk result (λ verified. (program : ModuleContents) →
-        Spells module_file program file.entry.bytes.now → verified ≡ program) }
-    ensures faultless { IfOk result (λ verified. HasNoFault verified) }
-    ensures refused { IfErr result (λ fault. status_of_fault fault ≡ 1 →
+    ensures accepted { IfOk result (IsLoaded file.entry.bytes.now) }
+    ensures rejected { IfErr result (λ fault. status_of_fault fault ≡ 1 →
         (program : ModuleContents) →
         Spells module_file program file.entry.bytes.now → ¬ HasNoFault program) }
     ensures message { IfErr result (IsPerformFault
@@ -39,13 +38,9 @@ pub fn read_module(alloc: Global, file: File<'_>) -> Result<Verified, PerformFau
 {
     match load(alloc, file.bytes) {
         Ok(verified) => Ok(verified),
-        Err(LoadFault::NoMemory) => Err(PerformFault::NoMemory),
-        Err(LoadFault::Bytes(refusal, offset)) => {
-            let line = refusal_line(alloc, file.path, refusal, offset)?;
-            Err(PerformFault::Refused(line))
-        }
-        Err(LoadFault::Code(fault)) => {
-            Err(PerformFault::Refused(fault_line(alloc, file.path, fault)?))
+        Err(OrNoMemory::NoMemory) => Err(PerformFault::NoMemory),
+        Err(OrNoMemory::Refused(refusal)) => {
+            Err(PerformFault::Refused(module_line(alloc, file.path, refusal)?))
         }
     }
 }
@@ -53,11 +48,11 @@ pub fn read_module(alloc: Global, file: File<'_>) -> Result<Verified, PerformFau
 /// The world that the bytes of a file write for a module.
 pub fn read_world(alloc: Global, program: &Module, file: File<'_>) -> Result<World, PerformFault>
     ensures encoded { OnOk result (IsUtf8 file.entry.bytes.now) }
-    ensures right { OnOk result
+    ensures accepted { OnOk result
         (IsWorldText (input_names program.now) (lines_of file.entry.bytes.now)) }
-    ensures world { IfOk result (λ world.
+    ensures exact { IfOk result (λ world.
         world ≡ world_of (input_names program.now) (lines_of file.entry.bytes.now)) }
-    ensures refused { IfErr result (λ fault. status_of_fault fault ≡ 1 →
+    ensures rejected { IfErr result (λ fault. status_of_fault fault ≡ 1 →
         IsUtf8 file.entry.bytes.now →
         ¬ IsWorldText (input_names program.now) (lines_of file.entry.bytes.now)) }
     ensures message { IfErr result (IsPerformFault
@@ -69,9 +64,9 @@ pub fn read_world(alloc: Global, program: &Module, file: File<'_>) -> Result<Wor
     };
     match World::read(alloc, program, text) {
         Ok(world) => Ok(world),
-        Err(WorldFault::NoMemory) => Err(PerformFault::NoMemory),
-        Err(WorldFault::Line { line, defect }) => {
-            Err(PerformFault::Refused(world_line(alloc, path, line, defect)?))
+        Err(OrNoMemory::NoMemory) => Err(PerformFault::NoMemory),
+        Err(OrNoMemory::Refused(refusal)) => {
+            Err(PerformFault::Refused(world_line(alloc, path, refusal)?))
         }
     }
 }

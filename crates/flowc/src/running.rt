@@ -8,23 +8,24 @@ ghost use Rattle.channels.specs.World.{input_names};
 ghost use Rattle.channels.specs.WorldText.{IsWorldText, lines_of};
 ghost use Rattle.flowc.specs.Lines.{IsPerformFault};
 ghost use Rattle.flowc.specs.Stdout.{CannotRun, ShowsRun, ShowsSome, numbers_in};
-ghost use Rattle.flowc.specs.Task.{status_of_fault, reported_status};
 ghost use Rattle.flowc.specs.Messages.{IsEndLine, IsObserverLine, IsRefusedLine, reported_line};
+ghost use Rattle.flowc.specs.Task.{reported_status, status_of_fault};
 ghost use Rattle.flowc.specs.View.{IsObserver};
 ghost use Rattle.flowc.specs.declared.fault.PerformFault.TheVariants.{NoMemory};
 ghost use Rattle.machine.specs.Run.{machine_of};
 ghost use Rattle.std.specs.Prelude.{◌≡◌, IfErr, IfOk, IsUtf8, List, ℕ, OnErr, OnOk, Option, false, option_map};
 ghost use Rattle.std.specs.String.{string_bytes};
 ghost use Rattle.verifier.specs.Faults.{HasNoFault};
+ghost use Rattle.verifier.specs.Loaded.{IsLoaded};
 
 use crate::ended::Ended;
 use crate::fault::PerformFault;
 use crate::messages::{observer_line, world_line};
 use crate::reading::{File, read_module, read_world};
-use crate::view::show;
 use bytecode::Module;
-use channels::{Sink, WorldDefect};
-use machine::{Machine, NewFault, Status};
+use channels::{Sink, WorldDefect, WorldRefusal, write_view};
+use common::OrNoMemory;
+use machine::{Machine, NewRefusal, Status};
 use principals::Hierarchy;
 use resolved::exceptions::exception_name;
 use std::alloc::Global;
@@ -41,13 +42,13 @@ pub fn run<O: Sink>(
     ensures stdout { IfOk result (λ ended. ShowsRun
         code.entry.bytes.now world.entry.bytes.now (option_map (λ name. name.now) observer.entry)
         steps ended.status (O.taken out.old) (O.taken out.new)) }
-    ensures some { OnErr result (ShowsSome
+    ensures prefix { OnErr result (ShowsSome
         code.entry.bytes.now world.entry.bytes.now (option_map (λ name. name.now) observer.entry)
         steps (O.taken out.old) (O.taken out.new)) }
-    ensures refused { IfErr result (λ fault. status_of_fault fault ≡ 1 → CannotRun
+    ensures rejected { IfErr result (λ fault. status_of_fault fault ≡ 1 → CannotRun
         code.entry.bytes.now world.entry.bytes.now
         (option_map (λ name. name.now) observer.entry)) }
-    ensures quiet { IfErr result (λ fault. status_of_fault fault ≡ 1 →
+    ensures unchanged { IfErr result (λ fault. status_of_fault fault ≡ 1 →
         O.taken out.old ≡ O.taken out.new) }
     ensures end { IfOk result (λ ended. IsEndLine
         code.entry.bytes.now world.entry.bytes.now (option_map (λ name. name.now) observer.entry)
@@ -60,17 +61,15 @@ pub fn run<O: Sink>(
     let principal = principal_of(alloc, machine.module().hierarchy(), observer)?;
     let (_, status) = machine.run(steps);
     let program = machine.module();
-    show(alloc, program, principal, machine.sent(), out)?;
+    write_view(alloc, machine.sent(), program, principal, out)?;
     report_end(alloc, program, principal, status)
 }
 
 // The machine of a file's module at its start on the world of another file.
 fn start(alloc: Global, code: File<'_>, world: File<'_>) -> Result<Machine, PerformFault>
-    ensures spelled { IfOk result (λ machine. Spells module_file machine.program code.entry.bytes.now) }
-    ensures only { IfOk result (λ machine. (program : ModuleContents) → Spells module_file program code.entry.bytes.now → machine.program ≡ program) }
-    ensures faultless { IfOk result (λ machine. HasNoFault machine.program) }
+    ensures accepted { IfOk result (λ machine. IsLoaded code.entry.bytes.now machine.program) }
     ensures encoded { OnOk result (IsUtf8 world.entry.bytes.now) }
-    ensures refused { IfErr result (λ fault. status_of_fault fault ≡ 1 → (program : ModuleContents) → Spells module_file program code.entry.bytes.now → HasNoFault program → IsUtf8 world.entry.bytes.now → ¬ IsWorldText (input_names program) (lines_of world.entry.bytes.now)) }
+    ensures rejected { IfErr result (λ fault. status_of_fault fault ≡ 1 → (program : ModuleContents) → Spells module_file program code.entry.bytes.now → HasNoFault program → IsUtf8 world.entry.bytes.now → ¬ IsWorldText (input_names program) (lines_of world.entry.bytes.now)) }
     ensures message { IfErr result (IsPerformFault (λ line. (observer : Option (List ℕ)) → IsRefusedLine code.entry.path.now world.entry.path.now code.entry.bytes.now world.entry.bytes.now observer line) false) }
     ensures right { IfOk result (λ machine. IsWorldText (input_names machine.program) (lines_of world.entry.bytes.now)) }
     ensures first { IfOk result (λ machine. machine_of machine ≡ Running (first_state machine.program (numbers_in machine.program world.entry.bytes.now))) }
@@ -79,10 +78,13 @@ fn start(alloc: Global, code: File<'_>, world: File<'_>) -> Result<Machine, Perf
     let numbers = read_world(alloc, verified.module(), world)?;
     match Machine::new(alloc, verified, numbers) {
         Ok(machine) => Ok(machine),
-        Err(NewFault::NoMemory) => Err(PerformFault::NoMemory),
-        Err(NewFault::UnknownChannel) => {
-            let line = world_line(alloc, world.path, 1, WorldDefect::UnknownChannel)?;
-            Err(PerformFault::Refused(line))
+        Err(OrNoMemory::NoMemory) => Err(PerformFault::NoMemory),
+        Err(OrNoMemory::Refused(NewRefusal::UnknownChannel)) => {
+            let refusal = WorldRefusal {
+                line: 1,
+                defect: WorldDefect::UnknownChannel,
+            };
+            Err(PerformFault::Refused(world_line(alloc, world.path, refusal)?))
         }
     }
 }
@@ -94,7 +96,7 @@ fn principal_of(
     observer: Option<&str>,
 ) -> Result<Option<u32>, PerformFault>
     ensures found { IfOk result (λ principal. IsObserver hierarchy.now (option_map (λ name. name.now) observer.entry) principal) }
-    ensures refused { IfErr result (λ fault. status_of_fault fault ≡ 1 → (principal : Option ℕ) → ¬ IsObserver hierarchy.now (option_map (λ name. name.now) observer.entry) principal) }
+    ensures rejected { IfErr result (λ fault. status_of_fault fault ≡ 1 → (principal : Option ℕ) → ¬ IsObserver hierarchy.now (option_map (λ name. name.now) observer.entry) principal) }
     ensures message { IfErr result (IsPerformFault (IsObserverLine hierarchy.now (option_map (λ name. name.now) observer.entry)) false) }
 {
     let Some(name) = observer else {

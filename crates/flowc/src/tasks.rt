@@ -1,8 +1,8 @@
 ghost use Rattle.flowc.specs.Compiled.{HoldsProgram, IsBuilt, bytes_at};
 ghost use Rattle.flowc.specs.Lines.{line_of_fault};
+ghost use Rattle.flowc.specs.Messages.{WritesMessage, WroteLine};
 ghost use Rattle.flowc.specs.Stdout.{WritesStdout};
 ghost use Rattle.flowc.specs.Task.{files_of, makes_file, may_end, reads_source, status_of_fault};
-ghost use Rattle.flowc.specs.Messages.{WritesMessage, WroteLine};
 ghost use Rattle.std.specs.Prelude.{[], ◌≡◌, ◌≤◌, ◌<◌, ◌↔◌, IfSome, IsSome, IsTrue, MatchResult, None, length, option_map};
 ghost use Rattle.std.specs.String.{string_bytes};
 
@@ -43,7 +43,7 @@ pub fn perform<O: Sink, E: Sink>(
     ensures code { IsSome result.code ↔ (IsTrue (makes_file task.now) × (result.status ≡ 0)) }
     ensures compiled { IfSome result.code (λ code. IsBuilt files.now code.items) }
     ensures accepted { IsTrue (reads_source task.now) → result.status ≡ 0 → HoldsProgram files.now }
-    ensures refused { IsTrue (reads_source task.now) → result.status ≡ 1 →
+    ensures rejected { IsTrue (reads_source task.now) → result.status ≡ 1 →
         ¬ HoldsProgram files.now }
     ensures stdout { WritesStdout task.now files.now result.status (O.taken out.old)
         (O.taken out.new) }

@@ -2,23 +2,24 @@
 
 ghost use Rattle.channels.specs.Sink.{AppendsPrefix};
 ghost use Rattle.compiler.specs.Compiled.{IsCompiled};
-ghost use Rattle.compiler.specs.Reported.{IsFaultOfTexts, ReportsFault};
+ghost use Rattle.compiler.specs.Reported.{IsFirstFault};
 ghost use Rattle.flowc.specs.Compiled.{AreAccepted};
 ghost use Rattle.flowc.specs.Lines.{IsPerformFault};
 ghost use Rattle.flowc.specs.Messages.{IsTextsLine};
 ghost use Rattle.flowc.specs.Task.{status_of_fault};
 ghost use Rattle.std.specs.Io.KnownBytes.{Appends};
-ghost use Rattle.std.specs.Prelude.{[], ◌≡◌, Bool, IfErr, IfOk, OnOk, codes, false};
+ghost use Rattle.std.specs.Prelude.{[], ◌≡◌, IfErr, IfOk, OnErr, OnOk, codes, false};
 ghost use Rattle.std.specs.String.{string_bytes};
 
 use crate::ended::Ended;
 use crate::fault::PerformFault;
-use crate::messages::cause_line;
+use crate::messages::text_line;
 use crate::reading::File;
 use acceptance::Text;
 use channels::{Sink, write_all};
-use compiler::{CompileFault, check_texts, compile};
-use std::alloc::Global;
+use common::OrNoMemory;
+use compiler::{CompileRefusal, check_texts, compile};
+use std::alloc::{AllocError, Global};
 
 /// Checks a source under a hierarchy, and says so on standard output.
 pub fn check<O: Sink>(
@@ -28,14 +29,14 @@ pub fn check<O: Sink>(
     out: &mut O,
 ) -> Result<Ended, PerformFault>
     ensures accepted { OnOk result (AreAccepted hierarchy.entry.bytes.now source.entry.bytes.now) }
-    ensures refused { IfErr result (λ fault. status_of_fault fault ≡ 1 →
+    ensures rejected { IfErr result (λ fault. status_of_fault fault ≡ 1 →
         ¬ AreAccepted hierarchy.entry.bytes.now source.entry.bytes.now) }
     ensures status { IfOk result (λ ended. ended.status ≡ 0) }
     ensures stdout { OnOk result (Appends (O.taken out.old) (O.taken out.new) (codes "ok\n")) }
-    ensures quiet { IfErr result (λ fault. status_of_fault fault ≡ 1 →
+    ensures unchanged { IfErr result (λ fault. status_of_fault fault ≡ 1 →
         O.taken out.old ≡ O.taken out.new) }
-    ensures some { IfErr result (λ fault. status_of_fault fault ≡ 3 →
-        AppendsPrefix (O.taken out.old) (O.taken out.new) (codes "ok\n")) }
+    ensures prefix { OnErr result
+        (AppendsPrefix (O.taken out.old) (O.taken out.new) (codes "ok\n")) }
     ensures silent { IfOk result (λ ended. string_bytes ended.line ≡ []) }
     ensures message { IfErr result (IsPerformFault (IsTextsLine
         hierarchy.entry.path.now source.entry.path.now
@@ -46,7 +47,11 @@ pub fn check<O: Sink>(
             write_all(out, b"ok\n")?;
             Ok(Ended::silent(alloc))
         }
-        Err(refused) => Err(texts_fault(alloc, hierarchy, source, refused.fault)),
+        Err(OrNoMemory::NoMemory) => Err(PerformFault::NoMemory),
+        Err(OrNoMemory::Refused(refused)) => {
+            let line = texts_line(alloc, hierarchy, source, refused.refusal)?;
+            Err(PerformFault::Refused(line))
+        }
     }
 }
 
@@ -55,7 +60,7 @@ pub fn build(alloc: Global, hierarchy: File<'_>, source: File<'_>) -> Result<Vec
     ensures accepted { OnOk result (AreAccepted hierarchy.entry.bytes.now source.entry.bytes.now) }
     ensures compiled { IfOk result (λ code.
         IsCompiled hierarchy.entry.bytes.now source.entry.bytes.now code.items) }
-    ensures refused { IfErr result (λ fault. status_of_fault fault ≡ 1 →
+    ensures rejected { IfErr result (λ fault. status_of_fault fault ≡ 1 →
         ¬ AreAccepted hierarchy.entry.bytes.now source.entry.bytes.now) }
     ensures message { IfErr result (IsPerformFault (IsTextsLine
         hierarchy.entry.path.now source.entry.path.now
@@ -63,32 +68,29 @@ pub fn build(alloc: Global, hierarchy: File<'_>, source: File<'_>) -> Result<Vec
 {
     match compile(alloc, hierarchy.bytes, source.bytes) {
         Ok(code) => Ok(code),
-        Err(fault) => Err(texts_fault(alloc, hierarchy, source, fault)),
+        Err(OrNoMemory::NoMemory) => Err(PerformFault::NoMemory),
+        Err(OrNoMemory::Refused(refusal)) => {
+            let line = texts_line(alloc, hierarchy, source, refusal)?;
+            Err(PerformFault::Refused(line))
+        }
     }
 }
 
-/// The first fault of two texts, as the program reports it.
-pub fn texts_fault(
+/// The line that reports the first fault of two texts, by the path of the text that it is in.
+pub fn texts_line(
     alloc: Global,
     hierarchy: File<'_>,
     source: File<'_>,
-    fault: CompileFault,
-) -> PerformFault
-    requires { ReportsFault hierarchy.bytes.now source.bytes.now fault }
-    ensures refusal { status_of_fault result ≡ 1 → IsFaultOfTexts fault }
-    ensures message { (out_failed : Bool) → IsPerformFault (IsTextsLine
+    refusal: CompileRefusal,
+) -> Result<String, AllocError>
+    requires { IsFirstFault hierarchy.bytes.now source.bytes.now refusal }
+    ensures { IfOk result (λ line. IsTextsLine
         hierarchy.entry.path.now source.entry.path.now
-        hierarchy.entry.bytes.now source.entry.bytes.now) out_failed result }
+        hierarchy.entry.bytes.now source.entry.bytes.now (string_bytes line)) }
 {
-    let CompileFault::Refused { text, cause, at } = fault else {
-        return PerformFault::NoMemory;
-    };
-    let path = match text {
+    let path = match refusal.text {
         Text::Hierarchy => hierarchy.path,
         Text::Source => source.path,
     };
-    match cause_line(alloc, path, cause, at) {
-        Ok(line) => PerformFault::Refused(line),
-        Err(_) => PerformFault::NoMemory,
-    }
+    text_line(alloc, path, refusal)
 }

@@ -5,60 +5,48 @@ ghost use Rattle.flowc.specs.Task.{files_of};
 ghost use Rattle.std.specs.Prelude.{◌≡◌, IfOk, length};
 
 use channels::{Device, write_all};
-use flowc::{Task, TaskFault, perform, read_task};
-use std::alloc::{AllocError, AllocFailed};
+use common::OrNoMemory;
+use flowc::{Task, TaskRefusal, perform, read_task};
 use std::io::ErrorKind;
 use std::process::ExitCode;
 use std::rt::Files;
 use std::{env, fs};
 
-// Why the program stops, apart from what its task reports.
+// What the program refuses, apart from what its task reports.
 #[derive(Debug, Drop)]
-enum Failure {
+enum ProgramRefusal {
     // Wrong words, or words that ask for help: the text that says so.
     Words(String),
     // A file that cannot be read or written: the line that says so.
     File(String),
     // A word of the command line is no text.
     NoText,
-    NoMemory,
 }
 
-impl From<AllocError> for Failure {
-    fn from(_error: AllocError) -> Failure {
-        Failure::NoMemory
-    }
-}
+// Why the program stops.
+type ProgramFault = OrNoMemory<ProgramRefusal>;
 
-impl<T: Drop> From<AllocFailed<T>> for Failure {
-    fn from(_error: AllocFailed<T>) -> Failure {
-        Failure::NoMemory
-    }
-}
-
-impl From<TaskFault> for Failure {
-    fn from(fault: TaskFault) -> Failure {
-        match fault {
-            TaskFault::Words(text) => Failure::Words(text),
-            TaskFault::NoMemory => Failure::NoMemory,
-        }
+impl From<TaskRefusal> for ProgramRefusal {
+    fn from(refusal: TaskRefusal) -> ProgramRefusal {
+        let TaskRefusal { text } = refusal;
+        ProgramRefusal::Words(text)
     }
 }
 
 fn main(rt: HostRuntime) -> ExitCode {
     match perform_words(&rt) {
         Ok(status) => ExitCode::from(status),
-        Err(failure) => ExitCode::from(report(&rt, &failure)),
+        Err(fault) => ExitCode::from(report(&rt, &fault)),
     }
 }
 
 // Does the task that the words ask for, and answers its status.
-fn perform_words(rt: &HostRuntime) -> Result<u8, Failure> {
+fn perform_words(rt: &HostRuntime) -> Result<u8, ProgramFault> {
     let words = match env::args(rt) {
         Ok(words) => words,
         // The words are there unless memory ran out or one of them is not UTF-8.
-        Err(error) if error.kind() == ErrorKind::OutOfMemory => return Err(Failure::NoMemory),
-        Err(_) => return Err(Failure::NoText),
+        Err(error) if error.kind() == ErrorKind::OutOfMemory => return Err(OrNoMemory::NoMemory),
+        Err(_) => return Err(OrNoMemory::Refused(ProgramRefusal::NoText)),
     };
     let mut owned = Vec::new(rt.alloc());
     for word in words {
@@ -70,7 +58,7 @@ fn perform_words(rt: &HostRuntime) -> Result<u8, Failure> {
     for word in owned.iter().skip(1) {
         lent.push(word.as_str())?;
     }
-    let asked = read_task(rt.alloc(), &lent)?;
+    let asked = read_task(rt.alloc(), &lent).map_err(OrNoMemory::cast)?;
     let files = read_files(rt, &asked)?;
     let mut out = Device::new(rt.stdout());
     let mut err = Device::new(rt.stderr());
@@ -83,7 +71,7 @@ fn perform_words(rt: &HostRuntime) -> Result<u8, Failure> {
 }
 
 // The bytes of each file that the task reads, one or two, in the order in which it names them.
-fn read_files(rt: &HostRuntime, asked: &Task) -> Result<Vec<Vec<u8>>, Failure>
+fn read_files(rt: &HostRuntime, asked: &Task) -> Result<Vec<Vec<u8>>, ProgramFault>
     ensures { IfOk result (λ files. length files.items ≡ files_of asked.now) }
 {
     let mut files = Vec::new(rt.alloc());
@@ -97,35 +85,37 @@ fn read_files(rt: &HostRuntime, asked: &Task) -> Result<Vec<Vec<u8>>, Failure>
 }
 
 // All bytes of a file.
-fn read(rt: &HostRuntime, path: &str) -> Result<Vec<u8>, Failure> {
+fn read(rt: &HostRuntime, path: &str) -> Result<Vec<u8>, ProgramFault> {
     match fs::read(rt, path) {
         Ok(bytes) => Ok(bytes),
-        Err(error) if error.kind() == ErrorKind::OutOfMemory => Err(Failure::NoMemory),
+        Err(error) if error.kind() == ErrorKind::OutOfMemory => Err(OrNoMemory::NoMemory),
         Err(_) => {
             let line = format!(in rt.alloc(); "flowc: {path}: cannot read\n")?;
-            Err(Failure::File(line))
+            Err(OrNoMemory::Refused(ProgramRefusal::File(line)))
         }
     }
 }
 
 // Makes these bytes the content of a file.
-fn write(rt: &HostRuntime, path: &str, bytes: &[u8]) -> Result<(), Failure> {
+fn write(rt: &HostRuntime, path: &str, bytes: &[u8]) -> Result<(), ProgramFault> {
     match fs::write(rt, path, bytes) {
         Ok(()) => Ok(()),
         Err(_) => {
             let line = format!(in rt.alloc(); "flowc: {path}: cannot write\n")?;
-            Err(Failure::File(line))
+            Err(OrNoMemory::Refused(ProgramRefusal::File(line)))
         }
     }
 }
 
-// Reports a failure on standard error, and answers the status that stands for it.
-fn report(rt: &HostRuntime, failure: &Failure) -> u8 {
-    let (line, status) = match failure {
-        Failure::Words(text) => (text.as_str(), 2),
-        Failure::File(line) => (line.as_str(), 3),
-        Failure::NoText => ("error: a word of the command line is not UTF-8\n", 2),
-        Failure::NoMemory => ("flowc: no memory\n", 3),
+// Reports a fault on standard error, and answers the status that stands for it.
+fn report(rt: &HostRuntime, fault: &ProgramFault) -> u8 {
+    let (line, status) = match fault {
+        OrNoMemory::NoMemory => ("flowc: no memory\n", 3),
+        OrNoMemory::Refused(ProgramRefusal::Words(text)) => (text.as_str(), 2),
+        OrNoMemory::Refused(ProgramRefusal::File(line)) => (line.as_str(), 3),
+        OrNoMemory::Refused(ProgramRefusal::NoText) => {
+            ("error: a word of the command line is not UTF-8\n", 2)
+        }
     };
     // Where standard error fails too, nothing is left to report it on.
     let _ = write_all(&mut Device::new(rt.stderr()), line.as_bytes());

@@ -10,7 +10,7 @@ use Rattle.bytecode.specs.Machine.{Machine, Ending, exec, machine_code, sent_of}
 use Rattle.channels.specs.World.{InputNumbers}
 use Rattle.bytecode.specs.Isolated.{seen_of}
 use Rattle.machine.proofs.Reporting.{exec_more}
-use Rattle.host.specs.Meaning.{SessionContents, HostContents, HostEvent, Open, Turn, View, Close, HostAnswer, Opened, Turned, Viewed, Closed, Refused, Answers, Answered, session_of, with_machine, without, IsOpen, IsNotOpen, first_machine, with_opened}
+use Rattle.host.specs.Meaning.{SessionContents, HostContents, HostEvent, Open, Turn, View, Close, HostAnswer, Opened, Turned, Viewed, Closed, Refused, MayAnswer, Answered, session_of, with_machine, without, IsOpen, IsNotOpen, first_machine, with_opened}
 use Rattle.machine.specs.Run.{HasEnded}
 use Rattle.machine.specs.declared.status.Status.{Status}
 use Rattle.host.specs.Laws.{ending_of, moved_by, reported_of, steps_reported}
@@ -93,7 +93,7 @@ one_session host id other first second e h k =
     cc
 
 live_event : (limit id : ℕ) (s : SessionContents) (old new : HostContents) (event : HostEvent) (answer : HostAnswer)
-    → Answers limit old event answer new → IsLive id s old
+    → MayAnswer limit old event answer new → IsLive id s old
     → IsLive id (moved_by s (reported_of id event answer)) new ⊎ IsClosed id new
 live_event limit id s old new (Open bytes world) (Opened n) by live =
     inl (subst (λ h. IsLive id s h) (sym by.2.2) (record {
@@ -118,7 +118,7 @@ live_event limit id s old new (Turn other n) (Turned taken status) by live = go 
           given = live.given;
           is_open = with_machine-other id other e by.2.0 old.sessions ∙ live.is_open;
         }))
-live_event limit id s old new (Turn other n) (Refused fault) by live = inl (subst (λ h. IsLive id s h) (sym by.2) live)
+live_event limit id s old new (Turn other n) (Refused fault) by live = inl (subst (λ h. IsLive id s h) (sym by.1) live)
 live_event limit id s old new (View other p) (Viewed pairs) by live = inl (subst (λ h. IsLive id s h) (sym by.4) live)
 live_event limit id s old new (View other p) (Refused fault) by live = inl (subst (λ h. IsLive id s h) (sym by.1) live)
 live_event limit id s old new (Close other) Closed by live = go (other == id) refl
@@ -134,11 +134,11 @@ live_event limit id s old new (Close other) Closed by live = go (other == id) re
           given = live.given;
           is_open = without-other id other e old.sessions ∙ live.is_open;
         }))
-live_event limit id s old new (Close other) (Refused fault) by live = inl (subst (λ h. IsLive id s h) (sym by.2) live)
+live_event limit id s old new (Close other) (Refused fault) by live = inl (subst (λ h. IsLive id s h) (sym by.1) live)
 live_event limit id s old new event answer by live = absurd by
 
 closed_event : (limit id : ℕ) (old new : HostContents) (event : HostEvent) (answer : HostAnswer)
-    → Answers limit old event answer new → IsClosed id old → IsClosed id new
+    → MayAnswer limit old event answer new → IsClosed id old → IsClosed id new
 closed_event limit id old new (Open bytes world) (Opened n) by closed =
     subst (λ h. IsClosed id h) (sym by.2.2) (record {
       given = omega (arith, closed.given);
@@ -155,7 +155,7 @@ closed_event limit id old new (Turn other n) (Turned taken status) by closed = g
           given = closed.given;
           is_shut = with_machine-other id other e by.2.0 old.sessions ∙ closed.is_shut;
         })
-closed_event limit id old new (Turn other n) (Refused fault) by closed = subst (λ h. IsClosed id h) (sym by.2) closed
+closed_event limit id old new (Turn other n) (Refused fault) by closed = subst (λ h. IsClosed id h) (sym by.1) closed
 closed_event limit id old new (View other p) (Viewed pairs) by closed = subst (λ h. IsClosed id h) (sym by.4) closed
 closed_event limit id old new (View other p) (Refused fault) by closed = subst (λ h. IsClosed id h) (sym by.1) closed
 closed_event limit id old new (Close other) Closed by closed = go (other == id) refl
@@ -171,7 +171,7 @@ closed_event limit id old new (Close other) Closed by closed = go (other == id) 
           given = closed.given;
           is_shut = without-other id other e old.sessions ∙ closed.is_shut;
         })
-closed_event limit id old new (Close other) (Refused fault) by closed = subst (λ h. IsClosed id h) (sym by.2) closed
+closed_event limit id old new (Close other) (Refused fault) by closed = subst (λ h. IsClosed id h) (sym by.1) closed
 closed_event limit id old new event answer by closed = absurd by
 
 -- ---- lists of events
@@ -181,9 +181,9 @@ some_is x y e = cc
 
 -- what an event and its answer are, where the first ones of the lists are known
 known : (limit : ℕ) (old new : HostContents) (event event' : HostEvent) (answer answer' : HostAnswer) → Some event ≡ Some event' → Some answer ≡ Some answer'
-    → Answers limit old event answer new → Answers limit old event' answer' new
+    → MayAnswer limit old event answer new → MayAnswer limit old event' answer' new
 known limit old new event event' answer answer' e a by =
-    subst (λ y. Answers limit old event' y new) (some_is answer answer' a) (subst (λ x. Answers limit old x answer new) (some_is event event' e) by)
+    subst (λ y. MayAnswer limit old event' y new) (some_is answer answer' a) (subst (λ x. MayAnswer limit old x answer new) (some_is event event' e) by)
 
 module _ (limit id p : ℕ) (pairs : List Pair) where
   -- a session that is closed is not shown
@@ -415,7 +415,7 @@ steps_add_up limit (event ∷ events) more (answer ∷ answers) others old middl
 
 -- ---- ids
 
-opened_next : (limit : ℕ) (old new : HostContents) (event : HostEvent) (n : ℕ) → Answers limit old event (Opened n) new
+opened_next : (limit : ℕ) (old new : HostContents) (event : HostEvent) (n : ℕ) → MayAnswer limit old event (Opened n) new
     → (n ≡ old.next) × (new.next ≡ old.next + 1)
 opened_next limit old new (Open bytes world) n by = (by.1, ap (λ (h : HostContents). h.next) by.2.2)
 opened_next limit old new event n by = absurd by
@@ -425,7 +425,7 @@ same_next old new e =
     let next = ap (λ (h : HostContents). h.next) e in
     omega arith
 
-next_grows : (limit : ℕ) (old new : HostContents) (event : HostEvent) (answer : HostAnswer) → Answers limit old event answer new → old.next ≤ new.next
+next_grows : (limit : ℕ) (old new : HostContents) (event : HostEvent) (answer : HostAnswer) → MayAnswer limit old event answer new → old.next ≤ new.next
 next_grows limit old new (Open bytes world) (Opened n) by =
     let next = ap (λ (h : HostContents). h.next) by.2.2 in
     omega arith
@@ -433,19 +433,19 @@ next_grows limit old new (Open bytes world) (Refused fault) by = same_next old n
 next_grows limit old new (Turn id n) (Turned taken status) by =
     let next = ap (λ (h : HostContents). h.next) by.2.2 in
     omega arith
-next_grows limit old new (Turn id n) (Refused fault) by = same_next old new by.2
+next_grows limit old new (Turn id n) (Refused fault) by = same_next old new by.1
 next_grows limit old new (View id p) (Viewed pairs) by = same_next old new by.4
 next_grows limit old new (View id p) (Refused fault) by = same_next old new by.1
 next_grows limit old new (Close id) Closed by =
     let next = ap (λ (h : HostContents). h.next) by.1 in
     omega arith
-next_grows limit old new (Close id) (Refused fault) by = same_next old new by.2
+next_grows limit old new (Close id) (Refused fault) by = same_next old new by.1
 next_grows limit old new event answer by = absurd by
 
 opened_by : (limit : ℕ) (old new : HostContents) (event : HostEvent) (answer : HostAnswer) (n : ℕ) → Some answer ≡ Some (Opened n)
-    → Answers limit old event answer new → (n ≡ old.next) × (new.next ≡ old.next + 1)
+    → MayAnswer limit old event answer new → (n ≡ old.next) × (new.next ≡ old.next + 1)
 opened_by limit old new event answer n e by =
-    opened_next limit old new event n (subst (λ y. Answers limit old event y new) (some_is answer (Opened n) e) by)
+    opened_next limit old new event n (subst (λ y. MayAnswer limit old event y new) (some_is answer (Opened n) e) by)
 
 ids_from : (limit : ℕ) (events : List HostEvent) (answers : List HostAnswer) (old new : HostContents) → Answered limit old events answers new
     → (j n : ℕ) → slice_get answers j ≡ Some (Opened n) → old.next ≤ n

@@ -1,20 +1,27 @@
 -- Kept sessions and those of the meaning.
 use Rattle.std.proofs.Common.{◌≡◌, ℕ, zero, suc, ◌+◌, ◌^◌, ◌<◌, ◌≤◌, ◌==◌, Bool, true, false, not, cond, List, [], ◌∷◌, map, length, get_or, set, Option, None, Some, refl, sym, ap, ◌∙◌, subst, arith}
-use Rattle.std.specs.Prelude.{filter, position, option_map}
+use Rattle.std.specs.Prelude.{◌↔◌, ◌≢◌, filter, position, option_map, Result, Ok, Err, IfErr, IsErrOf}
 use Rattle.std.specs.List.{find, insert, position_or_len}
 use Rattle.std.specs.Option.{SomeIff}
 use Rattle.std.proofs.lemmas.List.{length-map}
-use Rattle.channels.specs.World.{InputNumbers}
+use Rattle.channels.specs.World.{InputNumbers, input_names}
 use Rattle.std.proofs.lemmas.Grind.{common_steps}
 use Rattle.std.proofs.lemmas.List.Folds.{find_at}
 use Rattle.std.proofs.lemmas.List.Quantifiers.{position-Some}
 use Rattle.std.proofs.lemmas.Option.{none-some, slice_get_past}
 use Rattle.bytecode.specs.Machine.{Machine}
-use Rattle.machine.specs.Run.{machine_of}
-use Rattle.host.specs.Meaning.{SessionContents, HostContents, IsOpen, IsNotOpen, session_of, with_machine, without, HasRoom, CannotOpen, OpenRefused, first_machine, with_opened}
+use Rattle.machine.specs.Run.{machine_of, names_of}
+use Rattle.machine.specs.declared.fault.NewRefusal.{NewRefusal}
+use Rattle.machine.specs.declared.fault.NewRefusal.TheVariants.{UnknownChannel}
+use Rattle.bytecode.specs.Contents.{ModuleContents}
+use Rattle.verifier.specs.Loaded.{IsLoaded}
+use Rattle.common.specs.Answers.{IfRefused}
+use Rattle.common.specs.declared.fault.OrNoMemory.{OrNoMemory}
+use Rattle.common.specs.declared.fault.OrNoMemory.TheVariants.{NoMemory, Refused}
+use Rattle.host.specs.Meaning.{SessionContents, HostContents, IsOpen, IsNotOpen, session_of, with_machine, without, HasRoom, CannotOpen, OpenRefused, ReportsFault, first_machine, with_opened}
 use Rattle.host.specs.Next.{next_of}
-use Rattle.host.specs.declared.fault.HostFault.{HostFault}
-use Rattle.host.specs.declared.fault.HostFault.TheVariants.{NoMemory, Full, UnknownId, UnknownPrincipal, UnknownChannel, Bytes, Code}
+use Rattle.host.specs.declared.fault.HostRefusal.{HostRefusal}
+use Rattle.host.specs.declared.fault.HostRefusal.TheVariants.{Full, UnknownId, UnknownPrincipal, Load, New}
 use Rattle.host.specs.Values.{SessionRun, HostRuns, contents_of, host_of}
 
 abbrev has_id : ℕ → SessionRun → Bool
@@ -139,15 +146,21 @@ has_room limit host next xs is id e below inside =
     record { room_left = rw length-map inside; id_left = omega (arith, first) } in
     subst (λ h. HasRoom limit (host_of h)) is kept
 
-pub refused_with_room : (limit : ℕ) (host : HostContents) (bytes : List ℕ) (world : List InputNumbers) (fault : HostFault)
-    → HasRoom limit host → CannotOpen bytes world fault → OpenRefused limit host bytes world fault
-refused_with_room limit host bytes world (Bytes refusal offset) room cannot = (room, cannot)
-refused_with_room limit host bytes world (Code fault) room cannot = (room, cannot)
-refused_with_room limit host bytes world UnknownChannel room cannot = (room, cannot)
-refused_with_room limit host bytes world NoMemory room cannot = (room, cannot)
-refused_with_room limit host bytes world Full room cannot = absurd cannot
-refused_with_room limit host bytes world UnknownId room cannot = absurd cannot
-refused_with_room limit host bytes world UnknownPrincipal room cannot = absurd cannot
+pub refused_with_room : (limit : ℕ) (host : HostContents) (bytes : List ℕ) (world : List InputNumbers) (fault : OrNoMemory HostRefusal)
+    → HasRoom limit host → IfRefused (CannotOpen bytes world) fault → ReportsFault (HasRoom limit host) (OpenRefused limit host bytes world) fault
+refused_with_room limit host bytes world NoMemory room cannot = room
+refused_with_room limit host bytes world (Refused (Load refusal)) room cannot = (room, cannot)
+refused_with_room limit host bytes world (Refused (New refusal)) room cannot = (room, cannot)
+refused_with_room limit host bytes world (Refused Full) room cannot = absurd cannot
+refused_with_room limit host bytes world (Refused UnknownId) room cannot = absurd cannot
+refused_with_room limit host bytes world (Refused UnknownPrincipal) room cannot = absurd cannot
+
+-- what a machine refuses of a module that was loaded
+pub not_made : {T : Type 0} (bytes : List ℕ) (world : List InputNumbers) (m : ModuleContents) (made : Result T (OrNoMemory NewRefusal)) → IsLoaded bytes m
+    → IsErrOf made (Refused UnknownChannel) ↔ (names_of world ≢ input_names m) → IfErr made (IfRefused (λ refusal. CannotOpen bytes world (New refusal)))
+not_made bytes world m (Ok machine) loaded unknown = tt
+not_made bytes world m (Err NoMemory) loaded unknown = tt
+not_made bytes world m (Err (Refused UnknownChannel)) loaded unknown = (m, loaded.spelled, loaded.faultless, unknown.0 refl)
 
 pub next_after : (id : ℕ) → id < 2 ^ 64 → (after : Option ℕ) → SomeIff after (id + 1 < 18446744073709551616) (id + 1) → next_of after ≡ id + 1
 next_after id below None none = omega (arith, none)

@@ -4,22 +4,20 @@
 use Rattle.std.specs.Prelude.{◌≡◌, ◌≢◌, ℕ, ◌+◌, ◌<◌, ◌≤◌, ◌^◌, ◌==◌, not, if◌then◌else◌, List, [], ◌∷◌, length, filter, Option, Some, None}
 use Rattle.labels.specs.declared.sent.Pair.{Pair}
 use Rattle.bytecode.specs.Contents.{ModuleContents}
-use Rattle.module_file.specs.Decoded.{first_refusal}
 use Rattle.bytecode.specs.Form.{Spells}
 use Rattle.bytecode.specs.Format.{module_file}
 use Rattle.bytecode.specs.Machine.{Machine, after_steps, exec, machine_code, sent_of}
 use Rattle.channels.specs.World.{InputNumbers, input_names, numbers_of_channel}
 use Rattle.machine.specs.Run.{ReportsStatus, WasRunning, names_of}
 use Rattle.machine.specs.declared.status.Status.{Status}
-use Rattle.machine.specs.declared.fault.NewFault.{NewFault}
-use Rattle.machine.specs.declared.fault.NewFault.TheVariants as new
-use Rattle.verifier.specs.Faults as faults
+use Rattle.machine.specs.declared.fault.NewRefusal.TheVariants.{UnknownChannel}
 use Rattle.verifier.specs.Faults.{HasNoFault}
-use Rattle.verifier.specs.declared.loading.LoadFault.{LoadFault}
-use Rattle.verifier.specs.declared.loading.LoadFault.TheVariants as load
+use Rattle.verifier.specs.Loaded.{CannotLoad}
 use Rattle.bytecode.specs.Isolated.{seen_of}
-use Rattle.host.specs.declared.fault.HostFault.{HostFault}
-use Rattle.host.specs.declared.fault.HostFault.TheVariants.{NoMemory, Full, UnknownId, UnknownPrincipal, UnknownChannel, Bytes, Code}
+use Rattle.common.specs.declared.fault.OrNoMemory.{OrNoMemory}
+use Rattle.common.specs.declared.fault.OrNoMemory.TheVariants as faults
+use Rattle.host.specs.declared.fault.HostRefusal.{HostRefusal}
+use Rattle.host.specs.declared.fault.HostRefusal.TheVariants.{Full, UnknownId, UnknownPrincipal, Load, New}
 
 -- ---- hosts
 
@@ -77,7 +75,12 @@ pub data HostAnswer : Type 0 where
   Turned : ℕ → Status → HostAnswer
   Viewed : List Pair → HostAnswer
   Closed : HostAnswer
-  Refused : HostFault → HostAnswer
+  Refused : OrNoMemory HostRefusal → HostAnswer
+
+-- a fault is a refusal of which P holds, or out of memory where memory is asked for
+abbrev pub ReportsFault : (Asks : Type 0) → (HostRefusal → Type 0) → OrNoMemory HostRefusal → Type 0
+ReportsFault Asks P faults.NoMemory = Asks
+ReportsFault Asks P (faults.Refused refusal) = P refusal
 
 -- ---- opening
 
@@ -98,34 +101,26 @@ with_opened host m world = record {
   sessions = record { id = host.next; program = m; machine = first_machine m world } ∷ host.sessions;
 }
 
--- why bytes are not opened on a world where there is room. The first of these in this order that applies is reported, or out of
--- memory: a refusal of the bytes, a fault of the code, a world for other inputs
-abbrev pub CannotOpen : List ℕ → List InputNumbers → HostFault → Type 0
-CannotOpen bytes world (Bytes refusal offset) = first_refusal bytes ≡ Some (refusal, offset)
-CannotOpen bytes world (Code fault) = (m : ModuleContents) × Spells module_file m bytes × faults.IsReported m fault
-CannotOpen bytes world UnknownChannel =
+-- why bytes are not opened on a world where there is room. The first of these in this order that applies is reported: a refusal
+-- of the bytes, a fault of the code, a world for other inputs
+abbrev pub CannotOpen : List ℕ → List InputNumbers → HostRefusal → Type 0
+CannotOpen bytes world (Load refusal) = CannotLoad bytes refusal
+CannotOpen bytes world (New UnknownChannel) =
     (m : ModuleContents) × Spells module_file m bytes × HasNoFault m × (names_of world ≢ input_names m)
-CannotOpen bytes world NoMemory = Unit {0}
 CannotOpen bytes world Full = ⊥
 CannotOpen bytes world UnknownId = ⊥
 CannotOpen bytes world UnknownPrincipal = ⊥
 
--- what loading bytes reports, and what a machine reports that is not made, as faults of a host
-abbrev pub fault_of_load : LoadFault → HostFault
-fault_of_load load.NoMemory = NoMemory
-fault_of_load (load.Bytes refusal offset) = Bytes refusal offset
-fault_of_load (load.Code fault) = Code fault
-
-abbrev pub fault_of_new : NewFault → HostFault
-fault_of_new new.NoMemory = NoMemory
-fault_of_new new.UnknownChannel = UnknownChannel
-
 -- a full host is reported before all else
-abbrev pub OpenRefused : ℕ → HostContents → List ℕ → List InputNumbers → HostFault → Type 0
+abbrev pub OpenRefused : ℕ → HostContents → List ℕ → List InputNumbers → HostRefusal → Type 0
 OpenRefused limit host bytes world Full = HasRoom limit host → ⊥
-OpenRefused limit host bytes world fault = HasRoom limit host × CannotOpen bytes world fault
+OpenRefused limit host bytes world refusal = HasRoom limit host × CannotOpen bytes world refusal
 
 -- ---- turns and views
+
+-- why an event that names a session alone is refused
+abbrev pub IdRefused : HostContents → ℕ → HostRefusal → Type 0
+IdRefused host id refusal = (refusal ≡ UnknownId) × IsNotOpen host id
 
 -- a session may be let take at most so many steps, takes so many, and reports so how it then stands
 pub record Takes (session : SessionContents) (n taken : ℕ) (status : Status) (after : Machine) : Type 0 where
@@ -142,40 +137,44 @@ IsPrincipal session p = p < length session.program.hierarchy.names
 abbrev pub view_of : SessionContents → ℕ → List Pair
 view_of session p = seen_of session.program p (sent_of session.machine)
 
+-- a principal of a session's module can be shown what it sees
+abbrev pub CanView : HostContents → ℕ → ℕ → Type 0
+CanView host id p = (session : SessionContents) × IsOpen host id session × IsPrincipal session p
+
 -- why a view is refused
-abbrev pub ViewRefused : HostContents → ℕ → ℕ → HostFault → Type 0
+abbrev pub ViewRefused : HostContents → ℕ → ℕ → HostRefusal → Type 0
 ViewRefused host id p UnknownId = IsNotOpen host id
 ViewRefused host id p UnknownPrincipal = (session : SessionContents) × IsOpen host id session × (IsPrincipal session p → ⊥)
-ViewRefused host id p NoMemory = (session : SessionContents) × IsOpen host id session × IsPrincipal session p
 ViewRefused host id p Full = ⊥
-ViewRefused host id p UnknownChannel = ⊥
-ViewRefused host id p (Bytes refusal offset) = ⊥
-ViewRefused host id p (Code fault) = ⊥
+ViewRefused host id p (Load refusal) = ⊥
+ViewRefused host id p (New refusal) = ⊥
 
 -- ---- the meaning
 
 -- a host with room for so many sessions may answer an event so, and then is so
-abbrev pub Answers : (limit : ℕ) (old : HostContents) → HostEvent → HostAnswer → (new : HostContents) → Type 0
+abbrev pub MayAnswer : (limit : ℕ) (old : HostContents) → HostEvent → HostAnswer → (new : HostContents) → Type 0
 -- a session of the next id is opened
-Answers limit old (Open bytes world) (Opened id) new =
+MayAnswer limit old (Open bytes world) (Opened id) new =
     HasRoom limit old × (id ≡ old.next) × ((m : ModuleContents) × CanOpen bytes world m × (new ≡ with_opened old m world))
-Answers limit old (Open bytes world) (Refused fault) new = OpenRefused limit old bytes world fault × (new ≡ old)
+MayAnswer limit old (Open bytes world) (Refused fault) new =
+    ReportsFault (HasRoom limit old) (OpenRefused limit old bytes world) fault × (new ≡ old)
 -- the session of the id, and no other, goes on by the steps that are reported
-Answers limit old (Turn id n) (Turned taken status) new =
+MayAnswer limit old (Turn id n) (Turned taken status) new =
     (session : SessionContents) × IsOpen old id session
     × ((after : Machine) × Takes session n taken status after
     × (new ≡ record old { sessions = with_machine id after old.sessions }))
-Answers limit old (Turn id n) (Refused fault) new = (fault ≡ UnknownId) × IsNotOpen old id × (new ≡ old)
+MayAnswer limit old (Turn id n) (Refused fault) new = ReportsFault ⊥ (IdRefused old id) fault × (new ≡ old)
 -- what the principal sees, and nothing changes
-Answers limit old (View id p) (Viewed pairs) new =
+MayAnswer limit old (View id p) (Viewed pairs) new =
     (session : SessionContents) × IsOpen old id session × IsPrincipal session p × (pairs ≡ view_of session p) × (new ≡ old)
-Answers limit old (View id p) (Refused fault) new = ViewRefused old id p fault × (new ≡ old)
+MayAnswer limit old (View id p) (Refused fault) new =
+    ReportsFault (CanView old id p) (ViewRefused old id p) fault × (new ≡ old)
 -- the session is there no more
-Answers limit old (Close id) Closed new =
+MayAnswer limit old (Close id) Closed new =
     ((session : SessionContents) × IsOpen old id session) × (new ≡ record old { sessions = without id old.sessions })
-Answers limit old (Close id) (Refused fault) new = (fault ≡ UnknownId) × IsNotOpen old id × (new ≡ old)
+MayAnswer limit old (Close id) (Refused fault) new = ReportsFault ⊥ (IdRefused old id) fault × (new ≡ old)
 -- no other answer is given
-Answers limit old event answer new = ⊥
+MayAnswer limit old event answer new = ⊥
 
 -- the same for a list of events and the list of their answers, one after another
 abbrev pub Answered : (limit : ℕ) (old : HostContents) → List HostEvent → List HostAnswer → (new : HostContents) → Type 0
@@ -183,4 +182,4 @@ Answered limit old [] [] new = new ≡ old
 Answered limit old [] (answer ∷ answers) new = ⊥
 Answered limit old (event ∷ events) [] new = ⊥
 Answered limit old (event ∷ events) (answer ∷ answers) new =
-    (next : HostContents) × Answers limit old event answer next × Answered limit next events answers new
+    (next : HostContents) × MayAnswer limit old event answer next × Answered limit next events answers new

@@ -7,7 +7,8 @@ use Rattle.machine.specs.Run.{RunContents, machine_of}
 use Rattle.machine.specs.declared.status.Status.{Status}
 use Rattle.host.specs.Meaning as meaning
 use Rattle.host.specs.Meaning.{SessionContents, HostContents, HostEvent, HostAnswer}
-use Rattle.host.specs.declared.fault.HostFault.{HostFault}
+use Rattle.common.specs.declared.fault.OrNoMemory.{OrNoMemory}
+use Rattle.host.specs.declared.fault.HostRefusal.{HostRefusal}
 use Rattle.host.specs.declared.event.Event.{Event}
 use Rattle.host.specs.declared.event.Event.TheVariants.{Open, Turn, View, Close}
 use Rattle.host.specs.declared.event.Answer.{Answer}
@@ -45,18 +46,18 @@ answer_of Closed = meaning.Closed
 answer_of (Refused fault) = meaning.Refused fault
 
 -- the result of each single call as an answer
-abbrev pub opened_or : Result ℕ HostFault → HostAnswer
+abbrev pub opened_or : Result ℕ (OrNoMemory HostRefusal) → HostAnswer
 opened_or (Ok id) = meaning.Opened id
 opened_or (Err fault) = meaning.Refused fault
 
-abbrev pub turned_or : Result (ℕ × Status) HostFault → HostAnswer
+abbrev pub turned_or : Result (ℕ × Status) (OrNoMemory HostRefusal) → HostAnswer
 turned_or (Ok reported) = meaning.Turned reported.0 reported.1
 turned_or (Err fault) = meaning.Refused fault
 
-abbrev pub viewed_or : Result (Vec Pair) HostFault → HostAnswer
+abbrev pub viewed_or : Result (Vec Pair) (OrNoMemory HostRefusal) → HostAnswer
 viewed_or (Ok pairs) = meaning.Viewed pairs.items
 viewed_or (Err fault) = meaning.Refused fault
 
-abbrev pub closed_or : {U : Type 0} → Result U HostFault → HostAnswer
+abbrev pub closed_or : {U : Type 0} → Result U (OrNoMemory HostRefusal) → HostAnswer
 closed_or (Ok unit) = meaning.Closed
 closed_or (Err fault) = meaning.Refused fault

@@ -1,93 +1,83 @@
-ghost use Rattle.host.specs.Meaning.{fault_of_load, fault_of_new};
-ghost use Rattle.host.specs.Words.{fault_number, fault_words};
+ghost use Rattle.host.specs.Words.{refusal_number, refusal_words};
+ghost use Rattle.host.specs.declared.fault.HostRefusal.TheVariants.{Load, New};
 ghost use Rattle.std.specs.Prelude.{◌≡◌, Some};
 
-use bytecode::ModuleRefusal;
-use machine::NewFault;
+use common::OrNoMemory;
+use machine::NewRefusal;
 use std::error::Error;
 use std::fmt;
-use verifier::{CodeFault, LoadFault};
+use verifier::LoadRefusal;
 
-/// An event was refused, and no session has changed.
+/// Why an event is refused. No session has changed then.
 #[derive(Clone, Copy, Debug, PartialEq, Eq)]
-pub enum HostFault {
-    /// Memory ran out.
-    NoMemory,
+pub enum HostRefusal {
     /// 901: as many sessions are open as the host has room for, or every id was given.
     Full,
     /// 902: no open session has this id.
     UnknownId,
     /// 153: no principal of the session's module has this number.
     UnknownPrincipal,
+    /// 801 to 806, or 811 to 815: the bytes spell no module, or one with a fault in its code.
+    Load(LoadRefusal),
     /// 852: the names of the world's inputs are not those of the module's inputs, in order.
-    UnknownChannel,
-    /// 801 to 806: the bytes spell no module. The first refusal, and its offset in the bytes.
-    Bytes(ModuleRefusal, usize),
-    /// 811 to 815: the module has this fault in its code.
-    Code(CodeFault),
+    New(NewRefusal),
 }
 
-impl From<LoadFault> for HostFault {
-    ghost from_gives = { λ fault given. given ≡ fault_of_load fault };
+/// Why an event was not carried out.
+pub type HostFault = OrNoMemory<HostRefusal>;
 
-    fn from(fault: LoadFault) -> HostFault {
-        match fault {
-            LoadFault::NoMemory => HostFault::NoMemory,
-            LoadFault::Bytes(refusal, offset) => HostFault::Bytes(refusal, offset),
-            LoadFault::Code(fault) => HostFault::Code(fault),
-        }
+impl From<LoadRefusal> for HostRefusal {
+    ghost from_gives = { λ lower refusal. refusal ≡ Load lower };
+
+    fn from(refused: LoadRefusal) -> HostRefusal {
+        HostRefusal::Load(refused)
     }
 }
 
-impl From<NewFault> for HostFault {
-    ghost from_gives = { λ fault given. given ≡ fault_of_new fault };
+impl From<NewRefusal> for HostRefusal {
+    ghost from_gives = { λ lower refusal. refusal ≡ New lower };
 
-    fn from(fault: NewFault) -> HostFault {
-        match fault {
-            NewFault::NoMemory => HostFault::NoMemory,
-            NewFault::UnknownChannel => HostFault::UnknownChannel,
-        }
+    fn from(refused: NewRefusal) -> HostRefusal {
+        HostRefusal::New(refused)
     }
 }
 
-impl HostFault {
-    /// The number that the fault is reported by; out of memory has none.
-    pub fn number(&self) -> Option<u32>
-        ensures { result ≡ fault_number self.now }
+impl HostRefusal {
+    /// The number that the refusal is reported by.
+    pub fn number(&self) -> u32
+        ensures { result ≡ refusal_number self.now }
     {
         match self {
-            HostFault::NoMemory => None,
-            HostFault::Full => Some(901),
-            HostFault::UnknownId => Some(902),
-            HostFault::UnknownPrincipal => Some(153),
-            HostFault::UnknownChannel => Some(852),
-            HostFault::Bytes(refusal, _) => Some(refusal.number()),
-            HostFault::Code(fault) => Some(fault.defect.number()),
+            HostRefusal::Full => 901,
+            HostRefusal::UnknownId => 902,
+            HostRefusal::UnknownPrincipal => 153,
+            HostRefusal::Load(LoadRefusal::Bytes(refusal)) => refusal.defect.number(),
+            HostRefusal::Load(LoadRefusal::Code(refusal)) => refusal.defect.number(),
+            HostRefusal::New(refusal) => refusal.number(),
         }
     }
 
-    /// The words that the fault is reported by.
+    /// The words that the refusal is reported by.
     pub fn words(&self) -> &'static str
-        ensures { result.now ≡ fault_words self.now }
+        ensures { result.now ≡ refusal_words self.now }
     {
         match self {
-            HostFault::NoMemory => "no memory",
-            HostFault::Full => "full",
-            HostFault::UnknownId => "unknown id",
-            HostFault::UnknownPrincipal => "unknown principal",
-            HostFault::UnknownChannel => "unknown channel",
-            HostFault::Bytes(refusal, _) => refusal.words(),
-            HostFault::Code(fault) => fault.defect.words(),
+            HostRefusal::Full => "full",
+            HostRefusal::UnknownId => "unknown id",
+            HostRefusal::UnknownPrincipal => "unknown principal",
+            HostRefusal::Load(LoadRefusal::Bytes(refusal)) => refusal.defect.words(),
+            HostRefusal::Load(LoadRefusal::Code(refusal)) => refusal.defect.words(),
+            HostRefusal::New(refusal) => refusal.words(),
         }
     }
 }
 
-impl fmt::Display for HostFault {
-    ghost output = { λ fault. Some (fault_words fault) };
+impl fmt::Display for HostRefusal {
+    ghost output = { λ refusal. Some (refusal_words refusal) };
 
     fn fmt<W: fmt::Write>(&self, f: &mut fmt::Formatter<W>) -> fmt::Result {
         write!(f, "{}", self.words())
     }
 }
 
-impl Error for HostFault {}
+impl Error for HostRefusal {}

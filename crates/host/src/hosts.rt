@@ -1,12 +1,13 @@
-ghost use Rattle.host.specs.Meaning.{Answered, Answers, Close, Open, Turn, View};
+ghost use Rattle.host.specs.Meaning.{Answered, Close, MayAnswer, Open, Turn, View};
 ghost use Rattle.host.specs.Values.{answer_of, closed_or, event_of, host_of, opened_or, turned_or, viewed_or};
 ghost use Rattle.host.specs.Next.{next_of};
 ghost use Rattle.std.specs.Prelude.{[], ◌≡◌, ◌+◌, ◌<◌, ◌^◌, IfOk, OnErr, map};
 
 use crate::event::{Answer, Event, Id};
-use crate::fault::HostFault;
+use crate::fault::{HostFault, HostRefusal};
 use crate::session::{Session, find, first_run, remove};
 use channels::{Pair, World, pairs_for};
+use common::OrNoMemory;
 use machine::Status;
 use std::alloc::{AllocError, Global};
 use std::marker::Model;
@@ -56,20 +57,18 @@ impl Host {
     /// code; the names of the world's inputs are not those of the module's inputs. Out of memory may be answered
     /// in place of all but the first.
     pub fn open(&mut self, bytes: &[u8], world: World) -> Result<Id, HostFault>
-        ensures { Answers MAX_SESSIONS (host_of self.old) (Open bytes.now world) (opened_or result)
+        ensures { MayAnswer MAX_SESSIONS (host_of self.old) (Open bytes.now world) (opened_or result)
             (host_of self.new) }
     {
         let Some(id) = self.next else {
-            return Err(HostFault::Full);
+            return Err(OrNoMemory::Refused(HostRefusal::Full));
         };
         if self.sessions.len() >= MAX_SESSIONS {
-            return Err(HostFault::Full);
+            return Err(OrNoMemory::Refused(HostRefusal::Full));
         }
         let after = next_id(id);
         let run = first_run(self.alloc, bytes, world)?;
-        let Ok(()) = self.sessions.insert(0, Session::new(id, run)) else {
-            return Err(HostFault::NoMemory);
-        };
+        self.sessions.insert(0, Session::new(id, run))?;
         self.next = after;
         Ok(id)
     }
@@ -80,11 +79,11 @@ impl Host {
     ///
     /// No open session has the id. Out of memory is a status, and no error. The refusal takes no memory.
     pub fn turn(&mut self, id: Id, steps: u64) -> Result<(u64, Status), HostFault>
-        ensures { Answers MAX_SESSIONS (host_of self.old) (Turn id steps) (turned_or result)
+        ensures { MayAnswer MAX_SESSIONS (host_of self.old) (Turn id steps) (turned_or result)
             (host_of self.new) }
     {
         let Some(place) = find(&self.sessions, id) else {
-            return Err(HostFault::UnknownId);
+            return Err(OrNoMemory::Refused(HostRefusal::UnknownId));
         };
         let session = &mut self.sessions[place];
         Ok(session.turn(steps))
@@ -98,20 +97,18 @@ impl Host {
     /// No open session has the id, else its module has no principal of this number, else out of memory. The first
     /// two take no memory.
     pub fn view(&self, id: Id, principal: u32) -> Result<Vec<Pair>, HostFault>
-        ensures { Answers MAX_SESSIONS (host_of self.now) (View id principal) (viewed_or result)
+        ensures { MayAnswer MAX_SESSIONS (host_of self.now) (View id principal) (viewed_or result)
             (host_of self.now) }
     {
         let Some(place) = find(&self.sessions, id) else {
-            return Err(HostFault::UnknownId);
+            return Err(OrNoMemory::Refused(HostRefusal::UnknownId));
         };
         let session = &self.sessions[place];
         let program = session.module();
         if principal >= program.hierarchy().count() {
-            return Err(HostFault::UnknownPrincipal);
+            return Err(OrNoMemory::Refused(HostRefusal::UnknownPrincipal));
         }
-        let Ok(pairs) = pairs_for(self.alloc, session.sent(), program, principal) else {
-            return Err(HostFault::NoMemory);
-        };
+        let pairs = pairs_for(self.alloc, session.sent(), program, principal)?;
         Ok(pairs)
     }
 
@@ -121,11 +118,11 @@ impl Host {
     ///
     /// No open session has the id.
     pub fn close(&mut self, id: Id) -> Result<(), HostFault>
-        ensures { Answers MAX_SESSIONS (host_of self.old) (Close id) (closed_or result)
+        ensures { MayAnswer MAX_SESSIONS (host_of self.old) (Close id) (closed_or result)
             (host_of self.new) }
     {
         let Some(_) = find(&self.sessions, id) else {
-            return Err(HostFault::UnknownId);
+            return Err(OrNoMemory::Refused(HostRefusal::UnknownId));
         };
         remove(&mut self.sessions, id);
         Ok(())
@@ -139,7 +136,7 @@ impl Host {
     pub fn run(&mut self, events: Vec<Event>) -> Result<Vec<Answer>, AllocError>
         ensures answered { IfOk result (λ answers. Answered MAX_SESSIONS (host_of self.old)
             (map event_of events.items) (map answer_of answers.items) (host_of self.new)) }
-        ensures refused { OnErr result (self.new ≡ self.old) }
+        ensures unchanged { OnErr result (self.new ≡ self.old) }
     {
         let mut answers = Vec::with_capacity(self.alloc, events.len())?;
         for event in events {
@@ -153,7 +150,7 @@ impl Host {
 
     // Answers one event.
     fn answer(&mut self, event: Event) -> Answer
-        ensures { Answers MAX_SESSIONS (host_of self.old) (event_of event) (answer_of result)
+        ensures { MayAnswer MAX_SESSIONS (host_of self.old) (event_of event) (answer_of result)
             (host_of self.new) }
     {
         match event {

@@ -8,5 +8,5 @@ pub mod laws;
 mod session;
 
 pub use event::{Answer, Event, Id};
-pub use fault::HostFault;
+pub use fault::{HostFault, HostRefusal};
 pub use hosts::{Host, MAX_SESSIONS};

@@ -1,4 +1,5 @@
 ghost use Rattle.bytecode.specs.Machine.{sent_of};
+ghost use Rattle.common.specs.Answers.{IfRefused};
 ghost use Rattle.host.specs.Meaning.{CanOpen, CannotOpen, Takes, first_machine};
 ghost use Rattle.host.specs.Values.{contents_of};
 ghost use Rattle.machine.specs.Run.{machine_of};
@@ -8,6 +9,7 @@ use crate::event::Id;
 use crate::fault::HostFault;
 use bytecode::Module;
 use channels::{Sent, World};
+use common::OrNoMemory;
 use machine::{Machine, Status};
 use std::alloc::Global;
 use std::marker::Model;
@@ -67,12 +69,12 @@ impl Session {
 
 /// The run of the module that the bytes spell, on a world, before its first step.
 pub fn first_run(alloc: Global, bytes: &[u8], world: World) -> Result<Machine, HostFault>
-    ensures can { IfOk result (λ run. CanOpen bytes.now world run.program) }
+    ensures accepted { IfOk result (λ run. CanOpen bytes.now world run.program) }
     ensures first { IfOk result (λ run. machine_of run ≡ first_machine run.program world) }
-    ensures cannot { IfErr result (λ fault. CannotOpen bytes.now world fault) }
+    ensures rejected { IfErr result (IfRefused (CannotOpen bytes.now world)) }
 {
-    let verified = load(alloc, bytes)?;
-    Ok(Machine::new(alloc, verified, world)?)
+    let verified = load(alloc, bytes).map_err(OrNoMemory::cast)?;
+    Machine::new(alloc, verified, world).map_err(OrNoMemory::cast)
 }
 
 /// The place of the first session with an id.

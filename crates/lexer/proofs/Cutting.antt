@@ -7,8 +7,8 @@ use Rattle.lexer.specs.Cut.{Cuts, Nothing, Token, Between, IsNextLexeme, IsStuck
 use Rattle.lexer.specs.Laws.{HasOneCut, IsNotCutAndRefused, HasOneRefusal}
 use Rattle.lexer.specs.declared.token.Kind.{Kind}
 use Rattle.lexer.specs.declared.token.Kind.TheVariants.{End}
-use Rattle.lexer.specs.declared.fault.LexFault.{LexFault}
-use Rattle.lexer.specs.declared.fault.LexFault.TheVariants.{NoMemory, NoToken, LiteralTooLarge, UnclosedComment}
+use Rattle.lexer.specs.declared.fault.LexRefusal.{LexRefusal}
+use Rattle.lexer.specs.declared.fault.LexRefusal.TheVariants.{NoToken, LiteralTooLarge, UnclosedComment}
 use Rattle.lexer.proofs.Fronts.{nonempty}
 use Rattle.lexer.proofs.Nexts.{one_next}
 
@@ -97,8 +97,7 @@ halts_at text front rest lexeme no_word no_gap next = record {
   no_gap = λ back left other. no_gap (one_next text front rest back left lexeme Gap next other).0;
 }
 
-pub halts_stuck : (place : ℕ) (text : List ℕ) (fault : LexFault) → IsStuck place text fault → Halts text
-halts_stuck place text NoMemory stuck = absurd stuck
+pub halts_stuck : (place : ℕ) (text : List ℕ) (fault : LexRefusal) → IsStuck place text fault → Halts text
 halts_stuck place text (NoToken at) (e, stuck) = record {
   no_token = λ kind front left next. stuck.none (Word kind) front left next.is next.text_is;
   no_gap = λ front left next. stuck.none Gap front left next.is next.text_is;
@@ -108,29 +107,24 @@ halts_stuck place text (LiteralTooLarge at) (e, (front, rest, next)) =
 halts_stuck place text (UnclosedComment at) (e, (front, rest, next)) =
     halts_at text front rest OpenComment (λ kind h. cc) (λ h. cc) next
 
-some_stuck : (place : ℕ) (text : List ℕ) (fault : LexFault) → IsStuck place text fault → text ≡ [] → ⊥
-some_stuck place text NoMemory stuck e = stuck
+some_stuck : (place : ℕ) (text : List ℕ) (fault : LexRefusal) → IsStuck place text fault → text ≡ [] → ⊥
 some_stuck place text (NoToken at) (_, stuck) e = stuck.goes_on e
 some_stuck place text (LiteralTooLarge at) (_, (front, rest, next)) e = front_nil LargeLiteral text front rest next e
 some_stuck place text (UnclosedComment at) (_, (front, rest, next)) e = front_nil OpenComment text front rest next e
 
-one_stuck : (place : ℕ) (text : List ℕ) (fault other : LexFault) → IsStuck place text fault → IsStuck place text other
+one_stuck : (place : ℕ) (text : List ℕ) (fault other : LexRefusal) → IsStuck place text fault → IsStuck place text other
     → fault ≡ other
-one_stuck place text NoMemory other h k = absurd h
-one_stuck place text (NoToken at) NoMemory h k = absurd k
 one_stuck place text (NoToken at) (NoToken by) h k = ap NoToken (h.0 ∙ sym k.0)
 one_stuck place text (NoToken at) (LiteralTooLarge by) (_, h) (_, (front, rest, next)) =
     absurd (h.none LargeLiteral front rest next.is next.text_is)
 one_stuck place text (NoToken at) (UnclosedComment by) (_, h) (_, (front, rest, next)) =
     absurd (h.none OpenComment front rest next.is next.text_is)
-one_stuck place text (LiteralTooLarge at) NoMemory h k = absurd k
 one_stuck place text (LiteralTooLarge at) (NoToken by) (_, (front, rest, next)) (_, k) =
     absurd (k.none LargeLiteral front rest next.is next.text_is)
 one_stuck place text (LiteralTooLarge at) (LiteralTooLarge by) h k = ap LiteralTooLarge (h.0 ∙ sym k.0)
 one_stuck place text (LiteralTooLarge at) (UnclosedComment by) (_, (front, rest, next)) (_, (back, left, other)) =
     let e = (one_next text front rest back left LargeLiteral OpenComment next other).0 in
     absurd cc
-one_stuck place text (UnclosedComment at) NoMemory h k = absurd k
 one_stuck place text (UnclosedComment at) (NoToken by) (_, (front, rest, next)) (_, k) =
     absurd (k.none OpenComment front rest next.is next.text_is)
 one_stuck place text (UnclosedComment at) (LiteralTooLarge by) (_, (front, rest, next)) (_, (back, left, other)) =

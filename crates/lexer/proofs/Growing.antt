@@ -8,7 +8,7 @@ use Rattle.lexer.specs.Cut.{Cuts, Nothing, Token, Between, IsNextLexeme, IsCut, 
 use Rattle.lexer.specs.Scan.{Reads, lexeme_of}
 use Rattle.lexer.specs.declared.token.Kind.{Kind}
 use Rattle.lexer.specs.declared.token.Kind.TheVariants.{End}
-use Rattle.lexer.specs.declared.fault.LexFault.{LexFault}
+use Rattle.lexer.specs.declared.fault.LexRefusal.{LexRefusal}
 use Rattle.lexer.proofs.Cutting.{cuts_on}
 use Rattle.lexer.proofs.Listed.{size-append, front_some}
 use Rattle.lexer.proofs.Runs.{same_before}
@@ -96,7 +96,7 @@ token text rest left bytes tokens kind ok tail_ok bytes_ok so_far (front, next) 
     }
 
 -- a text that can't be cut further
-pub refused : (text rest : List ℕ) (tokens : List Terminal) (fault : LexFault) → IsCutSoFar text rest tokens
+pub refused : (text rest : List ℕ) (tokens : List Terminal) (fault : LexRefusal) → IsCutSoFar text rest tokens
     → IsStuck (length text - length rest) (chars rest) fault → IsTextRefused text fault
 refused text rest tokens fault so_far stuck = record {
   words = tokens;

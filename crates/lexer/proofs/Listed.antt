@@ -12,9 +12,9 @@ use Rattle.lexer.specs.Terminal.{Terminal, IsTerminated}
 use Rattle.lexer.specs.Words.{is_name, keyword_of, keywords}
 use Rattle.lexer.specs.Lexeme.{Lexeme, Word, Gap, IsLexeme, Keyword, Identifier, Literal, Sign, IsNumeral, sign_of, signs}
 use Rattle.lexer.specs.Cut.{Cuts, Nothing, Token, Between, IsNextLexeme, IsCut, IsTextRefused, IsStuck, terminal_at, size}
-use Rattle.lexer.specs.Listing.{IsInOrder, IsSliceOf, IsSpelled, SpellsToken, IsAtCharacter, IsFaultAtCharacter}
-use Rattle.lexer.specs.declared.fault.LexFault.{LexFault}
-use Rattle.lexer.specs.declared.fault.LexFault.TheVariants.{NoMemory, NoToken, LiteralTooLarge, UnclosedComment}
+use Rattle.lexer.specs.Listing.{IsInOrder, IsSliceOf, IsSpelled, SpellsToken, IsAtCharacter, IsRefusedAtCharacter}
+use Rattle.lexer.specs.declared.fault.LexRefusal.{LexRefusal}
+use Rattle.lexer.specs.declared.fault.LexRefusal.TheVariants.{NoToken, LiteralTooLarge, UnclosedComment}
 use Rattle.lexer.specs.declared.token.Kind.{Kind}
 use Rattle.lexer.specs.declared.token.Kind.TheVariants.{Name, Integer, End}
 use Rattle.lexer.proofs.Fronts.{nonempty}
@@ -238,14 +238,13 @@ at_start text ok = record {
 }
 
 -- a refusal stands where a character begins
-pub refused_at : (text : List ℕ) (fault : LexFault) → IsUtf8 text → IsTextRefused text fault → IsFaultAtCharacter text fault
+pub refused_at : (text : List ℕ) (fault : LexRefusal) → IsUtf8 text → IsTextRefused text fault → IsRefusedAtCharacter text fault
 refused_at text fault ok h =
     let here = boundary text h.place h.rest (cut_parts text 0 (chars text) h.words h.place h.rest h.cuts (at_start text ok)) in
     fault_at text h.place h.rest fault here h.stuck
   where
-    fault_at : (text : List ℕ) (place : ℕ) (rest : List ℕ) (fault : LexFault) → IsCharBoundary text place
-        → IsStuck place rest fault → IsFaultAtCharacter text fault
-    fault_at text place rest NoMemory here stuck = tt
+    fault_at : (text : List ℕ) (place : ℕ) (rest : List ℕ) (fault : LexRefusal) → IsCharBoundary text place
+        → IsStuck place rest fault → IsRefusedAtCharacter text fault
     fault_at text place rest (NoToken at) here stuck = subst (IsCharBoundary text) (sym stuck.0) here
     fault_at text place rest (LiteralTooLarge at) here stuck = subst (IsCharBoundary text) (sym stuck.0) here
     fault_at text place rest (UnclosedComment at) here stuck = subst (IsCharBoundary text) (sym stuck.0) here

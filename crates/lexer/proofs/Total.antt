@@ -12,8 +12,8 @@ use Rattle.lexer.specs.Laws.{IsCutOrRefused}
 use Rattle.lexer.specs.Scan.{after_close, after_run, IsNoDouble}
 use Rattle.lexer.specs.declared.token.Kind.{Kind}
 use Rattle.lexer.specs.declared.token.Kind.TheVariants.{End}
-use Rattle.lexer.specs.declared.fault.LexFault.{LexFault}
-use Rattle.lexer.specs.declared.fault.LexFault.TheVariants.{NoToken, LiteralTooLarge, UnclosedComment}
+use Rattle.lexer.specs.declared.fault.LexRefusal.{LexRefusal}
+use Rattle.lexer.specs.declared.fault.LexRefusal.TheVariants.{NoToken, LiteralTooLarge, UnclosedComment}
 use Rattle.lexer.proofs.Letters.{class_of, Other}
 use Rattle.lexer.proofs.Fronts.{nonempty}
 use Rattle.lexer.proofs.Nexts.{next_white, next_literal, next_word, next_solidus, next_double, next_single, none_next}
@@ -92,9 +92,9 @@ record Cutting (start : ℕ) (text : List ℕ) : Type 0 where
   end : ℕ
   rest : List ℕ
   cuts : Cuts start text words end rest
-  stops : (rest ≡ []) ⊎ ((fault : LexFault) × IsStuck end rest fault)
+  stops : (rest ≡ []) ⊎ ((fault : LexRefusal) × IsStuck end rest fault)
 
-stuck : (start : ℕ) (text : List ℕ) (fault : LexFault) → IsStuck start text fault → Cutting start text
+stuck : (start : ℕ) (text : List ℕ) (fault : LexRefusal) → IsStuck start text fault → Cutting start text
 stuck start text fault h = record { words = []; end = start; rest = text; cuts = Nothing start text; stops = inr (fault, h) }
 
 shorter : (lexeme : Lexeme) (text front rest : List ℕ) → IsNextLexeme text lexeme front rest → length rest < length text

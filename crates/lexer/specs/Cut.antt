@@ -6,8 +6,8 @@ use Rattle.lexer.specs.Terminal.{Terminal}
 use Rattle.lexer.specs.Lexeme.{Lexeme, Word, Gap, LargeLiteral, OpenComment, IsLexeme}
 use Rattle.lexer.specs.declared.token.Kind.{Kind}
 use Rattle.lexer.specs.declared.token.Kind.TheVariants.{End}
-use Rattle.lexer.specs.declared.fault.LexFault.{LexFault}
-use Rattle.lexer.specs.declared.fault.LexFault.TheVariants.{NoMemory, NoToken, LiteralTooLarge, UnclosedComment}
+use Rattle.lexer.specs.declared.fault.LexRefusal.{LexRefusal}
+use Rattle.lexer.specs.declared.fault.LexRefusal.TheVariants.{NoToken, LiteralTooLarge, UnclosedComment}
 
 -- the text begins with the lexeme `front`, and with no longer one; `rest` follows
 pub record IsNextLexeme (text : List ℕ) (lexeme : Lexeme) (front rest : List ℕ) : Type 0 where
@@ -47,19 +47,18 @@ pub record HasNoLexeme (text : List ℕ) : Type 0 where
   pub goes_on : text ≡ [] → ⊥
   pub none : (lexeme : Lexeme) (front rest : List ℕ) → IsLexeme lexeme front → text ≡ front ++ rest → ⊥
 
--- the fault is that the text goes on at the byte `start` with a refused lexeme, or with none
-abbrev pub IsStuck : ℕ → List ℕ → LexFault → Type 0
-IsStuck start text NoMemory = ⊥
+-- the refusal is that the text goes on at the byte `start` with a refused lexeme, or with none
+abbrev pub IsStuck : ℕ → List ℕ → LexRefusal → Type 0
 IsStuck start text (NoToken at) = (at ≡ start) × HasNoLexeme text
 IsStuck start text (LiteralTooLarge at) =
     (at ≡ start) × ((front : List ℕ) × (rest : List ℕ) × IsNextLexeme text LargeLiteral front rest)
 IsStuck start text (UnclosedComment at) =
     (at ≡ start) × ((front : List ℕ) × (rest : List ℕ) × IsNextLexeme text OpenComment front rest)
 
--- what stands before the fault is cut into tokens, and the fault is what comes then
-pub record IsTextRefused (text : List ℕ) (fault : LexFault) : Type 0 where
+-- what stands before the refusal is cut into tokens, and the refusal is what comes then
+pub record IsTextRefused (text : List ℕ) (refusal : LexRefusal) : Type 0 where
   pub words : List Terminal
   pub place : ℕ
   pub rest : List ℕ
   pub cuts : Cuts 0 (chars text) words place rest
-  pub stuck : IsStuck place rest fault
+  pub stuck : IsStuck place rest refusal

@@ -6,8 +6,8 @@ use Rattle.std.specs.Str.Parse.{digits_value}
 use Rattle.lexer.specs.Lexeme.{IsNumeral, greatest_literal, sign_of}
 use Rattle.lexer.specs.Terminal.{Terminal}
 use Rattle.lexer.specs.Words.{is_name_text, keyword_of}
-use Rattle.lexer.specs.declared.fault.LexFault.{LexFault}
-use Rattle.lexer.specs.declared.fault.LexFault.TheVariants.{NoMemory, NoToken, LiteralTooLarge, UnclosedComment}
+use Rattle.lexer.specs.declared.fault.LexRefusal.{LexRefusal}
+use Rattle.lexer.specs.declared.fault.LexRefusal.TheVariants.{NoToken, LiteralTooLarge, UnclosedComment}
 use Rattle.lexer.specs.declared.token.Kind.{Kind}
 use Rattle.lexer.specs.declared.token.Kind.TheVariants.{Name, Integer, End}
 
@@ -35,9 +35,8 @@ IsSpelled t = SpellsToken t.kind t.text
 abbrev pub IsAtCharacter : List ℕ → Terminal → Type 0
 IsAtCharacter source t = IsCharBoundary source t.start
 
--- the fault, if it has a place, stands where a character of the source begins
-abbrev pub IsFaultAtCharacter : List ℕ → LexFault → Type 0
-IsFaultAtCharacter source NoMemory = Unit {0}
-IsFaultAtCharacter source (NoToken at) = IsCharBoundary source at
-IsFaultAtCharacter source (LiteralTooLarge at) = IsCharBoundary source at
-IsFaultAtCharacter source (UnclosedComment at) = IsCharBoundary source at
+-- the refusal stands where a character of the source begins
+abbrev pub IsRefusedAtCharacter : List ℕ → LexRefusal → Type 0
+IsRefusedAtCharacter source (NoToken at) = IsCharBoundary source at
+IsRefusedAtCharacter source (LiteralTooLarge at) = IsCharBoundary source at
+IsRefusedAtCharacter source (UnclosedComment at) = IsCharBoundary source at

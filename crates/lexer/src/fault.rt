@@ -1,15 +1,9 @@
-ghost use Rattle.std.specs.Prelude.{◌≡◌};
-ghost use Rattle.lexer.specs.declared.fault.LexFault.TheVariants.{NoMemory};
-
-use std::alloc::AllocFailed;
+use common::OrNoMemory;
 use thiserror::Error;
 
-/// Why a text gave no tokens. Each place is a byte of the text.
+/// Why a text has no tokens. Each place is a byte of the text.
 #[derive(Clone, Copy, Debug, Drop, PartialEq, Eq, Error)]
-pub enum LexFault {
-    /// Memory ran out.
-    #[error("no memory")]
-    NoMemory,
+pub enum LexRefusal {
     /// At this byte no token, white space or comment begins.
     #[error("no token")]
     NoToken(usize),
@@ -21,10 +15,5 @@ pub enum LexFault {
     UnclosedComment(usize),
 }
 
-impl<T: Drop> From<AllocFailed<T>> for LexFault {
-    ghost from_gives = { λ _ fault. fault ≡ NoMemory };
-
-    fn from(_failed: AllocFailed<T>) -> LexFault {
-        LexFault::NoMemory
-    }
-}
+/// Why a text gave no tokens.
+pub type LexFault = OrNoMemory<LexRefusal>;

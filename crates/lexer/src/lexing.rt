@@ -1,13 +1,15 @@
+ghost use Rattle.common.specs.Answers.{Answers, IfRefused};
 ghost use Rattle.lexer.specs.Cut.{IsCut, IsTextRefused};
 ghost use Rattle.lexer.specs.Laws.{IsCutOrRefused, HasOneCut, IsNotCutAndRefused, HasOneRefusal};
-ghost use Rattle.lexer.specs.Listing.{IsAtCharacter, IsFaultAtCharacter, IsInOrder, IsSliceOf, IsSpelled};
+ghost use Rattle.lexer.specs.Listing.{IsAtCharacter, IsRefusedAtCharacter, IsInOrder, IsSliceOf, IsSpelled};
 ghost use Rattle.lexer.specs.Terminal.{Terminal, terminals_of, IsTerminated};
-ghost use Rattle.std.specs.Prelude.{◌≡◌, ◌≤◌, ◌+◌, ◌⊎◌, List, IfOk, IfErr, MatchResult, length};
+ghost use Rattle.std.specs.Prelude.{◌≡◌, ◌≤◌, ◌+◌, List, IfOk, IfErr, length};
 ghost use Rattle.std.specs.List.{All};
 
-use crate::fault::LexFault;
+use crate::fault::{LexFault, LexRefusal};
 use crate::pieces::{Piece, cut_piece, split_first, take_front};
 use crate::token::{Kind, Span, Token};
+use common::OrNoMemory;
 use std::alloc::Global;
 
 /// The tokens of `src` by longest match, with an `End` behind them.
@@ -15,13 +17,12 @@ use std::alloc::Global;
 /// White space and comments give no token. The first refusal in the text is reported, unless memory ran
 /// out before.
 pub fn lex(alloc: Global, src: &str) -> Result<Vec<Token<'_>>, LexFault>
-    ensures cut { IfOk result (λ tokens. IsCut src.now (terminals_of tokens.items)) }
-    ensures only { (tokens : List Terminal) → IsCut src.now tokens → MatchResult result
-        (λ found. terminals_of found.items ≡ tokens) (λ fault. fault ≡ LexFault.NoMemory) }
-    ensures refused { IfErr result (λ fault.
-        (fault ≡ LexFault.NoMemory) ⊎ IsTextRefused src.now fault) }
-    ensures first { (fault : LexFault) → IsTextRefused src.now fault → MatchResult result
-        (λ _. ⊥) (λ found. (found ≡ fault) ⊎ (found ≡ LexFault.NoMemory)) }
+    ensures accepted { IfOk result (λ tokens. IsCut src.now (terminals_of tokens.items)) }
+    ensures exact { (tokens : List Terminal) → IsCut src.now tokens →
+        Answers (λ found. terminals_of found.items ≡ tokens) (λ _. ⊥) result }
+    ensures rejected { IfErr result (IfRefused (IsTextRefused src.now)) }
+    ensures first_fault { (refusal : LexRefusal) → IsTextRefused src.now refusal →
+        Answers (λ _. ⊥) (λ found. found ≡ refusal) result }
     ensures terminated { IfOk result (λ tokens. IsTerminated (terminals_of tokens.items)) }
     ensures in_order { IfOk result (λ tokens.
         IsInOrder 0 (terminals_of tokens.items) (length src.now)) }
@@ -29,7 +30,7 @@ pub fn lex(alloc: Global, src: &str) -> Result<Vec<Token<'_>>, LexFault>
     ensures spelled { IfOk result (λ tokens. All IsSpelled (terminals_of tokens.items)) }
     ensures at_characters { IfOk result (λ tokens.
         All (IsAtCharacter src.now) (terminals_of tokens.items)) }
-    ensures fault_at_character { IfErr result (IsFaultAtCharacter src.now) }
+    ensures refused_at_character { IfErr result (IfRefused (IsRefusedAtCharacter src.now)) }
     ensures count { IfOk result (λ tokens.
         length (terminals_of tokens.items) ≤ length src.now + 1) }
 {
@@ -37,7 +38,9 @@ pub fn lex(alloc: Global, src: &str) -> Result<Vec<Token<'_>>, LexFault>
     let mut rest = src;
     while let Some((first, after)) = split_first(rest) {
         let start = src.len() - rest.len();
-        let Piece { kind, rest: left } = cut_piece(rest, first, after, start)?;
+        let Piece { kind, rest: left } = cut_piece(rest, first, after, start).map_err(
+            OrNoMemory::Refused,
+        )?;
         if let Some(kind) = kind {
             let text = take_front(rest, left);
             let end = src.len() - left.len();

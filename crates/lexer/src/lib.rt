@@ -11,7 +11,7 @@ mod pieces;
 pub mod position;
 pub mod token;
 
-pub use fault::LexFault;
+pub use fault::{LexFault, LexRefusal};
 pub use lexing::{lex, one_reading};
 pub use names::is_name;
 pub use position::find_place;

@@ -7,7 +7,7 @@ ghost use Rattle.std.specs.Prelude.{◌≡◌, ◌++◌, ◌∷◌, [], MatchRes
 ghost use Rattle.std.specs.Char.{is_ascii_digit};
 ghost use Rattle.std.specs.Str.{chars};
 
-use crate::fault::LexFault;
+use crate::fault::LexRefusal;
 use crate::names::{begins_name, continues_name, keyword};
 use crate::token::Kind;
 use common::limits::MAX_INTEGER;
@@ -45,9 +45,9 @@ pub(crate) fn cut_piece<'a>(
     first: char,
     after: &'a str,
     at: usize,
-) -> Result<Piece<'a>, LexFault>
+) -> Result<Piece<'a>, LexRefusal>
     requires { chars text.now ≡ first ∷ chars after.now }
-    ensures { MatchResult result (λ piece. Reads (chars text.now) piece.kind (chars piece.rest.now)) (λ fault. IsStuck at (chars text.now) fault) }
+    ensures { MatchResult result (λ piece. Reads (chars text.now) piece.kind (chars piece.rest.now)) (IsStuck at (chars text.now)) }
 {
     if is_white_space(first) {
         Ok(Piece {
@@ -61,7 +61,7 @@ pub(crate) fn cut_piece<'a>(
     } else if first == '/' {
         cut_solidus(text, after, at)
     } else {
-        cut_sign(text, first, after).ok_or(LexFault::NoToken(at))
+        cut_sign(text, first, after).ok_or(LexRefusal::NoToken(at))
     }
 }
 
@@ -77,10 +77,10 @@ fn cut_literal<'a>(
     first: char,
     after: &'a str,
     at: usize,
-) -> Result<Piece<'a>, LexFault>
+) -> Result<Piece<'a>, LexRefusal>
     requires split { chars text.now ≡ first ∷ chars after.now }
     requires digit { IsTrue (is_ascii_digit first) }
-    ensures { MatchResult result (λ piece. Reads (chars text.now) piece.kind (chars piece.rest.now)) (λ fault. IsStuck at (chars text.now) fault) }
+    ensures { MatchResult result (λ piece. Reads (chars text.now) piece.kind (chars piece.rest.now)) (IsStuck at (chars text.now)) }
 {
     let rest = skip_run(after, Class::Digit);
     match take_front(text, rest).parse::<u32>() {
@@ -88,7 +88,7 @@ fn cut_literal<'a>(
             kind: Some(Kind::Integer(value)),
             rest,
         }),
-        _ => Err(LexFault::LiteralTooLarge(at)),
+        _ => Err(LexRefusal::LiteralTooLarge(at)),
     }
 }
 
@@ -107,9 +107,9 @@ fn cut_word<'a>(text: &'a str, first: char, after: &'a str) -> Piece<'a>
 }
 
 /// A comment, or the sign `/`.
-fn cut_solidus<'a>(text: &'a str, after: &'a str, at: usize) -> Result<Piece<'a>, LexFault>
+fn cut_solidus<'a>(text: &'a str, after: &'a str, at: usize) -> Result<Piece<'a>, LexRefusal>
     requires { chars text.now ≡ 47 ∷ chars after.now }
-    ensures { MatchResult result (λ piece. Reads (chars text.now) piece.kind (chars piece.rest.now)) (λ fault. IsStuck at (chars text.now) fault) }
+    ensures { MatchResult result (λ piece. Reads (chars text.now) piece.kind (chars piece.rest.now)) (IsStuck at (chars text.now)) }
 {
     let mut characters = after.chars();
     match characters.next() {
@@ -119,7 +119,7 @@ fn cut_solidus<'a>(text: &'a str, after: &'a str, at: usize) -> Result<Piece<'a>
         }),
         Some('*') => match skip_comment(characters.as_str()) {
             Some(rest) => Ok(Piece { kind: None, rest }),
-            None => Err(LexFault::UnclosedComment(at)),
+            None => Err(LexRefusal::UnclosedComment(at)),
         },
         _ => Ok(Piece {
             kind: Some(Kind::Slash),

@@ -2,9 +2,10 @@
 
 ghost use Rattle.bytecode.specs.Code.{code_length};
 ghost use Rattle.channels.specs.Sink.{AppendsPrefix};
+ghost use Rattle.common.specs.Answers.{IfRefused};
 ghost use Rattle.listing.specs.Listing.{channel_line, code_text, handler_line, listing_text, procedure_text, procedures_text};
 ghost use Rattle.std.specs.Io.KnownBytes.{Appends};
-ghost use Rattle.std.specs.Prelude.{◌<◌, ◌≡◌, ◌^◌, All, Err, IsTrue, OnErr, OnOk, flat_map};
+ghost use Rattle.std.specs.Prelude.{◌<◌, ◌^◌, All, IfErr, IsTrue, OnErr, OnOk, flat_map};
 
 use crate::lines::{channel_line, handler_line, instruction_line, procedure_line};
 use bytecode::{Channel, Handler, Instruction, Module, Procedure};
@@ -19,11 +20,11 @@ fn write_channels<O: Sink>(
     channels: &[Channel],
     out: &mut O,
 ) -> Result<(), ViewFault>
-    ensures listed { OnOk result (Appends (O.taken out.old) (O.taken out.new)
+    ensures accepted { OnOk result (Appends (O.taken out.old) (O.taken out.new)
         (flat_map (channel_line hierarchy.now) channels.now)) }
     ensures prefix { OnErr result (AppendsPrefix (O.taken out.old) (O.taken out.new)
         (flat_map (channel_line hierarchy.now) channels.now)) }
-    ensures failed { result ≡ Err ViewFault.Sink → IsTrue (O.has_failed out.new) }
+    ensures rejected { IfErr result (IfRefused (λ _. IsTrue (O.has_failed out.new))) }
 {
     for channel in channels {
         let line = channel_line(alloc, hierarchy, channel)?;
@@ -35,11 +36,11 @@ fn write_channels<O: Sink>(
 // Writes a line for each instruction.
 fn write_code<O: Sink>(alloc: Global, code: &[Instruction], out: &mut O) -> Result<(), ViewFault>
     requires { code_length code.now < 2 ^ 32 }
-    ensures listed { OnOk result (Appends (O.taken out.old) (O.taken out.new)
+    ensures accepted { OnOk result (Appends (O.taken out.old) (O.taken out.new)
         (code_text 0 code.now)) }
     ensures prefix { OnErr result (AppendsPrefix (O.taken out.old) (O.taken out.new)
         (code_text 0 code.now)) }
-    ensures failed { result ≡ Err ViewFault.Sink → IsTrue (O.has_failed out.new) }
+    ensures rejected { IfErr result (IfRefused (λ _. IsTrue (O.has_failed out.new))) }
 {
     let mut offset = 0;
     for instruction in code {
@@ -56,11 +57,11 @@ fn write_handlers<O: Sink>(
     handlers: &[Handler],
     out: &mut O,
 ) -> Result<(), ViewFault>
-    ensures listed { OnOk result (Appends (O.taken out.old) (O.taken out.new)
+    ensures accepted { OnOk result (Appends (O.taken out.old) (O.taken out.new)
         (flat_map handler_line handlers.now)) }
     ensures prefix { OnErr result (AppendsPrefix (O.taken out.old) (O.taken out.new)
         (flat_map handler_line handlers.now)) }
-    ensures failed { result ≡ Err ViewFault.Sink → IsTrue (O.has_failed out.new) }
+    ensures rejected { IfErr result (IfRefused (λ _. IsTrue (O.has_failed out.new))) }
 {
     for handler in handlers {
         let line = handler_line(alloc, *handler)?;
@@ -77,11 +78,11 @@ fn write_procedure<O: Sink>(
     out: &mut O,
 ) -> Result<(), ViewFault>
     requires { code_length procedure.now.code < 2 ^ 32 }
-    ensures listed { OnOk result (Appends (O.taken out.old) (O.taken out.new)
+    ensures accepted { OnOk result (Appends (O.taken out.old) (O.taken out.new)
         (procedure_text number procedure.now)) }
     ensures prefix { OnErr result (AppendsPrefix (O.taken out.old) (O.taken out.new)
         (procedure_text number procedure.now)) }
-    ensures failed { result ≡ Err ViewFault.Sink → IsTrue (O.has_failed out.new) }
+    ensures rejected { IfErr result (IfRefused (λ _. IsTrue (O.has_failed out.new))) }
 {
     let line = procedure_line(alloc, number)?;
     write_all(out, line.as_bytes())?;
@@ -96,11 +97,11 @@ fn write_procedures<O: Sink>(
     out: &mut O,
 ) -> Result<(), ViewFault>
     requires { All (λ procedure. code_length procedure.code < 2 ^ 32) procedures.now }
-    ensures listed { OnOk result (Appends (O.taken out.old) (O.taken out.new)
+    ensures accepted { OnOk result (Appends (O.taken out.old) (O.taken out.new)
         (procedures_text 0 procedures.now)) }
     ensures prefix { OnErr result (AppendsPrefix (O.taken out.old) (O.taken out.new)
         (procedures_text 0 procedures.now)) }
-    ensures failed { result ≡ Err ViewFault.Sink → IsTrue (O.has_failed out.new) }
+    ensures rejected { IfErr result (IfRefused (λ _. IsTrue (O.has_failed out.new))) }
 {
     for (number, procedure) in procedures.iter().enumerate() {
         write_procedure(alloc, number, procedure, out)?;
@@ -114,14 +115,14 @@ fn write_procedures<O: Sink>(
 ///
 /// # Errors
 ///
-/// `Sink` where the sink failed, `NoMemory` where an allocation failed. What went out then is a
-/// prefix of the text.
+/// The fault of the sink where that failed, or out of memory. What went out then is a prefix of
+/// the text.
 pub fn write_listing<O: Sink>(alloc: Global, program: &Module, out: &mut O) -> Result<(), ViewFault>
-    ensures listed { OnOk result (Appends (O.taken out.old) (O.taken out.new)
+    ensures accepted { OnOk result (Appends (O.taken out.old) (O.taken out.new)
         (listing_text program.now)) }
     ensures prefix { OnErr result (AppendsPrefix (O.taken out.old) (O.taken out.new)
         (listing_text program.now)) }
-    ensures failed { result ≡ Err ViewFault.Sink → IsTrue (O.has_failed out.new) }
+    ensures rejected { IfErr result (IfRefused (λ _. IsTrue (O.has_failed out.new))) }
 {
     write_channels(alloc, program.hierarchy(), program.channels(), out)?;
     write_procedures(alloc, program.procedures(), out)

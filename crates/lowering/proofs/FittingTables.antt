@@ -13,7 +13,7 @@ use Rattle.resolved.specs.declared.expression.Value.{Value}
 use Rattle.resolved.specs.declared.expression.Value.TheVariants.{Number, Truth}
 use Rattle.resolved.specs.Program.{GlobalEntry, SlotEntry}
 use Rattle.resolved.specs.WellFormed.{size_fits, cell_count, label_fits, first_fits, written_fits, parameter_fits}
-use Rattle.bytecode.specs.declared.fault.ModuleRefusal.TheVariants.{BadValue}
+use Rattle.bytecode.specs.declared.fault.ModuleDefect.TheVariants.{BadValue}
 use Rattle.bytecode.specs.declared.value.Kind.{Kind}
 use Rattle.bytecode.specs.declared.value.Kind.TheVariants as kind
 use Rattle.bytecode.specs.declared.declaration.Slot.{Slot}

@@ -22,8 +22,8 @@ use Rattle.bytecode.specs.declared.declaration.Slot.{Slot}
 use Rattle.bytecode.specs.declared.declaration.Slot.TheVariants as slot
 use Rattle.bytecode.specs.declared.value.Kind.{Kind}
 use Rattle.bytecode.specs.declared.value.Kind.TheVariants.{Int, Boolean}
-use Rattle.verifier.specs.declared.fault.Defect.{Defect}
-use Rattle.verifier.specs.declared.fault.Defect.TheVariants.{OperandKind, SlotOrIndex}
+use Rattle.verifier.specs.declared.fault.CodeDefect.{CodeDefect}
+use Rattle.verifier.specs.declared.fault.CodeDefect.TheVariants.{OperandKind, SlotOrIndex}
 use Rattle.verifier.specs.Fixed.{instruction_defect, is_scalar, is_array, is_input, is_output, unless}
 use Rattle.bytecode.specs.Targets.{target_of}
 use Rattle.verifier.specs.Flow.{Effect, Leaves, Misses, exchange, exchanged, called, value_kinds, slot_kind, all_popped, and_then, pushed, effect, goes_on}
@@ -53,7 +53,7 @@ pops-all (kind ∷ wanted) kinds =
     ∙ pops-all wanted kinds
 
 -- ---- what a table has
-unless-right : (right : Bool) (wrong : Defect) → right ≡ true → unless right wrong ≡ None
+unless-right : (right : Bool) (wrong : CodeDefect) → right ≡ true → unless right wrong ≡ None
 unless-right right wrong h = ap (λ (b : Bool). unless b wrong) h
 
 pub none-is : {A : Type 0} (o : Option A) → is_none o ≡ true → o ≡ None

@@ -21,8 +21,8 @@ use Rattle.layout.proofs.Fitting.{length-renamed}
 use Rattle.layout.proofs.Offsets.{width-renamed, some_width, offset-start, offset-less, fetched, past}
 use Rattle.layout.proofs.Starts.{start-at}
 use Rattle.layout.proofs.Tables.{offset-end}
-use Rattle.verifier.specs.declared.fault.Defect.{Defect}
-use Rattle.verifier.specs.declared.fault.Defect.TheVariants as defect
+use Rattle.verifier.specs.declared.fault.CodeDefect.{CodeDefect}
+use Rattle.verifier.specs.declared.fault.CodeDefect.TheVariants as defect
 use Rattle.verifier.specs.Fixed.{unless, is_start, is_end, instruction_defect, handler_defect, fault_list, instruction_faults, handler_faults}
 use Rattle.verifier.specs.Flow.{Edge, next, jumps, caught, Leaves, Misses, effect, goes_on, FlowsWell}
 use Rattle.verifier.proofs.Laws.{no_fault}
@@ -255,7 +255,7 @@ module _ (m : ModuleContents) (g : ProcedureContents) (s : Sound m g) where
       → instruction_faults m number (laid_out_procedure g) at (map (renamed_instruction (offset g.code)) code) ≡ []
   instructions-right number at [] right = refl
   instructions-right number at (x ∷ code) right =
-      ap (λ (o : Option Defect). fault_list number at o ++ instruction_faults m number (laid_out_procedure g) (at + width_of (renamed_instruction (offset g.code) x)) (map (renamed_instruction (offset g.code)) code))
+      ap (λ (o : Option CodeDefect). fault_list number at o ++ instruction_faults m number (laid_out_procedure g) (at + width_of (renamed_instruction (offset g.code) x)) (map (renamed_instruction (offset g.code)) code))
       (right 0 x refl)
       ∙ instructions-right number (at + width_of (renamed_instruction (offset g.code) x)) code (λ k y e. right (suc k) y e)
 
@@ -293,7 +293,7 @@ module _ (m : ModuleContents) (g : ProcedureContents) (s : Sound m g) where
   handlers-right number [] right = refl
   handlers-right number (x ∷ table) right =
       let Right : Handler → Type 0 = λ (x : Handler). handler_defect m (laid_out_procedure g) (renamed_handler (offset g.code) x) ≡ None in
-      ap (λ (o : Option Defect). fault_list number (offset g.code x.start) o ++ handler_faults m number (laid_out_procedure g) (map (renamed_handler (offset g.code)) table))
+      ap (λ (o : Option CodeDefect). fault_list number (offset g.code x.start) o ++ handler_faults m number (laid_out_procedure g) (map (renamed_handler (offset g.code)) table))
       (All-head Right x table right)
       ∙ handlers-right number table (All-tail Right x table right)
 

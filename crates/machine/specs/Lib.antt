@@ -13,3 +13,4 @@ pub mod OpenCells
 pub mod Linked
 pub mod Linking
 pub mod Inner
+pub mod Words

@@ -1,12 +1,46 @@
-use thiserror::Error;
+ghost use Rattle.machine.specs.Words.{new_refusal_number, new_refusal_words};
+ghost use Rattle.std.specs.Prelude.{◌≡◌, Some};
 
-/// A machine was not made.
-#[derive(Clone, Copy, Debug, PartialEq, Eq, Error)]
-pub enum NewFault {
-    /// Memory ran out.
-    #[error("no memory")]
-    NoMemory,
+use common::OrNoMemory;
+use std::error::Error;
+use std::fmt;
+
+/// Why there is no machine of a module and a world.
+#[derive(Clone, Copy, Debug, PartialEq, Eq)]
+pub enum NewRefusal {
     /// 852: the names of the world's inputs are not those of the module's inputs, in order.
-    #[error("unknown channel")]
     UnknownChannel,
 }
+
+/// Why a machine was not made.
+pub type NewFault = OrNoMemory<NewRefusal>;
+
+impl NewRefusal {
+    /// The number that the refusal is reported by.
+    pub fn number(self) -> u32
+        ensures { result ≡ new_refusal_number self }
+    {
+        match self {
+            NewRefusal::UnknownChannel => 852,
+        }
+    }
+
+    /// The words that the refusal is reported by.
+    pub fn words(self) -> &'static str
+        ensures { result.now ≡ new_refusal_words self }
+    {
+        match self {
+            NewRefusal::UnknownChannel => "unknown channel",
+        }
+    }
+}
+
+impl fmt::Display for NewRefusal {
+    ghost output = { λ refusal. Some (new_refusal_words refusal) };
+
+    fn fmt<W: fmt::Write>(&self, f: &mut fmt::Formatter<W>) -> fmt::Result {
+        write!(f, "{}", self.words())
+    }
+}
+
+impl Error for NewRefusal {}

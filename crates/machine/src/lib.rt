@@ -22,6 +22,6 @@ pub mod status;
 mod values;
 mod window;
 
-pub use fault::NewFault;
+pub use fault::{NewFault, NewRefusal};
 pub use run::Machine;
 pub use status::Status;

@@ -5,7 +5,7 @@ use Rattle.std.proofs.lemmas.List.{append-nil, nil_from_length}
 use Rattle.bytecode.specs.Contents.{ModuleContents}
 use Rattle.bytecode.specs.Form.{Form, Spells, spelled, Read, read, read_all, stop_at, ◌>>=◌}
 use Rattle.bytecode.specs.Format.{module_file}
-use Rattle.bytecode.specs.declared.fault.ModuleRefusal.TheVariants.{Trailing}
+use Rattle.bytecode.specs.declared.fault.ModuleDefect.TheVariants.{Trailing}
 use Rattle.module_file.proofs.Again.{again}
 use Rattle.module_file.proofs.Coherent.{Coherent}
 use Rattle.module_file.proofs.Lawful.{module_file-coherent}

@@ -14,9 +14,10 @@ use Rattle.std.proofs.lemmas.List.Quantifiers.{all_pairs_push}
 use Rattle.std.proofs.lemmas.Map.Keys.{sorted_from_all_adjacent, IsStrictlyIncreasing-from_sorted}
 use Rattle.std.proofs.lemmas.Option.{slice_get-get_or}
 use Rattle.std.proofs.lemmas.Slice.Eq.{bytes_eq-Decides}
-use Rattle.module_file.specs.declared.reading.ReadError.{ReadError}
-use Rattle.module_file.specs.declared.reading.ReadError.TheVariants as errors
-use Rattle.module_file.specs.Reading.{ReadingFails}
+use Rattle.common.specs.declared.fault.OrNoMemory.{OrNoMemory}
+use Rattle.common.specs.declared.fault.OrNoMemory.TheVariants.{NoMemory, Refused}
+use Rattle.bytecode.specs.declared.fault.ReadStop.{ReadStop}
+use Rattle.module_file.proofs.Loop.{ReadingFails}
 use Rattle.principals.specs.ActsFor.{PrincipalHierarchy, AllDifferent, AllBelow}
 use Rattle.labels.proofs.Ascending.{sorted_nil}
 use Rattle.labels.specs.Label.{Label}
@@ -176,7 +177,7 @@ hierarchy-read bytes names rest pairs after h e f n p =
     let made : read hierarchy bytes ≡ Ok (record { names = names; pairs = pairs }, after) = rw (e, f) refl in
     made ∙ (λ i. Ok (record { names = sym n i; pairs = sym p i }, after))
 
-pub hierarchy-fails : (e : ReadError) (bytes : List ℕ) (names : List (List ℕ)) (rest : List ℕ) → read principals bytes ≡ Ok (names, rest) → ReadingFails e (read (Counted any (pair_after (length names))) rest) → ReadingFails e (read hierarchy bytes)
+pub hierarchy-fails : (e : OrNoMemory ReadStop) (bytes : List ℕ) (names : List (List ℕ)) (rest : List ℕ) → read principals bytes ≡ Ok (names, rest) → ReadingFails e (read (Counted any (pair_after (length names))) rest) → ReadingFails e (read hierarchy bytes)
 unfolding hierarchy
-hierarchy-fails errors.NoMemory bytes names rest e f = tt
-hierarchy-fails (errors.Stop stop) bytes names rest e f = rw (e, f) refl
+hierarchy-fails NoMemory bytes names rest e f = tt
+hierarchy-fails (Refused stop) bytes names rest e f = rw (e, f) refl

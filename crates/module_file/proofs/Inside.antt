@@ -3,7 +3,7 @@ use Rattle.std.proofs.Common.{◌≡◌, ℕ, zero, suc, ◌-◌, ◌≤◌, Boo
 use Rattle.std.proofs.lemmas.List.{length-drop}
 use Rattle.std.specs.Int.{w32, from_be_bytes}
 use Rattle.bytecode.specs.declared.fault.ReadStop.{ReadStop}
-use Rattle.bytecode.specs.declared.fault.ModuleRefusal.TheVariants.{BadValue, Trailing}
+use Rattle.bytecode.specs.declared.fault.ModuleDefect.TheVariants.{BadValue, Trailing}
 use Rattle.bytecode.specs.Form.{Coding, Form, Byte, Number, Text, Nothing, Marked, Checked, Then, Counted, Code, Named, stop_at, short, ◌>>=◌, Read, number_at, bytes_at, each_at, meant, operand_at, instruction_in, code_at, spelled_instruction, read, read_all}
 
 -- at most so many bytes are left, after the value or at the refusal
@@ -70,12 +70,12 @@ inside Byte (b ∷ bytes) = omega arith
 inside Number bytes = number_inside bytes
 inside Text bytes = next_at (length bytes) (number_at bytes) (λ size. bytes_at size.0 size.1) (number_inside bytes) (λ size. bytes_inside size.0 size.1)
 inside (Nothing a) bytes = omega arith
-inside (Marked refusal n form) bytes =
-    bound (length bytes) (number_at bytes) (λ found. cond (eqb found.0 n) (read form found.1) (Err (stop_at refusal bytes))) (number_inside bytes)
-    (λ found le. tested (length bytes) (eqb found.0 n) (read form found.1) (stop_at refusal bytes) (fewer (length found.1) (length bytes) (read form found.1) le (inside form found.1)) (omega arith))
-inside (Checked refusal test form) bytes =
-    bound (length bytes) (read form bytes) (λ found. cond (test found.0) (Ok found) (Err (stop_at refusal bytes))) (inside form bytes)
-    (λ found le. tested (length bytes) (test found.0) (Ok found) (stop_at refusal bytes) le (omega arith))
+inside (Marked defect n form) bytes =
+    bound (length bytes) (number_at bytes) (λ found. cond (eqb found.0 n) (read form found.1) (Err (stop_at defect bytes))) (number_inside bytes)
+    (λ found le. tested (length bytes) (eqb found.0 n) (read form found.1) (stop_at defect bytes) (fewer (length found.1) (length bytes) (read form found.1) le (inside form found.1)) (omega arith))
+inside (Checked defect test form) bytes =
+    bound (length bytes) (read form bytes) (λ found. cond (test found.0) (Ok found) (Err (stop_at defect bytes))) (inside form bytes)
+    (λ found le. tested (length bytes) (test found.0) (Ok found) (stop_at defect bytes) le (omega arith))
 inside (Then first second) bytes =
     next_at (length bytes) (read first bytes) (λ a. read (second a.0) a.1 >>= λ b. Ok ((a.0, b.0), b.1)) (inside first bytes)
     (λ a. bound (length a.1) (read (second a.0) a.1) (λ b. Ok ((a.0, b.0), b.1)) (inside (second a.0) a.1) (λ b le. le))

@@ -12,7 +12,7 @@ use Rattle.bytecode.specs.declared.value.Kind.{Kind}
 use Rattle.bytecode.specs.declared.value.Kind.TheVariants as kind
 use Rattle.bytecode.specs.declared.declaration.Slot.TheVariants as slot
 use Rattle.bytecode.specs.declared.declaration.Global.TheVariants as global
-use Rattle.bytecode.specs.declared.fault.ModuleRefusal.TheVariants.{BadValue}
+use Rattle.bytecode.specs.declared.fault.ModuleDefect.TheVariants.{BadValue}
 use Rattle.bytecode.specs.Contents.{ProcedureContents}
 use Rattle.bytecode.specs.Code.{width_of}
 use Rattle.bytecode.specs.Form.{Form, Number, Checked, Fits}

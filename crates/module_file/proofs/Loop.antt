@@ -1,9 +1,14 @@
 -- Reading values one after the other, as a loop does.
-use Rattle.std.proofs.Common.{◌≡◌, ℕ, suc, ◌-◌, ◌+◌, ◌<◌, List, [], ◌∷◌, ◌++◌, Ok, sym, ap, ◌∙◌, arith}
-use Rattle.module_file.specs.declared.reading.ReadError.{ReadError}
-use Rattle.module_file.specs.declared.reading.ReadError.TheVariants as errors
+use Rattle.std.proofs.Common.{◌≡◌, ℕ, suc, ◌-◌, ◌+◌, ◌<◌, List, [], ◌∷◌, ◌++◌, Result, Ok, Err, sym, ap, ◌∙◌, arith}
+use Rattle.common.specs.Answers.{IfRefused}
+use Rattle.common.specs.declared.fault.OrNoMemory.{OrNoMemory}
+use Rattle.common.specs.declared.fault.OrNoMemory.TheVariants.{NoMemory, Refused}
 use Rattle.bytecode.specs.Form.{Read, each_at, ◌>>=◌}
-use Rattle.module_file.specs.Reading.{ReadingFails}
+use Rattle.bytecode.specs.declared.fault.ReadStop.{ReadStop}
+
+-- a function fails as reading does, or because memory ran out
+abbrev pub ReadingFails : {B : Type 0} → OrNoMemory ReadStop → Result B ReadStop → Type 0
+ReadingFails fault read = IfRefused (λ stop. read ≡ Err stop) fault
 
 -- one more value
 pub each_goes_on : {A : Type 0} (one : List A → List ℕ → Read A) (count i : ℕ) (before : List A) (bytes : List ℕ) (x : A) (after : List ℕ) (total : Read (List A)) → i < count → one before bytes ≡ Ok (x, after)
@@ -14,10 +19,10 @@ each_goes_on {A} one count i before bytes x after total lt read so_far =
     sym (ap (λ (n : ℕ). each_at one n before bytes) left ∙ ap goes read) ∙ so_far
 
 -- a value that was not read
-pub each_fails : {A : Type 0} (e : ReadError) (one : List A → List ℕ → Read A) (count i : ℕ) (before : List A) (bytes : List ℕ) (total : Read (List A)) → i < count → ReadingFails e (one before bytes)
+pub each_fails : {A : Type 0} (e : OrNoMemory ReadStop) (one : List A → List ℕ → Read A) (count i : ℕ) (before : List A) (bytes : List ℕ) (total : Read (List A)) → i < count → ReadingFails e (one before bytes)
     → each_at one (count - i) before bytes ≡ total → ReadingFails e total
-each_fails errors.NoMemory one count i before bytes total lt fails so_far = tt
-each_fails {A} (errors.Stop stop) one count i before bytes total lt fails so_far =
+each_fails NoMemory one count i before bytes total lt fails so_far = tt
+each_fails {A} (Refused stop) one count i before bytes total lt fails so_far =
     let left : count - i ≡ suc (count - (i + 1)) = omega arith in
     let goes = λ (r : Read A). r >>= λ y. each_at one (count - (i + 1)) (before ++ y.0 ∷ []) y.1 in
     sym so_far ∙ (ap (λ (n : ℕ). each_at one n before bytes) left ∙ ap goes fails)

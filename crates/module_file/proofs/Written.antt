@@ -17,7 +17,7 @@ use Rattle.bytecode.specs.declared.declaration.Slot.{Slot}
 use Rattle.bytecode.specs.declared.declaration.Global.{Global}
 use Rattle.bytecode.specs.declared.declaration.Global.TheVariants as global
 use Rattle.bytecode.specs.declared.declaration.Handler.{Handler}
-use Rattle.bytecode.specs.declared.fault.ModuleRefusal.TheVariants.{BadValue}
+use Rattle.bytecode.specs.declared.fault.ModuleDefect.TheVariants.{BadValue}
 use Rattle.bytecode.specs.Contents.{ChannelContents, ProcedureContents, ModuleContents}
 use Rattle.bytecode.specs.Code.{width_of}
 use Rattle.bytecode.specs.Form.{Form, Number, Checked, Fits, FitEach, spelled, spelled_each, spelled_code}

@@ -8,8 +8,8 @@ ghost use Rattle.std.specs.Prelude.{[], length};
 
 use crate::hierarchy::read_label;
 use crate::names::{read_exceptions, read_name, take, take_built_in};
-use crate::reading::{ReadError, read_byte, read_number, refuse};
-use bytecode::ModuleRefusal;
+use crate::reading::{ReadFault, read_byte, read_number, refuse};
+use bytecode::ModuleDefect;
 use bytecode::channel::Channel;
 use common::Direction;
 use principals::Hierarchy;
@@ -18,14 +18,14 @@ use std::collections::BTreeSet;
 
 /// The direction of a channel.
 #[tactic(auto, unfolding(bytecode::specs::Format::direction))]
-fn read_direction(bytes: &[u8]) -> Result<(Direction, &[u8]), ReadError>
+fn read_direction(bytes: &[u8]) -> Result<(Direction, &[u8]), ReadFault>
     ensures { Decodes (λ x. (x.0, x.1.now)) result (read direction bytes.now) }
 {
     let (direction, rest) = read_byte(bytes)?;
     match direction {
         0 => Ok((Direction::Input, rest)),
         1 => Ok((Direction::Output, rest)),
-        _ => Err(refuse(ModuleRefusal::BadValue, bytes)),
+        _ => Err(refuse(ModuleDefect::BadValue, bytes)),
     }
 }
 
@@ -36,7 +36,7 @@ fn read_channel<'a>(
     principals: u32,
     taken: &BTreeSet<String>,
     bytes: &'a [u8],
-) -> Result<(Channel, &'a [u8]), ReadError>
+) -> Result<(Channel, &'a [u8]), ReadFault>
     ensures { Decodes (λ x. (x.0, x.1.now)) result (read (channel_after principals (contains_text taken.now) []) bytes.now) }
 {
     let (direction, rest) = read_direction(bytes)?;
@@ -52,7 +52,7 @@ fn read_channels(
     mut taken: BTreeSet<String>,
     count: u32,
     bytes: &[u8],
-) -> Result<(Vec<Channel>, &[u8]), ReadError>
+) -> Result<(Vec<Channel>, &[u8]), ReadFault>
     ensures { Decodes (λ x. (x.0.items, x.1.now)) result (each_at (λ before rest. read (channel_after principals (contains_text taken) before) rest) count [] bytes.now) }
 {
     let mut channels = Vec::new(alloc);
@@ -72,7 +72,7 @@ fn read_counted_channels(
     principals: u32,
     taken: BTreeSet<String>,
     bytes: &[u8],
-) -> Result<(Vec<Channel>, &[u8]), ReadError>
+) -> Result<(Vec<Channel>, &[u8]), ReadFault>
     ensures { Decodes (λ x. (x.0.items, x.1.now)) result (read (Counted any (channel_after principals (contains_text taken))) bytes.now) }
 {
     let (count, rest) = read_number(bytes)?;
@@ -85,7 +85,7 @@ pub(crate) fn read_declared<'a>(
     alloc: Global,
     hierarchy: &Hierarchy,
     bytes: &'a [u8],
-) -> Result<(Vec<String>, Vec<Channel>, &'a [u8]), ReadError>
+) -> Result<(Vec<String>, Vec<Channel>, &'a [u8]), ReadFault>
     ensures { Decodes (λ x. ((texts x.0.items, x.1.items), x.2.now)) result (read (declared (length hierarchy.now.names)) bytes.now) }
 {
     let mut taken = take_built_in(alloc)?;

@@ -6,8 +6,8 @@ ghost use Rattle.bytecode.specs.Opcodes.{instructions};
 ghost use Rattle.module_file.specs.Reading.{Decodes};
 ghost use Rattle.std.specs.Prelude.{[], IfOk, ◌≤◌};
 
-use crate::reading::{ReadError, read_byte, read_number, read_text, refuse};
-use bytecode::ModuleRefusal;
+use crate::reading::{ReadFault, read_byte, read_number, read_text, refuse};
+use bytecode::ModuleDefect;
 use bytecode::instruction::Instruction;
 use bytecode::opcode::{instruction_of, width_after};
 use std::alloc::Global;
@@ -17,20 +17,20 @@ const USUAL_WIDTH: usize = 3;
 
 /// The instruction at the front, which ends within the room that is left in its code.
 #[tactic(auto, unfolding(bytecode::specs::Opcodes::instructions))]
-fn read_instruction(room: u32, bytes: &[u8]) -> Result<(Instruction, &[u8]), ReadError>
+fn read_instruction(room: u32, bytes: &[u8]) -> Result<(Instruction, &[u8]), ReadFault>
     ensures gives { Decodes (λ x. (x.0, x.1.now)) result (instruction_in instructions room bytes.now) }
     ensures inside { IfOk result (λ x. width_of x.0 ≤ room) }
 {
     let (opcode, rest) = read_byte(bytes)?;
     let Some(width) = width_after(opcode) else {
-        return Err(refuse(ModuleRefusal::BadValue, bytes));
+        return Err(refuse(ModuleDefect::BadValue, bytes));
     };
     if room as usize <= width {
-        return Err(refuse(ModuleRefusal::BadValue, bytes));
+        return Err(refuse(ModuleDefect::BadValue, bytes));
     }
     let (operand, after) = read_text(width, rest)?;
     let Some(instruction) = instruction_of(opcode, operand) else {
-        return Err(refuse(ModuleRefusal::BadValue, rest));
+        return Err(refuse(ModuleDefect::BadValue, rest));
     };
     Ok((instruction, after))
 }
@@ -40,7 +40,7 @@ fn read_instructions(
     alloc: Global,
     size: u32,
     bytes: &[u8],
-) -> Result<(Vec<Instruction>, &[u8]), ReadError>
+) -> Result<(Vec<Instruction>, &[u8]), ReadFault>
     ensures { Decodes (λ x. (x.0.items, x.1.now)) result (code_at instructions size size [] bytes.now) }
 {
     // Room for the bytes that are there, whatever the size claims.
@@ -57,7 +57,7 @@ fn read_instructions(
 }
 
 /// The code behind its length.
-pub(crate) fn read_code(alloc: Global, bytes: &[u8]) -> Result<(Vec<Instruction>, &[u8]), ReadError>
+pub(crate) fn read_code(alloc: Global, bytes: &[u8]) -> Result<(Vec<Instruction>, &[u8]), ReadFault>
     ensures { Decodes (λ x. (x.0.items, x.1.now)) result (read (Code instructions) bytes.now) }
 {
     let (size, rest) = read_number(bytes)?;

@@ -1,23 +1,25 @@
 //! Reading of modules.
 
 ghost use Rattle.bytecode.specs.Contents.{ModuleContents};
-ghost use Rattle.module_file.specs.Decoded.{first_refusal, IsReadAs, Reports};
+ghost use Rattle.common.specs.Answers.{Answers, IfRefused};
+ghost use Rattle.module_file.specs.Decoded.{first_refusal};
 ghost use Rattle.bytecode.specs.Form.{Fits, read, read_all, Spells};
 ghost use Rattle.bytecode.specs.Format.{contents, main, module_file, program};
 ghost use Rattle.module_file.specs.Reading.{contents_of, Decodes};
-ghost use Rattle.std.specs.Prelude.{IfErr, IfOk, ◌≡◌};
+ghost use Rattle.std.specs.Prelude.{IfErr, IfOk, Some, ◌≡◌};
 
 use crate::channels::read_declared;
-use crate::fault::FormatFault;
+use crate::fault::{ModuleFault, ModuleRefusal};
 use crate::globals::read_globals;
 use crate::hierarchy::read_hierarchy;
 use crate::procedures::read_procedures;
-use crate::reading::{ReadError, read_number, refuse};
-use bytecode::ModuleRefusal;
+use crate::reading::{ReadFault, read_number, refuse};
+use bytecode::ModuleDefect;
 use bytecode::channel::Channel;
 use bytecode::declaration::Global as Variable;
 use bytecode::module::Module;
 use bytecode::procedure::Procedure;
+use common::OrNoMemory;
 use principals::Hierarchy;
 use std::alloc::Global;
 
@@ -46,7 +48,7 @@ pub(crate) struct Program {
 
 /// The number of a procedure without parameters that returns no value.
 #[tactic(auto, unfolding(bytecode::specs::Format::main))]
-fn read_main<'a>(procedures: &[Procedure], bytes: &'a [u8]) -> Result<(u32, &'a [u8]), ReadError>
+fn read_main<'a>(procedures: &[Procedure], bytes: &'a [u8]) -> Result<(u32, &'a [u8]), ReadFault>
     ensures { Decodes (λ x. (x.0, x.1.now)) result (read (main procedures.now) bytes.now) }
 {
     let (number, rest) = read_number(bytes)?;
@@ -54,13 +56,13 @@ fn read_main<'a>(procedures: &[Procedure], bytes: &'a [u8]) -> Result<(u32, &'a 
         Some(procedure) if procedure.parameters() == 0 && procedure.returned().is_none() => Ok((
             number, rest,
         )),
-        _ => Err(refuse(ModuleRefusal::BadValue, bytes)),
+        _ => Err(refuse(ModuleDefect::BadValue, bytes)),
     }
 }
 
 /// The globals, the procedures, and the number of the one where a run starts.
 #[tactic(auto, unfolding(bytecode::specs::Format::program))]
-fn read_program(alloc: Global, bytes: &[u8]) -> Result<(Program, &[u8]), ReadError>
+fn read_program(alloc: Global, bytes: &[u8]) -> Result<(Program, &[u8]), ReadFault>
     ensures { Decodes (λ x. ((x.0.globals.items, (x.0.procedures.items, x.0.main)), x.1.now)) result (read program bytes.now) }
 {
     let (globals, rest) = read_globals(alloc, bytes)?;
@@ -76,7 +78,7 @@ fn read_program(alloc: Global, bytes: &[u8]) -> Result<(Program, &[u8]), ReadErr
 
 /// The fields of a module behind magic and version.
 #[tactic(auto, unfolding(bytecode::specs::Format::contents))]
-fn read_contents(alloc: Global, bytes: &[u8]) -> Result<(Fields, &[u8]), ReadError>
+fn read_contents(alloc: Global, bytes: &[u8]) -> Result<(Fields, &[u8]), ReadFault>
     ensures { Decodes (λ x. (contents_of x.0, x.1.now)) result (read contents bytes.now) }
 {
     let (hierarchy, rest) = read_hierarchy(alloc, bytes)?;
@@ -93,27 +95,27 @@ fn read_contents(alloc: Global, bytes: &[u8]) -> Result<(Fields, &[u8]), ReadErr
 
 /// The fields of a module behind magic and version, which are tested.
 #[tactic(auto, unfolding(bytecode::specs::Format::module_file))]
-fn read_file(alloc: Global, bytes: &[u8]) -> Result<(Fields, &[u8]), ReadError>
+fn read_file(alloc: Global, bytes: &[u8]) -> Result<(Fields, &[u8]), ReadFault>
     ensures { Decodes (λ x. (contents_of x.0, x.1.now)) result (read module_file bytes.now) }
 {
     let (magic, rest) = read_number(bytes)?;
     if magic != MAGIC {
-        return Err(refuse(ModuleRefusal::Magic, bytes));
+        return Err(refuse(ModuleDefect::Magic, bytes));
     }
     let (version, after) = read_number(rest)?;
     if version != VERSION {
-        return Err(refuse(ModuleRefusal::Version, rest));
+        return Err(refuse(ModuleDefect::Version, rest));
     }
     read_contents(alloc, after)
 }
 
 /// The fields of a module that all of the bytes are.
-fn read_all_of_file(alloc: Global, bytes: &[u8]) -> Result<Fields, ReadError>
+fn read_all_of_file(alloc: Global, bytes: &[u8]) -> Result<Fields, ReadFault>
     ensures { Decodes contents_of result (read_all module_file bytes.now) }
 {
     let (fields, rest) = read_file(alloc, bytes)?;
     if !rest.is_empty() {
-        return Err(refuse(ModuleRefusal::Trailing, rest));
+        return Err(refuse(ModuleDefect::Trailing, rest));
     }
     Ok(fields)
 }
@@ -142,20 +144,25 @@ fn module_of(fields: Fields) -> Module
 /// A refusal is the first one in reading order, field by field from the left, with the offset of the field's first byte,
 /// within code that of the offending byte, and for bytes that end too early their length. Nothing is reserved by a count
 /// that the bytes claim.
-pub fn decode(alloc: Global, bytes: &[u8]) -> Result<Module, FormatFault>
+pub fn decode(alloc: Global, bytes: &[u8]) -> Result<Module, ModuleFault>
     // What is read is spelled so, each byte of it.
     ensures accepted { IfOk result (λ m. Spells module_file m bytes.now) }
     // What is spelled so is read, unless memory is refused.
-    ensures exact { (m : ModuleContents) → Spells module_file m bytes.now → IsReadAs m result }
+    ensures exact { (m : ModuleContents) → Spells module_file m bytes.now →
+        Answers (λ found. found ≡ m) (λ _. ⊥) result }
     // A refusal is the first one, at its offset.
-    ensures first_fault { IfErr result (λ fault. Reports fault (first_refusal bytes.now)) }
+    ensures first_fault { IfErr result (IfRefused
+        (λ refusal. first_refusal bytes.now ≡ Some refusal)) }
 {
     match read_all_of_file(alloc, bytes) {
         Ok(fields) => Ok(module_of(fields)),
-        Err(ReadError::NoMemory) => Err(FormatFault::NoMemory),
-        Err(ReadError::Stop(stop)) => {
+        Err(OrNoMemory::NoMemory) => Err(OrNoMemory::NoMemory),
+        Err(OrNoMemory::Refused(stop)) => {
             let offset = bytes.len() - stop.left;
-            Err(FormatFault::Refused(stop.refusal, offset))
+            Err(OrNoMemory::Refused(ModuleRefusal {
+                defect: stop.defect,
+                offset,
+            }))
         }
     }
 }

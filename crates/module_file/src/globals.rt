@@ -6,27 +6,27 @@ ghost use Rattle.module_file.specs.Reading.{Decodes};
 ghost use Rattle.std.specs.Prelude.{◌<◌, ◌≡◌, ◌≤◌};
 
 use crate::limit::{cells_of_size, is_size};
-use crate::reading::{Element, ReadError, read_byte, read_each, read_number, refuse};
-use bytecode::ModuleRefusal;
+use crate::reading::{Element, ReadFault, read_byte, read_each, read_number, refuse};
+use bytecode::ModuleDefect;
 use bytecode::declaration::Global as Variable;
 use bytecode::value::Kind;
 use std::alloc::Global;
 
 /// The kind of a global or of a slot.
 #[tactic(auto, unfolding(bytecode::specs::Format::variable_kind))]
-pub(crate) fn read_kind(bytes: &[u8]) -> Result<(Kind, &[u8]), ReadError>
+pub(crate) fn read_kind(bytes: &[u8]) -> Result<(Kind, &[u8]), ReadFault>
     ensures { Decodes (λ x. (x.0, x.1.now)) result (read variable_kind bytes.now) }
 {
     let (kind, rest) = read_byte(bytes)?;
     match kind {
         0 => Ok((Kind::Int, rest)),
         1 => Ok((Kind::Boolean, rest)),
-        _ => Err(refuse(ModuleRefusal::BadValue, bytes)),
+        _ => Err(refuse(ModuleDefect::BadValue, bytes)),
     }
 }
 
 /// The first value of a scalar, and 0 for an array, which has none.
-fn read_first_value(kind: Kind, size: u32, bytes: &[u8]) -> Result<(u32, &[u8]), ReadError>
+fn read_first_value(kind: Kind, size: u32, bytes: &[u8]) -> Result<(u32, &[u8]), ReadFault>
     ensures { Decodes (λ x. (x.0, x.1.now)) result (read (first_value kind size) bytes.now) }
 {
     if size != 0 {
@@ -37,7 +37,7 @@ fn read_first_value(kind: Kind, size: u32, bytes: &[u8]) -> Result<(u32, &[u8]),
         Kind::Int => Ok((value, rest)),
         Kind::Boolean => {
             if value > 1 {
-                return Err(refuse(ModuleRefusal::BadValue, bytes));
+                return Err(refuse(ModuleDefect::BadValue, bytes));
             }
             Ok((value, rest))
         }
@@ -75,11 +75,11 @@ impl Element for GlobalField {
         cells: &mut u32,
         _before: &[Variable],
         bytes: &'a [u8],
-    ) -> Result<(Variable, &'a [u8]), ReadError> {
+    ) -> Result<(Variable, &'a [u8]), ReadFault> {
         let (kind, rest) = read_kind(bytes)?;
         let (size, after) = read_number(rest)?;
         if !is_size(*cells, size) {
-            return Err(refuse(ModuleRefusal::BadValue, rest));
+            return Err(refuse(ModuleDefect::BadValue, rest));
         }
         let (first, after) = read_first_value(kind, size, after)?;
         *cells += cells_of_size(size);
@@ -89,7 +89,7 @@ impl Element for GlobalField {
 
 /// The globals behind their count.
 #[tactic(auto, unfolding(bytecode::specs::Format::globals))]
-pub(crate) fn read_globals(alloc: Global, bytes: &[u8]) -> Result<(Vec<Variable>, &[u8]), ReadError>
+pub(crate) fn read_globals(alloc: Global, bytes: &[u8]) -> Result<(Vec<Variable>, &[u8]), ReadFault>
     ensures { Decodes (λ x. (x.0.items, x.1.now)) result (read globals bytes.now) }
 {
     let (count, rest) = read_number(bytes)?;

@@ -5,8 +5,8 @@ ghost use Rattle.bytecode.specs.Format.{any, hierarchy, label, number_below, pai
 ghost use Rattle.module_file.specs.Reading.{Decodes, texts};
 
 use crate::names::read_first_names;
-use crate::reading::{Element, ReadError, read_each, read_number, refuse};
-use bytecode::ModuleRefusal;
+use crate::reading::{Element, ReadFault, read_each, read_number, refuse};
+use bytecode::ModuleDefect;
 use common::limits::MAX_PRINCIPALS;
 use labels::{Label, Policy};
 use principals::Hierarchy;
@@ -14,24 +14,24 @@ use std::alloc::Global;
 
 /// The number of one of so many things.
 #[tactic(auto, unfolding(bytecode::specs::Format::number_below))]
-fn read_number_below(count: u32, bytes: &[u8]) -> Result<(u32, &[u8]), ReadError>
+fn read_number_below(count: u32, bytes: &[u8]) -> Result<(u32, &[u8]), ReadFault>
     ensures { Decodes (λ x. (x.0, x.1.now)) result (read (number_below count) bytes.now) }
 {
     let (number, rest) = read_number(bytes)?;
     if number >= count {
-        return Err(refuse(ModuleRefusal::BadValue, bytes));
+        return Err(refuse(ModuleDefect::BadValue, bytes));
     }
     Ok((number, rest))
 }
 
 /// The names of the principals behind their count.
 #[tactic(auto, unfolding(bytecode::specs::Format::principals))]
-fn read_principals(alloc: Global, bytes: &[u8]) -> Result<(Vec<String>, &[u8]), ReadError>
+fn read_principals(alloc: Global, bytes: &[u8]) -> Result<(Vec<String>, &[u8]), ReadFault>
     ensures { Decodes (λ x. (texts x.0.items, x.1.now)) result (read principals bytes.now) }
 {
     let (count, rest) = read_number(bytes)?;
     if count > MAX_PRINCIPALS {
-        return Err(refuse(ModuleRefusal::BadValue, bytes));
+        return Err(refuse(ModuleDefect::BadValue, bytes));
     }
     read_first_names(alloc, count, rest)
 }
@@ -58,14 +58,14 @@ impl Element for PairField {
         _state: &mut (),
         before: &[(u32, u32)],
         bytes: &'a [u8],
-    ) -> Result<((u32, u32), &'a [u8]), ReadError> {
+    ) -> Result<((u32, u32), &'a [u8]), ReadFault> {
         let (first, rest) = read_number_below(self.principals, bytes)?;
         let (second, rest) = read_number_below(self.principals, rest)?;
         let pair = (first, second);
         if let Some(last) = before.last()
             && *last >= pair
         {
-            return Err(refuse(ModuleRefusal::NotCanonical, bytes));
+            return Err(refuse(ModuleDefect::NotCanonical, bytes));
         }
         Ok((pair, rest))
     }
@@ -94,15 +94,15 @@ impl Element for ReaderField {
         _state: &mut (),
         before: &[u32],
         bytes: &'a [u8],
-    ) -> Result<(u32, &'a [u8]), ReadError> {
+    ) -> Result<(u32, &'a [u8]), ReadFault> {
         let (reader, rest) = read_number_below(self.principals, bytes)?;
         if reader == self.owner {
-            return Err(refuse(ModuleRefusal::NotCanonical, bytes));
+            return Err(refuse(ModuleDefect::NotCanonical, bytes));
         }
         if let Some(last) = before.last()
             && *last >= reader
         {
-            return Err(refuse(ModuleRefusal::NotCanonical, bytes));
+            return Err(refuse(ModuleDefect::NotCanonical, bytes));
         }
         Ok((reader, rest))
     }
@@ -130,7 +130,7 @@ impl Element for PolicyField {
         _state: &mut (),
         before: &[Policy],
         bytes: &'a [u8],
-    ) -> Result<(Policy, &'a [u8]), ReadError> {
+    ) -> Result<(Policy, &'a [u8]), ReadFault> {
         let principals = self.principals;
         let (owner, rest) = read_number_below(principals, bytes)?;
         let (readers, rest) = read_readers(alloc, principals, owner, rest)?;
@@ -138,7 +138,7 @@ impl Element for PolicyField {
         if let Some(last) = before.last()
             && *last >= policy
         {
-            return Err(refuse(ModuleRefusal::NotCanonical, bytes));
+            return Err(refuse(ModuleDefect::NotCanonical, bytes));
         }
         Ok((policy, rest))
     }
@@ -150,7 +150,7 @@ fn read_readers(
     principals: u32,
     owner: u32,
     bytes: &[u8],
-) -> Result<(Vec<u32>, &[u8]), ReadError>
+) -> Result<(Vec<u32>, &[u8]), ReadFault>
     ensures { Decodes (λ x. (x.0.items, x.1.now)) result (read (Counted any (reader_after principals owner)) bytes.now) }
 {
     let (count, rest) = read_number(bytes)?;
@@ -163,7 +163,7 @@ fn read_policies(
     alloc: Global,
     principals: u32,
     bytes: &[u8],
-) -> Result<(Vec<Policy>, &[u8]), ReadError>
+) -> Result<(Vec<Policy>, &[u8]), ReadFault>
     ensures { Decodes (λ x. (x.0.items, x.1.now)) result (read (label principals) bytes.now) }
 {
     let (count, rest) = read_number(bytes)?;
@@ -175,7 +175,7 @@ pub(crate) fn read_label(
     alloc: Global,
     principals: u32,
     bytes: &[u8],
-) -> Result<(Label, &[u8]), ReadError>
+) -> Result<(Label, &[u8]), ReadFault>
     ensures { Decodes (λ x. (x.0, x.1.now)) result (read (label principals) bytes.now) }
 {
     let (policies, rest) = read_policies(alloc, principals, bytes)?;
@@ -187,7 +187,7 @@ fn read_pairs(
     alloc: Global,
     principals: u32,
     bytes: &[u8],
-) -> Result<(Vec<(u32, u32)>, &[u8]), ReadError>
+) -> Result<(Vec<(u32, u32)>, &[u8]), ReadFault>
     ensures { Decodes (λ x. (x.0.items, x.1.now)) result (read (Counted any (pair_after principals)) bytes.now) }
 {
     let (count, rest) = read_number(bytes)?;
@@ -196,7 +196,7 @@ fn read_pairs(
 
 /// The hierarchy.
 #[tactic(auto, unfolding(bytecode::specs::Format::hierarchy))]
-pub(crate) fn read_hierarchy(alloc: Global, bytes: &[u8]) -> Result<(Hierarchy, &[u8]), ReadError>
+pub(crate) fn read_hierarchy(alloc: Global, bytes: &[u8]) -> Result<(Hierarchy, &[u8]), ReadFault>
     ensures { Decodes (λ x. (x.0, x.1.now)) result (read hierarchy bytes.now) }
 {
     let (names, rest) = read_principals(alloc, bytes)?;

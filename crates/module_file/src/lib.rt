@@ -17,4 +17,4 @@ mod writing;
 
 pub use decoding::decode;
 pub use encoding::encode;
-pub use fault::FormatFault;
+pub use fault::{ModuleFault, ModuleRefusal};

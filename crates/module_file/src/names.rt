@@ -7,8 +7,8 @@ ghost use Rattle.std.specs.BTreeSet.{contains_text};
 ghost use Rattle.std.specs.Prelude.{[], bytes_eq, false, IfOk, List, MatchOption, OnOk, true, ℕ, ◌||◌, ◌≡◌};
 ghost use Rattle.std.specs.String.{string_bytes};
 
-use crate::reading::{ReadError, read_number, read_text, refuse};
-use bytecode::ModuleRefusal;
+use crate::reading::{ReadFault, read_number, read_text, refuse};
+use bytecode::ModuleDefect;
 use common::exceptions::{ARITH_NAME, BOUNDS_NAME, END_NAME};
 use lexer::is_name;
 use std::alloc::{AllocError, Global};
@@ -35,13 +35,13 @@ pub(crate) fn read_name<'a>(
     alloc: Global,
     taken: &BTreeSet<String>,
     bytes: &'a [u8],
-) -> Result<(String, &'a [u8]), ReadError>
+) -> Result<(String, &'a [u8]), ReadFault>
     ensures { Decodes (λ x. (string_bytes x.0, x.1.now)) result (read (name_after (contains_text taken.now) []) bytes.now) }
 {
     let (size, rest) = read_number(bytes)?;
     let (name, rest) = read_text(size as usize, rest)?;
     let Some(name) = read_new_name(taken, name) else {
-        return Err(refuse(ModuleRefusal::BadValue, bytes));
+        return Err(refuse(ModuleDefect::BadValue, bytes));
     };
     Ok((String::from_str(alloc, name)?, rest))
 }
@@ -64,7 +64,7 @@ pub(crate) fn read_names<'a>(
     taken: &mut BTreeSet<String>,
     count: u32,
     bytes: &'a [u8],
-) -> Result<(Vec<String>, &'a [u8]), ReadError>
+) -> Result<(Vec<String>, &'a [u8]), ReadFault>
     ensures gives { Decodes (λ x. (texts x.0.items, x.1.now)) result (each_at (λ before rest. read (name_after (contains_text taken.old) before) rest) count [] bytes.now) }
     ensures taken { IfOk result (λ x. (q : List ℕ) → contains_text taken.new q ≡ (contains_text taken.old q || is_among (texts x.0.items) q)) }
 {
@@ -84,7 +84,7 @@ pub(crate) fn read_first_names(
     alloc: Global,
     count: u32,
     bytes: &[u8],
-) -> Result<(Vec<String>, &[u8]), ReadError>
+) -> Result<(Vec<String>, &[u8]), ReadFault>
     ensures { Decodes (λ x. (texts x.0.items, x.1.now)) result (each_at (λ before rest. read (name_after (λ _. false) before) rest) count [] bytes.now) }
 {
     let mut taken = BTreeSet::new(alloc);
@@ -108,7 +108,7 @@ pub(crate) fn read_exceptions<'a>(
     alloc: Global,
     taken: &mut BTreeSet<String>,
     bytes: &'a [u8],
-) -> Result<(Vec<String>, &'a [u8]), ReadError>
+) -> Result<(Vec<String>, &'a [u8]), ReadFault>
     requires { (q : List ℕ) → contains_text taken.old q ≡ is_built_in q }
     ensures gives { Decodes (λ x. (texts x.0.items, x.1.now)) result (read exceptions bytes.now) }
     ensures taken { IfOk result (λ x. (q : List ℕ) → contains_text taken.new q ≡ (is_built_in q || is_among (texts x.0.items) q)) }

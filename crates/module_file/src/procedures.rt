@@ -8,8 +8,8 @@ ghost use Rattle.std.specs.Prelude.{◌≡◌, ◌≤◌};
 use crate::code::read_code;
 use crate::globals::read_kind;
 use crate::limit::{cells_of_size, is_size};
-use crate::reading::{Element, ReadError, read_byte, read_each, read_number, refuse};
-use bytecode::ModuleRefusal;
+use crate::reading::{Element, ReadFault, read_byte, read_each, read_number, refuse};
+use bytecode::ModuleDefect;
 use bytecode::declaration::{Handler, Slot};
 use bytecode::procedure::Procedure;
 use bytecode::value::Kind;
@@ -34,7 +34,7 @@ impl Element for HandlerField {
         _state: &mut (),
         _before: &[Handler],
         bytes: &'a [u8],
-    ) -> Result<(Handler, &'a [u8]), ReadError> {
+    ) -> Result<(Handler, &'a [u8]), ReadFault> {
         let (start, rest) = read_number(bytes)?;
         let (end, rest) = read_number(rest)?;
         let (exception, rest) = read_number(rest)?;
@@ -51,7 +51,7 @@ impl Element for HandlerField {
 
 /// The handlers behind their count.
 #[tactic(auto, unfolding(bytecode::specs::Format::handlers))]
-fn read_handlers(alloc: Global, bytes: &[u8]) -> Result<(Vec<Handler>, &[u8]), ReadError>
+fn read_handlers(alloc: Global, bytes: &[u8]) -> Result<(Vec<Handler>, &[u8]), ReadFault>
     ensures { Decodes (λ x. (x.0.items, x.1.now)) result (read handlers bytes.now) }
 {
     let (count, rest) = read_number(bytes)?;
@@ -90,12 +90,12 @@ impl Element for SlotField {
         cells: &mut u32,
         before: &[Slot],
         bytes: &'a [u8],
-    ) -> Result<(Slot, &'a [u8]), ReadError> {
+    ) -> Result<(Slot, &'a [u8]), ReadFault> {
         let (kind, rest) = read_kind(bytes)?;
         let (size, after) = read_number(rest)?;
         let may_be_array = self.parameters as usize <= before.len();
         if !(is_size(*cells, size) && (may_be_array || size == 0)) {
-            return Err(refuse(ModuleRefusal::BadValue, rest));
+            return Err(refuse(ModuleDefect::BadValue, rest));
         }
         *cells += cells_of_size(size);
         Ok((slot_of(kind, size), after))
@@ -104,19 +104,19 @@ impl Element for SlotField {
 
 /// The slots behind their count, the first of which are parameters.
 #[tactic(auto, unfolding(bytecode::specs::Format::slots))]
-fn read_slots(alloc: Global, parameters: u32, bytes: &[u8]) -> Result<(Vec<Slot>, &[u8]), ReadError>
+fn read_slots(alloc: Global, parameters: u32, bytes: &[u8]) -> Result<(Vec<Slot>, &[u8]), ReadFault>
     ensures { Decodes (λ x. (x.0.items, x.1.now)) result (read (slots parameters) bytes.now) }
 {
     let (count, rest) = read_number(bytes)?;
     if count < parameters {
-        return Err(refuse(ModuleRefusal::BadValue, bytes));
+        return Err(refuse(ModuleDefect::BadValue, bytes));
     }
     read_each(alloc, &SlotField { parameters }, 0, count, rest)
 }
 
 /// The kind of value that a procedure returns, if any.
 #[tactic(auto, unfolding(bytecode::specs::Format::returned))]
-fn read_returned(bytes: &[u8]) -> Result<(Option<Kind>, &[u8]), ReadError>
+fn read_returned(bytes: &[u8]) -> Result<(Option<Kind>, &[u8]), ReadFault>
     ensures { Decodes (λ x. (x.0, x.1.now)) result (read returned bytes.now) }
 {
     let (kind, rest) = read_byte(bytes)?;
@@ -124,7 +124,7 @@ fn read_returned(bytes: &[u8]) -> Result<(Option<Kind>, &[u8]), ReadError>
         0 => Ok((None, rest)),
         1 => Ok((Some(Kind::Int), rest)),
         2 => Ok((Some(Kind::Boolean), rest)),
-        _ => Err(refuse(ModuleRefusal::BadValue, bytes)),
+        _ => Err(refuse(ModuleDefect::BadValue, bytes)),
     }
 }
 
@@ -147,7 +147,7 @@ impl Element for ProcedureField {
         _state: &mut (),
         _before: &[Procedure],
         bytes: &'a [u8],
-    ) -> Result<(Procedure, &'a [u8]), ReadError> {
+    ) -> Result<(Procedure, &'a [u8]), ReadFault> {
         let (returned, rest) = read_returned(bytes)?;
         let (parameters, rest) = read_number(rest)?;
         let (slots, rest) = read_slots(alloc, parameters, rest)?;
@@ -163,7 +163,7 @@ impl Element for ProcedureField {
 pub(crate) fn read_procedures(
     alloc: Global,
     bytes: &[u8],
-) -> Result<(Vec<Procedure>, &[u8]), ReadError>
+) -> Result<(Vec<Procedure>, &[u8]), ReadFault>
     ensures { Decodes (λ x. (x.0.items, x.1.now)) result (read procedures bytes.now) }
 {
     let (count, rest) = read_number(bytes)?;

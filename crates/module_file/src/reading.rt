@@ -1,80 +1,61 @@
 //! Reading of fields, each at the front of the bytes that are left.
 
 ghost use Rattle.bytecode.specs.Form.{byte_at, bytes_at, each_at, number_at, Read, stop_at};
+ghost use Rattle.common.specs.declared.fault.OrNoMemory.TheVariants.{Refused};
 ghost use Rattle.module_file.specs.Reading.{Decodes};
-ghost use Rattle.module_file.specs.declared.reading.ReadError.TheVariants.{NoMemory};
 ghost use Rattle.std.specs.Prelude.{[], IfOk, List, ℕ, ◌++◌, ◌∷◌, ◌≡◌};
 
-use bytecode::fault::{ModuleRefusal, ReadStop};
+use bytecode::fault::{ModuleDefect, ReadStop};
 use byteorder::{BigEndian, ByteOrder};
-use std::alloc::{AllocError, AllocFailed, Global};
+use common::OrNoMemory;
+use std::alloc::Global;
 
 /// Why a field was not read.
-#[derive(Debug, Drop)]
-pub(crate) enum ReadError {
-    NoMemory,
-    Stop(ReadStop),
-}
-
-impl From<AllocError> for ReadError {
-    ghost from_gives = { λ _ e. e ≡ NoMemory };
-
-    fn from(_e: AllocError) -> ReadError {
-        ReadError::NoMemory
-    }
-}
-
-impl<T: Drop> From<AllocFailed<T>> for ReadError {
-    ghost from_gives = { λ _ e. e ≡ NoMemory };
-
-    fn from(_e: AllocFailed<T>) -> ReadError {
-        ReadError::NoMemory
-    }
-}
+pub(crate) type ReadFault = OrNoMemory<ReadStop>;
 
 /// The refusal of the field that `bytes` begin with.
-pub(crate) fn refuse(refusal: ModuleRefusal, bytes: &[u8]) -> ReadError
-    ensures { result ≡ ReadError.Stop (stop_at refusal bytes.now) }
+pub(crate) fn refuse(defect: ModuleDefect, bytes: &[u8]) -> ReadFault
+    ensures { result ≡ Refused (stop_at defect bytes.now) }
 {
-    ReadError::Stop(ReadStop {
-        refusal,
+    OrNoMemory::Refused(ReadStop {
+        defect,
         left: bytes.len(),
     })
 }
 
 /// The end of the bytes inside a field or before it.
 pub(crate) const SHORT: ReadStop = ReadStop {
-    refusal: ModuleRefusal::Short,
+    defect: ModuleDefect::Short,
     left: 0,
 };
 
 /// One byte.
-pub(crate) fn read_byte(bytes: &[u8]) -> Result<(u8, &[u8]), ReadError>
+pub(crate) fn read_byte(bytes: &[u8]) -> Result<(u8, &[u8]), ReadFault>
     ensures { Decodes (λ x. (x.0, x.1.now)) result (byte_at bytes.now) }
 {
     match bytes {
-        [] => Err(ReadError::Stop(SHORT)),
+        [] => Err(OrNoMemory::Refused(SHORT)),
         [first, rest @ ..] => Ok((*first, rest)),
     }
 }
 
 /// A number in four bytes.
-pub(crate) fn read_number(bytes: &[u8]) -> Result<(u32, &[u8]), ReadError>
+pub(crate) fn read_number(bytes: &[u8]) -> Result<(u32, &[u8]), ReadFault>
     ensures { Decodes (λ x. (x.0, x.1.now)) result (number_at bytes.now) }
 {
     if bytes.len() < 4 {
-        return Err(ReadError::Stop(SHORT));
+        return Err(OrNoMemory::Refused(SHORT));
     }
     let (front, rest) = bytes.split_at(4);
     Ok((BigEndian::read_u32(front), rest))
 }
 
 /// So many bytes.
-pub(crate) fn read_text(count: usize, bytes: &[u8]) -> Result<(&[u8], &[u8]), ReadError>
+pub(crate) fn read_text(count: usize, bytes: &[u8]) -> Result<(&[u8], &[u8]), ReadFault>
     ensures { Decodes (λ x. (x.0.now, x.1.now)) result (bytes_at count bytes.now) }
 {
     if bytes.len() < count {
-        return Err(ReadError::Stop(SHORT));
+        return Err(OrNoMemory::Refused(SHORT));
     }
     Ok(bytes.split_at(count))
 }
@@ -95,7 +76,7 @@ pub(crate) trait Element {
         state: &mut Self::State,
         before: &[Self::Item],
         bytes: &'a [u8],
-    ) -> Result<(Self::Item, &'a [u8]), ReadError>
+    ) -> Result<(Self::Item, &'a [u8]), ReadFault>
         requires { holds self.now state.old before.now }
         ensures gives { Decodes (λ x. (x.0, x.1.now)) result (reads self.now before.now bytes.now) }
         ensures holds { IfOk result (λ x. holds self.now state.new (before.now ++ x.0 ∷ [])) };
@@ -108,7 +89,7 @@ pub(crate) fn read_each<'a, E: Element>(
     mut state: E::State,
     count: u32,
     bytes: &'a [u8],
-) -> Result<(Vec<E::Item>, &'a [u8]), ReadError>
+) -> Result<(Vec<E::Item>, &'a [u8]), ReadFault>
 where
     E::Item: Drop,
     E::State: Drop,

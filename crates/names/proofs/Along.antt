@@ -10,7 +10,8 @@ use Rattle.resolved.specs.declared.statement.Handler.{Handler}
 use Rattle.resolved.specs.Tree.{Block, Empty, Then, Handlers, NoMore, Catch}
 use Rattle.resolved.specs.TreeOf.{statement_of, block_of, handlers_of}
 use Rattle.names.specs.declared.body.Body.{Body}
-use Rattle.names.specs.declared.fault.TypeFault.{TypeFault}
+use Rattle.common.specs.declared.fault.OrNoMemory.{OrNoMemory}
+use Rattle.names.specs.declared.fault.NameRefusal.{NameRefusal}
 use Rattle.names.specs.Finding.{Finding, and_then}
 use Rattle.names.specs.Environment.{exception_finding}
 use Rattle.names.specs.Statements.{Point, statement_finding, block_finding, statements_finding, catches_finding}
@@ -74,7 +75,7 @@ module _ {start now : Body} {written : List Statement} {made : List S.Statement}
     whole_is : and_then (statements_finding (setting_of start) (point_of now) (StatementThen (statement_tree statement) (statements_of (map statement_tree (drop (i + 1) written))))) (with_rest made) ≡ statements_finding (setting_of start) (point_of start) (statements_of (map statement_tree written))
     whole_is = subst (λ trees. and_then (statements_finding (setting_of start) (point_of now) trees) (with_rest made) ≡ statements_finding (setting_of start) (point_of start) (statements_of (map statement_tree written))) rest_is along.on
 
-    pub statement_wrong : (fault : TypeFault) → ResolvingFails fault (statement_finding (setting_of now) (point_of now) (statement_tree statement))
+    pub statement_wrong : (fault : OrNoMemory NameRefusal) → ResolvingFails fault (statement_finding (setting_of now) (point_of now) (statement_tree statement))
         → ResolvingFails fault (statements_finding (setting_of start) (point_of start) (statements_of (map statement_tree written)))
     unfolding statements_finding
     statement_wrong fault wrong =
@@ -161,13 +162,13 @@ module _ {start now : Body} {written : List WrittenCatch} {made : List Handler} 
     all_are : and_then (catches_finding (setting_of start) (point_of now) (CatchThen one.at (name_tree one.exception) (block_tree one.body) (catches_of (map catch_tree (drop (i + 1) written))))) (with_handlers made) ≡ catches_finding (setting_of start) (point_of start) (catches_of (map catch_tree written))
     all_are = subst (λ trees. and_then (catches_finding (setting_of start) (point_of now) trees) (with_handlers made) ≡ catches_finding (setting_of start) (point_of start) (catches_of (map catch_tree written))) catches_are along.on
 
-    pub exception_wrong : (fault : TypeFault) → ResolvingFails fault (exception_finding (names_of now (name_tree one.exception).text) one.exception.at)
+    pub exception_wrong : (fault : OrNoMemory NameRefusal) → ResolvingFails fault (exception_finding (names_of now (name_tree one.exception).text) one.exception.at)
         → ResolvingFails fault (catches_finding (setting_of start) (point_of start) (catches_of (map catch_tree written)))
     unfolding catches_finding
     exception_wrong fault wrong = subst (ResolvingFails fault) all_are (fails_later _ (with_handlers made) fault (fails_later _ _ fault wrong))
 
     module _ (number : ℕ) (found : exception_finding (names_of now (name_tree one.exception).text) one.exception.at ≡ Ok number) where
-      pub body_wrong : (fault : TypeFault) → ResolvingFails fault (block_finding (setting_of now) (point_of now) (block_tree one.body))
+      pub body_wrong : (fault : OrNoMemory NameRefusal) → ResolvingFails fault (block_finding (setting_of now) (point_of now) (block_tree one.body))
           → ResolvingFails fault (catches_finding (setting_of start) (point_of start) (catches_of (map catch_tree written)))
       unfolding catches_finding
       body_wrong fault wrong =

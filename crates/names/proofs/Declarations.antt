@@ -6,7 +6,8 @@ use Rattle.resolved.specs.declared.expression.Base.{Base}
 use Rattle.resolved.specs.declared.expression.Variable.TheVariants.{Local}
 use Rattle.resolved.specs.Program.{SlotEntry}
 use Rattle.resolved.specs.Tree.{Statement, Clear}
-use Rattle.names.specs.declared.fault.TypeFault.{TypeFault}
+use Rattle.common.specs.declared.fault.OrNoMemory.{OrNoMemory}
+use Rattle.names.specs.declared.fault.NameRefusal.{NameRefusal}
 use Rattle.names.specs.declared.scope.Meaning.{Meaning}
 use Rattle.names.specs.declared.scope.Meaning.TheVariants.{Scalar, Array}
 use Rattle.names.specs.Finding.{give}
@@ -46,7 +47,7 @@ module _ (setting : Setting) (point : Point) (at : ℕ) (base : Base) (label : O
       ∙ ap (λ one. Ok (with_local point one (Scalar (Local number) base), statement)) (sym entry)
       ∙ ap (λ one. Ok (one, statement)) (ok_inside _ _ declared)
 
-  pub scalar_refused : (value : RightTree) (fault : TypeFault) → ResolvingFails fault (assigned_finding setting.signatures point.names at (Local number) base value)
+  pub scalar_refused : (value : RightTree) (fault : OrNoMemory NameRefusal) → ResolvingFails fault (assigned_finding setting.signatures point.names at (Local number) base value)
       → ResolvingFails fault (declare_finding setting point at base label name value)
   unfolding declare_finding
   scalar_refused value fault wrong =

@@ -4,7 +4,8 @@ use Rattle.syntax.specs.Nodes.{expression_nodes, block_nodes, statement_nodes}
 use Rattle.syntax.specs.Tree.{ExpressionTree, IfElseTree, IfTree, WhileTree, TryTree, NestedTree, BlockTree, BlockOf, StatementTrees, CatchTrees, if_tree}
 use Rattle.resolved.specs.declared.expression.Base.TheVariants.{Boolean}
 use Rattle.resolved.specs.Tree.{Expression, If, While, Try, Nested, Block, Empty, Handlers}
-use Rattle.names.specs.declared.fault.TypeFault.{TypeFault}
+use Rattle.common.specs.declared.fault.OrNoMemory.{OrNoMemory}
+use Rattle.names.specs.declared.fault.NameRefusal.{NameRefusal}
 use Rattle.names.specs.Expressions.{typed_finding}
 use Rattle.names.specs.Statements.{Setting, Point, in_loop, statement_finding, block_finding, catches_finding}
 use Rattle.names.specs.Views.{ResolvingFails}
@@ -12,7 +13,7 @@ use Rattle.names.proofs.Loops.{fails_later, fails_second, then_ok}
 
 -- ---- conditions
 
-pub condition_wrong : (setting : Setting) (point : Point) (at : ℕ) (condition : ExpressionTree) (body : BlockTree) (otherwise : Option BlockTree) (fault : TypeFault)
+pub condition_wrong : (setting : Setting) (point : Point) (at : ℕ) (condition : ExpressionTree) (body : BlockTree) (otherwise : Option BlockTree) (fault : OrNoMemory NameRefusal)
     → ResolvingFails fault (typed_finding point.names Boolean condition) → ResolvingFails fault (statement_finding setting point (if_tree at condition body otherwise))
 unfolding statement_finding
 condition_wrong setting point at condition body None fault wrong = fails_later _ _ fault wrong
@@ -33,13 +34,13 @@ module _ (setting : Setting) (point : Point) (at : ℕ) (condition : ExpressionT
   if_else_done body otherwise inside behind block other first second =
       then_ok _ _ e typed ∙ then_ok _ _ (inside, block) first ∙ then_ok _ _ (behind, other) second
 
-  pub if_wrong : (body : BlockTree) (otherwise : Option BlockTree) (fault : TypeFault) → ResolvingFails fault (block_finding setting point body)
+  pub if_wrong : (body : BlockTree) (otherwise : Option BlockTree) (fault : OrNoMemory NameRefusal) → ResolvingFails fault (block_finding setting point body)
       → ResolvingFails fault (statement_finding setting point (if_tree at condition body otherwise))
   unfolding statement_finding
   if_wrong body None fault wrong = fails_second _ _ e fault typed (fails_later _ _ fault wrong)
   if_wrong body (Some otherwise) fault wrong = fails_second _ _ e fault typed (fails_later _ _ fault wrong)
 
-  pub else_wrong : (body otherwise : BlockTree) (inside : Point) (block : Block) (fault : TypeFault) → block_finding setting point body ≡ Ok (inside, block)
+  pub else_wrong : (body otherwise : BlockTree) (inside : Point) (block : Block) (fault : OrNoMemory NameRefusal) → block_finding setting point body ≡ Ok (inside, block)
       → ResolvingFails fault (block_finding setting inside otherwise) → ResolvingFails fault (statement_finding setting point (IfElseTree at condition body otherwise))
   unfolding statement_finding
   else_wrong body otherwise inside block fault first wrong =
@@ -52,7 +53,7 @@ module _ (setting : Setting) (point : Point) (at : ℕ) (condition : ExpressionT
   unfolding statement_finding
   while_done body inside block done = then_ok _ _ e typed ∙ then_ok _ _ (inside, block) done
 
-  pub while_wrong : (body : BlockTree) (fault : TypeFault) → ResolvingFails fault (block_finding setting (in_loop point) body)
+  pub while_wrong : (body : BlockTree) (fault : OrNoMemory NameRefusal) → ResolvingFails fault (block_finding setting (in_loop point) body)
       → ResolvingFails fault (statement_finding setting point (WhileTree at condition body))
   unfolding statement_finding
   while_wrong body fault wrong = fails_second _ _ e fault typed (fails_later _ _ fault wrong)
@@ -66,12 +67,12 @@ module _ (setting : Setting) (point : Point) (at : ℕ) where
   unfolding statement_finding
   try_done body catches inside behind block handlers first second = then_ok _ _ (inside, block) first ∙ then_ok _ _ (behind, handlers) second
 
-  pub try_wrong : (body : BlockTree) (catches : CatchTrees) (fault : TypeFault) → ResolvingFails fault (block_finding setting point body)
+  pub try_wrong : (body : BlockTree) (catches : CatchTrees) (fault : OrNoMemory NameRefusal) → ResolvingFails fault (block_finding setting point body)
       → ResolvingFails fault (statement_finding setting point (TryTree at body catches))
   unfolding statement_finding
   try_wrong body catches fault wrong = fails_later _ _ fault wrong
 
-  pub handlers_wrong : (body : BlockTree) (catches : CatchTrees) (inside : Point) (block : Block) (fault : TypeFault) → block_finding setting point body ≡ Ok (inside, block)
+  pub handlers_wrong : (body : BlockTree) (catches : CatchTrees) (inside : Point) (block : Block) (fault : OrNoMemory NameRefusal) → block_finding setting point body ≡ Ok (inside, block)
       → ResolvingFails fault (catches_finding setting inside catches) → ResolvingFails fault (statement_finding setting point (TryTree at body catches))
   unfolding statement_finding
   handlers_wrong body catches inside block fault first wrong = fails_second _ _ (inside, block) fault first (fails_later _ _ fault wrong)
@@ -81,7 +82,7 @@ module _ (setting : Setting) (point : Point) (at : ℕ) where
   unfolding statement_finding
   nested_done statements inside block done = then_ok _ _ (inside, block) done
 
-  pub nested_wrong : (statements : StatementTrees) (fault : TypeFault) → ResolvingFails fault (block_finding setting point (BlockOf at statements))
+  pub nested_wrong : (statements : StatementTrees) (fault : OrNoMemory NameRefusal) → ResolvingFails fault (block_finding setting point (BlockOf at statements))
       → ResolvingFails fault (statement_finding setting point (NestedTree (BlockOf at statements)))
   unfolding statement_finding
   nested_wrong statements fault wrong = fails_later _ _ fault wrong

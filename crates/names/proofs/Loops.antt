@@ -1,31 +1,31 @@
 -- A loop over a list: what is checked so far, and going on with the rest, is the whole.
 use Rattle.std.proofs.Common.{◌≡◌, ℕ, ◌+◌, ◌<◌, ◌≤◌, List, [], ◌∷◌, ◌++◌, map, length, get_or, drop, Result, Ok, sym, ◌∙◌, ap, subst}
 use Rattle.std.proofs.lemmas.List.{drop_more, drop_all}
-use Rattle.names.specs.declared.fault.TypeFault.{TypeFault}
-use Rattle.names.specs.declared.fault.TypeFault.TheVariants as type_faults
-use Rattle.names.specs.Finding.{PlacedRefusal}
+use Rattle.common.specs.declared.fault.OrNoMemory.{OrNoMemory}
+use Rattle.names.specs.declared.fault.NameRefusal.{NameRefusal}
+use Rattle.common.specs.declared.fault.OrNoMemory.TheVariants.{NoMemory, Refused}
 use Rattle.names.specs.Finding.{and_then, along, put_last}
 use Rattle.names.specs.Views.{ResolvingFails}
 
 -- from this state and this element on, the check gives what the whole gives
-pub record GoesOn {S X Y : Type 0} (step : S → X → Result S PlacedRefusal) (tree : Y → X) (xs : List Y) (whole : Result S PlacedRefusal) (state : S) (i : ℕ) : Type 0 where
+pub record GoesOn {S X Y : Type 0} (step : S → X → Result S NameRefusal) (tree : Y → X) (xs : List Y) (whole : Result S NameRefusal) (state : S) (i : ℕ) : Type 0 where
   pub on : along step state (map tree (drop i xs)) ≡ whole
 
 -- a check that fails makes what it begins fail
-pub fails_later : {A B : Type 0} (checked : Result A PlacedRefusal) (check : A → Result B PlacedRefusal) (fault : TypeFault) → ResolvingFails fault checked → ResolvingFails fault (and_then checked check)
-fails_later checked check type_faults.NoMemory h = tt
-fails_later checked check (type_faults.Refused refusal at) h = ap (λ one. and_then one check) h
+pub fails_later : {A B : Type 0} (checked : Result A NameRefusal) (check : A → Result B NameRefusal) (fault : OrNoMemory NameRefusal) → ResolvingFails fault checked → ResolvingFails fault (and_then checked check)
+fails_later checked check NoMemory h = tt
+fails_later checked check (Refused refusal) h = ap (λ one. and_then one check) h
 
-pub then_ok : {A B : Type 0} (checked : Result A PlacedRefusal) (check : A → Result B PlacedRefusal) (x : A) → checked ≡ Ok x → and_then checked check ≡ check x
+pub then_ok : {A B : Type 0} (checked : Result A NameRefusal) (check : A → Result B NameRefusal) (x : A) → checked ≡ Ok x → and_then checked check ≡ check x
 then_ok checked check x e = ap (λ one. and_then one check) e
 
-pub fails_second : {A B : Type 0} (checked : Result A PlacedRefusal) (check : A → Result B PlacedRefusal) (x : A) (fault : TypeFault) → checked ≡ Ok x → ResolvingFails fault (check x) → ResolvingFails fault (and_then checked check)
+pub fails_second : {A B : Type 0} (checked : Result A NameRefusal) (check : A → Result B NameRefusal) (x : A) (fault : OrNoMemory NameRefusal) → checked ≡ Ok x → ResolvingFails fault (check x) → ResolvingFails fault (and_then checked check)
 fails_second checked check x fault e h = subst (ResolvingFails fault) (sym (then_ok checked check x e)) h
 
-pub starts : {S X Y : Type 0} (step : S → X → Result S PlacedRefusal) (tree : Y → X) (xs : List Y) (state begin : S) → state ≡ begin → GoesOn step tree xs (along step begin (map tree xs)) state 0
+pub starts : {S X Y : Type 0} (step : S → X → Result S NameRefusal) (tree : Y → X) (xs : List Y) (state begin : S) → state ≡ begin → GoesOn step tree xs (along step begin (map tree xs)) state 0
 starts step tree xs state begin e = record { on = ap (λ one. along step one (map tree xs)) e }
 
-module _ {S X Y : Type 0} {step : S → X → Result S PlacedRefusal} {tree : Y → X} {xs : List Y} {whole : Result S PlacedRefusal} {state : S} {i : ℕ} (goes : GoesOn step tree xs whole state i) where
+module _ {S X Y : Type 0} {step : S → X → Result S NameRefusal} {tree : Y → X} {xs : List Y} {whole : Result S NameRefusal} {state : S} {i : ℕ} (goes : GoesOn step tree xs whole state i) where
   one_step : (x : Y) → x ≡ get_or xs i x → i < length xs → and_then (step state (tree x)) (λ next. along step next (map tree (drop (i + 1) xs))) ≡ whole
   one_step x is within =
       ap (λ y. and_then (step state (tree y)) (λ next. along step next (map tree (drop (i + 1) xs)))) is
@@ -36,7 +36,7 @@ module _ {S X Y : Type 0} {step : S → X → Result S PlacedRefusal} {tree : Y 
     on = sym (ap (λ one. and_then one (λ next. along step next (map tree (drop (i + 1) xs)))) e) ∙ one_step x is within;
   }
 
-  pub goes_wrong : (x : Y) (fault : TypeFault) → x ≡ get_or xs i x → i < length xs → ResolvingFails fault (step state (tree x)) → ResolvingFails fault whole
+  pub goes_wrong : (x : Y) (fault : OrNoMemory NameRefusal) → x ≡ get_or xs i x → i < length xs → ResolvingFails fault (step state (tree x)) → ResolvingFails fault whole
   goes_wrong x fault is within h =
       subst (ResolvingFails fault) (one_step x is within) (fails_later _ (λ next. along step next (map tree (drop (i + 1) xs))) fault h)
 
@@ -44,11 +44,11 @@ module _ {S X Y : Type 0} {step : S → X → Result S PlacedRefusal} {tree : Y 
   goes_to_end all = sym goes.on ∙ ap (λ rest. along step state (map tree rest)) (drop_all i xs all)
 
 -- the same for a loop that collects
-module _ {X Y A : Type 0} (check : X → Result A PlacedRefusal) {tree : Y → X} {xs : List Y} {whole : Result (List A) PlacedRefusal} {done : List A} {i : ℕ} (goes : GoesOn (put_last check) tree xs whole done i) where
+module _ {X Y A : Type 0} (check : X → Result A NameRefusal) {tree : Y → X} {xs : List Y} {whole : Result (List A) NameRefusal} {done : List A} {i : ℕ} (goes : GoesOn (put_last check) tree xs whole done i) where
   pub collects : (x : Y) (made : A) → x ≡ get_or xs i x → i < length xs → check (tree x) ≡ Ok made → GoesOn (put_last check) tree xs whole (done ++ made ∷ []) (i + 1)
   collects x made is within e =
       goes_further goes x (done ++ made ∷ []) is within (ap (λ one. and_then one (λ made. Ok (done ++ made ∷ []))) e)
 
-  pub collects_wrong : (x : Y) (fault : TypeFault) → x ≡ get_or xs i x → i < length xs → ResolvingFails fault (check (tree x)) → ResolvingFails fault whole
+  pub collects_wrong : (x : Y) (fault : OrNoMemory NameRefusal) → x ≡ get_or xs i x → i < length xs → ResolvingFails fault (check (tree x)) → ResolvingFails fault whole
   collects_wrong x fault is within h =
       goes_wrong goes x fault is within (fails_later (check (tree x)) (λ made. Ok (done ++ made ∷ [])) fault h)

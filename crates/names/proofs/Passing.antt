@@ -1,7 +1,7 @@
 -- What holds of whatever a finding holds.
 use Rattle.std.proofs.Common.{◌≡◌, refl, ℕ, Bool, true, false, Ok, Err}
 use Rattle.std.specs.Prelude.{IfOk}
-use Rattle.names.specs.declared.fault.NameRefusal.{NameRefusal}
+use Rattle.names.specs.declared.fault.NameDefect.{NameDefect}
 use Rattle.names.specs.Finding.{Finding, and_then, give_if, demand}
 
 pub then_finds : {A B : Type 0} (looked : Finding A) (next : A → Finding B) (P : A → Type 0) (Q : B → Type 0)
@@ -9,12 +9,12 @@ pub then_finds : {A B : Type 0} (looked : Finding A) (next : A → Finding B) (P
 then_finds (Ok x) next P Q h further = further x h
 then_finds (Err fault) next P Q h further = tt
 
-pub if_finds : {A : Type 0} (test : Bool) (x : A) (refusal : NameRefusal) (at : ℕ) (Q : A → Type 0) → (test ≡ true → Q x)
+pub if_finds : {A : Type 0} (test : Bool) (x : A) (refusal : NameDefect) (at : ℕ) (Q : A → Type 0) → (test ≡ true → Q x)
     → IfOk (give_if test x refusal at) Q
 if_finds true x refusal at Q h = h refl
 if_finds false x refusal at Q h = tt
 
-pub demand_finds : (test : Bool) (refusal : NameRefusal) (at : ℕ) → IfOk (demand test refusal at) (λ one. test ≡ true)
+pub demand_finds : (test : Bool) (refusal : NameDefect) (at : ℕ) → IfOk (demand test refusal at) (λ one. test ≡ true)
 demand_finds true refusal at = refl
 demand_finds false refusal at = tt
 

@@ -10,7 +10,8 @@ use Rattle.resolved.specs.declared.expression.Base.{Base}
 use Rattle.resolved.specs.declared.expression.Variable.TheVariants.{Local}
 use Rattle.resolved.specs.Program.{SlotEntry, ResultEntry, ThrownEntry}
 use Rattle.resolved.specs.Tree.{Block}
-use Rattle.names.specs.declared.fault.TypeFault.{TypeFault}
+use Rattle.common.specs.declared.fault.OrNoMemory.{OrNoMemory}
+use Rattle.names.specs.declared.fault.NameRefusal.{NameRefusal}
 use Rattle.names.specs.declared.scope.Meaning.{Meaning}
 use Rattle.names.specs.declared.scope.Meaning.TheVariants.{Scalar}
 use Rattle.names.specs.Finding.{give, along}
@@ -48,23 +49,23 @@ parameters_few (parameter ∷ rest) = let few = parameters_few rest in omega (ar
 
 module _ (h : PrincipalHierarchy) (top : TopLevel) (procedure : ProcedureTree) (result : Option ResultEntry) (begin : Option Label)
     (valued : result_finding h procedure.result ≡ Ok result) (begun : optional_label_finding h procedure.begin ≡ Ok begin) where
-  pub parameters_wrong : (fault : TypeFault) → ResolvingFails fault (parameters_finding h top.names procedure.parameters) → ResolvingFails fault (procedure_entry_finding h top procedure)
+  pub parameters_wrong : (fault : OrNoMemory NameRefusal) → ResolvingFails fault (parameters_finding h top.names procedure.parameters) → ResolvingFails fault (procedure_entry_finding h top procedure)
   unfolding procedure_entry_finding
   parameters_wrong fault wrong = fails_second _ _ result fault valued (fails_second _ _ begin fault begun (fails_later _ _ fault wrong))
 
   module _ (point : Point) (declared : parameters_finding h top.names procedure.parameters ≡ Ok point) where
-    pub end_wrong : (fault : TypeFault) → ResolvingFails fault (optional_label_finding h procedure.end) → ResolvingFails fault (procedure_entry_finding h top procedure)
+    pub end_wrong : (fault : OrNoMemory NameRefusal) → ResolvingFails fault (optional_label_finding h procedure.end) → ResolvingFails fault (procedure_entry_finding h top procedure)
     unfolding procedure_entry_finding
     end_wrong fault wrong = fails_second _ _ result fault valued (fails_second _ _ begin fault begun (fails_second _ _ point fault declared (fails_later _ _ fault wrong)))
 
     module _ (end : Option Label) (ended : optional_label_finding h procedure.end ≡ Ok end) where
-      pub throws_wrong : (fault : TypeFault) → ResolvingFails fault (throws_finding h top.names procedure.throws) → ResolvingFails fault (procedure_entry_finding h top procedure)
+      pub throws_wrong : (fault : OrNoMemory NameRefusal) → ResolvingFails fault (throws_finding h top.names procedure.throws) → ResolvingFails fault (procedure_entry_finding h top procedure)
       unfolding procedure_entry_finding
       throws_wrong fault wrong =
           fails_second _ _ result fault valued (fails_second _ _ begin fault begun (fails_second _ _ point fault declared (fails_second _ _ end fault ended (fails_later _ _ fault wrong))))
 
       module _ (throws : List ThrownEntry) (thrown : throws_finding h top.names procedure.throws ≡ Ok throws) where
-        pub block_wrong : (fault : TypeFault)
+        pub block_wrong : (fault : OrNoMemory NameRefusal)
             → ResolvingFails fault (block_finding (record { hierarchy = h; signatures = top.signatures; result = result_base_of procedure.result }) point procedure.body)
             → ResolvingFails fault (procedure_entry_finding h top procedure)
         unfolding procedure_entry_finding

@@ -17,7 +17,7 @@ use Rattle.resolved.specs.declared.expression.Operator.TheVariants as operators
 use Rattle.resolved.specs.declared.expression.Connective.TheVariants as connectives
 use Rattle.resolved.specs.Tree.{Expression, Integer, Logical, Read, Element, Unary, Binary, Short}
 use Rattle.resolved.specs.WellFormed.{same_base, prefix_base, result_base}
-use Rattle.names.specs.declared.fault.NameRefusal.TheVariants as refusals
+use Rattle.names.specs.declared.fault.NameDefect.TheVariants as refusals
 use Rattle.names.specs.declared.operator.OperatorUse.{OperatorUse}
 use Rattle.names.specs.declared.operator.OperatorUse.TheVariants.{OfNumbers, OfEither, OfTruths}
 use Rattle.names.specs.Finding.{Finding, give, and_then, give_if, ◌>>=◌}

@@ -1,21 +1,21 @@
 -- What looking at a part of a program comes to: something that was found, or the first fault.
 -- Source: our own, the results of a computation that may fail, in the usual sense.
-use Rattle.std.specs.Prelude.{ℕ, List, [], ◌∷◌, ◌++◌, Bool, true, false, Result, Ok, Err, if◌then◌else◌}
+use Rattle.std.specs.Prelude.{◌≡◌, ℕ, List, [], ◌∷◌, ◌++◌, Bool, true, false, Result, Ok, Err, if◌then◌else◌}
+use Rattle.names.specs.declared.fault.NameDefect.{NameDefect}
 use Rattle.names.specs.declared.fault.NameRefusal.{NameRefusal}
 
--- a refusal, and the byte at which it stands
-pub record PlacedRefusal : Type 0 where
-  pub refusal : NameRefusal
-  pub at : ℕ
-
 abbrev pub Finding : Type 0 → Type 0
-Finding A = Result A PlacedRefusal
+Finding A = Result A NameRefusal
 
 abbrev pub give : {A : Type 0} → A → Finding A
 give x = Ok x
 
-abbrev pub refuse : {A : Type 0} → NameRefusal → (at : ℕ) → Finding A
-refuse refusal at = Err (record { refusal = refusal; at = at })
+abbrev pub refuse : {A : Type 0} → NameDefect → (at : ℕ) → Finding A
+refuse defect at = Err (record { defect = defect; at = at })
+
+-- the refusal is what looking comes to
+abbrev pub IsRefusalOf : {A : Type 0} → Finding A → NameRefusal → Type 0
+IsRefusalOf finding refusal = finding ≡ Err refusal
 
 -- the first, and then the second with what the first found
 abbrev pub and_then : {A B : Type 0} → Finding A → (A → Finding B) → Finding B
@@ -27,13 +27,13 @@ abbrev pub ◌>>=◌ : {A B : Type 0} → Finding A → (A → Finding B) → Fi
 (first >>= next) = and_then first next
 
 -- a thing where a test holds, else a refusal
-abbrev pub give_if : {A : Type 0} → Bool → A → NameRefusal → (at : ℕ) → Finding A
-give_if test x refusal at = if test then give x else refuse refusal at
+abbrev pub give_if : {A : Type 0} → Bool → A → NameDefect → (at : ℕ) → Finding A
+give_if test x defect at = if test then give x else refuse defect at
 
 -- nothing but that a test holds
-abbrev pub demand : Bool → NameRefusal → (at : ℕ) → Finding (Unit {0})
-demand true refusal at = give tt
-demand false refusal at = refuse refusal at
+abbrev pub demand : Bool → NameDefect → (at : ℕ) → Finding (Unit {0})
+demand true defect at = give tt
+demand false defect at = refuse defect at
 
 -- from state to state along a list
 abbrev pub along : {S X : Type 0} → (S → X → Finding S) → S → List X → Finding S

@@ -6,7 +6,7 @@ use Rattle.principals.specs.ActsFor.{PrincipalHierarchy, number_of}
 use Rattle.labels.specs.Label.{ReaderPolicy, Label}
 use Rattle.labels.specs.Canonical.{written_policy, written_label}
 use Rattle.syntax.specs.Tree.{NameTree, PolicyTree, LabelTree}
-use Rattle.names.specs.declared.fault.NameRefusal.TheVariants as refusals
+use Rattle.names.specs.declared.fault.NameDefect.TheVariants as refusals
 use Rattle.names.specs.Finding.{Finding, give, refuse, of_each, ◌>>=◌}
 
 abbrev pub principal_found : Option ℕ → (at : ℕ) → Finding ℕ

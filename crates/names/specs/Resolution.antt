@@ -17,7 +17,7 @@ use Rattle.resolved.specs.declared.expression.Value.TheVariants.{Number, Truth}
 use Rattle.resolved.specs.declared.expression.Variable.TheVariants.{Global, Local}
 use Rattle.resolved.specs.Program.{Program, ChannelEntry, GlobalEntry, SlotEntry, ResultEntry, ThrownEntry, ProcedureEntry}
 use Rattle.resolved.specs.WellFormed.{same_base, cell_count, cell_limit}
-use Rattle.names.specs.declared.fault.NameRefusal.TheVariants as refusals
+use Rattle.names.specs.declared.fault.NameDefect.TheVariants as refusals
 use Rattle.names.specs.declared.scope.Meaning.{Meaning}
 use Rattle.names.specs.declared.scope.Meaning.TheVariants as meanings
 use Rattle.names.specs.Finding.{Finding, give, refuse, give_if, demand, along, ◌>>=◌}

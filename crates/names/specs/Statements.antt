@@ -14,7 +14,7 @@ use Rattle.resolved.specs.declared.statement.Exit.TheVariants as exits
 use Rattle.resolved.specs.Tree.{Expression, Statement, Assign, Clear, Store, Receive, Send, Call, If, While, Leave, ReturnWith, Try, Nested, Block, Empty, Then, Handlers, NoMore, Catch}
 use Rattle.resolved.specs.Program.{SlotEntry}
 use Rattle.resolved.specs.WellFormed.{same_base, array_limit}
-use Rattle.names.specs.declared.fault.NameRefusal.TheVariants as refusals
+use Rattle.names.specs.declared.fault.NameDefect.TheVariants as refusals
 use Rattle.names.specs.declared.scope.Meaning.{Meaning}
 use Rattle.names.specs.declared.scope.Meaning.TheVariants.{Scalar, Array}
 use Rattle.names.specs.Finding.{Finding, give, refuse, give_if, demand, and_then, along, ◌>>=◌}

@@ -16,8 +16,9 @@ use Rattle.resolved.specs.ProgramOf.{channel_entry, global_entry, slot_entry, th
 use Rattle.resolved.specs.TreeOf.{expression_of, block_of, handlers_of}
 use Rattle.names.specs.declared.body.Body.{Body}
 use Rattle.names.specs.declared.expression.TypedExpression.{TypedExpression}
-use Rattle.names.specs.declared.fault.TypeFault.{TypeFault}
-use Rattle.names.specs.declared.fault.TypeFault.TheVariants as faults
+use Rattle.common.specs.declared.fault.OrNoMemory.{OrNoMemory}
+use Rattle.common.specs.declared.fault.OrNoMemory.TheVariants.{NoMemory, Refused}
+use Rattle.names.specs.declared.fault.NameRefusal.{NameRefusal}
 use Rattle.names.specs.declared.program.ItemTables.{ItemTables}
 use Rattle.names.specs.declared.scope.Meaning.{Meaning}
 use Rattle.names.specs.declared.scope.FoundArray.{FoundArray}
@@ -32,12 +33,12 @@ use Rattle.names.specs.Statements.{Signature, Setting, Point, CallUse}
 use Rattle.names.specs.Resolution.{TopLevel, Tables, FirstValue}
 
 -- why a function failed, unless memory ran out
-abbrev pub ResolvingFails : {A : Type 0} → TypeFault → Finding A → Type 0
-ResolvingFails faults.NoMemory finding = Unit {0}
-ResolvingFails (faults.Refused refusal at) finding = finding ≡ Err (record { refusal = refusal; at = at })
+abbrev pub ResolvingFails : {A : Type 0} → OrNoMemory NameRefusal → Finding A → Type 0
+ResolvingFails NoMemory finding = Unit {0}
+ResolvingFails (Refused refusal) finding = finding ≡ Err refusal
 
 -- what a function gave is what is found, unless memory ran out
-abbrev pub Resolves : {X A : Type 0} → (X → A) → Result X TypeFault → Finding A → Type 0
+abbrev pub Resolves : {X A : Type 0} → (X → A) → Result X (OrNoMemory NameRefusal) → Finding A → Type 0
 Resolves view (Ok x) finding = finding ≡ Ok (view x)
 Resolves view (Err fault) finding = ResolvingFails fault finding
 

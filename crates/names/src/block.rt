@@ -9,7 +9,7 @@ ghost use Rattle.syntax.specs.Nodes.{block_nodes, catches_nodes, statement_nodes
 ghost use Rattle.syntax.specs.Tree.{NestedTree, TryTree, WhileTree, block_tree, catch_tree, catches_of, expression_tree, if_tree, optional_block_tree, statement_tree, statements_of};
 
 use crate::body::Body;
-use crate::fault::TypeFault;
+use crate::fault::NameFault;
 use crate::operator::base_of;
 use crate::scope::require_exception;
 use resolved::expression::Base;
@@ -20,7 +20,7 @@ impl<'a> Body<'a> {
     /// A block, whose locals are in scope to its end.
     #[cycle(block)]
     #[tactic(auto, unfolding(crate::specs::Statements::block_finding))]
-    pub fn resolve_block(&mut self, written: &Block) -> Result<Vec<Statement>, TypeFault>
+    pub fn resolve_block(&mut self, written: &Block) -> Result<Vec<Statement>, NameFault>
         requires room { taken self.old + block_nodes (block_tree written.now) < most_nodes }
         ensures made { Resolves (at_point self.new block_view) result
             (block_finding (setting_of self.old) (point_of self.old) (block_tree written.now)) }
@@ -39,7 +39,7 @@ impl<'a> Body<'a> {
     fn resolve_statements(
         &mut self,
         written: &[syntax::Statement],
-    ) -> Result<Vec<Statement>, TypeFault>
+    ) -> Result<Vec<Statement>, NameFault>
         requires room { taken self.old +
             statements_nodes (statements_of (map statement_tree written.now)) < most_nodes }
         ensures made { Resolves (at_point self.new block_view) result
@@ -58,7 +58,7 @@ impl<'a> Body<'a> {
 
     /// The handlers of a `try`.
     #[cycle(block)]
-    fn resolve_catches(&mut self, written: &[Catch]) -> Result<Vec<Handler>, TypeFault>
+    fn resolve_catches(&mut self, written: &[Catch]) -> Result<Vec<Handler>, NameFault>
         requires room { taken self.old + catches_nodes (catches_of (map catch_tree written.now)) <
             most_nodes }
         ensures made { Resolves (at_point self.new handlers_view) result
@@ -85,7 +85,7 @@ impl<'a> Body<'a> {
     /// A statement.
     #[cycle(block)]
     #[tactic(auto, unfolding(crate::specs::Statements::statement_finding))]
-    fn resolve_statement(&mut self, written: &syntax::Statement) -> Result<Statement, TypeFault>
+    fn resolve_statement(&mut self, written: &syntax::Statement) -> Result<Statement, NameFault>
         requires room { taken self.old + statement_nodes (statement_tree written.now) < most_nodes }
         ensures made { Resolves (at_point self.new statement_of) result
             (statement_finding (setting_of self.old) (point_of self.old)
@@ -146,7 +146,7 @@ impl<'a> Body<'a> {
         condition: &syntax::Expression,
         accepted: &Block,
         otherwise: &Option<Block>,
-    ) -> Result<Statement, TypeFault>
+    ) -> Result<Statement, NameFault>
         requires room { taken self.old + statement_nodes (if_tree at
             (expression_tree condition.now) (block_tree accepted.now)
             (optional_block_tree otherwise.now)) < most_nodes }
@@ -178,7 +178,7 @@ impl<'a> Body<'a> {
         at: usize,
         condition: &syntax::Expression,
         body: &Block,
-    ) -> Result<Statement, TypeFault>
+    ) -> Result<Statement, NameFault>
         requires room { taken self.old + statement_nodes (WhileTree at
             (expression_tree condition.now) (block_tree body.now)) < most_nodes }
         ensures made { Resolves (at_point self.new statement_of) result
@@ -203,7 +203,7 @@ impl<'a> Body<'a> {
         at: usize,
         body: &Block,
         catches: &[Catch],
-    ) -> Result<Statement, TypeFault>
+    ) -> Result<Statement, NameFault>
         requires room { taken self.old + statement_nodes (TryTree at (block_tree body.now)
             (catches_of (map catch_tree catches.now))) < most_nodes }
         ensures made { Resolves (at_point self.new statement_of) result
@@ -221,7 +221,7 @@ impl<'a> Body<'a> {
 
     /// A block among statements.
     #[cycle(block)]
-    fn resolve_nested(&mut self, block: &Block) -> Result<Statement, TypeFault>
+    fn resolve_nested(&mut self, block: &Block) -> Result<Statement, NameFault>
         requires room { taken self.old + statement_nodes (NestedTree (block_tree block.now)) <
             most_nodes }
         ensures made { Resolves (at_point self.new statement_of) result

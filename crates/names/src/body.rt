@@ -7,7 +7,7 @@ ghost use Rattle.resolved.specs.ProgramOf.{slot_entry};
 ghost use Rattle.std.specs.Prelude.{[], None, OnOk, map, ◌+◌, ◌≡◌};
 ghost use Rattle.syntax.specs.Tree.{name_tree};
 
-use crate::fault::TypeFault;
+use crate::fault::NameFault;
 use crate::scope::{Meaning, find, insert};
 use crate::top::TopNames;
 use indexmap::IndexMap;
@@ -70,7 +70,7 @@ impl<'a> Body<'a> {
     }
 
     /// Declares a parameter or local, which takes the next slot.
-    pub fn declare(&mut self, slot: Slot, meaning: Meaning) -> Result<(), TypeFault>
+    pub fn declare(&mut self, slot: Slot, meaning: Meaning) -> Result<(), NameFault>
         requires fresh { names_of self.old (slot_entry slot).name ≡ None }
         ensures made { Resolves (λ _. point_of self.new) result
             (give (with_local (point_of self.old) (slot_entry slot) meaning)) }

@@ -8,7 +8,8 @@ ghost use Rattle.resolved.specs.WellFormed.{cell_count, cell_limit};
 ghost use Rattle.std.specs.Prelude.{IfOk, map, nat_le, ◌≡◌, ◌≤◌};
 ghost use Rattle.syntax.specs.Tree.{global_value_tree, item_tree};
 
-use crate::fault::{NameRefusal, TypeFault};
+use crate::fault::{NameDefect, NameFault, NameRefusal};
+use common::OrNoMemory;
 use common::limits::MAX_CELLS;
 use resolved::tables::{Procedure, Slot};
 use syntax::{GlobalValue, Item};
@@ -23,7 +24,7 @@ fn cells_of_global(value: &GlobalValue) -> u32
 }
 
 /// The cells of the globals so far, with those of the next item.
-fn add_global(cells: u32, item: &Item) -> Result<u32, TypeFault>
+fn add_global(cells: u32, item: &Item) -> Result<u32, NameFault>
     requires { cells ≤ cell_limit }
     ensures made { Resolves itself result (next_global_cells cells (item_tree item.now)) }
     ensures few { IfOk result (λ all. all ≤ cell_limit) }
@@ -35,7 +36,10 @@ fn add_global(cells: u32, item: &Item) -> Result<u32, TypeFault>
             if more <= MAX_CELLS - cells {
                 Ok(cells + more)
             } else {
-                Err(TypeFault::Refused(NameRefusal::TooManyCells, global.name.at))
+                Err(OrNoMemory::Refused(NameRefusal {
+                    defect: NameDefect::TooManyCells,
+                    at: global.name.at,
+                }))
             }
         }
     }
@@ -43,7 +47,7 @@ fn add_global(cells: u32, item: &Item) -> Result<u32, TypeFault>
 
 /// How many cells the globals of these items have, which are refused where they are too many.
 #[tactic(auto, unfolding(crate::specs::Resolution::global_cells_finding))]
-pub fn cells_of_globals(items: &[Item]) -> Result<u32, TypeFault>
+pub fn cells_of_globals(items: &[Item]) -> Result<u32, NameFault>
     ensures { Resolves itself result (global_cells_finding (map item_tree items.now)) }
 {
     let mut cells = 0;
@@ -79,12 +83,15 @@ fn fits(slots: &[Slot]) -> bool
 
 /// Refuses the first procedure whose frame has too many cells.
 #[tactic(auto, unfolding(crate::specs::Resolution::frames_finding))]
-pub fn limit_frames(procedures: &[Procedure]) -> Result<(), TypeFault>
+pub fn limit_frames(procedures: &[Procedure]) -> Result<(), NameFault>
     ensures { Resolves (λ _. tt) result (frames_finding (map procedure_entry procedures.now)) }
 {
     for procedure in procedures {
         if !fits(procedure.slots.as_slice()) {
-            return Err(TypeFault::Refused(NameRefusal::TooManyCells, procedure.at));
+            return Err(OrNoMemory::Refused(NameRefusal {
+                defect: NameDefect::TooManyCells,
+                at: procedure.at,
+            }));
         }
     }
     Ok(())

@@ -7,11 +7,12 @@ ghost use Rattle.std.specs.Prelude.{ℕ, ◌≡◌};
 ghost use Rattle.syntax.specs.Tree.{BinaryTree, ElementTree, UnaryTree, expression_tree, name_tree};
 
 use crate::body::Body;
-use crate::fault::{NameRefusal, TypeFault};
+use crate::fault::{NameDefect, NameFault, NameRefusal};
 use crate::operator::{
     base_of_prefix, combine, is_same, operands_base, prefix_of, use_of, value_base,
 };
 use crate::scope::{require_array, require_scalar};
+use common::OrNoMemory;
 use resolved::expression::{Base, Expression};
 use syntax::{BinaryOperator, Name, UnaryOperator};
 
@@ -32,13 +33,16 @@ impl TypedExpression {
 
     /// The expression, whose values have to have a type.
     #[tactic(auto, unfolding(crate::specs::Expressions::of_base))]
-    pub fn of_base(self, base: Base, at: usize) -> Result<Expression, TypeFault>
+    pub fn of_base(self, base: Base, at: usize) -> Result<Expression, NameFault>
         ensures { Resolves expression_of result (of_base base at (typed_view self)) }
     {
         if is_same(self.base, base) {
             Ok(self.expression)
         } else {
-            Err(TypeFault::Refused(NameRefusal::WrongType, at))
+            Err(OrNoMemory::Refused(NameRefusal {
+                defect: NameDefect::WrongType,
+                at,
+            }))
         }
     }
 }
@@ -50,7 +54,7 @@ impl<'a> Body<'a> {
     pub fn resolve_expression(
         &self,
         written: &syntax::Expression,
-    ) -> Result<TypedExpression, TypeFault>
+    ) -> Result<TypedExpression, NameFault>
         ensures { Resolves typed_view result
             (expression_finding (names_of self.now) (expression_tree written.now)) }
     {
@@ -87,7 +91,7 @@ impl<'a> Body<'a> {
         &self,
         name: &Name,
         index: &syntax::Expression,
-    ) -> Result<TypedExpression, TypeFault>
+    ) -> Result<TypedExpression, NameFault>
         ensures { Resolves typed_view result (expression_finding (names_of self.now)
             (ElementTree (name_tree name.now) (expression_tree index.now))) }
     {
@@ -107,7 +111,7 @@ impl<'a> Body<'a> {
         &self,
         operator: UnaryOperator,
         operand: &syntax::Expression,
-    ) -> Result<TypedExpression, TypeFault>
+    ) -> Result<TypedExpression, NameFault>
         ensures { (at : ℕ) → Resolves typed_view result (expression_finding (names_of self.now)
             (UnaryTree at operator (expression_tree operand.now))) }
     {
@@ -128,7 +132,7 @@ impl<'a> Body<'a> {
         operator: BinaryOperator,
         left: &syntax::Expression,
         right: &syntax::Expression,
-    ) -> Result<TypedExpression, TypeFault>
+    ) -> Result<TypedExpression, NameFault>
         ensures { (at : ℕ) → Resolves typed_view result (expression_finding (names_of self.now)
             (BinaryTree at operator (expression_tree left.now) (expression_tree right.now))) }
     {
@@ -150,7 +154,7 @@ impl<'a> Body<'a> {
         &self,
         base: Base,
         written: &syntax::Expression,
-    ) -> Result<Expression, TypeFault>
+    ) -> Result<Expression, NameFault>
         ensures { Resolves expression_of result
             (typed_finding (names_of self.now) base (expression_tree written.now)) }
     {

@@ -1,12 +1,9 @@
-ghost use Rattle.std.specs.Prelude.{◌≡◌};
-ghost use Rattle.names.specs.declared.fault.TypeFault.TheVariants.{NoMemory};
-
-use std::alloc::{AllocError, AllocFailed};
+use common::OrNoMemory;
 use thiserror::Error;
 
 /// What can be wrong with the names, types and sizes of a program.
 #[derive(Clone, Copy, Debug, PartialEq, Eq, Drop, Error)]
-pub enum NameRefusal {
+pub enum NameDefect {
     /// 301: a name that is not declared, or not in scope.
     #[error("unknown name")]
     UnknownName,
@@ -36,29 +33,13 @@ pub enum NameRefusal {
     TooManyCells,
 }
 
-/// Why a syntax tree gave no resolved one.
+/// Why a syntax tree has no resolved one: what is wrong, and the byte at which it stands.
 #[derive(Clone, Copy, Debug, PartialEq, Eq, Drop, Error)]
-pub enum TypeFault {
-    /// An allocation failed.
-    #[error("no memory")]
-    NoMemory,
-    /// The tree has a fault: what it is, and the byte at which it stands.
-    #[error("{0}")]
-    Refused(NameRefusal, usize),
+#[error("{defect}")]
+pub struct NameRefusal {
+    pub defect: NameDefect,
+    pub at: usize,
 }
 
-impl From<AllocError> for TypeFault {
-    ghost from_gives = { λ _ fault. fault ≡ NoMemory };
-
-    fn from(_error: AllocError) -> TypeFault {
-        TypeFault::NoMemory
-    }
-}
-
-impl<T: Drop> From<AllocFailed<T>> for TypeFault {
-    ghost from_gives = { λ _ fault. fault ≡ NoMemory };
-
-    fn from(_failed: AllocFailed<T>) -> TypeFault {
-        TypeFault::NoMemory
-    }
-}
+/// Why a syntax tree gave no resolved one.
+pub type NameFault = OrNoMemory<NameRefusal>;

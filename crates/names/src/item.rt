@@ -9,10 +9,11 @@ ghost use Rattle.syntax.specs.Tree.{channel_tree, constant_tree, global_tree, gl
 ghost use Rattle.syntax.specs.Written.{Anywhere, IsWrittenConstant, IsWrittenGlobalValue};
 ghost use Rattle.syntax.specs.Limits.{longest_name};
 
-use crate::fault::{NameRefusal, TypeFault};
+use crate::fault::{NameDefect, NameFault, NameRefusal};
 use crate::label::resolve_label;
 use crate::operator::{base_of, is_same};
 use crate::statement::length_of;
+use common::OrNoMemory;
 use principals::Hierarchy;
 use resolved::expression::{Base, Value};
 use resolved::tables::{Channel, GlobalVariable};
@@ -25,7 +26,7 @@ pub fn resolve_channel(
     alloc: Global,
     hierarchy: &Hierarchy,
     written: &syntax::Channel,
-) -> Result<Channel, TypeFault>
+) -> Result<Channel, NameFault>
     ensures { Resolves channel_entry result
         (channel_finding hierarchy.now (channel_tree written.now)) }
 {
@@ -79,7 +80,7 @@ fn zero_of(base: Base) -> Value
 
 /// The length of a global that is an array, and what its cells hold at first.
 #[tactic(auto, unfolding(crate::specs::Resolution::first_finding))]
-fn resolve_first_value(base: Base, value: &GlobalValue) -> Result<(Option<u32>, Value), TypeFault>
+fn resolve_first_value(base: Base, value: &GlobalValue) -> Result<(Option<u32>, Value), NameFault>
     requires small { IsWrittenGlobalValue Anywhere longest_name (global_value_tree value.now) }
     ensures { Resolves first_view result (first_finding base (global_value_tree value.now)) }
 {
@@ -89,7 +90,10 @@ fn resolve_first_value(base: Base, value: &GlobalValue) -> Result<(Option<u32>, 
             if is_same(given, base) {
                 Ok((None, value))
             } else {
-                Err(TypeFault::Refused(NameRefusal::WrongType, place_of(*constant)))
+                Err(OrNoMemory::Refused(NameRefusal {
+                    defect: NameDefect::WrongType,
+                    at: place_of(*constant),
+                }))
             }
         }
         GlobalValue::Array(size) => Ok((Some(length_of(*size)?), zero_of(base))),
@@ -102,7 +106,7 @@ pub fn resolve_global(
     alloc: Global,
     hierarchy: &Hierarchy,
     written: &syntax::GlobalVariable,
-) -> Result<GlobalVariable, TypeFault>
+) -> Result<GlobalVariable, NameFault>
     requires small { IsWrittenGlobalValue Anywhere longest_name
         (global_value_tree written.now.value) }
     ensures { Resolves global_entry result

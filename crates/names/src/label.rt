@@ -6,7 +6,8 @@ ghost use Rattle.syntax.specs.Tree.{label_tree, name_tree, optional_label_tree, 
 ghost use Rattle.names.specs.Labels.{label_finding, policies_finding, policy_finding, principal_finding, readers_finding, optional_label_finding};
 ghost use Rattle.names.specs.Views.{Resolves, itself};
 
-use crate::fault::{NameRefusal, TypeFault};
+use crate::fault::{NameDefect, NameFault, NameRefusal};
+use common::OrNoMemory;
 use labels::{Label, Policy};
 use principals::Hierarchy;
 use std::alloc::Global;
@@ -14,12 +15,15 @@ use syntax::{Name, WrittenLabel, WrittenPolicy};
 
 /// The number of a principal.
 #[tactic(auto, unfolding(crate::specs::Labels::principal_finding))]
-fn find_principal(hierarchy: &Hierarchy, name: &Name) -> Result<u32, TypeFault>
+fn find_principal(hierarchy: &Hierarchy, name: &Name) -> Result<u32, NameFault>
     ensures { Resolves itself result (principal_finding hierarchy.now (name_tree name.now)) }
 {
     match hierarchy.find(name.text.as_str()) {
         Some(number) => Ok(number),
-        None => Err(TypeFault::Refused(NameRefusal::UnknownPrincipal, name.at)),
+        None => Err(OrNoMemory::Refused(NameRefusal {
+            defect: NameDefect::UnknownPrincipal,
+            at: name.at,
+        })),
     }
 }
 
@@ -28,7 +32,7 @@ fn resolve_readers(
     alloc: Global,
     hierarchy: &Hierarchy,
     names: &[Name],
-) -> Result<Vec<u32>, TypeFault>
+) -> Result<Vec<u32>, NameFault>
     ensures { Resolves (λ numbers. numbers.items) result
         (readers_finding hierarchy.now (map name_tree names.now)) }
 {
@@ -45,7 +49,7 @@ fn resolve_policy(
     alloc: Global,
     hierarchy: &Hierarchy,
     written: &WrittenPolicy,
-) -> Result<Policy, TypeFault>
+) -> Result<Policy, NameFault>
     ensures made { Resolves itself result (policy_finding hierarchy.now (policy_tree written.now)) }
     ensures canonical { IfOk result IsCanonicalPolicy }
 {
@@ -59,7 +63,7 @@ fn resolve_policies(
     alloc: Global,
     hierarchy: &Hierarchy,
     written: &[WrittenPolicy],
-) -> Result<Vec<Policy>, TypeFault>
+) -> Result<Vec<Policy>, NameFault>
     ensures made { Resolves (λ policies. policies.items) result
         (policies_finding hierarchy.now (map policy_tree written.now)) }
     ensures canonical { IfOk result (λ policies. All IsCanonicalPolicy policies.items) }
@@ -77,7 +81,7 @@ pub fn resolve_label(
     alloc: Global,
     hierarchy: &Hierarchy,
     written: &WrittenLabel,
-) -> Result<Label, TypeFault>
+) -> Result<Label, NameFault>
     ensures { Resolves itself result (label_finding hierarchy.now (label_tree written.now)) }
 {
     let policies = resolve_policies(alloc, hierarchy, written.policies.as_slice())?;
@@ -90,7 +94,7 @@ pub fn resolve_optional_label(
     alloc: Global,
     hierarchy: &Hierarchy,
     written: &Option<WrittenLabel>,
-) -> Result<Option<Label>, TypeFault>
+) -> Result<Option<Label>, NameFault>
     ensures { Resolves itself result
         (optional_label_finding hierarchy.now (optional_label_tree written.now)) }
 {

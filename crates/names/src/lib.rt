@@ -17,5 +17,5 @@ pub mod scope;
 pub mod statement;
 pub mod top;
 
-pub use fault::{NameRefusal, TypeFault};
+pub use fault::{NameDefect, NameFault, NameRefusal};
 pub use program::resolve;

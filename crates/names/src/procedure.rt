@@ -12,11 +12,12 @@ ghost use Rattle.syntax.specs.Nodes.{procedure_nodes};
 ghost use Rattle.syntax.specs.Tree.{written_result_tree, parameter_tree, procedure_tree, thrown_tree};
 
 use crate::body::Body;
-use crate::fault::{NameRefusal, TypeFault};
+use crate::fault::{NameDefect, NameFault, NameRefusal};
 use crate::label::{resolve_label, resolve_optional_label};
 use crate::operator::base_of;
 use crate::scope::{Meaning, find, require_exception, require_fresh};
 use crate::top::{TopNames, result_of};
+use common::OrNoMemory;
 use indexmap::IndexSet;
 use labels::{Label, Policy};
 use principals::Hierarchy;
@@ -31,7 +32,7 @@ fn resolve_result(
     alloc: Global,
     hierarchy: &Hierarchy,
     written: &WrittenResult,
-) -> Result<Option<ResultType>, TypeFault>
+) -> Result<Option<ResultType>, NameFault>
     ensures { Resolves result_entry result
         (result_finding hierarchy.now (written_result_tree written.now)) }
 {
@@ -52,7 +53,7 @@ fn resolve_result(
 
 impl<'a> Body<'a> {
     /// Declares the next parameter.
-    fn declare_parameter(&mut self, written: &Parameter) -> Result<(), TypeFault>
+    fn declare_parameter(&mut self, written: &Parameter) -> Result<(), NameFault>
         requires room { taken self.old < most_nodes }
         ensures made { Resolves (λ _. point_of self.new) result
             (next_parameter self.old.hierarchy.now (point_of self.old)
@@ -70,7 +71,7 @@ impl<'a> Body<'a> {
     }
 
     /// Declares parameters.
-    fn declare_parameters(&mut self, written: &[Parameter]) -> Result<(), TypeFault>
+    fn declare_parameters(&mut self, written: &[Parameter]) -> Result<(), NameFault>
         requires room { taken self.old + length written.now < most_nodes }
         ensures made { Resolves (λ _. point_of self.new) result
             (along (next_parameter self.old.hierarchy.now) (point_of self.old)
@@ -93,7 +94,7 @@ fn add_thrown(
     seen: &mut IndexSet<u32>,
     throws: &mut Vec<Thrown>,
     written: &syntax::Thrown,
-) -> Result<(), TypeFault>
+) -> Result<(), NameFault>
     requires same { (number : ℕ) → contains nat_eq seen.old number ≡
         is_thrown (throws_view throws.old) number }
     ensures made { Resolves (λ _. throws_view throws.new) result
@@ -105,7 +106,10 @@ fn add_thrown(
     let name = &written.name;
     let number = require_exception(find(&top.names, name.text.as_str()), name.at)?;
     if !seen.insert(number)? {
-        return Err(TypeFault::Refused(NameRefusal::DeclaredTwice, name.at));
+        return Err(OrNoMemory::Refused(NameRefusal {
+            defect: NameDefect::DeclaredTwice,
+            at: name.at,
+        }));
     }
     let label = resolve_label(alloc, hierarchy, &written.label)?;
     throws.push(Thrown {
@@ -122,7 +126,7 @@ fn resolve_throws(
     hierarchy: &Hierarchy,
     top: &TopNames,
     written: &[syntax::Thrown],
-) -> Result<Vec<Thrown>, TypeFault>
+) -> Result<Vec<Thrown>, NameFault>
     ensures { Resolves throws_view result
         (throws_finding hierarchy.now (found_in top.now.names) (map thrown_tree written.now)) }
 {
@@ -193,7 +197,7 @@ pub fn resolve_procedure<'a>(
     hierarchy: &'a Hierarchy,
     top: &'a TopNames,
     written: &syntax::Procedure,
-) -> Result<Procedure, TypeFault>
+) -> Result<Procedure, NameFault>
     requires room { procedure_nodes (procedure_tree written.now) < most_nodes }
     ensures { Resolves procedure_entry result (procedure_entry_finding hierarchy.now
         (top_view top.now) (procedure_tree written.now)) }

@@ -1,8 +1,9 @@
 //! Whole programs: their tables, and the procedure at which a run begins.
 
-ghost use Rattle.names.specs.Finding.{give};
+ghost use Rattle.common.specs.Answers.{IfRefused};
+ghost use Rattle.names.specs.Finding.{IsRefusalOf, give};
 ghost use Rattle.names.specs.Resolution.{items_finding, main_finding, next_item, no_tables, program_with, resolution};
-ghost use Rattle.names.specs.Views.{ResolvingFails, Resolves, itself, tables_view, top_view};
+ghost use Rattle.names.specs.Views.{Resolves, itself, tables_view, top_view};
 ghost use Rattle.resolved.specs.CoreOf.{program_of};
 ghost use Rattle.resolved.specs.ProgramOf.{procedure_entry};
 ghost use Rattle.std.specs.Prelude.{All, IfErr, IfOk, map, sum_by, ◌<◌, ◌≡◌};
@@ -12,11 +13,12 @@ ghost use Rattle.syntax.specs.Tree.{item_tree, program_tree};
 ghost use Rattle.syntax.specs.Written.{Anywhere, IsWrittenItem};
 
 use crate::cells::{cells_of_globals, limit_frames};
-use crate::fault::{NameRefusal, TypeFault};
+use crate::fault::{NameDefect, NameFault, NameRefusal};
 use crate::item::{resolve_channel, resolve_global};
 use crate::procedure::resolve_procedure;
 use crate::scope::{Meaning, find};
 use crate::top::TopNames;
+use common::OrNoMemory;
 use common::limits::MAX_PRINCIPALS;
 use principals::Hierarchy;
 use resolved::program::Core;
@@ -53,7 +55,7 @@ impl ItemTables {
         hierarchy: &Hierarchy,
         top: &TopNames,
         item: &Item,
-    ) -> Result<(), TypeFault>
+    ) -> Result<(), NameFault>
         requires written { IsWrittenItem Anywhere longest_name (item_tree item.now) }
         requires room { item_nodes (item_tree item.now) < most_nodes }
         ensures { Resolves (λ _. tables_view self.new) result
@@ -82,7 +84,7 @@ impl ItemTables {
         hierarchy: &Hierarchy,
         top: &TopNames,
         items: &[Item],
-    ) -> Result<ItemTables, TypeFault>
+    ) -> Result<ItemTables, NameFault>
         requires written { All (IsWrittenItem Anywhere longest_name) (map item_tree items.now) }
         requires room { sum_by item_nodes (map item_tree items.now) < most_nodes }
         ensures { Resolves tables_view result
@@ -98,19 +100,28 @@ impl ItemTables {
 
 /// The number of the procedure at which a run begins.
 #[tactic(auto, unfolding(crate::specs::Resolution::main_finding))]
-pub fn find_main(found: Option<Meaning>, procedures: &[Procedure]) -> Result<u32, TypeFault>
+pub fn find_main(found: Option<Meaning>, procedures: &[Procedure]) -> Result<u32, NameFault>
     ensures { Resolves itself result (main_finding found (map procedure_entry procedures.now)) }
 {
     let Some(Meaning::Procedure(number)) = found else {
-        return Err(TypeFault::Refused(NameRefusal::NoProperMain, 0));
+        return Err(OrNoMemory::Refused(NameRefusal {
+            defect: NameDefect::NoProperMain,
+            at: 0,
+        }));
     };
     let Some(procedure) = procedures.get(number as usize) else {
-        return Err(TypeFault::Refused(NameRefusal::NoProperMain, 0));
+        return Err(OrNoMemory::Refused(NameRefusal {
+            defect: NameDefect::NoProperMain,
+            at: 0,
+        }));
     };
     if procedure.parameters == 0 && procedure.result.is_none() {
         Ok(number)
     } else {
-        Err(TypeFault::Refused(NameRefusal::NoProperMain, procedure.at))
+        Err(OrNoMemory::Refused(NameRefusal {
+            defect: NameDefect::NoProperMain,
+            at: procedure.at,
+        }))
     }
 }
 
@@ -120,7 +131,7 @@ fn tables_of(
     alloc: Global,
     hierarchy: &Hierarchy,
     items: &[Item],
-) -> Result<(ItemTables, u32), TypeFault>
+) -> Result<(ItemTables, u32), NameFault>
     requires written { All (IsWrittenItem Anywhere longest_name) (map item_tree items.now) }
     requires room { sum_by item_nodes (map item_tree items.now) < most_nodes }
     ensures { Resolves (λ found. program_with hierarchy.now (tables_view found.0) found.1) result
@@ -145,14 +156,14 @@ pub fn resolve(
     alloc: Global,
     hierarchy: &Hierarchy,
     program: &syntax::Program,
-) -> Result<Core, TypeFault>
+) -> Result<Core, NameFault>
     // An answer is the program that the tree stands for.
-    ensures resolved { IfOk result (λ core.
+    ensures accepted { IfOk result (λ core.
         resolution hierarchy.now (program_tree program.now) ≡ give (program_of core)) }
 
     // A refusal is the first fault, and stands where that stands.
-    ensures refused { IfErr result (λ fault.
-        ResolvingFails fault (resolution hierarchy.now (program_tree program.now))) }
+    ensures first_fault { IfErr result (IfRefused
+        (IsRefusalOf (resolution hierarchy.now (program_tree program.now)))) }
 {
     prove!(hierarchy.count() <= MAX_PRINCIPALS);
     let (tables, main) = tables_of(alloc, hierarchy, program.items())?;

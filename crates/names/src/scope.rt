@@ -5,7 +5,8 @@ ghost use Rattle.names.specs.Finding.{give};
 ghost use Rattle.names.specs.Views.{Resolves, array_use, found_in, itself, scalar_use};
 ghost use Rattle.std.specs.Prelude.{OnOk, List, length, take, ◌≡◌, None, ℕ};
 
-use crate::fault::{NameRefusal, TypeFault};
+use crate::fault::{NameDefect, NameFault, NameRefusal};
+use common::OrNoMemory;
 use indexmap::IndexMap;
 use resolved::expression::{Base, Variable};
 use std::alloc::Global;
@@ -52,7 +53,7 @@ pub fn insert(
     table: &mut IndexMap<String, Meaning>,
     name: &str,
     meaning: Meaning,
-) -> Result<(), TypeFault>
+) -> Result<(), NameFault>
     requires fresh { found_in table.old name.now ≡ None }
     ensures made { Resolves (λ _. λ (other : List ℕ). found_in table.new other) result
         (give (declaring name.now meaning (found_in table.old))) }
@@ -65,88 +66,127 @@ pub fn insert(
 
 /// Refuses the declaration of a name that stands for something already.
 #[tactic(auto, unfolding(crate::specs::Environment::fresh_finding))]
-pub fn require_fresh(found: Option<Meaning>, at: usize) -> Result<(), TypeFault>
+pub fn require_fresh(found: Option<Meaning>, at: usize) -> Result<(), NameFault>
     ensures made { Resolves (λ _. tt) result (fresh_finding found at) }
     ensures none { OnOk result (found ≡ None) }
 {
     match found {
         None => Ok(()),
-        Some(_) => Err(TypeFault::Refused(NameRefusal::DeclaredTwice, at)),
+        Some(_) => Err(OrNoMemory::Refused(NameRefusal {
+            defect: NameDefect::DeclaredTwice,
+            at,
+        })),
     }
 }
 
 /// A scalar variable.
 #[tactic(auto, unfolding(crate::specs::Environment::scalar_finding))]
-pub fn require_scalar(found: Option<Meaning>, at: usize) -> Result<FoundScalar, TypeFault>
+pub fn require_scalar(found: Option<Meaning>, at: usize) -> Result<FoundScalar, NameFault>
     ensures { Resolves scalar_use result (scalar_finding found at) }
 {
     match found {
-        None => Err(TypeFault::Refused(NameRefusal::UnknownName, at)),
+        None => Err(OrNoMemory::Refused(NameRefusal {
+            defect: NameDefect::UnknownName,
+            at,
+        })),
         Some(Meaning::Scalar(variable, base)) => Ok(FoundScalar { variable, base }),
-        Some(_) => Err(TypeFault::Refused(NameRefusal::WrongUse, at)),
+        Some(_) => Err(OrNoMemory::Refused(NameRefusal {
+            defect: NameDefect::WrongUse,
+            at,
+        })),
     }
 }
 
 /// An array.
 #[tactic(auto, unfolding(crate::specs::Environment::array_finding))]
-pub fn require_array(found: Option<Meaning>, at: usize) -> Result<FoundArray, TypeFault>
+pub fn require_array(found: Option<Meaning>, at: usize) -> Result<FoundArray, NameFault>
     ensures { Resolves array_use result (array_finding found at) }
 {
     match found {
-        None => Err(TypeFault::Refused(NameRefusal::UnknownName, at)),
+        None => Err(OrNoMemory::Refused(NameRefusal {
+            defect: NameDefect::UnknownName,
+            at,
+        })),
         Some(Meaning::Array(variable, base, size)) => Ok(FoundArray {
             variable,
             base,
             size,
         }),
-        Some(_) => Err(TypeFault::Refused(NameRefusal::WrongUse, at)),
+        Some(_) => Err(OrNoMemory::Refused(NameRefusal {
+            defect: NameDefect::WrongUse,
+            at,
+        })),
     }
 }
 
 /// The number of an input.
 #[tactic(auto, unfolding(crate::specs::Environment::input_finding))]
-pub fn require_input(found: Option<Meaning>, at: usize) -> Result<u32, TypeFault>
+pub fn require_input(found: Option<Meaning>, at: usize) -> Result<u32, NameFault>
     ensures { Resolves itself result (input_finding found at) }
 {
     match found {
-        None => Err(TypeFault::Refused(NameRefusal::UnknownName, at)),
+        None => Err(OrNoMemory::Refused(NameRefusal {
+            defect: NameDefect::UnknownName,
+            at,
+        })),
         Some(Meaning::Input(channel)) => Ok(channel),
-        Some(_) => Err(TypeFault::Refused(NameRefusal::WrongUse, at)),
+        Some(_) => Err(OrNoMemory::Refused(NameRefusal {
+            defect: NameDefect::WrongUse,
+            at,
+        })),
     }
 }
 
 /// The number of an output.
 #[tactic(auto, unfolding(crate::specs::Environment::output_finding))]
-pub fn require_output(found: Option<Meaning>, at: usize) -> Result<u32, TypeFault>
+pub fn require_output(found: Option<Meaning>, at: usize) -> Result<u32, NameFault>
     ensures { Resolves itself result (output_finding found at) }
 {
     match found {
-        None => Err(TypeFault::Refused(NameRefusal::UnknownName, at)),
+        None => Err(OrNoMemory::Refused(NameRefusal {
+            defect: NameDefect::UnknownName,
+            at,
+        })),
         Some(Meaning::Output(channel)) => Ok(channel),
-        Some(_) => Err(TypeFault::Refused(NameRefusal::WrongUse, at)),
+        Some(_) => Err(OrNoMemory::Refused(NameRefusal {
+            defect: NameDefect::WrongUse,
+            at,
+        })),
     }
 }
 
 /// The number of an exception.
 #[tactic(auto, unfolding(crate::specs::Environment::exception_finding))]
-pub fn require_exception(found: Option<Meaning>, at: usize) -> Result<u32, TypeFault>
+pub fn require_exception(found: Option<Meaning>, at: usize) -> Result<u32, NameFault>
     ensures { Resolves itself result (exception_finding found at) }
 {
     match found {
-        None => Err(TypeFault::Refused(NameRefusal::UnknownName, at)),
+        None => Err(OrNoMemory::Refused(NameRefusal {
+            defect: NameDefect::UnknownName,
+            at,
+        })),
         Some(Meaning::Exception(number)) => Ok(number),
-        Some(_) => Err(TypeFault::Refused(NameRefusal::WrongUse, at)),
+        Some(_) => Err(OrNoMemory::Refused(NameRefusal {
+            defect: NameDefect::WrongUse,
+            at,
+        })),
     }
 }
 
 /// The number of a procedure.
 #[tactic(auto, unfolding(crate::specs::Environment::procedure_finding))]
-pub fn require_procedure(found: Option<Meaning>, at: usize) -> Result<u32, TypeFault>
+pub fn require_procedure(found: Option<Meaning>, at: usize) -> Result<u32, NameFault>
     ensures { Resolves itself result (procedure_finding found at) }
 {
     match found {
-        None => Err(TypeFault::Refused(NameRefusal::UnknownName, at)),
+        None => Err(OrNoMemory::Refused(NameRefusal {
+            defect: NameDefect::UnknownName,
+            at,
+        })),
         Some(Meaning::Procedure(number)) => Ok(number),
-        Some(_) => Err(TypeFault::Refused(NameRefusal::WrongUse, at)),
+        Some(_) => Err(OrNoMemory::Refused(NameRefusal {
+            defect: NameDefect::WrongUse,
+            at,
+        })),
     }
 }

@@ -10,13 +10,14 @@ ghost use Rattle.syntax.specs.Limits.{most_nodes};
 ghost use Rattle.syntax.specs.Tree.{call_tree, expression_tree, name_tree, optional_expression_tree, optional_label_tree, right_tree, size_tree};
 
 use crate::body::Body;
-use crate::fault::{NameRefusal, TypeFault};
+use crate::fault::{NameDefect, NameFault, NameRefusal};
 use crate::label::resolve_optional_label;
 use crate::operator::is_same;
 use crate::scope::{
     Meaning, require_array, require_exception, require_fresh, require_input, require_output,
     require_procedure, require_scalar,
 };
+use common::OrNoMemory;
 use common::limits::MAX_ELEMENTS;
 use labels::Label;
 use resolved::expression::{Base, Expression, Variable};
@@ -35,13 +36,16 @@ pub struct UsedCall {
 
 /// The length of an array.
 #[tactic(auto, unfolding(crate::specs::Statements::size_finding))]
-pub fn length_of(size: Size) -> Result<u32, TypeFault>
+pub fn length_of(size: Size) -> Result<u32, NameFault>
     ensures { Resolves itself result (size_finding (size_tree size)) }
 {
     if 0 < size.size && size.size <= MAX_ELEMENTS {
         Ok(size.size)
     } else {
-        Err(TypeFault::Refused(NameRefusal::ArraySize, size.at))
+        Err(OrNoMemory::Refused(NameRefusal {
+            defect: NameDefect::ArraySize,
+            at: size.at,
+        }))
     }
 }
 
@@ -52,7 +56,7 @@ impl<'a> Body<'a> {
         &self,
         parameters: &[Base],
         written: &[syntax::Expression],
-    ) -> Result<Vec<Expression>, TypeFault>
+    ) -> Result<Vec<Expression>, NameFault>
         ensures { Resolves expressions_of result
             (arguments_finding (names_of self.now) parameters.now
             (map expression_tree written.now)) }
@@ -70,7 +74,7 @@ impl<'a> Body<'a> {
 
     /// A call.
     #[tactic(auto, unfolding(crate::specs::Statements::call_finding, crate::specs::Statements::applied_finding))]
-    fn resolve_call(&self, written: &Call) -> Result<UsedCall, TypeFault>
+    fn resolve_call(&self, written: &Call) -> Result<UsedCall, NameFault>
         ensures { Resolves call_use result
             (call_finding (signatures_of self.now) (names_of self.now) (call_tree written.now)) }
     {
@@ -78,7 +82,10 @@ impl<'a> Body<'a> {
         let number = require_procedure(self.look_up(name), name.at)?;
         let (parameters, value) = self.top.signature(number);
         if parameters.len() != written.arguments.len() {
-            return Err(TypeFault::Refused(NameRefusal::WrongArgumentCount, name.at));
+            return Err(OrNoMemory::Refused(NameRefusal {
+                defect: NameDefect::WrongArgumentCount,
+                at: name.at,
+            }));
         }
         let arguments = self.resolve_arguments(parameters, &written.arguments)?;
         Ok(UsedCall {
@@ -96,7 +103,7 @@ impl<'a> Body<'a> {
         target: Variable,
         base: Base,
         value: &RightSide,
-    ) -> Result<Statement, TypeFault>
+    ) -> Result<Statement, NameFault>
         ensures { Resolves statement_of result
             (assigned_finding (signatures_of self.now) (names_of self.now) at target base
             (right_tree value.now)) }
@@ -107,7 +114,10 @@ impl<'a> Body<'a> {
                 channel,
             } => {
                 if !is_same(Base::Int, base) {
-                    return Err(TypeFault::Refused(NameRefusal::WrongType, *receive_at));
+                    return Err(OrNoMemory::Refused(NameRefusal {
+                        defect: NameDefect::WrongType,
+                        at: *receive_at,
+                    }));
                 }
                 let number = require_input(self.look_up(channel), channel.at)?;
                 Ok(Statement::Receive(at, number, Some(target)))
@@ -115,7 +125,10 @@ impl<'a> Body<'a> {
             RightSide::Call(call) => {
                 let made = self.resolve_call(call)?;
                 if !gives(base, made.result) {
-                    return Err(TypeFault::Refused(NameRefusal::WrongType, call.procedure.at));
+                    return Err(OrNoMemory::Refused(NameRefusal {
+                        defect: NameDefect::WrongType,
+                        at: call.procedure.at,
+                    }));
                 }
                 Ok(Statement::Call(at, made.procedure, made.arguments, Some(target)))
             }
@@ -163,7 +176,7 @@ impl<'a> Body<'a> {
         label: &Option<WrittenLabel>,
         name: &Name,
         value: &RightSide,
-    ) -> Result<Statement, TypeFault>
+    ) -> Result<Statement, NameFault>
         requires room { taken self.old < most_nodes }
         ensures made { Resolves (at_point self.new statement_of) result
             (declare_finding (setting_of self.old) (point_of self.old) at base
@@ -189,7 +202,7 @@ impl<'a> Body<'a> {
         written: &Option<WrittenLabel>,
         name: &Name,
         size: Size,
-    ) -> Result<Statement, TypeFault>
+    ) -> Result<Statement, NameFault>
         requires room { taken self.old < most_nodes }
         ensures made { Resolves (at_point self.new statement_of) result
             (declare_array_finding (setting_of self.old) (point_of self.old) at base
@@ -207,7 +220,7 @@ impl<'a> Body<'a> {
     }
 
     #[tactic(auto, unfolding(crate::specs::Statements::assign_finding))]
-    pub fn assign(&self, target: &Name, value: &RightSide) -> Result<Statement, TypeFault>
+    pub fn assign(&self, target: &Name, value: &RightSide) -> Result<Statement, NameFault>
         ensures { Resolves statement_of result
             (assign_finding (signatures_of self.now) (names_of self.now) (name_tree target.now)
             (right_tree value.now)) }
@@ -222,7 +235,7 @@ impl<'a> Body<'a> {
         name: &Name,
         index: &syntax::Expression,
         value: &syntax::Expression,
-    ) -> Result<Statement, TypeFault>
+    ) -> Result<Statement, NameFault>
         ensures { Resolves statement_of result
             (store_finding (names_of self.now) (name_tree name.now) (expression_tree index.now)
             (expression_tree value.now)) }
@@ -234,7 +247,7 @@ impl<'a> Body<'a> {
     }
 
     #[tactic(auto, unfolding(crate::specs::Statements::call_statement_finding))]
-    pub fn resolve_call_statement(&self, call: &Call) -> Result<Statement, TypeFault>
+    pub fn resolve_call_statement(&self, call: &Call) -> Result<Statement, NameFault>
         ensures { Resolves statement_of result
             (call_statement_finding (signatures_of self.now) (names_of self.now)
             (call_tree call.now)) }
@@ -244,7 +257,7 @@ impl<'a> Body<'a> {
     }
 
     #[tactic(auto, unfolding(crate::specs::Statements::receive_finding))]
-    pub fn receive(&self, at: usize, channel: &Name) -> Result<Statement, TypeFault>
+    pub fn receive(&self, at: usize, channel: &Name) -> Result<Statement, NameFault>
         ensures { Resolves statement_of result
             (receive_finding (names_of self.now) at (name_tree channel.now)) }
     {
@@ -258,7 +271,7 @@ impl<'a> Body<'a> {
         at: usize,
         channel: &Name,
         value: &syntax::Expression,
-    ) -> Result<Statement, TypeFault>
+    ) -> Result<Statement, NameFault>
         ensures { Resolves statement_of result
             (send_finding (names_of self.now) at (name_tree channel.now)
             (expression_tree value.now)) }
@@ -268,7 +281,7 @@ impl<'a> Body<'a> {
     }
 
     #[tactic(auto, unfolding(crate::specs::Statements::throw_finding))]
-    pub fn throw(&self, at: usize, name: &Name) -> Result<Statement, TypeFault>
+    pub fn throw(&self, at: usize, name: &Name) -> Result<Statement, NameFault>
         ensures { Resolves statement_of result
             (throw_finding (names_of self.now) at (name_tree name.now)) }
     {
@@ -281,7 +294,7 @@ impl<'a> Body<'a> {
         &self,
         at: usize,
         value: &Option<syntax::Expression>,
-    ) -> Result<Statement, TypeFault>
+    ) -> Result<Statement, NameFault>
         ensures { Resolves statement_of result
             (return_finding self.now.result (names_of self.now) at
             (optional_expression_tree value.now)) }
@@ -289,17 +302,26 @@ impl<'a> Body<'a> {
         match value {
             None => match self.result {
                 None => Ok(Statement::Return(at, None)),
-                Some(_) => Err(TypeFault::Refused(NameRefusal::WrongType, at)),
+                Some(_) => Err(OrNoMemory::Refused(NameRefusal {
+                    defect: NameDefect::WrongType,
+                    at,
+                })),
             },
             Some(value) => {
                 let found = self.resolve_expression(value)?;
                 match self.result {
-                    None => Err(TypeFault::Refused(NameRefusal::WrongType, value.place())),
+                    None => Err(OrNoMemory::Refused(NameRefusal {
+                        defect: NameDefect::WrongType,
+                        at: value.place(),
+                    })),
                     Some(base) => {
                         if is_same(found.base, base) {
                             Ok(Statement::Return(at, Some(found.expression)))
                         } else {
-                            Err(TypeFault::Refused(NameRefusal::WrongType, value.place()))
+                            Err(OrNoMemory::Refused(NameRefusal {
+                                defect: NameDefect::WrongType,
+                                at: value.place(),
+                            }))
                         }
                     }
                 }

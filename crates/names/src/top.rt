@@ -8,7 +8,7 @@ ghost use Rattle.std.specs.Prelude.{IfOk, OnOk, length, map, ◌+◌, ◌<◌, �
 ghost use Rattle.syntax.specs.Limits.{most_nodes};
 ghost use Rattle.syntax.specs.Tree.{global_value_tree, item_tree, name_tree, written_result_tree, procedure_tree};
 
-use crate::fault::TypeFault;
+use crate::fault::NameFault;
 use crate::operator::base_of;
 use crate::scope::{Meaning, find, insert, require_fresh};
 use common::Direction;
@@ -106,7 +106,7 @@ impl TopNames {
     }
 
     /// The top level before the first item.
-    fn declare_built_in(alloc: Global) -> Result<TopNames, TypeFault>
+    fn declare_built_in(alloc: Global) -> Result<TopNames, NameFault>
         ensures { Resolves top_view result (give built_in) }
     {
         let mut names = IndexMap::new(alloc);
@@ -139,7 +139,7 @@ impl TopNames {
 
     /// Declares the name of the next item.
     #[tactic(auto, unfolding(crate::specs::Resolution::next_name))]
-    fn add(&mut self, alloc: Global, item: &Item) -> Result<(), TypeFault>
+    fn add(&mut self, alloc: Global, item: &Item) -> Result<(), NameFault>
         requires room { self.old.channels + self.old.exceptions + self.old.globals +
             length self.old.signatures.items < most_nodes + 3 }
         ensures made { Resolves (λ _. top_view self.new) result
@@ -165,7 +165,7 @@ impl TopNames {
 
     /// The top level of these items.
     #[tactic(auto, unfolding(crate::specs::Resolution::top_finding))]
-    pub fn of(alloc: Global, items: &[Item]) -> Result<TopNames, TypeFault>
+    pub fn of(alloc: Global, items: &[Item]) -> Result<TopNames, NameFault>
         requires { length items.now < most_nodes }
         ensures { Resolves top_view result (top_finding (map item_tree items.now)) }
     {

@@ -1,13 +1,17 @@
 -- What the parser answers, from what reading a program gives.
-use Rattle.std.proofs.Common.{◌≡◌, ◌⊎◌, ℕ, ◌≤◌, List, length, Result, Ok, Err, refl, sym, subst, inl, inr, arith}
+use Rattle.std.proofs.Common.{◌≡◌, ◌≤◌, List, length, Result, Ok, Err, sym, subst, arith}
 use Rattle.std.proofs.lemmas.List.{length-map}
 use Rattle.lexer.specs.declared.token.Token.{Token}
 use Rattle.lexer.specs.Terminal.{IsTerminated, terminal_of, terminals_of}
-use Rattle.parser.specs.declared.fault.ParseFault.{ParseFault}
-use Rattle.parser.specs.declared.fault.ParseFault.TheVariants as faults
+use Rattle.common.specs.declared.fault.OrNoMemory.{OrNoMemory}
+use Rattle.common.specs.declared.fault.OrNoMemory.TheVariants.{NoMemory, Refused}
+use Rattle.parser.specs.declared.fault.ParseRefusal.{ParseRefusal}
+use Rattle.parser.specs.declared.fault.ParseRefusal.TheVariants.{Unexpected, TooDeep}
+use Rattle.common.specs.Answers.{IfRefused}
+use Rattle.common.proofs.Casting.{refused-weaker}
 use Rattle.parser.specs.OfText.{IsOfText}
 use Rattle.parser.specs.Reading.{IsRead, read}
-use Rattle.parser.specs.Refusal.{IsUnexpectedAt, IsTooDeepAt, IsTreeOrNoMemory, AreTokensRefused}
+use Rattle.parser.specs.Refusal.{AreTokensRefused}
 use Rattle.syntax.specs.declared.tree.Item.{Item}
 use Rattle.syntax.specs.Grammar.{SpellsProgram, program}
 use Rattle.syntax.specs.Limits.{IsProgram}
@@ -19,7 +23,7 @@ use Rattle.parser.proofs.Spelled.{few_nodes, spelled_program}
 
 -- what is said of the items, and of the fault, by what reading gives
 module _ (tokens : List Token) (terminated : IsTerminated (terminals_of tokens)) where
-  abbrev WasRead : Result (List Item) ParseFault → List Token → Type 0
+  abbrev WasRead : Result (List Item) (OrNoMemory ParseRefusal) → List Token → Type 0
   WasRead result left = IsRead program_tree result left (read 64 program (terminals_of tokens))
 
   pub items_spelled : (items : List Item) (left : List Token) → WasRead (Ok items) left → SpellsProgram (terminals_of tokens) (program_tree items)
@@ -37,36 +41,25 @@ module _ (tokens : List Token) (terminated : IsTerminated (terminals_of tokens))
   items_program items left text e =
       spelled_program (terminals_of tokens) (program_tree items) text (items_spelled items left e)
 
-  pub items_not_refused : (items : List Item) (left : List Token) → WasRead (Ok items) left → (fault : ParseFault) → AreTokensRefused (terminals_of tokens) fault → ⊥
-  items_not_refused items left e fault refused =
-      spelled_not_refused (terminals_of tokens) (program_tree items) fault (items_spelled items left e) refused
+  pub items_not_refused : (items : List Item) (left : List Token) → WasRead (Ok items) left → (refusal : ParseRefusal) → AreTokensRefused (terminals_of tokens) refusal → ⊥
+  items_not_refused items left e refusal refused =
+      spelled_not_refused (terminals_of tokens) (program_tree items) refusal (items_spelled items left e) refused
 
-  pub fault_only : (fault : ParseFault) (left : List Token) → WasRead (Err fault) left → (tree : ProgramTree) → SpellsProgram (terminals_of tokens) tree → IsTreeOrNoMemory (Err fault) tree
-  fault_only faults.NoMemory left e tree spelled = tt
-  fault_only (faults.Unexpected at) left e tree spelled =
-      (subst (Verdict (terminals_of tokens)) e (verdict (terminals_of tokens) terminated)).1 tree spelled
-  fault_only (faults.TooDeep at) left e tree spelled =
-      (subst (Verdict (terminals_of tokens)) e (verdict (terminals_of tokens) terminated)).1 tree spelled
+  pub fault_refused : (fault : OrNoMemory ParseRefusal) (left : List Token) → WasRead (Err fault) left → IfRefused (AreTokensRefused (terminals_of tokens)) fault
+  fault_refused NoMemory left e = tt
+  fault_refused (Refused (Unexpected at)) left e =
+      (subst (Verdict (terminals_of tokens)) e (verdict (terminals_of tokens) terminated)).0
+  fault_refused (Refused (TooDeep at)) left e =
+      (subst (Verdict (terminals_of tokens)) e (verdict (terminals_of tokens) terminated)).0
 
-  pub fault_refused : (fault : ParseFault) (left : List Token) → WasRead (Err fault) left → (fault ≡ faults.NoMemory) ⊎ AreTokensRefused (terminals_of tokens) fault
-  fault_refused faults.NoMemory left e = inl refl
-  fault_refused (faults.Unexpected at) left e =
-      inr (subst (Verdict (terminals_of tokens)) e (verdict (terminals_of tokens) terminated)).0
-  fault_refused (faults.TooDeep at) left e =
-      inr (subst (Verdict (terminals_of tokens)) e (verdict (terminals_of tokens) terminated)).0
+  pub fault_exact : (fault : OrNoMemory ParseRefusal) (left : List Token) → WasRead (Err fault) left → (tree : ProgramTree)
+      → SpellsProgram (terminals_of tokens) tree → IfRefused (λ _. ⊥) fault
+  fault_exact fault left e tree spelled =
+      refused-weaker (AreTokensRefused (terminals_of tokens)) (λ _. ⊥) (λ r h. spelled_not_refused (terminals_of tokens) tree r spelled h) fault
+      (fault_refused fault left e)
 
-  pub fault_first : (fault : ParseFault) (left : List Token) → WasRead (Err fault) left → (other : ParseFault) → AreTokensRefused (terminals_of tokens) other → (fault ≡ other) ⊎ (fault ≡ faults.NoMemory)
-  fault_first fault left e other refused = elim (fault_refused fault left e) [
-    | inl none ↦ inr none
-    | inr here ↦ inl (one_refusal (terminals_of tokens) fault other here refused)
-  ]
-
-  pub fault_unexpected : (fault : ParseFault) (left : List Token) → WasRead (Err fault) left → (at : ℕ) → ◌≡◌ {A = Result (List Item) ParseFault} (Err fault) (Err (faults.Unexpected at)) → IsUnexpectedAt (terminals_of tokens) at
-  fault_unexpected fault left e at which =
-      let found = subst (λ one. WasRead one left) which e in
-      (subst (Verdict (terminals_of tokens)) found (verdict (terminals_of tokens) terminated)).0
-
-  pub fault_too_deep : (fault : ParseFault) (left : List Token) → WasRead (Err fault) left → (at : ℕ) → ◌≡◌ {A = Result (List Item) ParseFault} (Err fault) (Err (faults.TooDeep at)) → IsTooDeepAt (terminals_of tokens) at
-  fault_too_deep fault left e at which =
-      let found = subst (λ one. WasRead one left) which e in
-      (subst (Verdict (terminals_of tokens)) found (verdict (terminals_of tokens) terminated)).0
+  pub fault_first : (fault : OrNoMemory ParseRefusal) (left : List Token) → WasRead (Err fault) left → (other : ParseRefusal)
+      → AreTokensRefused (terminals_of tokens) other → IfRefused (λ found. found ≡ other) fault
+  fault_first fault left e other refused =
+      refused-weaker (AreTokensRefused (terminals_of tokens)) (λ found. found ≡ other) (λ r h. one_refusal (terminals_of tokens) r other h refused) fault
+      (fault_refused fault left e)

@@ -1,9 +1,9 @@
 -- Refusals exclude trees and one another, and where tokens spell no tree there is one.
 use Rattle.std.proofs.Common.{◌≡◌, ◌⊎◌, ℕ, List, [], ◌∷◌, ◌++◌, length, length-append, Result, Ok, Err, refl, sym, ◌∙◌, ap, subst, inl, inr, append_assoc, arith}
 use Rattle.lexer.specs.Terminal.{Terminal, IsTerminated}
-use Rattle.parser.specs.declared.fault.ParseFault.{ParseFault}
-use Rattle.parser.specs.declared.fault.ParseFault.TheVariants as faults
-use Rattle.parser.specs.Reading.{Reason, OutOfPlace, OverLimit, ParseRefusal, read}
+use Rattle.parser.specs.declared.fault.ParseRefusal.{ParseRefusal}
+use Rattle.parser.specs.declared.fault.ParseRefusal.TheVariants as faults
+use Rattle.parser.specs.Reading.{Reason, OutOfPlace, OverLimit, ReadFailure, read}
 use Rattle.parser.specs.Refusal.{IsPrefixWithin, IsPrefixOfProgram, IsUnexpectedAt, IsTooDeepAt, AreTokensRefused}
 use Rattle.syntax.specs.Grammar.{SpellsProgram, SpellsBut, program}
 use Rattle.syntax.specs.Tree.{ProgramTree}
@@ -102,14 +102,11 @@ not_two tokens at place u d =
 abbrev place_of : Terminal → ℕ
 place_of token = token.start
 
-pub one_refusal : (tokens : List Terminal) (fault other : ParseFault) → AreTokensRefused tokens fault → AreTokensRefused tokens other → fault ≡ other
-one_refusal tokens faults.NoMemory other r s = absurd r
-one_refusal tokens (faults.Unexpected at) faults.NoMemory r s = absurd s
+pub one_refusal : (tokens : List Terminal) (fault other : ParseRefusal) → AreTokensRefused tokens fault → AreTokensRefused tokens other → fault ≡ other
 one_refusal tokens (faults.Unexpected at) (faults.Unexpected place) r s =
     let stop = one_stop tokens (of_unexpected tokens at r) (of_unexpected tokens place s) in
     ap faults.Unexpected (sym r.place ∙ (ap place_of stop.1 ∙ s.place))
 one_refusal tokens (faults.Unexpected at) (faults.TooDeep place) r s = absurd (not_two tokens at place r s)
-one_refusal tokens (faults.TooDeep at) faults.NoMemory r s = absurd s
 one_refusal tokens (faults.TooDeep at) (faults.Unexpected place) r s = absurd (not_two tokens place at s r)
 one_refusal tokens (faults.TooDeep at) (faults.TooDeep place) r s =
     let stop = one_stop tokens (of_too_deep tokens at r) (of_too_deep tokens place s) in
@@ -119,18 +116,17 @@ spelled_stop : (tokens : List Terminal) (tree : ProgramTree) → SpellsProgram t
 spelled_stop tokens tree spelled stop =
     stop.stopped (spelled_front (stop.front ++ stop.token ∷ []) stop.after tree (subst (λ list. SpellsProgram list tree) (stop.split ∙ sym (append_assoc stop.front (stop.token ∷ []) stop.after)) spelled))
 
-pub spelled_not_refused : (tokens : List Terminal) (tree : ProgramTree) (fault : ParseFault) → SpellsProgram tokens tree → AreTokensRefused tokens fault → ⊥
-spelled_not_refused tokens tree faults.NoMemory spelled r = r
+pub spelled_not_refused : (tokens : List Terminal) (tree : ProgramTree) (fault : ParseRefusal) → SpellsProgram tokens tree → AreTokensRefused tokens fault → ⊥
 spelled_not_refused tokens tree (faults.Unexpected at) spelled r = spelled_stop tokens tree spelled (of_unexpected tokens at r)
 spelled_not_refused tokens tree (faults.TooDeep at) spelled r = spelled_stop tokens tree spelled (of_too_deep tokens at r)
 
-refused_by : (tokens : List Terminal) (why : Reason) (at : ℕ) → Refuses why tokens at → (fault : ParseFault) × AreTokensRefused tokens fault
+refused_by : (tokens : List Terminal) (why : Reason) (at : ℕ) → Refuses why tokens at → (fault : ParseRefusal) × AreTokensRefused tokens fault
 refused_by tokens OutOfPlace at r = (faults.Unexpected at, r)
 refused_by tokens OverLimit at r = (faults.TooDeep at, r)
 
-decided : (tokens : List Terminal) (found : Result (ProgramTree × List Terminal) ParseRefusal) → Verdict tokens found → ((tree : ProgramTree) × SpellsProgram tokens tree) ⊎ ((fault : ParseFault) × AreTokensRefused tokens fault)
+decided : (tokens : List Terminal) (found : Result (ProgramTree × List Terminal) ReadFailure) → Verdict tokens found → ((tree : ProgramTree) × SpellsProgram tokens tree) ⊎ ((fault : ParseRefusal) × AreTokensRefused tokens fault)
 decided tokens (Ok found) v = inl (found.0, v.0)
 decided tokens (Err refusal) v = inr (refused_by tokens refusal.why refusal.at v.0)
 
-pub spelled_or_refused : (tokens : List Terminal) → IsTerminated tokens → ((tree : ProgramTree) × SpellsProgram tokens tree) ⊎ ((fault : ParseFault) × AreTokensRefused tokens fault)
+pub spelled_or_refused : (tokens : List Terminal) → IsTerminated tokens → ((tree : ProgramTree) × SpellsProgram tokens tree) ⊎ ((fault : ParseRefusal) × AreTokensRefused tokens fault)
 spelled_or_refused tokens terminated = decided tokens (read 64 program tokens) (verdict tokens terminated)

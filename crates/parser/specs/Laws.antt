@@ -2,7 +2,7 @@
 -- Source: our own; that a predictive parser decides its grammar is folklore.
 use Rattle.std.specs.Prelude.{◌≡◌, ◌⊎◌, List}
 use Rattle.lexer.specs.Terminal.{Terminal, IsTerminated}
-use Rattle.parser.specs.declared.fault.ParseFault.{ParseFault}
+use Rattle.parser.specs.declared.fault.ParseRefusal.{ParseRefusal}
 use Rattle.parser.specs.Refusal.{AreTokensRefused}
 use Rattle.syntax.specs.Grammar.{SpellsProgram}
 use Rattle.syntax.specs.Tree.{ProgramTree}
@@ -11,12 +11,12 @@ use Rattle.syntax.specs.Tree.{ProgramTree}
 abbrev pub IsSpelledOrRefused : Type 0
 IsSpelledOrRefused =
     (tokens : List Terminal) → IsTerminated tokens
-    → ((tree : ProgramTree) × SpellsProgram tokens tree) ⊎ ((fault : ParseFault) × AreTokensRefused tokens fault)
+    → ((tree : ProgramTree) × SpellsProgram tokens tree) ⊎ ((refusal : ParseRefusal) × AreTokensRefused tokens refusal)
 
 -- tokens that spell a tree are not refused
 abbrev pub IsNotSpelledAndRefused : Type 0
-IsNotSpelledAndRefused = (tokens : List Terminal) (tree : ProgramTree) (fault : ParseFault) → SpellsProgram tokens tree → AreTokensRefused tokens fault → ⊥
+IsNotSpelledAndRefused = (tokens : List Terminal) (tree : ProgramTree) (refusal : ParseRefusal) → SpellsProgram tokens tree → AreTokensRefused tokens refusal → ⊥
 
 -- tokens are refused for one reason at most, at one token
 abbrev pub HasOneRefusal : Type 0
-HasOneRefusal = (tokens : List Terminal) (fault other : ParseFault) → AreTokensRefused tokens fault → AreTokensRefused tokens other → fault ≡ other
+HasOneRefusal = (tokens : List Terminal) (refusal other : ParseRefusal) → AreTokensRefused tokens refusal → AreTokensRefused tokens other → refusal ≡ other

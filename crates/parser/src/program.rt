@@ -1,16 +1,17 @@
-ghost use Rattle.std.specs.Prelude.{◌≤◌, length, IfOk};
+ghost use Rattle.common.specs.Answers.{Answers, IfRefused};
+ghost use Rattle.std.specs.Prelude.{◌≡◌, ◌≤◌, length, IfErr, IfOk};
 ghost use Rattle.lexer.specs.Terminal.{IsTerminated, terminals_of};
 ghost use Rattle.syntax.specs.Grammar.{SpellsProgram, program};
 ghost use Rattle.syntax.specs.Laws.{SpellsOneTree, SpelledIsTerminated, SpelledHasFewNodes, SpelledIsNested, SpelledIsWritten};
 ghost use Rattle.syntax.specs.Nodes.{program_nodes};
-ghost use Rattle.syntax.specs.Tree.{program_tree};
+ghost use Rattle.syntax.specs.Tree.{ProgramTree, program_tree};
 ghost use Rattle.parser.specs.Laws.{IsSpelledOrRefused, IsNotSpelledAndRefused, HasOneRefusal};
 ghost use Rattle.parser.specs.OfText.{IsOfText};
 ghost use Rattle.parser.specs.Reading.{IsRead, read};
-ghost use Rattle.parser.specs.Refusal.{AnswersOnly, AnswersUnexpected, AnswersTooDeep, AnswersFirst};
+ghost use Rattle.parser.specs.Refusal.{AreTokensRefused};
 
 use crate::cursor::Parser;
-use crate::fault::ParseFault;
+use crate::fault::{ParseFault, ParseRefusal};
 use common::limits::MAX_LEVELS;
 use lexer::{Kind, Token};
 use std::alloc::Global;
@@ -41,27 +42,27 @@ pub fn parse(alloc: Global, tokens: &[Token<'_>]) -> Result<Program, ParseFault>
     requires of_text { IsOfText (terminals_of tokens.now) }
 
     // All the tokens together spell the answer, which has at most as many nodes.
-    ensures spelled { IfOk result (λ items.
+    ensures accepted { IfOk result (λ items.
         SpellsProgram (terminals_of tokens.now) (program_tree items)) }
     ensures bounded { IfOk result (λ items.
         program_nodes (program_tree items) ≤ length tokens.now) }
 
     // Where the tokens spell a tree, that tree is the answer, unless memory ran out.
-    ensures only { AnswersOnly (terminals_of tokens.now) result }
+    ensures exact { (tree : ProgramTree) → SpellsProgram (terminals_of tokens.now) tree →
+        Answers (λ items. program_tree items ≡ tree) (λ _. ⊥) result }
 
     // A refusal is the first fault, and where the tokens have a fault it is the answer, unless memory ran out.
-    ensures unexpected { AnswersUnexpected (terminals_of tokens.now) result }
-    ensures too_deep { AnswersTooDeep (terminals_of tokens.now) result }
-    ensures first { AnswersFirst (terminals_of tokens.now) result }
+    ensures rejected { IfErr result (IfRefused (AreTokensRefused (terminals_of tokens.now))) }
+    ensures first_fault { (refusal : ParseRefusal) →
+        AreTokensRefused (terminals_of tokens.now) refusal →
+        Answers (λ _. ⊥) (λ found. found ≡ refusal) result }
 {
     let mut parser = Parser {
         alloc,
         rest: tokens,
     };
-    match parser.parse_program() {
-        Ok(items) => Ok(Program::new(items)),
-        Err(fault) => Err(fault),
-    }
+    let items = parser.parse_program()?;
+    Ok(Program::new(items))
 }
 
 /// The laws that tokens spell at most one tree, and that what they spell ends in the one end marker; and, where each token has the

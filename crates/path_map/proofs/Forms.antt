@@ -1,6 +1,6 @@
 -- What a walk finds of each form of statement, from what it finds of the blocks in it.
-use Rattle.std.proofs.Common.{◌≡◌, refl, sym, ap, ◌∙◌, subst, ℕ, List, [], ◌∷◌, ◌++◌, Bool, true, false, not, ◌&&◌, ◌||◌, map, filter, drop, get_or, length, ◌<◌, suc, ◌+◌, arith}
-use Rattle.std.specs.Prelude.{◌==◌, if◌then◌else◌, Option, Some, None, Vec}
+use Rattle.std.proofs.Common.{◌≡◌, sym, ap, ◌∙◌, subst, ℕ, List, [], ◌∷◌, ◌++◌, Bool, false, ◌||◌, filter, drop, get_or, length, ◌<◌, suc, ◌+◌}
+use Rattle.std.specs.Prelude.{◌==◌, Option, Some, None, Vec}
 use Rattle.std.specs.declared.alloc.Global.{Global}
 use Rattle.std.proofs.Math.Seq.{drop-cons}
 use Rattle.std.proofs.Math.Numerals.{add-one}
@@ -8,23 +8,25 @@ use Rattle.resolved.specs.declared.expression.Expression as E
 use Rattle.resolved.specs.declared.statement.Statement as S
 use Rattle.resolved.specs.declared.statement.Handler.{Handler}
 use Rattle.resolved.specs.declared.statement.Exit.{Exit}
-use Rattle.resolved.specs.declared.statement.Exit.TheVariants.{Normal, Return, Throw}
+use Rattle.resolved.specs.declared.statement.Exit.TheVariants.{Normal, Return}
 use Rattle.resolved.specs.Tree.{Expression, Statement, If, While, Try, Nested, ReturnWith, Block, Then, Handlers, Catch}
-use Rattle.resolved.specs.TreeOf.{expression_of, some_expression_of, statement_of, block_of, handlers_of}
+use Rattle.resolved.specs.TreeOf.{expression_of, statement_of, block_of, handlers_of}
 use Rattle.resolved.proofs.Views.{at_if, at_while, at_try, at_nested}
 use Rattle.resolved.specs.Program.{Program}
-use Rattle.resolved.specs.Ends.{thrown_ends, leaves_loop, passes, raises, index_can_raise, index_raises, statement_ends, block_ends, handlers_ends}
-use Rattle.resolved.specs.EndFaults.{inner_faults, block_faults, handlers_faults}
+use Rattle.resolved.specs.Ends.{thrown_ends, leaves_loop, raises, index_can_raise, index_raises, statement_ends, block_ends, handlers_ends}
+use Rattle.resolved.specs.EndFaults.{inner_faults}
 use Rattle.path_map.specs.declared.exits.Raised.{Raised}
 use Rattle.path_map.specs.declared.exits.Exits.{Exits}
-use Rattle.path_map.specs.declared.fault.EndsFault.{EndsFault}
+use Rattle.common.specs.declared.fault.OrNoMemory.{OrNoMemory}
+use Rattle.common.specs.Answers.{IfRefused}
+use Rattle.path_map.specs.declared.fault.EndRefusal as code
 use Rattle.path_map.specs.FirstFault.{IsFirstEndFault}
 use Rattle.path_map.specs.Joins.{join, of_loop, raised_list, raises_some}
-use Rattle.path_map.specs.Paths.{inner_paths, block_paths, rest_paths, handlers_paths}
+use Rattle.path_map.specs.Paths.{inner_paths, block_paths, handlers_paths}
 use Rattle.path_map.specs.Sets.{row_has, IsSum, IsSummaryOf, is_one_of, throws}
 use Rattle.path_map.specs.Walks.{IsFound, AreThrown, AreLeft}
 use Rattle.path_map.proofs.Summary.{any-append, loop-thrown}
-use Rattle.path_map.proofs.Walking.{both, looped, try-found, are-thrown, first-left, first-right, none-both}
+use Rattle.path_map.proofs.Walking.{both, looped, try-found}
 
 -- what is found of a tree is found of the statement that stands for it
 module _ (program : Program) (s : S.Statement) (tree : Statement) (is : statement_of s ≡ tree) where
@@ -36,9 +38,9 @@ module _ (program : Program) (s : S.Statement) (tree : Statement) (is : statemen
   pub faults-at : (in_loop : Bool) → inner_faults program in_loop tree ≡ [] → inner_faults program in_loop (statement_of s) ≡ []
   faults-at in_loop none = ap (inner_faults program in_loop) is ∙ none
 
-  pub first-at : (in_loop : Bool) (fault : EndsFault) → IsFirstEndFault (inner_faults program in_loop tree) fault
-      → IsFirstEndFault (inner_faults program in_loop (statement_of s)) fault
-  first-at in_loop fault first = subst (λ t. IsFirstEndFault (inner_faults program in_loop t) fault) (sym is) first
+  pub first-at : (in_loop : Bool) (fault : OrNoMemory code.EndRefusal) → IfRefused (IsFirstEndFault (inner_faults program in_loop tree)) fault
+      → IfRefused (IsFirstEndFault (inner_faults program in_loop (statement_of s))) fault
+  first-at in_loop fault first = subst (λ t. IfRefused (IsFirstEndFault (inner_faults program in_loop t)) fault) (sym is) first
 
 pub found-same : (ends : List Exit) (paths : List (List Exit)) (e0 e1 : List Exits) (r0 r1 : List ℕ) (x y : Exits)
     → y ≡ x → IsFound ends paths e0 e1 r0 r1 x → IsFound ends paths e0 e1 r0 r1 y

@@ -1,7 +1,7 @@
 -- The faults of a procedure, and the entries and faults of all of a program's.
 use Rattle.std.proofs.Common.{◌≡◌, refl, sym, ap, ◌∙◌, subst, ℕ, List, [], ◌∷◌, ◌++◌, Bool, true, false, not, ◌&&◌, ◌||◌, map, flat_map, append_assoc, append-nil, take, drop, get_or, length, ◌<◌, ◌≤◌, ◌+◌, suc}
-use Rattle.std.specs.Prelude.{◌==◌, if◌then◌else◌, is_some, Some, None, Option}
-use Rattle.std.specs.List.{list_all, list_any}
+use Rattle.std.specs.Prelude.{◌==◌, is_some, Some, None, Option}
+use Rattle.std.specs.List.{list_all}
 use Rattle.std.proofs.lemmas.List.{map-append, take_more, take-append-drop}
 use Rattle.std.proofs.Math.ListN.{drop_of_length-le}
 use Rattle.std.proofs.Math.Seq.{drop-cons}
@@ -16,22 +16,23 @@ use Rattle.resolved.specs.declared.tables.Thrown.{Thrown}
 use Rattle.resolved.specs.declared.tables.Procedure.{Procedure}
 use Rattle.resolved.specs.Program.{Program, ProcedureEntry, ThrownEntry}
 use Rattle.resolved.specs.ProgramOf.{result_entry, thrown_entry, procedure_entry}
-use Rattle.resolved.specs.Ends.{same_exit, has_end, thrown_ends, declared_by, block_ends}
-use Rattle.resolved.specs.EndFaults.{EndFault, NoValueReturned, Undeclared, fault_unless, may_end, block_faults, procedure_faults}
-use Rattle.path_map.specs.declared.exits.Raised.{Raised}
+use Rattle.resolved.specs.Ends.{same_exit, has_end, declared_by, block_ends}
+use Rattle.resolved.specs.EndFaults.{NoValueReturned, Undeclared, fault_unless, may_end, block_faults, procedure_faults}
 use Rattle.path_map.specs.declared.exits.Raised.TheVariants.{Several}
 use Rattle.path_map.specs.declared.exits.Exits.{Exits}
 use Rattle.path_map.specs.declared.fault.EndDefect.TheVariants as defect
-use Rattle.path_map.specs.declared.fault.EndsFault.{EndsFault}
-use Rattle.path_map.specs.declared.fault.EndsFault.TheVariants.{NoMemory, Refused}
+use Rattle.common.specs.declared.fault.OrNoMemory.{OrNoMemory}
+use Rattle.common.specs.declared.fault.OrNoMemory.TheVariants.{Refused}
+use Rattle.common.specs.Answers.{IfRefused}
+use Rattle.path_map.specs.declared.fault.EndRefusal as code
 use Rattle.path_map.specs.FirstFault.{IsFirstEndFault}
 use Rattle.path_map.specs.Exits.{exits_of, raised_by}
 use Rattle.path_map.specs.Joins.{join_raised}
 use Rattle.path_map.specs.Paths.{block_paths}
-use Rattle.path_map.specs.Sets.{AreDeclared, HasUndeclared, is_one_of, row_has, throws}
+use Rattle.path_map.specs.Sets.{AreDeclared, is_one_of, row_has, throws}
 use Rattle.path_map.specs.Walks.{IsFound}
 use Rattle.path_map.proofs.Summary.{same-number, or-true, or-false, any-append, raised-append, throws-thrown}
-use Rattle.path_map.proofs.Walking.{first-left, first-right, none-both}
+use Rattle.path_map.proofs.Walking.{first-left}
 
 same-is : (x y : Exit) → same_exit x y ≡ true → x ≡ y
 same-is Normal Normal e = refl
@@ -97,7 +98,7 @@ module _ (program : Program) (procedure : ProcedureEntry) where
   ends_here : List Exit
   ends_here = block_ends program procedure.body
 
-  pub body-first : (fault : EndsFault) → IsFirstEndFault (block_faults program false true procedure.body) fault → IsFirstEndFault (procedure_faults program procedure) fault
+  pub body-first : (fault : OrNoMemory code.EndRefusal) → IfRefused (IsFirstEndFault (block_faults program false true procedure.body)) fault → IfRefused (IsFirstEndFault (procedure_faults program procedure)) fault
   body-first fault first =
       first-left (block_faults program false true procedure.body
       ++ fault_unless (not (is_some procedure.result && has_end (block_ends program procedure.body) Normal)) NoValueReturned procedure.at)
@@ -107,13 +108,13 @@ module _ (program : Program) (procedure : ProcedureEntry) where
 
   pub no-value-first : block_faults program false true procedure.body ≡ []
       → (is_some procedure.result && has_end (block_ends program procedure.body) Normal) ≡ true
-      → IsFirstEndFault (procedure_faults program procedure) (Refused (record { defect = defect.NoValueReturned; at = procedure.at }))
+      → IfRefused (IsFirstEndFault (procedure_faults program procedure)) (Refused (record { defect = defect.NoValueReturned; at = procedure.at }))
   no-value-first clean value = rw (clean, value) refl
 
   pub undeclared-first : block_faults program false true procedure.body ≡ []
       → (is_some procedure.result && has_end (block_ends program procedure.body) Normal) ≡ false
       → list_all (may_end procedure) (block_ends program procedure.body) ≡ false
-      → IsFirstEndFault (procedure_faults program procedure) (Refused (record { defect = defect.Undeclared; at = procedure.at }))
+      → IfRefused (IsFirstEndFault (procedure_faults program procedure)) (Refused (record { defect = defect.Undeclared; at = procedure.at }))
   undeclared-first clean value ends = rw (clean, value, ends) refl
 
   pub no-faults : block_faults program false true procedure.body ≡ []
@@ -168,10 +169,10 @@ module _ (program : Program) (all : List ProcedureEntry) where
     faults = refl;
   }
 
-  pub beside-first : (procedure : ProcedureEntry) (tail : List ProcedureEntry) (now : List Exits) (fault : EndsFault) → Beside program all (procedure ∷ tail) now
-      → IsFirstEndFault (procedure_faults program procedure) fault → IsFirstEndFault (flat_map (procedure_faults program) all) fault
+  pub beside-first : (procedure : ProcedureEntry) (tail : List ProcedureEntry) (now : List Exits) (fault : OrNoMemory code.EndRefusal) → Beside program all (procedure ∷ tail) now
+      → IfRefused (IsFirstEndFault (procedure_faults program procedure)) fault → IfRefused (IsFirstEndFault (flat_map (procedure_faults program) all)) fault
   beside-first procedure tail now fault along first =
-      subst (λ faults. IsFirstEndFault faults fault) along.faults
+      subst (λ faults. IfRefused (IsFirstEndFault faults) fault) along.faults
       (first-left (procedure_faults program procedure) (flat_map (procedure_faults program) tail) fault first)
 
   pub beside-step : (procedure : ProcedureEntry) (tail : List ProcedureEntry) (now next : List Exits) → Beside program all (procedure ∷ tail) now

@@ -1,5 +1,5 @@
 -- Rows of bits: one bit set, one cleared, two rows put together; and literals.
-use Rattle.std.proofs.Common.{◌≡◌, ◌≢◌, refl, sym, ap, ◌∙◌, ℕ, zero, suc, ◌+◌, ◌-◌, ◌*◌, ◌/◌, ◌%◌, ◌^◌, ◌<◌, ◌≤◌, max, List, [], ◌∷◌, ◌++◌, Bool, true, false, not, ◌&&◌, ◌||◌, length, set, get_or, take, nat_eq, ltb, arith, rules, inl, inr}
+use Rattle.std.proofs.Common.{◌≡◌, ◌≢◌, refl, sym, ap, ◌∙◌, ℕ, zero, suc, ◌+◌, ◌-◌, ◌*◌, ◌/◌, ◌%◌, ◌^◌, ◌<◌, ◌≤◌, max, List, Bool, true, false, not, ◌&&◌, ◌||◌, length, set, get_or, take, nat_eq, ltb, arith, rules, inl, inr}
 use Rattle.std.specs.Prelude.{◌==◌, pos, negsuc, if◌then◌else◌}
 use Rattle.std.specs.Int.{bit_at, int_wrap, bit_not, trailing_zeros}
 use mir.Val.{to_z}
@@ -15,8 +15,8 @@ use mir.Syntax.{w32, w64}
 use Rattle.path_map.specs.declared.exits.Raised.{Raised}
 use Rattle.path_map.specs.declared.exits.Raised.TheVariants.{Nothing, One, Several}
 use Rattle.path_map.specs.Joins.{join_raised}
-use Rattle.path_map.specs.Sets.{row_has, word_has, IsSum, HasTwo, HasOnly, IsSummaryOf}
-use Rattle.path_map.proofs.Summary.{same-number, or-true, or-false}
+use Rattle.path_map.specs.Sets.{row_has, word_has, HasTwo, HasOnly, IsSummaryOf}
+use Rattle.path_map.proofs.Summary.{or-true, or-false}
 
 -- a row in which one word was written
 write-same : (words : List ℕ) (e other v : ℕ) → e / 64 < length words → other / 64 ≡ e / 64

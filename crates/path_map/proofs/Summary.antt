@@ -1,8 +1,8 @@
 -- The summary of ends, of lists that are put together.
-use Rattle.std.proofs.Common.{◌≡◌, ◌≢◌, refl, sym, ap, ◌∙◌, ℕ, List, [], ◌∷◌, ◌++◌, Bool, true, false, not, ◌&&◌, ◌||◌, map, arith, filter, append_assoc}
+use Rattle.std.proofs.Common.{◌≡◌, ◌≢◌, refl, sym, ap, ◌∙◌, ℕ, List, [], ◌∷◌, ◌++◌, Bool, true, false, not, ◌&&◌, ◌||◌, filter, append_assoc}
 use Rattle.std.specs.Prelude.{◌==◌, if◌then◌else◌}
 use Rattle.std.specs.List.{list_all, list_any}
-use Rattle.std.proofs.lemmas.Bool.{eqb-true, eqb-false, eq-eqb, ne_eqb, and_parts}
+use Rattle.std.proofs.lemmas.Bool.{eqb-true, eqb-false, eq-eqb, and_parts}
 use Rattle.resolved.specs.declared.statement.Exit.{Exit}
 use Rattle.resolved.specs.declared.statement.Exit.TheVariants.{Normal, Return, Break, Continue, Throw}
 use Rattle.resolved.specs.Tree.{Handlers}
@@ -12,7 +12,7 @@ use Rattle.path_map.specs.declared.exits.Raised.TheVariants.{Nothing, One, Sever
 use Rattle.path_map.specs.declared.exits.Exits.{Exits}
 use Rattle.path_map.specs.Exits.{thrown_in, raised_by, exits_of}
 use Rattle.path_map.specs.Joins.{join_raised, join, after, only_raised, of_loop}
-use Rattle.path_map.specs.Sets.{is_one_of, HasTwo, HasOnly, IsSummaryOf, throws}
+use Rattle.path_map.specs.Sets.{is_one_of, IsSummaryOf, throws}
 
 -- tests of Booleans
 pub or-assoc : (a b c : Bool) → ((a || b) || c) ≡ (a || (b || c))

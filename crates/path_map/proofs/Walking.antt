@@ -1,6 +1,6 @@
 -- What a walk finds, put together from what it finds of the pieces.
-use Rattle.std.proofs.Common.{◌≡◌, ◌≢◌, refl, sym, ap, ◌∙◌, subst, ℕ, ◌+◌, ◌<◌, List, [], ◌∷◌, ◌++◌, Bool, true, false, not, ◌&&◌, ◌||◌, map, filter, length, set, get_or, drop, arith, append_assoc, append-nil}
-use Rattle.std.specs.Prelude.{◌==◌, if◌then◌else◌, Some}
+use Rattle.std.proofs.Common.{◌≡◌, refl, sym, ap, ◌∙◌, subst, ℕ, ◌<◌, List, [], ◌∷◌, ◌++◌, Bool, true, false, not, ◌&&◌, ◌||◌, map, filter, length, set, arith, append_assoc, append-nil}
+use Rattle.std.specs.Prelude.{◌==◌}
 use Rattle.std.proofs.lemmas.Bool.{eqb-true, eqb-false, eq-eqb, ne_eqb}
 use Rattle.std.proofs.lemmas.List.{map-append, length-append}
 use Rattle.resolved.specs.declared.statement.Exit.{Exit}
@@ -8,20 +8,22 @@ use Rattle.resolved.specs.declared.statement.Exit.TheVariants.{Normal, Return, B
 use Rattle.resolved.specs.Tree.{Statement, Block, Empty, Then, Handlers, NoMore, Catch, place_of}
 use Rattle.resolved.specs.Program.{Program}
 use Rattle.resolved.specs.Ends.{same_exit, has_end, thrown_ends, then_ends, leaves_loop, handles, passes, statement_ends, block_ends, handlers_ends}
-use Rattle.resolved.specs.EndFaults.{EndFault, fault_unless, may_stand, inner_faults, block_faults, handlers_faults, OutsideLoop, Unreachable, NeverRaised}
+use Rattle.resolved.specs.EndFaults.{EndFault, may_stand, inner_faults, block_faults, handlers_faults}
 use Rattle.path_map.specs.declared.exits.Raised.{Raised}
-use Rattle.path_map.specs.declared.exits.Raised.TheVariants.{Nothing, One, Several}
+use Rattle.path_map.specs.declared.exits.Raised.TheVariants.{Nothing}
 use Rattle.path_map.specs.declared.exits.Exits.{Exits}
 use Rattle.path_map.specs.declared.fault.EndDefect.TheVariants as defect
-use Rattle.path_map.specs.declared.fault.EndsFault.{EndsFault}
-use Rattle.path_map.specs.declared.fault.EndsFault.TheVariants.{NoMemory, Refused}
-use Rattle.path_map.specs.FirstFault.{IsFirstEndFault, fault_of, first_of}
+use Rattle.common.specs.declared.fault.OrNoMemory.{OrNoMemory}
+use Rattle.common.specs.declared.fault.OrNoMemory.TheVariants.{NoMemory, Refused}
+use Rattle.common.specs.Answers.{IfRefused}
+use Rattle.path_map.specs.declared.fault.EndRefusal as code
+use Rattle.path_map.specs.FirstFault.{IsFirstEndFault}
 use Rattle.path_map.specs.Exits.{exits_of, raised_by, thrown_in}
 use Rattle.path_map.specs.Joins.{join, join_raised, after, only_raised, of_loop}
-use Rattle.path_map.specs.Paths.{statement_paths, inner_paths, block_paths, rest_paths, handlers_paths}
+use Rattle.path_map.specs.Paths.{statement_paths, block_paths, rest_paths, handlers_paths}
 use Rattle.path_map.specs.Sets.{row_has, IsSum, IsSummaryOf, is_one_of, throws}
 use Rattle.path_map.specs.Walks.{IsFound, AreThrown, AreLeft}
-use Rattle.path_map.proofs.Summary.{or-assoc, or-false, or-true, same-number, any-append, exits-append, exits-assoc, exits-then, throws-then, after-assoc, after-normal, and-false, join-none, loop-summary, loop-throws, exits-pass, throws-pass, throws-in, throws-thrown, exits-thrown, raised-same, raised-append, summary-is}
+use Rattle.path_map.proofs.Summary.{or-assoc, or-false, any-append, exits-append, exits-assoc, exits-then, throws-then, after-assoc, after-normal, and-false, join-none, loop-summary, loop-throws, exits-pass, throws-pass, throws-in, throws-thrown, exits-thrown, raised-same, raised-append, summary-is}
 
 -- sums of sets
 pub sum-then : (a b c : List ℕ) (f g h : ℕ → Bool) → IsSum a f b → IsSum b g c → ((e : ℕ) → h e ≡ (f e || g e)) → IsSum a h c
@@ -125,13 +127,13 @@ module _ (b h : List Exit) (handlers : Handlers) (pb ph : List (List Exit)) (e0 
       }
 
 -- the first of faults that are put together
-pub first-left : (a b : List EndFault) (fault : EndsFault) → IsFirstEndFault a fault → IsFirstEndFault (a ++ b) fault
+pub first-left : (a b : List EndFault) (fault : OrNoMemory code.EndRefusal) → IfRefused (IsFirstEndFault a) fault → IfRefused (IsFirstEndFault (a ++ b)) fault
 first-left a b NoMemory first = tt
 first-left [] b (Refused refusal) first = absurd (cc)
 first-left (x ∷ a) b (Refused refusal) first = first
 
-pub first-right : (a b : List EndFault) (fault : EndsFault) → a ≡ [] → IsFirstEndFault b fault → IsFirstEndFault (a ++ b) fault
-first-right a b fault none first = subst (λ xs. IsFirstEndFault (xs ++ b) fault) (sym none) first
+pub first-right : (a b : List EndFault) (fault : OrNoMemory code.EndRefusal) → a ≡ [] → IfRefused (IsFirstEndFault b) fault → IfRefused (IsFirstEndFault (a ++ b)) fault
+first-right a b fault none first = subst (λ xs. IfRefused (IsFirstEndFault (xs ++ b)) fault) (sym none) first
 
 pub none-both : (a b : List EndFault) → a ≡ [] → b ≡ [] → a ++ b ≡ []
 none-both a b p q = ap (λ xs. xs ++ b) p ∙ q
@@ -155,21 +157,21 @@ module _ (program : Program) (in_loop : Bool) (block : Block) (old : List Exits)
   module _ (statement : Statement) (tail : Block) (now : List Exits) (has : List ℕ) (so_far : Exits)
       (along : Along program in_loop block (Then statement tail) old now had has so_far) where
     pub outside : may_stand in_loop statement ≡ false
-        → IsFirstEndFault (block_faults program in_loop true block) (Refused (record { defect = defect.OutsideLoop; at = place_of statement }))
+        → IfRefused (IsFirstEndFault (block_faults program in_loop true block)) (Refused (record { defect = defect.OutsideLoop; at = place_of statement }))
     outside stands =
-        subst (λ faults. IsFirstEndFault faults (Refused (record { defect = defect.OutsideLoop; at = place_of statement }))) along.faults
+        subst (λ faults. IfRefused (IsFirstEndFault faults) (Refused (record { defect = defect.OutsideLoop; at = place_of statement }))) along.faults
         (rw stands refl)
 
     pub unreachable : may_stand in_loop statement ≡ true → so_far.normal ≡ false
-        → IsFirstEndFault (block_faults program in_loop true block) (Refused (record { defect = defect.Unreachable; at = place_of statement }))
+        → IfRefused (IsFirstEndFault (block_faults program in_loop true block)) (Refused (record { defect = defect.Unreachable; at = place_of statement }))
     unreachable stands reached =
-        subst (λ faults. IsFirstEndFault faults (Refused (record { defect = defect.Unreachable; at = place_of statement }))) along.faults
+        subst (λ faults. IfRefused (IsFirstEndFault faults) (Refused (record { defect = defect.Unreachable; at = place_of statement }))) along.faults
         (rw (stands, reached) refl)
 
-    pub inside : may_stand in_loop statement ≡ true → so_far.normal ≡ true → (fault : EndsFault) → IsFirstEndFault (inner_faults program in_loop statement) fault
-        → IsFirstEndFault (block_faults program in_loop true block) fault
+    pub inside : may_stand in_loop statement ≡ true → so_far.normal ≡ true → (fault : OrNoMemory code.EndRefusal) → IfRefused (IsFirstEndFault (inner_faults program in_loop statement)) fault
+        → IfRefused (IsFirstEndFault (block_faults program in_loop true block)) fault
     inside stands reached fault first =
-        subst (λ faults. IsFirstEndFault faults fault) along.faults
+        subst (λ faults. IfRefused (IsFirstEndFault faults) fault) along.faults
         (rw (stands, reached) (first-left (inner_faults program in_loop statement) (block_faults program in_loop (has_end (statement_ends program statement) Normal) tail) fault first))
 
     pub along-step : may_stand in_loop statement ≡ true → so_far.normal ≡ true → (next : List Exits) (more : List ℕ) (found : Exits)
@@ -265,18 +267,18 @@ module _ (program : Program) (in_loop : Bool) (handlers : Handlers) (old : List 
       (along : Handling program in_loop handlers (Catch at handled body tail) old now had has was row so_far)
       (without : (e : ℕ) → row_has taken e ≡ (row_has row e && not (e == handled))) where
     pub never-raised : row_has row handled ≡ false → (ends : List Exit) → AreThrown was ends
-        → IsFirstEndFault (handlers_faults program in_loop ends handlers) (Refused (record { defect = defect.NeverRaised; at = at }))
+        → IfRefused (IsFirstEndFault (handlers_faults program in_loop ends handlers)) (Refused (record { defect = defect.NeverRaised; at = at }))
     never-raised absent ends are =
         let there = along.remaining ends are in
         let none : throws there.ends handled ≡ false = sym (there.are.has handled) ∙ absent in
-        subst (λ faults. IsFirstEndFault faults (Refused (record { defect = defect.NeverRaised; at = at }))) there.same (rw none refl)
+        subst (λ faults. IfRefused (IsFirstEndFault faults) (Refused (record { defect = defect.NeverRaised; at = at }))) there.same (rw none refl)
 
-    pub in-handler : row_has row handled ≡ true → (fault : EndsFault) → IsFirstEndFault (block_faults program in_loop true body) fault
-        → (ends : List Exit) → AreThrown was ends → IsFirstEndFault (handlers_faults program in_loop ends handlers) fault
+    pub in-handler : row_has row handled ≡ true → (fault : OrNoMemory code.EndRefusal) → IfRefused (IsFirstEndFault (block_faults program in_loop true body)) fault
+        → (ends : List Exit) → AreThrown was ends → IfRefused (IsFirstEndFault (handlers_faults program in_loop ends handlers)) fault
     in-handler present fault first ends are =
         let there = along.remaining ends are in
         let some : throws there.ends handled ≡ true = sym (there.are.has handled) ∙ present in
-        subst (λ faults. IsFirstEndFault faults fault) there.same
+        subst (λ faults. IfRefused (IsFirstEndFault faults) fault) there.same
         (rw some (first-left (block_faults program in_loop true body)
         (handlers_faults program in_loop (filter (λ exit. not (same_exit (Throw handled) exit)) there.ends) tail) fault first))
 

@@ -5,8 +5,6 @@ use Rattle.resolved.specs.EndFaults.{EndRefusal, EndFault, OutsideLoop, Unreacha
 use Rattle.path_map.specs.declared.fault.EndDefect.{EndDefect}
 use Rattle.path_map.specs.declared.fault.EndDefect.TheVariants as defect
 use Rattle.path_map.specs.declared.fault.EndRefusal as code
-use Rattle.path_map.specs.declared.fault.EndsFault.{EndsFault}
-use Rattle.path_map.specs.declared.fault.EndsFault.TheVariants.{NoMemory, Refused}
 
 -- the fault that a refusal reports
 abbrev pub refusal_of : EndDefect → EndRefusal
@@ -24,7 +22,6 @@ abbrev pub first_of : {A : Type 0} → List A → Option A
 first_of [] = None
 first_of (x ∷ rest) = Some x
 
--- a fault that is the first of these; out of memory says nothing of them
-abbrev pub IsFirstEndFault : List EndFault → EndsFault → Type 0
-IsFirstEndFault faults NoMemory = Unit {0}
-IsFirstEndFault faults (Refused refusal) = first_of faults ≡ Some (fault_of refusal)
+-- a refusal that is the first of these faults
+abbrev pub IsFirstEndFault : List EndFault → code.EndRefusal → Type 0
+IsFirstEndFault faults refusal = first_of faults ≡ Some (fault_of refusal)

@@ -1,8 +1,6 @@
 -- How summaries of ends are put together.
 -- Source: our own.
 use Rattle.std.specs.Prelude.{ℕ, List, [], ◌∷◌, ◌++◌, Bool, true, false, ◌==◌, ◌||◌, if◌then◌else◌, Option, Some, None}
-use Rattle.resolved.specs.declared.statement.Exit.{Exit}
-use Rattle.resolved.specs.declared.statement.Exit.TheVariants.{Normal, Return, Break, Continue, Throw}
 use Rattle.resolved.specs.Tree.{Expression}
 use Rattle.resolved.specs.Ends.{raises}
 use Rattle.path_map.specs.declared.exits.Raised.{Raised}

@@ -1,8 +1,6 @@
 //! What `ends` reports of a program that it refuses.
-ghost use Rattle.path_map.specs.declared.fault.EndsFault.TheVariants.{NoMemory};
-ghost use Rattle.std.specs.Prelude.{◌≡◌};
 
-use std::alloc::AllocError;
+use common::OrNoMemory;
 use thiserror::Error;
 
 /// What is wrong with the ends of a program's statements.
@@ -33,21 +31,5 @@ pub struct EndRefusal {
     pub at: usize,
 }
 
-/// The ends of a program were not found.
-#[derive(Clone, Copy, Debug, PartialEq, Eq, Error)]
-pub enum EndsFault {
-    /// Memory ran out.
-    #[error("no memory")]
-    NoMemory,
-    /// The program has this fault, and none before it.
-    #[error("a fault in the ends of a program")]
-    Refused(EndRefusal),
-}
-
-impl From<AllocError> for EndsFault {
-    ghost from_gives = { λ _ fault. fault ≡ NoMemory };
-
-    fn from(_error: AllocError) -> EndsFault {
-        EndsFault::NoMemory
-    }
-}
+/// Why the ends of a program were not found.
+pub type EndsFault = OrNoMemory<EndRefusal>;

@@ -1,4 +1,5 @@
 //! The path map of a program.
+ghost use Rattle.common.specs.Answers.{IfRefused};
 ghost use Rattle.path_map.specs.Exits.{exits_of};
 ghost use Rattle.path_map.specs.FirstFault.{IsFirstEndFault};
 ghost use Rattle.path_map.specs.Paths.{block_paths, program_paths};
@@ -30,10 +31,11 @@ pub struct PathMap {
 ///
 /// It takes time and memory in proportion to the program, and for each call and each `try` one step more for each 64 exceptions.
 pub fn find_ends(alloc: Global, core: &Core) -> Result<PathMap, EndsFault>
-    ensures exact { IfOk result (λ found. found.entries.items
+    ensures found { IfOk result (λ found. found.entries.items
         ≡ map exits_of (program_paths (program_of core.now))) }
     ensures accepted { OnOk result (end_faults (program_of core.now) ≡ []) }
-    ensures first_fault { IfErr result (IsFirstEndFault (end_faults (program_of core.now))) }
+    ensures first_fault { IfErr result (IfRefused
+        (IsFirstEndFault (end_faults (program_of core.now)))) }
 {
     let walk = Walk::along(alloc, core)?;
     let mut entries = Vec::new(alloc);
@@ -53,8 +55,8 @@ fn walk_procedure(
         (block_paths (program_of walk.now.core.now) (procedure_entry procedure.now).body)) }
     ensures accepted { OnOk result (procedure_faults
         (program_of walk.now.core.now) (procedure_entry procedure.now) ≡ []) }
-    ensures first_fault { IfErr result (IsFirstEndFault (procedure_faults
-        (program_of walk.now.core.now) (procedure_entry procedure.now))) }
+    ensures first_fault { IfErr result (IfRefused (IsFirstEndFault (procedure_faults
+        (program_of walk.now.core.now) (procedure_entry procedure.now)))) }
 {
     let mut raised = ExceptionSet::new(walk.alloc);
     let exits = walk_block(walk, false, &procedure.body, entries, &mut raised)?;

@@ -1,10 +1,11 @@
 //! The walk along a program that finds its ends.
+ghost use Rattle.common.specs.Answers.{IfRefused};
 ghost use Rattle.path_map.specs.FirstFault.{IsFirstEndFault};
 ghost use Rattle.path_map.specs.Joins.{only_raised};
 ghost use Rattle.path_map.specs.Sets.{AreRaised};
 ghost use Rattle.path_map.specs.Walks.{AreHandlersFound, AreLeft, AreStatementsFound, AreThrown, IsBlockFound, IsFormFound, IsFoundAlone, IsStatementFound, faults_of_block, faults_of_handlers, faults_within};
 ghost use Rattle.path_map.specs.declared.exits.Raised.TheVariants.{Nothing};
-ghost use Rattle.path_map.specs.declared.fault.EndsFault.TheVariants.{Refused};
+ghost use Rattle.common.specs.declared.fault.OrNoMemory.TheVariants.{Refused};
 ghost use Rattle.resolved.specs.CoreOf.{program_of};
 ghost use Rattle.resolved.specs.EndFaults.{may_stand};
 ghost use Rattle.resolved.specs.Ends.{declared_by, raises, thrown_ends};
@@ -20,6 +21,7 @@ use crate::exits::{Exits, Raised};
 use crate::fault::{EndDefect, EndRefusal, EndsFault};
 use crate::raises::{Raises, index_can_raise, raises_of, raises_of_all, raises_of_some};
 use crate::set::ExceptionSet;
+use common::OrNoMemory;
 use common::exceptions::END;
 use resolved::expression::Expression;
 use resolved::statement::{Exit, Handler, Statement};
@@ -38,8 +40,8 @@ pub(crate) fn walk_block(
     ensures found { IfOk result (IsBlockFound walk.now.core.now block.now
         entries.old.items entries.new.items raised.old.words.items raised.new.words.items) }
     ensures accepted { OnOk result (faults_of_block walk.now.core.now in_loop block.now ≡ []) }
-    ensures first_fault { IfErr result (IsFirstEndFault
-        (faults_of_block walk.now.core.now in_loop block.now)) }
+    ensures first_fault { IfErr result (IfRefused (IsFirstEndFault
+        (faults_of_block walk.now.core.now in_loop block.now))) }
 {
     let at = reserve(entries)?;
     let exits = walk_statements(walk, in_loop, block, entries, raised)?;
@@ -59,8 +61,8 @@ fn walk_statements(
     ensures found { IfOk result (AreStatementsFound walk.now.core.now block.now
         entries.old.items entries.new.items raised.old.words.items raised.new.words.items) }
     ensures accepted { OnOk result (faults_of_block walk.now.core.now in_loop block.now ≡ []) }
-    ensures first_fault { IfErr result (IsFirstEndFault
-        (faults_of_block walk.now.core.now in_loop block.now)) }
+    ensures first_fault { IfErr result (IfRefused (IsFirstEndFault
+        (faults_of_block walk.now.core.now in_loop block.now))) }
 {
     let mut exits = Exits::going_on(Raised::Nothing);
     for statement in block {
@@ -88,8 +90,8 @@ fn walk_statement(
     ensures found { IfOk result (IsStatementFound walk.now.core.now statement.now
         entries.old.items entries.new.items raised.old.words.items raised.new.words.items) }
     ensures accepted { OnOk result (faults_within walk.now.core.now in_loop statement.now ≡ []) }
-    ensures first_fault { IfErr result (IsFirstEndFault
-        (faults_within walk.now.core.now in_loop statement.now)) }
+    ensures first_fault { IfErr result (IfRefused (IsFirstEndFault
+        (faults_within walk.now.core.now in_loop statement.now))) }
 {
     let at = reserve(entries)?;
     let exits = walk_form(walk, in_loop, statement, entries, raised)?;
@@ -109,8 +111,8 @@ fn walk_form(
     ensures found { IfOk result (IsFormFound walk.now.core.now statement.now
         entries.old.items entries.new.items raised.old.words.items raised.new.words.items) }
     ensures accepted { OnOk result (faults_within walk.now.core.now in_loop statement.now ≡ []) }
-    ensures first_fault { IfErr result (IsFirstEndFault
-        (faults_within walk.now.core.now in_loop statement.now)) }
+    ensures first_fault { IfErr result (IfRefused (IsFirstEndFault
+        (faults_within walk.now.core.now in_loop statement.now))) }
 {
     match statement {
         Statement::Assign(_, _, value) => Ok(go_on(raises_of(value), raised)?),
@@ -169,7 +171,8 @@ fn walk_handlers(
         faults_of_handlers walk.now.core.now in_loop ends handlers.now ≡ []) }
     ensures first_fault { IfErr result (λ fault. (ends : List Exit)
         → AreThrown inner.old.words.items ends →
-        IsFirstEndFault (faults_of_handlers walk.now.core.now in_loop ends handlers.now) fault) }
+        IfRefused (IsFirstEndFault
+        (faults_of_handlers walk.now.core.now in_loop ends handlers.now)) fault) }
 {
     let mut exits = Exits::raising(Raised::Nothing);
     for handler in handlers {
@@ -279,5 +282,5 @@ fn may_stand(in_loop: bool, statement: &Statement) -> bool
 pub(crate) fn refused(defect: EndDefect, at: usize) -> EndsFault
     ensures { result ≡ Refused (record { defect = defect; at = at }) }
 {
-    EndsFault::Refused(EndRefusal { defect, at })
+    OrNoMemory::Refused(EndRefusal { defect, at })
 }

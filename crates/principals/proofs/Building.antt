@@ -10,10 +10,9 @@ use Rattle.principals.specs.ActsFor.{PrincipalHierarchy, AllDifferent}
 use Rattle.principals.specs.HierarchyText.{Entry, Declares, Relates, IsEntryRefusal, Twice, Crowded, UnknownLeft, UnknownRight, AllAccepted, IsFirstRefusal, IsSaid, declared, written}
 use Rattle.std.proofs.Common.{take, drop}
 use Rattle.std.proofs.lemmas.List.{take-append-drop, drop_more, take_more, map-append, map_push}
-use Rattle.principals.specs.Reading.{Built, HaveNames, IsBuildFault, IsStatementsFault, entry_of, entries_of}
+use Rattle.principals.specs.Reading.{Built, HaveNames, entry_of, entries_of}
 use Rattle.principals.specs.declared.reading.Statement.{Statement}
-use Rattle.principals.specs.declared.fault.HierFault.TheVariants as fault
-use Rattle.principals.specs.declared.fault.HierFault.{HierFault}
+use Rattle.principals.specs.declared.fault.HierarchyRefusal.{HierarchyRefusal}
 use Rattle.principals.proofs.Names.{contains_number}
 
 -- ---- lists
@@ -63,7 +62,7 @@ written-push_pair [] l r = refl
 written-push_pair (Declares first ∷ es) l r = written-push_pair es l r
 written-push_pair (Relates left right ∷ es) l r = ap (λ x. (left.text, right.text) ∷ x) (written-push_pair es l r)
 
-accepted-push : (es : List Entry) (e : Entry) → AllAccepted es → ((fault : HierFault) → IsEntryRefusal (declared es) e fault → ⊥) → AllAccepted (es ++ e ∷ [])
+accepted-push : (es : List Entry) (e : Entry) → AllAccepted es → ((fault : HierarchyRefusal) → IsEntryRefusal (declared es) e fault → ⊥) → AllAccepted (es ++ e ∷ [])
 accepted-push es e accepted not_refused before after entry fault parts refused =
     ⊎_elim
     (λ last. not_refused fault (subst (λ x. IsEntryRefusal (declared x) e fault) last.0 (subst (λ x. IsEntryRefusal (declared before) x fault) last.1 refused)))
@@ -104,11 +103,11 @@ different-push names name different new =
     all_pairs_push (λ first second. first ≢ second) names name different
     (λ k d l e. new (subst (λ x. Contains names x) e (Contains-get_or names k d l)))
 
-name_accepted : (names : List (List ℕ)) (name : Terminal) (fault : HierFault) → (Contains names name.text → ⊥) → length names < 256 → IsEntryRefusal names (Declares name) fault → ⊥
+name_accepted : (names : List (List ℕ)) (name : Terminal) (fault : HierarchyRefusal) → (Contains names name.text → ⊥) → length names < 256 → IsEntryRefusal names (Declares name) fault → ⊥
 name_accepted names name fault new room (Twice _ h) = new h
 name_accepted names name fault new room (Crowded _ h full) = absurd (omega arith)
 
-pair_accepted : (names : List (List ℕ)) (left right : Terminal) (fault : HierFault) → Contains names left.text → Contains names right.text → IsEntryRefusal names (Relates left right) fault → ⊥
+pair_accepted : (names : List (List ℕ)) (left right : Terminal) (fault : HierarchyRefusal) → Contains names left.text → Contains names right.text → IsEntryRefusal names (Relates left right) fault → ⊥
 pair_accepted names left right fault l r (UnknownLeft _ _ h) = h l
 pair_accepted names left right fault l r (UnknownRight _ _ h k) = k r
 
@@ -147,7 +146,7 @@ built_pair es names pairs left right a b built l r = record {
 }
 
 -- the first entry that can't be added is the first refusal
-pub built_refused : (es after : List Entry) (names : List (List ℕ)) (pairs : List (ℕ × ℕ)) (entry : Entry) (fault : HierFault) → Built es names pairs →
+pub built_refused : (es after : List Entry) (names : List (List ℕ)) (pairs : List (ℕ × ℕ)) (entry : Entry) (fault : HierarchyRefusal) → Built es names pairs →
     IsEntryRefusal names entry fault → IsFirstRefusal (es ++ entry ∷ after) fault
 built_refused es after names pairs entry fault built refused = record {
   before = es;
@@ -161,16 +160,6 @@ built_refused es after names pairs entry fault built refused = record {
 -- when all entries are added the hierarchy is what they say
 pub built_said : (es : List Entry) (hierarchy : PrincipalHierarchy) → Built es hierarchy.names hierarchy.pairs → IsSaid es hierarchy
 built_said es hierarchy built = record { accepted = built.accepted; names = built.same_names; pairs = built.same_pairs }
-
--- why an entry is not added is why the entries are refused
-pub fault_of_entry : (es after : List Entry) (names : List (List ℕ)) (pairs : List (ℕ × ℕ)) (entry : Entry) (fault : HierFault) → Built es names pairs →
-    IsBuildFault names entry fault → IsStatementsFault (es ++ entry ∷ after) fault
-fault_of_entry es after names pairs entry fault.NoMemory built h = tt
-fault_of_entry es after names pairs entry fault.TooLong built h = built_refused es after names pairs entry fault.TooLong built h
-fault_of_entry es after names pairs entry (fault.Syntax at) built h = built_refused es after names pairs entry (fault.Syntax at) built h
-fault_of_entry es after names pairs entry (fault.DeclaredTwice at) built h = built_refused es after names pairs entry (fault.DeclaredTwice at) built h
-fault_of_entry es after names pairs entry (fault.UnknownPrincipal at) built h = built_refused es after names pairs entry (fault.UnknownPrincipal at) built h
-fault_of_entry es after names pairs entry (fault.TooManyPrincipals at) built h = built_refused es after names pairs entry (fault.TooManyPrincipals at) built h
 
 -- ---- statements
 

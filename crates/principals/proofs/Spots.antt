@@ -4,15 +4,14 @@ use Rattle.std.specs.List.{AllByRecursion}
 use Rattle.std.specs.Str.{IsUtf8, IsCharBoundary}
 use Rattle.std.proofs.lemmas.List.Elements.{recursion_from_All}
 use Rattle.lexer.specs.Cut.{IsCut}
-use Rattle.lexer.specs.Listing.{IsFaultAtCharacter}
+use Rattle.lexer.specs.Listing.{IsRefusedAtCharacter}
 use Rattle.lexer.specs.Terminal.{Terminal}
-use Rattle.lexer.specs.declared.fault.LexFault.{LexFault}
-use Rattle.lexer.specs.declared.fault.LexFault.TheVariants as lex
+use Rattle.lexer.specs.declared.fault.LexRefusal.{LexRefusal}
+use Rattle.lexer.specs.declared.fault.LexRefusal.TheVariants as lex
 use Rattle.lexer.proofs.Listed.{listed, refused_at}
-use Rattle.principals.specs.HierarchyText.{Entry, Declares, Relates, Nonterminal, Derives, Finish, Declaration, Relation, OneMore, Last, IsEntryRefusal, Twice, Crowded, UnknownLeft, UnknownRight, IsFirstRefusal, Says, IsLexFaultAt, IsSyntaxFault, HasBoundary}
-use Rattle.principals.specs.Reading.{IsReadFault}
-use Rattle.principals.specs.declared.fault.HierFault.{HierFault}
-use Rattle.principals.specs.declared.fault.HierFault.TheVariants as fault
+use Rattle.principals.specs.HierarchyText.{Entry, Declares, Relates, Nonterminal, Derives, Finish, Declaration, Relation, OneMore, Last, IsEntryRefusal, Twice, Crowded, UnknownLeft, UnknownRight, IsFirstRefusal, Says, IsLexRefusalAt, IsSyntaxRefusal, IsRefusedText, HasBoundary}
+use Rattle.principals.specs.declared.fault.HierarchyRefusal.{HierarchyRefusal}
+use Rattle.principals.specs.declared.fault.HierarchyRefusal.TheVariants as fault
 
 -- ---- tokens
 
@@ -22,8 +21,7 @@ StartsIn source t = IsCharBoundary source t.start
 token_spots : (text : List ℕ) (tokens : List Terminal) → IsUtf8 text → IsCut text tokens → AllByRecursion (StartsIn text) tokens
 token_spots text tokens ok cut = recursion_from_All (StartsIn text) tokens (listed text tokens ok cut).at_characters
 
-fault_spot : (text : List ℕ) (f : LexFault) (at : ℕ) → IsFaultAtCharacter text f → IsLexFaultAt f at → IsCharBoundary text at
-fault_spot text lex.NoMemory at spot h = absurd h
+fault_spot : (text : List ℕ) (f : LexRefusal) (at : ℕ) → IsRefusedAtCharacter text f → IsLexRefusalAt f at → IsCharBoundary text at
 fault_spot text (lex.NoToken place) at spot h = subst (λ k. IsCharBoundary text k) (sym h) spot
 fault_spot text (lex.LiteralTooLarge place) at spot h = subst (λ k. IsCharBoundary text k) (sym h) spot
 fault_spot text (lex.UnclosedComment place) at spot h = subst (λ k. IsCharBoundary text k) (sym h) spot
@@ -48,20 +46,20 @@ middle : {X : Type 0} (P : X → Type 0) (before after : List X) (x : X) → All
 middle P [] after x h = h.0
 middle P (b ∷ before) after x h = middle P before after x h.1
 
-refusal_spot : (text : List ℕ) (names : List (List ℕ)) (entry : Entry) (f : HierFault) → EntryStartsIn text entry → IsEntryRefusal names entry f → HasBoundary text f
+refusal_spot : (text : List ℕ) (names : List (List ℕ)) (entry : Entry) (f : HierarchyRefusal) → EntryStartsIn text entry → IsEntryRefusal names entry f → HasBoundary text f
 refusal_spot text names entry f spot (Twice name h) = spot
 refusal_spot text names entry f spot (Crowded name h k) = spot
 refusal_spot text names entry f spot (UnknownLeft left right h) = spot.0
 refusal_spot text names entry f spot (UnknownRight left right h k) = spot.1
 
-wrong_spot : (text : List ℕ) (f : HierFault) (es : List Entry) → IsUtf8 text → Says text es → IsFirstRefusal es f → HasBoundary text f
+wrong_spot : (text : List ℕ) (f : HierarchyRefusal) (es : List Entry) → IsUtf8 text → Says text es → IsFirstRefusal es f → HasBoundary text f
 wrong_spot text f es ok says first =
     refusal_spot text _ first.entry f
     (middle (EntryStartsIn text) first.before first.after first.entry
     (subst (AllByRecursion (EntryStartsIn text)) first.entries_are (entry_spots text says.form (token_spots text says.tokens ok says.cut))))
     first.refused
 
-syntax_spot : (text : List ℕ) (at : ℕ) → IsUtf8 text → IsSyntaxFault text at → IsCharBoundary text at
+syntax_spot : (text : List ℕ) (at : ℕ) → IsUtf8 text → IsSyntaxRefusal text at → IsCharBoundary text at
 syntax_spot text at ok s =
     ⊎_elim
     (λ l. fault_spot text l.0 at (refused_at text l.0 ok l.1) l.2)
@@ -70,8 +68,7 @@ syntax_spot text at ok s =
     s
 
 -- a refusal of a text stands at a boundary
-pub refused_spot : (text : List ℕ) → IsUtf8 text → (f : HierFault) → IsReadFault text f → HasBoundary text f
-refused_spot text ok fault.NoMemory h = tt
+pub refused_spot : (text : List ℕ) → IsUtf8 text → (f : HierarchyRefusal) → IsRefusedText text f → HasBoundary text f
 refused_spot text ok fault.TooLong h = tt
 refused_spot text ok (fault.Syntax at) h = syntax_spot text at ok h.1
 refused_spot text ok (fault.DeclaredTwice at) h = wrong_spot text (fault.DeclaredTwice at) h.0 ok h.1 h.2

@@ -7,16 +7,16 @@ use Rattle.std.proofs.lemmas.Option.{slice_get_within}
 use Rattle.std.proofs.lemmas.Slice.Eq.{bytes_eq-Decides}
 use Rattle.lexer.specs.Cut.{IsCut, IsTextRefused}
 use Rattle.lexer.specs.Terminal.{Terminal, IsTerminated}
-use Rattle.lexer.specs.declared.fault.LexFault.{LexFault}
-use Rattle.lexer.specs.declared.fault.LexFault.TheVariants as lex
+use Rattle.lexer.specs.declared.fault.LexRefusal.{LexRefusal}
+use Rattle.lexer.specs.declared.fault.LexRefusal.TheVariants as lex
 use Rattle.lexer.proofs.Listed.{listed}
 use Rattle.lexer.proofs.Total.{is_cut_or_refused}
 use Rattle.principals.specs.ActsFor.{PrincipalHierarchy, IsHierarchy, AllBelow, AllDifferent}
 use Rattle.principals.specs.HierarchyText.{Entry, Declares, Relates, IsHierarchyForm, IsUnexpectedInHierarchyAt, IsEntryRefusal, Twice, Crowded, UnknownLeft, UnknownRight, IsFirstRefusal, IsSaid, declared, written, greatest_text, Says, IsHierarchyOf, IsRefusedText}
 use Rattle.principals.specs.Laws.{HasOneHierarchy, IsReadOrRefused}
 use Rattle.principals.specs.Reading.{Built, HaveNames, ReadingState, Fresh, Ended, next, run, said}
-use Rattle.principals.specs.declared.fault.HierFault.{HierFault}
-use Rattle.principals.specs.declared.fault.HierFault.TheVariants as fault
+use Rattle.principals.specs.declared.fault.HierarchyRefusal.{HierarchyRefusal}
+use Rattle.principals.specs.declared.fault.HierarchyRefusal.TheVariants as fault
 use Rattle.principals.proofs.Automaton.{run-push, read_is_open, is_prefix, stops, run_ends}
 use Rattle.principals.proofs.Building.{built_nothing, built_name, built_pair, built_refused, built_said}
 use Rattle.principals.proofs.Closure.{none_in_nil, Contains-cons_cases, Contains-first, Contains-later}
@@ -44,11 +44,11 @@ among (first ∷ names) name = by (bytes_eq first name) refl (among names name)
 -- what entries build, or their first refusal
 abbrev Outcome : List Entry → Type 0
 Outcome entries =
-    ((names : List (List ℕ)) × (pairs : List (ℕ × ℕ)) × Built entries names pairs) ⊎ ((f : HierFault) × IsFirstRefusal entries f)
+    ((names : List (List ℕ)) × (pairs : List (ℕ × ℕ)) × Built entries names pairs) ⊎ ((f : HierarchyRefusal) × IsFirstRefusal entries f)
 
 -- one entry more is built, or refused
 record Refused (names : List (List ℕ)) (entry : Entry) : Type 0 where
-  why : HierFault
+  why : HierarchyRefusal
   refused : IsEntryRefusal names entry why
 
 one_entry : (es : List Entry) (names : List (List ℕ)) (pairs : List (ℕ × ℕ)) (entry : Entry) → Built es names pairs
@@ -145,17 +145,16 @@ form_outcome tokens terminated = walk [] tokens Fresh [] terminated refl
 -- ---- the text
 
 abbrev Read : List ℕ → Type 0
-Read text = ((hierarchy : PrincipalHierarchy) × IsHierarchyOf text hierarchy) ⊎ ((f : HierFault) × IsRefusedText text f)
+Read text = ((hierarchy : PrincipalHierarchy) × IsHierarchyOf text hierarchy) ⊎ ((f : HierarchyRefusal) × IsRefusedText text f)
 
-refused_entry : (text : List ℕ) (es : List Entry) (names : List (List ℕ)) (entry : Entry) (f : HierFault) → IsEntryRefusal names entry f
+refused_entry : (text : List ℕ) (es : List Entry) (names : List (List ℕ)) (entry : Entry) (f : HierarchyRefusal) → IsEntryRefusal names entry f
     → Says text es → IsFirstRefusal es f → IsRefusedText text f
 refused_entry text es names entry f (Twice name h) says first = (es, says, first)
 refused_entry text es names entry f (Crowded name h full) says first = (es, says, first)
 refused_entry text es names entry f (UnknownLeft left right h) says first = (es, says, first)
 refused_entry text es names entry f (UnknownRight left right h k) says first = (es, says, first)
 
-not_lexed : (text : List ℕ) (f : LexFault) → length text ≤ greatest_text → IsTextRefused text f → Read text
-not_lexed text lex.NoMemory fits r = absurd r.stuck
+not_lexed : (text : List ℕ) (f : LexRefusal) → length text ≤ greatest_text → IsTextRefused text f → Read text
 not_lexed text (lex.NoToken at) fits r = inr (fault.Syntax at, (fits, inl (lex.NoToken at, r, refl)))
 not_lexed text (lex.LiteralTooLarge at) fits r = inr (fault.Syntax at, (fits, inl (lex.LiteralTooLarge at, r, refl)))
 not_lexed text (lex.UnclosedComment at) fits r = inr (fault.Syntax at, (fits, inl (lex.UnclosedComment at, r, refl)))

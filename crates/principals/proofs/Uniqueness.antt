@@ -1,17 +1,21 @@
 -- A text has one hierarchy or one first refusal at most, and not both.
 use Rattle.std.proofs.Common.{◌≡◌, ◌⊎◌, ℕ, ◌<◌, ◌≤◌, List, [], ◌∷◌, ◌++◌, length, Some, refl, sym, ap, ◌∙◌, subst, inl, inr, ⊎_elim, append_assoc, arith}
-use Rattle.std.specs.Prelude.{slice_get, Result, Ok, Err, IfOk, IfErr, MatchResult}
+use Rattle.std.specs.Prelude.{slice_get, Result, Ok, Err, IfOk, IfErr}
+use Rattle.common.specs.Answers.{Answers, IfRefused}
+use Rattle.common.specs.declared.fault.OrNoMemory.{OrNoMemory}
+use Rattle.common.proofs.Casting.{refused-weaker}
+use Rattle.lexer.specs.Cut.{IsCut, IsTextRefused}
 use Rattle.std.specs.List.{AllZip}
 use Rattle.std.proofs.lemmas.Option.{some_pair_parts}
 use Rattle.lexer.specs.Terminal.{Terminal}
-use Rattle.lexer.specs.declared.fault.LexFault.{LexFault}
-use Rattle.lexer.specs.declared.fault.LexFault.TheVariants as lex
+use Rattle.lexer.specs.declared.fault.LexRefusal.{LexRefusal}
+use Rattle.lexer.specs.declared.fault.LexRefusal.TheVariants as lex
 use Rattle.lexer.proofs.Cutting.{has_one_cut, not_cut_and_refused, has_one_refusal}
 use Rattle.principals.specs.ActsFor.{PrincipalHierarchy, HasName, IsHierarchy}
-use Rattle.principals.specs.HierarchyText.{Entry, IsHierarchyForm, IsPrefixOfForm, IsUnexpectedInHierarchyAt, IsEntryRefusal, Twice, Crowded, UnknownLeft, UnknownRight, IsFirstRefusal, IsSaid, declared, written, greatest_text, Says, IsHierarchyOf, IsLexFaultAt, IsSyntaxFault, IsRefusedText}
-use Rattle.principals.specs.Reading.{Ended, IsStatementsFault, IsReadFault}
-use Rattle.principals.specs.declared.fault.HierFault.{HierFault}
-use Rattle.principals.specs.declared.fault.HierFault.TheVariants as fault
+use Rattle.principals.specs.HierarchyText.{Entry, IsHierarchyForm, IsPrefixOfForm, IsUnexpectedInHierarchyAt, IsEntryRefusal, Twice, Crowded, UnknownLeft, UnknownRight, IsFirstRefusal, IsSaid, declared, written, greatest_text, Says, IsHierarchyOf, IsLexRefusalAt, IsSyntaxRefusal, IsRefusedText, refusal_of_lex}
+use Rattle.principals.specs.Reading.{Ended, IsFormRefusal}
+use Rattle.principals.specs.declared.fault.HierarchyRefusal.{HierarchyRefusal}
+use Rattle.principals.specs.declared.fault.HierarchyRefusal.TheVariants as fault
 use Rattle.principals.proofs.Automaton.{derived_is_read}
 use Rattle.principals.proofs.Names.{one_number}
 
@@ -37,7 +41,7 @@ two_places (a ∷ xs) (b ∷ ys) us vs x y h =
 
 -- ---- entries
 
-refused_once : (names : List (List ℕ)) (entry : Entry) (f g : HierFault) → IsEntryRefusal names entry f → IsEntryRefusal names entry g → f ≡ g
+refused_once : (names : List (List ℕ)) (entry : Entry) (f g : HierarchyRefusal) → IsEntryRefusal names entry f → IsEntryRefusal names entry g → f ≡ g
 refused_once names entry f g (Twice name h) (Twice _ k) = refl
 refused_once names entry f g (Twice name h) (Crowded _ k l) = absurd (k h)
 refused_once names entry f g (Crowded name h l) (Twice _ k) = absurd (h k)
@@ -47,7 +51,7 @@ refused_once names entry f g (UnknownLeft left right h) (UnknownRight _ _ k l) =
 refused_once names entry f g (UnknownRight left right h l) (UnknownLeft _ _ k) = absurd (k h)
 refused_once names entry f g (UnknownRight left right h l) (UnknownRight _ _ k m) = refl
 
-first_once : (es : List Entry) (f g : HierFault) → IsFirstRefusal es f → IsFirstRefusal es g → f ≡ g
+first_once : (es : List Entry) (f g : HierarchyRefusal) → IsFirstRefusal es f → IsFirstRefusal es g → f ≡ g
 first_once es f g a b =
     ⊎_elim
     (λ same. refused_once (declared a.before) a.entry f g a.refused
@@ -57,7 +61,7 @@ first_once es f g a b =
     (λ later. absurd (a.accepted b.before later.0 b.entry g later.1 b.refused)))
     (two_places a.before b.before a.after b.after a.entry b.entry (sym a.entries_are ∙ b.entries_are))
 
-said_not_refused : (es : List Entry) (h : PrincipalHierarchy) (f : HierFault) → IsSaid es h → IsFirstRefusal es f → ⊥
+said_not_refused : (es : List Entry) (h : PrincipalHierarchy) (f : HierarchyRefusal) → IsSaid es h → IsFirstRefusal es f → ⊥
 said_not_refused es h f said first = said.accepted first.before first.after first.entry f first.entries_are first.refused
 
 same_pairs : (h : PrincipalHierarchy) → IsHierarchy h → (texts : List (List ℕ × List ℕ)) (pairs others : List (ℕ × ℕ)) →
@@ -118,17 +122,16 @@ says_once : (text : List ℕ) (es fs : List Entry) → Says text es → Says tex
 says_once text es fs a b =
     form_once a.tokens es fs a.form (subst (λ x. IsHierarchyForm x fs) (has_one_cut text b.tokens a.tokens b.cut a.cut) b.form)
 
-lex_fault_once : (f : LexFault) (at other : ℕ) → IsLexFaultAt f at → IsLexFaultAt f other → at ≡ other
-lex_fault_once lex.NoMemory at other a b = absurd a
+lex_fault_once : (f : LexRefusal) (at other : ℕ) → IsLexRefusalAt f at → IsLexRefusalAt f other → at ≡ other
 lex_fault_once (lex.NoToken place) at other a b = a ∙ sym b
 lex_fault_once (lex.LiteralTooLarge place) at other a b = a ∙ sym b
 lex_fault_once (lex.UnclosedComment place) at other a b = a ∙ sym b
 
-syntax_once : (text : List ℕ) (at other : ℕ) → IsSyntaxFault text at → IsSyntaxFault text other → at ≡ other
+syntax_once : (text : List ℕ) (at other : ℕ) → IsSyntaxRefusal text at → IsSyntaxRefusal text other → at ≡ other
 syntax_once text at other a b =
     ⊎_elim
     (λ la. ⊎_elim
-    (λ lb. lex_fault_once la.0 at other la.2 (subst (λ x. IsLexFaultAt x other) (has_one_refusal text lb.0 la.0 lb.1 la.1) lb.2))
+    (λ lb. lex_fault_once la.0 at other la.2 (subst (λ x. IsLexRefusalAt x other) (has_one_refusal text lb.0 la.0 lb.1 la.1) lb.2))
     (λ tb. absurd (not_cut_and_refused text tb.0 la.0 tb.1 la.1))
     b)
     (λ ta. ⊎_elim
@@ -137,7 +140,7 @@ syntax_once text at other a b =
     b)
     a
 
-says_not_syntax : (text : List ℕ) (es : List Entry) (at : ℕ) → Says text es → IsSyntaxFault text at → ⊥
+says_not_syntax : (text : List ℕ) (es : List Entry) (at : ℕ) → Says text es → IsSyntaxRefusal text at → ⊥
 says_not_syntax text es at says s =
     ⊎_elim
     (λ l. not_cut_and_refused text says.tokens l.0 says.cut l.1)
@@ -145,17 +148,16 @@ says_not_syntax text es at says s =
     s
 
 -- the three ways in which a text is refused
-abbrev Long : List ℕ → HierFault → Type 0
+abbrev Long : List ℕ → HierarchyRefusal → Type 0
 Long text f = (f ≡ fault.TooLong) × (greatest_text < length text)
 
-abbrev Formless : List ℕ → HierFault → Type 0
-Formless text f = (at : ℕ) × (f ≡ fault.Syntax at) × (length text ≤ greatest_text) × IsSyntaxFault text at
+abbrev Formless : List ℕ → HierarchyRefusal → Type 0
+Formless text f = (at : ℕ) × (f ≡ fault.Syntax at) × (length text ≤ greatest_text) × IsSyntaxRefusal text at
 
-abbrev Wrong : List ℕ → HierFault → Type 0
+abbrev Wrong : List ℕ → HierarchyRefusal → Type 0
 Wrong text f = (es : List Entry) × Says text es × IsFirstRefusal es f
 
-ways : (text : List ℕ) (f : HierFault) → IsRefusedText text f → Long text f ⊎ (Formless text f ⊎ Wrong text f)
-ways text fault.NoMemory h = absurd h
+ways : (text : List ℕ) (f : HierarchyRefusal) → IsRefusedText text f → Long text f ⊎ (Formless text f ⊎ Wrong text f)
 ways text fault.TooLong h = inl (refl, h)
 ways text (fault.Syntax at) h = inr (inl (at, refl, h.0, h.1))
 ways text (fault.DeclaredTwice at) h = inr (inr h)
@@ -165,7 +167,7 @@ ways text (fault.TooManyPrincipals at) h = inr (inr h)
 too_long : {P : Type 0} (text : List ℕ) → greatest_text < length text → length text ≤ greatest_text → P
 too_long text h k = absurd (omega arith)
 
-pub refused_text_once : (text : List ℕ) (f g : HierFault) → IsRefusedText text f → IsRefusedText text g → f ≡ g
+pub refused_text_once : (text : List ℕ) (f g : HierarchyRefusal) → IsRefusedText text f → IsRefusedText text g → f ≡ g
 refused_text_once text f g a b =
     ⊎_elim
     (λ la. ⊎_elim
@@ -187,7 +189,7 @@ refused_text_once text f g a b =
     (ways text g b)))
     (ways text f a)
 
-pub hierarchy_not_refused : (text : List ℕ) (h : PrincipalHierarchy) (f : HierFault) → IsHierarchyOf text h → IsRefusedText text f → ⊥
+pub hierarchy_not_refused : (text : List ℕ) (h : PrincipalHierarchy) (f : HierarchyRefusal) → IsHierarchyOf text h → IsRefusedText text f → ⊥
 hierarchy_not_refused text h f of refused =
     ⊎_elim
     (λ l. too_long text l.1 of.says.fits)
@@ -202,36 +204,39 @@ hierarchy_once text h k kept a b =
 
 -- ---- what the entries' fault is of the text
 
-no_other_refusal : (names : List (List ℕ)) (entry : Entry) (f : HierFault) → IsEntryRefusal names entry f → (f ≡ fault.TooLong → ⊥) × ((at : ℕ) → f ≡ fault.Syntax at → ⊥)
+no_other_refusal : (names : List (List ℕ)) (entry : Entry) (f : HierarchyRefusal) → IsEntryRefusal names entry f → (f ≡ fault.TooLong → ⊥) × ((at : ℕ) → f ≡ fault.Syntax at → ⊥)
 no_other_refusal names entry f (Twice name h) = (λ e. cc, λ at e. cc)
 no_other_refusal names entry f (Crowded name h k) = (λ e. cc, λ at e. cc)
 no_other_refusal names entry f (UnknownLeft left right h) = (λ e. cc, λ at e. cc)
 no_other_refusal names entry f (UnknownRight left right h k) = (λ e. cc, λ at e. cc)
 
-pub entries_fault : (text : List ℕ) (es : List Entry) (f : HierFault) → Says text es → IsStatementsFault es f → IsReadFault text f
-entries_fault text es fault.NoMemory says h = tt
-entries_fault text es fault.TooLong says h = absurd ((no_other_refusal (declared h.before) h.entry fault.TooLong h.refused).0 refl)
-entries_fault text es (fault.Syntax at) says h = absurd ((no_other_refusal (declared h.before) h.entry (fault.Syntax at) h.refused).1 at refl)
-entries_fault text es (fault.DeclaredTwice at) says h = (es, says, h)
-entries_fault text es (fault.UnknownPrincipal at) says h = (es, says, h)
-entries_fault text es (fault.TooManyPrincipals at) says h = (es, says, h)
+pub entries_refused : (text : List ℕ) (es : List Entry) (f : HierarchyRefusal) → Says text es → IsFirstRefusal es f → IsRefusedText text f
+entries_refused text es fault.TooLong says h = absurd ((no_other_refusal (declared h.before) h.entry fault.TooLong h.refused).0 refl)
+entries_refused text es (fault.Syntax at) says h = absurd ((no_other_refusal (declared h.before) h.entry (fault.Syntax at) h.refused).1 at refl)
+entries_refused text es (fault.DeclaredTwice at) says h = (es, says, h)
+entries_refused text es (fault.UnknownPrincipal at) says h = (es, says, h)
+entries_refused text es (fault.TooManyPrincipals at) says h = (es, says, h)
+
+-- and what refused tokens are
+pub tokens_refused : (text : List ℕ) (r : LexRefusal) (f : HierarchyRefusal) → length text ≤ greatest_text → f ≡ refusal_of_lex r → IsTextRefused text r
+    → IsRefusedText text f
+tokens_refused text (lex.NoToken at) f fits is refused = rw is (fits, inl (lex.NoToken at, refused, refl))
+tokens_refused text (lex.LiteralTooLarge at) f fits is refused = rw is (fits, inl (lex.LiteralTooLarge at, refused, refl))
+tokens_refused text (lex.UnclosedComment at) f fits is refused = rw is (fits, inl (lex.UnclosedComment at, refused, refl))
+
+-- and what an unexpected token is
+pub form_refused : (text : List ℕ) (tokens : List Terminal) (f : HierarchyRefusal) → length text ≤ greatest_text → IsCut text tokens → IsFormRefusal tokens f
+    → IsRefusedText text f
+form_refused text tokens f fits cut (at, is, unexpected) = rw is (fits, inr (tokens, cut, unexpected))
 
 -- ---- what a reader has to meet
 
-pub fault_cases : (text : List ℕ) (f : HierFault) → IsReadFault text f → (f ≡ fault.NoMemory) ⊎ IsRefusedText text f
-fault_cases text fault.NoMemory h = inl refl
-fault_cases text fault.TooLong h = inr h
-fault_cases text (fault.Syntax at) h = inr h
-fault_cases text (fault.DeclaredTwice at) h = inr h
-fault_cases text (fault.UnknownPrincipal at) h = inr h
-fault_cases text (fault.TooManyPrincipals at) h = inr h
+pub read_exact : (text : List ℕ) (h : PrincipalHierarchy) → IsHierarchyOf text h → (r : Result PrincipalHierarchy (OrNoMemory HierarchyRefusal)) →
+    IfOk r (IsHierarchyOf text) → IfOk r IsHierarchy → IfErr r (IfRefused (IsRefusedText text)) → Answers (λ found. found ≡ h) (λ _. ⊥) r
+read_exact text h of (Ok found) a b e = hierarchy_once text found h b a of
+read_exact text h of (Err f) a b e = refused-weaker (IsRefusedText text) (λ _. ⊥) (λ g k. hierarchy_not_refused text h g of k) f e
 
-pub read_only : (text : List ℕ) (h : PrincipalHierarchy) → IsHierarchyOf text h → (r : Result PrincipalHierarchy HierFault) →
-    IfOk r (IsHierarchyOf text) → IfOk r IsHierarchy → IfErr r (IsReadFault text) → MatchResult r (λ found. found ≡ h) (λ f. f ≡ fault.NoMemory)
-read_only text h of (Ok found) a b e = hierarchy_once text found h b a of
-read_only text h of (Err f) a b e = ⊎_elim (λ n. n) (λ k. absurd (hierarchy_not_refused text h f of k)) (fault_cases text f e)
-
-pub read_first : (text : List ℕ) (f : HierFault) → IsRefusedText text f → (r : Result PrincipalHierarchy HierFault) →
-    IfOk r (IsHierarchyOf text) → IfErr r (IsReadFault text) → MatchResult r (λ _. ⊥) (λ told. (told ≡ f) ⊎ (told ≡ fault.NoMemory))
+pub read_first : (text : List ℕ) (f : HierarchyRefusal) → IsRefusedText text f → (r : Result PrincipalHierarchy (OrNoMemory HierarchyRefusal)) →
+    IfOk r (IsHierarchyOf text) → IfErr r (IfRefused (IsRefusedText text)) → Answers (λ _. ⊥) (λ found. found ≡ f) r
 read_first text f first (Ok found) a e = hierarchy_not_refused text found f a first
-read_first text f first (Err told) a e = ⊎_elim inr (λ k. inl (refused_text_once text told f k first)) (fault_cases text told e)
+read_first text f first (Err told) a e = refused-weaker (IsRefusedText text) (λ g. g ≡ f) (λ g k. refused_text_once text g f k first) told e

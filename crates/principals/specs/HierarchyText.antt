@@ -4,12 +4,12 @@ use Rattle.common.specs.declared.limits.TheConstants.{MAX_PRINCIPALS, MAX_TEXT}
 use Rattle.std.specs.List.{AllZip}
 use Rattle.lexer.specs.Cut.{IsCut, IsTextRefused}
 use Rattle.lexer.specs.Terminal.{Terminal}
-use Rattle.lexer.specs.declared.fault.LexFault.{LexFault}
-use Rattle.lexer.specs.declared.fault.LexFault.TheVariants.{NoMemory as LexNoMemory, NoToken, LiteralTooLarge, UnclosedComment}
+use Rattle.lexer.specs.declared.fault.LexRefusal.{LexRefusal}
+use Rattle.lexer.specs.declared.fault.LexRefusal.TheVariants.{NoToken, LiteralTooLarge, UnclosedComment}
 use Rattle.lexer.specs.declared.token.Kind.TheVariants.{Name, Comma, Semicolon, End}
 use Rattle.principals.specs.ActsFor.{PrincipalHierarchy, HasName}
-use Rattle.principals.specs.declared.fault.HierFault.{HierFault}
-use Rattle.principals.specs.declared.fault.HierFault.TheVariants.{NoMemory, TooLong, Syntax, DeclaredTwice, TooManyPrincipals, UnknownPrincipal}
+use Rattle.principals.specs.declared.fault.HierarchyRefusal.{HierarchyRefusal}
+use Rattle.principals.specs.declared.fault.HierarchyRefusal.TheVariants.{TooLong, Syntax, DeclaredTwice, TooManyPrincipals, UnknownPrincipal}
 
 -- ---- the form of the text
 
@@ -84,7 +84,7 @@ written (Declares name ∷ entries) = written entries
 written (Relates left right ∷ entries) = (left.text, right.text) ∷ written entries
 
 -- an entry is refused, where these names are declared before it; of two refusals of one entry the first is reported
-pub data IsEntryRefusal (names : List (List ℕ)) : Entry → HierFault → Type 0 where
+pub data IsEntryRefusal (names : List (List ℕ)) : Entry → HierarchyRefusal → Type 0 where
   Twice : (name : Terminal) → Contains names name.text → IsEntryRefusal names (Declares name) (DeclaredTwice name.start)
   Crowded : (name : Terminal) → (Contains names name.text → ⊥) → MAX_PRINCIPALS ≤ length names
       → IsEntryRefusal names (Declares name) (TooManyPrincipals name.start)
@@ -95,17 +95,17 @@ pub data IsEntryRefusal (names : List (List ℕ)) : Entry → HierFault → Type
 
 -- no entry is refused
 abbrev pub AllAccepted : List Entry → Type 0
-AllAccepted entries = (before after : List Entry) (entry : Entry) (fault : HierFault)
-    → entries ≡ before ++ entry ∷ after → IsEntryRefusal (declared before) entry fault → ⊥
+AllAccepted entries = (before after : List Entry) (entry : Entry) (refusal : HierarchyRefusal)
+    → entries ≡ before ++ entry ∷ after → IsEntryRefusal (declared before) entry refusal → ⊥
 
 -- the first entry that is refused, and why
-pub record IsFirstRefusal (entries : List Entry) (fault : HierFault) : Type 0 where
+pub record IsFirstRefusal (entries : List Entry) (refusal : HierarchyRefusal) : Type 0 where
   pub before : List Entry
   pub entry : Entry
   pub after : List Entry
   pub entries_are : entries ≡ before ++ entry ∷ after
   pub accepted : AllAccepted before
-  pub refused : IsEntryRefusal (declared before) entry fault
+  pub refused : IsEntryRefusal (declared before) entry refusal
 
 -- the hierarchy that the entries say: its names are the declared ones, and its pairs are the numbers of the written ones
 pub record IsSaid (entries : List Entry) (hierarchy : PrincipalHierarchy) : Type 0 where
@@ -132,36 +132,32 @@ pub record IsHierarchyOf (text : List ℕ) (hierarchy : PrincipalHierarchy) : Ty
   pub says : Says text entries
   pub said : IsSaid entries hierarchy
 
--- the fault that a refusal of the tokens is
-abbrev pub fault_of_lex : LexFault → HierFault
-fault_of_lex LexNoMemory = NoMemory
-fault_of_lex (NoToken at) = Syntax at
-fault_of_lex (LiteralTooLarge at) = Syntax at
-fault_of_lex (UnclosedComment at) = Syntax at
+-- the refusal of a text whose tokens are refused
+abbrev pub refusal_of_lex : LexRefusal → HierarchyRefusal
+refusal_of_lex (NoToken at) = Syntax at
+refusal_of_lex (LiteralTooLarge at) = Syntax at
+refusal_of_lex (UnclosedComment at) = Syntax at
 
 -- the byte at which a text is refused that has no tokens
-abbrev pub IsLexFaultAt : LexFault → ℕ → Type 0
-IsLexFaultAt LexNoMemory at = ⊥
-IsLexFaultAt (NoToken place) at = at ≡ place
-IsLexFaultAt (LiteralTooLarge place) at = at ≡ place
-IsLexFaultAt (UnclosedComment place) at = at ≡ place
+abbrev pub IsLexRefusalAt : LexRefusal → ℕ → Type 0
+IsLexRefusalAt (NoToken place) at = at ≡ place
+IsLexRefusalAt (LiteralTooLarge place) at = at ≡ place
+IsLexRefusalAt (UnclosedComment place) at = at ≡ place
 
 -- a text without tokens, or the first token with which no text of this form goes on
-abbrev pub IsSyntaxFault : List ℕ → ℕ → Type 0
-IsSyntaxFault text at =
-    ((fault : LexFault) × IsTextRefused text fault × IsLexFaultAt fault at)
+abbrev pub IsSyntaxRefusal : List ℕ → ℕ → Type 0
+IsSyntaxRefusal text at =
+    ((refusal : LexRefusal) × IsTextRefused text refusal × IsLexRefusalAt refusal at)
     ⊎ ((tokens : List Terminal) × IsCut text tokens × IsUnexpectedInHierarchyAt tokens at)
 
--- the first refusal of a text; out of memory is none of the text's
-abbrev pub IsRefusedText : List ℕ → HierFault → Type 0
-IsRefusedText text NoMemory = ⊥
+-- the first refusal of a text
+abbrev pub IsRefusedText : List ℕ → HierarchyRefusal → Type 0
 IsRefusedText text TooLong = greatest_text < length text
-IsRefusedText text (Syntax at) = (length text ≤ greatest_text) × IsSyntaxFault text at
-IsRefusedText text fault = (entries : List Entry) × Says text entries × IsFirstRefusal entries fault
+IsRefusedText text (Syntax at) = (length text ≤ greatest_text) × IsSyntaxRefusal text at
+IsRefusedText text refusal = (entries : List Entry) × Says text entries × IsFirstRefusal entries refusal
 
--- the place of a fault is a character boundary of the text, so that its line and its column can be found
-abbrev pub HasBoundary : List ℕ → HierFault → Type 0
-HasBoundary text NoMemory = Unit {0}
+-- the place of a refusal is a character boundary of the text, so that its line and its column can be found
+abbrev pub HasBoundary : List ℕ → HierarchyRefusal → Type 0
 HasBoundary text TooLong = Unit {0}
 HasBoundary text (Syntax at) = IsCharBoundary text at
 HasBoundary text (DeclaredTwice at) = IsCharBoundary text at

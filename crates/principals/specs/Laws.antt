@@ -4,7 +4,7 @@ use Rattle.std.specs.Prelude.{◌≡◌, ◌⊎◌, ℕ, ◌≤◌, List, length
 use Rattle.lexer.specs.Words.{is_name_text}
 use Rattle.principals.specs.ActsFor.{PrincipalHierarchy}
 use Rattle.principals.specs.HierarchyText.{IsHierarchyOf, IsRefusedText}
-use Rattle.principals.specs.declared.fault.HierFault.{HierFault}
+use Rattle.principals.specs.declared.fault.HierarchyRefusal.{HierarchyRefusal}
 
 -- a name in UTF-8, of at most so many bytes
 pub record IsNameWithin (longest : ℕ) (name : List ℕ) : Type 0 where
@@ -28,14 +28,14 @@ HasOneHierarchy =
 -- the text of a hierarchy is not refused
 abbrev pub IsNotReadAndRefused : Type 0
 IsNotReadAndRefused =
-    (text : List ℕ) (hierarchy : PrincipalHierarchy) (fault : HierFault) → IsHierarchyOf text hierarchy → IsRefusedText text fault → ⊥
+    (text : List ℕ) (hierarchy : PrincipalHierarchy) (refusal : HierarchyRefusal) → IsHierarchyOf text hierarchy → IsRefusedText text refusal → ⊥
 
 -- a text is refused for one reason at most
 abbrev pub HasOneRefusal : Type 0
-HasOneRefusal = (text : List ℕ) (fault other : HierFault) → IsRefusedText text fault → IsRefusedText text other → fault ≡ other
+HasOneRefusal = (text : List ℕ) (refusal other : HierarchyRefusal) → IsRefusedText text refusal → IsRefusedText text other → refusal ≡ other
 
 -- a text is that of a hierarchy, or it is refused
 abbrev pub IsReadOrRefused : Type 0
 IsReadOrRefused =
     (text : List ℕ) → IsUtf8 text
-    → ((hierarchy : PrincipalHierarchy) × IsHierarchyOf text hierarchy) ⊎ ((fault : HierFault) × IsRefusedText text fault)
+    → ((hierarchy : PrincipalHierarchy) × IsHierarchyOf text hierarchy) ⊎ ((refusal : HierarchyRefusal) × IsRefusedText text refusal)

@@ -7,9 +7,9 @@ use Rattle.std.specs.Option.{option_and_then}
 use Rattle.lexer.specs.Terminal.{Terminal, terminal_of}
 use Rattle.lexer.specs.declared.token.Kind.{Kind}
 use Rattle.lexer.specs.declared.token.Kind.TheVariants.{Name as NameKind, Comma as CommaKind, Semicolon as SemicolonKind, End as EndKind}
-use Rattle.principals.specs.HierarchyText.{Entry, Declares, Relates, IsUnexpectedInHierarchyAt, AllAccepted, IsFirstRefusal, IsEntryRefusal, IsRefusedText, declared, written}
-use Rattle.principals.specs.declared.fault.HierFault.{HierFault}
-use Rattle.principals.specs.declared.fault.HierFault.TheVariants as fault
+use Rattle.principals.specs.HierarchyText.{Entry, Declares, Relates, IsUnexpectedInHierarchyAt, AllAccepted, declared, written}
+use Rattle.principals.specs.declared.fault.HierarchyRefusal.{HierarchyRefusal}
+use Rattle.principals.specs.declared.fault.HierarchyRefusal.TheVariants.{Syntax}
 use Rattle.principals.specs.declared.reading.Role.{Role}
 use Rattle.principals.specs.declared.reading.Role.TheVariants.{Principal, ActsFor, Name, Comma, Semicolon, End, Other}
 use Rattle.principals.specs.declared.reading.Progress.{Progress}
@@ -84,11 +84,9 @@ entry_of (statement.Relates left right) = Relates (terminal_of left) (terminal_o
 abbrev pub entries_of : List Statement → List Entry
 entries_of statements = map entry_of statements
 
--- a fault of the form alone
-abbrev pub IsFormFault : List Terminal → HierFault → Type 0
-IsFormFault tokens fault.NoMemory = Unit {0}
-IsFormFault tokens (fault.Syntax at) = IsUnexpectedInHierarchyAt tokens at
-IsFormFault tokens _ = ⊥
+-- the refusal of the form alone: the first token with which no text of this form goes on
+abbrev pub IsFormRefusal : List Terminal → HierarchyRefusal → Type 0
+IsFormRefusal tokens refusal = (at : ℕ) × (refusal ≡ Syntax at) × IsUnexpectedInHierarchyAt tokens at
 
 -- the pairs are the numbers of these pairs of names
 abbrev pub HaveNames : List (List ℕ) → List (List ℕ × List ℕ) → List (ℕ × ℕ) → Type 0
@@ -102,18 +100,3 @@ pub record Built (entries : List Entry) (names : List (List ℕ)) (pairs : List 
   pub there : AllBelow (length names) pairs
   pub accepted : AllAccepted entries
   pub same_pairs : HaveNames names (written entries) pairs
-
--- why an entry is not added: out of memory, or its refusal
-abbrev pub IsBuildFault : List (List ℕ) → Entry → HierFault → Type 0
-IsBuildFault names entry fault.NoMemory = Unit {0}
-IsBuildFault names entry other = IsEntryRefusal names entry other
-
--- a fault of the entries alone
-abbrev pub IsStatementsFault : List Entry → HierFault → Type 0
-IsStatementsFault entries fault.NoMemory = Unit {0}
-IsStatementsFault entries other = IsFirstRefusal entries other
-
--- a fault of a text, out of memory among them
-abbrev pub IsReadFault : List ℕ → HierFault → Type 0
-IsReadFault text fault.NoMemory = Unit {0}
-IsReadFault text other = IsRefusedText text other

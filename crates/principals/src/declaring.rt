@@ -1,50 +1,58 @@
 //! The hierarchy that the statements of a text say.
 
+ghost use Rattle.common.specs.Answers.{IfRefused};
 ghost use Rattle.lexer.specs.Terminal.{terminal_of};
 ghost use Rattle.principals.specs.ActsFor.{IsHierarchy};
-ghost use Rattle.principals.specs.HierarchyText.{Declares, IsSaid, Relates};
-ghost use Rattle.principals.specs.Reading.{entries_of, IsBuildFault, IsStatementsFault};
+ghost use Rattle.principals.specs.HierarchyText.{Declares, IsEntryRefusal, IsFirstRefusal, IsSaid, Relates};
+ghost use Rattle.principals.specs.Reading.{entries_of};
 ghost use Rattle.principals.specs.Table.{names_of};
-ghost use Rattle.principals.specs.declared.fault.HierFault.TheVariants.{UnknownPrincipal};
+ghost use Rattle.principals.specs.declared.fault.HierarchyRefusal.TheVariants.{UnknownPrincipal};
 ghost use Rattle.std.specs.Prelude.{Contains, IfErr, IfOk, OnOk, Some, [], ◌∷◌, ◌++◌, length, slice_get, ◌<◌, ◌≡◌, ◌≤◌};
 
 use crate::Hierarchy;
-use crate::fault::HierFault;
+use crate::fault::{HierarchyFault, HierarchyRefusal};
 use crate::reading::Statement;
 use crate::row::Row;
+use common::OrNoMemory;
 use common::limits::MAX_PRINCIPALS;
 use indexmap::IndexSet;
 use lexer::Token;
 use std::alloc::Global;
 
 /// Declares one more principal.
-fn declare(alloc: Global, names: &mut IndexSet<String>, name: &Token<'_>) -> Result<(), HierFault>
+fn declare(
+    alloc: Global,
+    names: &mut IndexSet<String>,
+    name: &Token<'_>,
+) -> Result<(), HierarchyFault>
     ensures added { OnOk result (names_of names.new ≡ names_of names.old ++ name.now.text.now ∷ []) }
     ensures fresh { OnOk result (¬ Contains (names_of names.old) name.now.text.now) }
     ensures room { OnOk result (length (names_of names.old) < MAX_PRINCIPALS) }
-    ensures refused { IfErr result (IsBuildFault (names_of names.old) (Declares (terminal_of name.now))) }
+    ensures rejected { IfErr result (IfRefused
+        (IsEntryRefusal (names_of names.old) (Declares (terminal_of name.now)))) }
 {
     let full = names.len() >= Row::LIMIT;
+    let at = name.span.start;
     if names.contains(name.text) {
-        return Err(HierFault::DeclaredTwice(name.span.start));
+        return Err(OrNoMemory::Refused(HierarchyRefusal::DeclaredTwice(at)));
     }
     if full {
-        return Err(HierFault::TooManyPrincipals(name.span.start));
+        return Err(OrNoMemory::Refused(HierarchyRefusal::TooManyPrincipals(at)));
     }
     names.insert(String::from_str(alloc, name.text)?)?;
     Ok(())
 }
 
 /// The number of a principal that was declared before.
-fn number(names: &IndexSet<String>, name: &Token<'_>) -> Result<u32, HierFault>
+fn number(names: &IndexSet<String>, name: &Token<'_>) -> Result<u32, HierarchyRefusal>
     requires { length (names_of names.now) ≤ MAX_PRINCIPALS }
     ensures found { IfOk result (λ number. slice_get (names_of names.now) number ≡ Some name.now.text.now) }
-    ensures unknown { IfErr result (λ fault. (fault ≡ UnknownPrincipal name.now.span.start)
+    ensures unknown { IfErr result (λ refusal. (refusal ≡ UnknownPrincipal name.now.span.start)
         × (¬ Contains (names_of names.now) name.now.text.now)) }
 {
     match names.get_index_of(name.text) {
         Some(number) => Ok(number as u32),
-        None => Err(HierFault::UnknownPrincipal(name.span.start)),
+        None => Err(HierarchyRefusal::UnknownPrincipal(name.span.start)),
     }
 }
 
@@ -53,11 +61,12 @@ fn relate(
     names: &IndexSet<String>,
     left: &Token<'_>,
     right: &Token<'_>,
-) -> Result<(u32, u32), HierFault>
+) -> Result<(u32, u32), HierarchyRefusal>
     requires { length (names_of names.now) ≤ MAX_PRINCIPALS }
     ensures left { IfOk result (λ pair. slice_get (names_of names.now) pair.0 ≡ Some left.now.text.now) }
     ensures right { IfOk result (λ pair. slice_get (names_of names.now) pair.1 ≡ Some right.now.text.now) }
-    ensures refused { IfErr result (IsBuildFault (names_of names.now) (Relates (terminal_of left.now) (terminal_of right.now))) }
+    ensures rejected { IfErr result (IsEntryRefusal (names_of names.now)
+        (Relates (terminal_of left.now) (terminal_of right.now))) }
 {
     let first = number(names, left)?;
     let second = number(names, right)?;
@@ -68,17 +77,20 @@ fn relate(
 pub(crate) fn hierarchy_of(
     alloc: Global,
     statements: &[Statement<'_>],
-) -> Result<Hierarchy, HierFault>
+) -> Result<Hierarchy, HierarchyFault>
     ensures said { IfOk result (IsSaid (entries_of statements.now)) }
     ensures kept { IfOk result IsHierarchy }
-    ensures refused { IfErr result (IsStatementsFault (entries_of statements.now)) }
+    ensures rejected { IfErr result (IfRefused (IsFirstRefusal (entries_of statements.now))) }
 {
     let mut names = IndexSet::new(alloc);
     let mut pairs = Vec::new(alloc);
     for statement in statements {
         match statement {
             Statement::Declares(name) => declare(alloc, &mut names, name)?,
-            Statement::Relates(left, right) => pairs.push(relate(&names, left, right)?)?,
+            Statement::Relates(left, right) => {
+                let pair = relate(&names, left, right).map_err(OrNoMemory::Refused)?;
+                pairs.push(pair)?;
+            }
         }
     }
     Ok(Hierarchy::close(alloc, names, pairs)?)

@@ -1,16 +1,13 @@
-ghost use Rattle.principals.specs.declared.fault.HierFault.TheVariants.{NoMemory};
+ghost use Rattle.principals.specs.HierarchyText.{refusal_of_lex};
 ghost use Rattle.std.specs.Prelude.{◌≡◌};
 
-use lexer::LexFault;
-use std::alloc::{AllocError, AllocFailed};
+use common::OrNoMemory;
+use lexer::LexRefusal;
 use thiserror::Error;
 
-/// Why a text gave no hierarchy. Each place is a byte of the text.
+/// Why a text has no hierarchy. Each place is a byte of the text.
 #[derive(Clone, Copy, Debug, Drop, PartialEq, Eq, Error)]
-pub enum HierFault {
-    /// Memory ran out.
-    #[error("no memory")]
-    NoMemory,
+pub enum HierarchyRefusal {
     /// The text is longer than 1,048,576 bytes.
     #[error("text too long")]
     TooLong,
@@ -28,33 +25,17 @@ pub enum HierFault {
     TooManyPrincipals(usize),
 }
 
-impl From<AllocError> for HierFault {
-    ghost from_gives = { λ _ fault. fault ≡ NoMemory };
+/// Why a text gave no hierarchy.
+pub type HierarchyFault = OrNoMemory<HierarchyRefusal>;
 
-    fn from(_refused: AllocError) -> HierFault {
-        HierFault::NoMemory
-    }
-}
+impl From<LexRefusal> for HierarchyRefusal {
+    ghost from_gives = { λ lex refusal. refusal ≡ refusal_of_lex lex };
 
-impl<T: Drop> From<AllocFailed<T>> for HierFault {
-    ghost from_gives = { λ _ fault. fault ≡ NoMemory };
-
-    fn from(_refused: AllocFailed<T>) -> HierFault {
-        HierFault::NoMemory
-    }
-}
-
-impl From<LexFault> for HierFault {
-    ghost use Rattle.principals.specs.HierarchyText.{fault_of_lex};
-    ghost use Rattle.std.specs.Prelude.{◌≡◌};
-
-    ghost from_gives = { λ lex fault. fault ≡ fault_of_lex lex };
-
-    fn from(refused: LexFault) -> HierFault {
+    fn from(refused: LexRefusal) -> HierarchyRefusal {
         match refused {
-            LexFault::NoMemory => HierFault::NoMemory,
-            LexFault::NoToken(at) | LexFault::LiteralTooLarge(at) | LexFault::UnclosedComment(at) =>
-                HierFault::Syntax(at),
+            LexRefusal::NoToken(at)
+            | LexRefusal::LiteralTooLarge(at)
+            | LexRefusal::UnclosedComment(at) => HierarchyRefusal::Syntax(at),
         }
     }
 }

@@ -15,7 +15,7 @@ mod row;
 mod table;
 
 use common::limits::MAX_PRINCIPALS;
-pub use fault::HierFault;
+pub use fault::{HierarchyFault, HierarchyRefusal};
 use indexmap::IndexSet;
 pub use row::Row;
 use std::alloc::{AllocError, Global};

@@ -1,15 +1,16 @@
 //! A hierarchy out of its text.
 
+ghost use Rattle.common.specs.Answers.{Answers, IfRefused};
 ghost use Rattle.principals.specs.ActsFor.{IsHierarchy, PrincipalHierarchy};
 ghost use Rattle.principals.specs.HierarchyText.{HasBoundary, IsHierarchyOf, IsRefusedText};
-ghost use Rattle.principals.specs.Reading.{IsReadFault};
-ghost use Rattle.principals.specs.declared.fault.HierFault.{HierFault};
-ghost use Rattle.std.specs.Prelude.{IfErr, IfOk, MatchResult, ◌≡◌, ◌⊎◌};
+ghost use Rattle.principals.specs.declared.fault.HierarchyRefusal.{HierarchyRefusal};
+ghost use Rattle.std.specs.Prelude.{IfErr, IfOk, ◌≡◌};
 
 use crate::Hierarchy;
 use crate::declaring::hierarchy_of;
-use crate::fault::HierFault;
+use crate::fault::{HierarchyFault, HierarchyRefusal};
 use crate::reading::statements;
+use common::OrNoMemory;
 use common::limits::MAX_TEXT;
 use lexer::lex;
 use std::alloc::Global;
@@ -20,35 +21,34 @@ impl Hierarchy {
     /// The text is a list of items: `principal A, B;` declares principals, and `A actsfor B;` writes that `A` acts for `B`.
     /// The length of the text is tested first, then the form of the whole text, then the items in order. Each principal is
     /// declared once, before it is named in a pair; there are at most 256. Out of memory is reported only where memory ran out.
-    pub fn read(alloc: Global, text: &str) -> Result<Hierarchy, HierFault>
+    pub fn read(alloc: Global, text: &str) -> Result<Hierarchy, HierarchyFault>
         // At a hierarchy it is that of the text, and no text of a hierarchy is refused.
-        ensures hierarchy { IfOk result (IsHierarchyOf text.now) }
-        ensures only { (hierarchy : PrincipalHierarchy) → IsHierarchyOf text.now hierarchy →
-            MatchResult result (λ found. found ≡ hierarchy) (λ fault. fault ≡ HierFault.NoMemory) }
+        ensures accepted { IfOk result (IsHierarchyOf text.now) }
+        ensures exact { (hierarchy : PrincipalHierarchy) → IsHierarchyOf text.now hierarchy →
+            Answers (λ found. found ≡ hierarchy) (λ _. ⊥) result }
 
-        // At a fault it is the first of the text, and no text with a fault is read.
-        ensures refused { IfErr result (λ fault.
-            (fault ≡ HierFault.NoMemory) ⊎ IsRefusedText text.now fault) }
-        ensures first { (fault : HierFault) → IsRefusedText text.now fault →
-            MatchResult result (λ _. ⊥) (λ found. (found ≡ fault) ⊎ (found ≡ HierFault.NoMemory)) }
+        // A refusal is the first of the text, and no text with a refusal is read.
+        ensures rejected { IfErr result (IfRefused (IsRefusedText text.now)) }
+        ensures first_fault { (refusal : HierarchyRefusal) → IsRefusedText text.now refusal →
+            Answers (λ _. ⊥) (λ found. found ≡ refusal) result }
 
-        // The line and the column of a fault can be found.
-        ensures boundary { IfErr result (HasBoundary text.now) }
+        // The line and the column of a refusal can be found.
+        ensures boundary { IfErr result (IfRefused (HasBoundary text.now)) }
     {
         read_text(alloc, text)
     }
 }
 
 /// What [`Hierarchy::read`] gives.
-fn read_text(alloc: Global, text: &str) -> Result<Hierarchy, HierFault>
-    ensures hierarchy { IfOk result (IsHierarchyOf text.now) }
+fn read_text(alloc: Global, text: &str) -> Result<Hierarchy, HierarchyFault>
+    ensures accepted { IfOk result (IsHierarchyOf text.now) }
     ensures kept { IfOk result IsHierarchy }
-    ensures refused { IfErr result (IsReadFault text.now) }
+    ensures rejected { IfErr result (IfRefused (IsRefusedText text.now)) }
 {
     if text.len() > MAX_TEXT {
-        return Err(HierFault::TooLong);
+        return Err(OrNoMemory::Refused(HierarchyRefusal::TooLong));
     }
-    let tokens = lex(alloc, text)?;
+    let tokens = lex(alloc, text).map_err(OrNoMemory::cast)?;
     let statements = statements(alloc, tokens.as_slice())?;
     hierarchy_of(alloc, statements.as_slice())
 }

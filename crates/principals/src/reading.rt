@@ -1,11 +1,13 @@
 //! The form of a hierarchy text, read one token after another.
 
+ghost use Rattle.common.specs.Answers.{IfRefused};
 ghost use Rattle.lexer.specs.Terminal.{IsTerminated, terminal_of, terminals_of};
 ghost use Rattle.principals.specs.HierarchyText.{IsHierarchyForm};
-ghost use Rattle.principals.specs.Reading.{entries_of, IsFormFault, role_of};
+ghost use Rattle.principals.specs.Reading.{entries_of, IsFormRefusal, role_of};
 ghost use Rattle.std.specs.Prelude.{IfErr, IfOk, ◌≡◌};
 
-use crate::fault::HierFault;
+use crate::fault::{HierarchyFault, HierarchyRefusal};
+use common::OrNoMemory;
 use lexer::{Kind, Token};
 use std::alloc::Global;
 
@@ -124,16 +126,17 @@ impl<'a> Progress<'a> {
 pub(crate) fn statements<'a>(
     alloc: Global,
     tokens: &[Token<'a>],
-) -> Result<Vec<Statement<'a>>, HierFault>
+) -> Result<Vec<Statement<'a>>, HierarchyFault>
     requires { IsTerminated (terminals_of tokens.now) }
     ensures form { IfOk result (λ statements. IsHierarchyForm (terminals_of tokens.now) (entries_of statements.items)) }
-    ensures refused { IfErr result (IsFormFault (terminals_of tokens.now)) }
+    ensures rejected { IfErr result (IfRefused (IsFormRefusal (terminals_of tokens.now))) }
 {
     let mut statements = Vec::new(alloc);
     let mut progress = Progress::Fresh;
     for token in tokens {
         let Some(after) = progress.next(*token) else {
-            return Err(HierFault::Syntax(token.span.start));
+            let at = token.span.start;
+            return Err(OrNoMemory::Refused(HierarchyRefusal::Syntax(at)));
         };
         if let Some(statement) = progress.complete(*token) {
             statements.push(statement)?;

@@ -6,11 +6,12 @@ use crate::answer::write;
 use crate::changes::change;
 use crate::commands::answer_command;
 use crate::counts::Counts;
-use crate::fault::LineFault;
+use crate::fault::{LineFault, LineRefusal};
 use crate::line::cut_word;
 use crate::sessions::Stage;
 use crate::texts::Texts;
 use crate::tokens::answer_tokens;
+use common::OrNoMemory;
 use std::alloc::Global;
 
 // A row: the line that it stands in, what came of it, and what is wanted.
@@ -59,7 +60,7 @@ impl<'a> Book<'a> {
         }
         book.end_row()?;
         if book.counts.rows == 0 {
-            book.report_fault(number, LineFault::NoRows)?;
+            book.report_fault(number, OrNoMemory::Refused(LineRefusal::NoRows))?;
         }
         Ok(book)
     }
@@ -101,7 +102,7 @@ impl<'a> Book<'a> {
     // What is wanted of the row.
     fn want(&mut self, line: &str) -> Result<(), LineFault> {
         let Some(row) = &mut self.row else {
-            return Err(LineFault::NoRow);
+            return Err(OrNoMemory::Refused(LineRefusal::NoRow));
         };
         write(&mut row.wanted, line.as_bytes())?;
         write(&mut row.wanted, b"\n")
@@ -155,8 +156,8 @@ impl<'a> Book<'a> {
 
     fn report_fault(&mut self, number: usize, fault: LineFault) -> Result<(), LineFault> {
         self.counts = self.counts.and_fault();
-        let (path, words) = (self.path, fault.words());
-        let line = format!(in self.alloc; "{path}:{number}: {words}\n")?;
+        let path = self.path;
+        let line = format!(in self.alloc; "{path}:{number}: {fault}\n")?;
         write(&mut self.report, line.as_bytes())
     }
 }

@@ -1,8 +1,9 @@
 //! The lines that make texts.
 
-use crate::fault::LineFault;
+use crate::fault::{LineFault, LineRefusal};
 use crate::line::{bytes_of, cut_word, place_of};
 use crate::texts::Texts;
+use common::OrNoMemory;
 use std::alloc::Global;
 use std::fs;
 use std::io::ErrorKind;
@@ -27,7 +28,7 @@ pub fn change(
         "at" => write_at(alloc, texts.newest()?, rest),
         "cut" => cut(texts.newest()?, rest),
         "swap" => swap(alloc, texts, rest),
-        _ => Err(LineFault::UnknownWord),
+        _ => Err(OrNoMemory::Refused(LineRefusal::UnknownWord)),
     }
 }
 
@@ -53,8 +54,8 @@ fn put_file(rt: &HostRuntime, texts: &mut Texts, rest: &str) -> Result<(), LineF
     let (name, path) = cut_word(rest);
     match fs::read(rt, path) {
         Ok(bytes) => texts.put(name, bytes),
-        Err(error) if error.kind() == ErrorKind::OutOfMemory => Err(LineFault::NoMemory),
-        Err(_) => Err(LineFault::NoFile),
+        Err(error) if error.kind() == ErrorKind::OutOfMemory => Err(OrNoMemory::NoMemory),
+        Err(_) => Err(OrNoMemory::Refused(LineRefusal::NoFile)),
     }
 }
 
@@ -75,7 +76,7 @@ fn add_text(texts: &mut Texts, rest: &str) -> Result<(), LineFault> {
 // The bytes from one place up to another.
 fn part(bytes: &[u8], from: usize, to: usize) -> Result<&[u8], LineFault> {
     if from > to || to > bytes.len() {
-        return Err(LineFault::Outside);
+        return Err(OrNoMemory::Refused(LineRefusal::Outside));
     }
     Ok(&bytes[from..to])
 }
@@ -105,7 +106,7 @@ fn write_at(alloc: Global, bytes: &mut Vec<u8>, rest: &str) -> Result<(), LineFa
 
 fn overwrite(bytes: &mut [u8], offset: usize, more: &[u8]) -> Result<(), LineFault> {
     if offset > bytes.len() || more.len() > bytes.len() - offset {
-        return Err(LineFault::Outside);
+        return Err(OrNoMemory::Refused(LineRefusal::Outside));
     }
     let end = offset + more.len();
     bytes[offset..end].copy_from_slice(more);
@@ -116,7 +117,7 @@ fn overwrite(bytes: &mut [u8], offset: usize, more: &[u8]) -> Result<(), LineFau
 fn cut(bytes: &mut Vec<u8>, rest: &str) -> Result<(), LineFault> {
     let length = place_of(rest)?;
     if length > bytes.len() {
-        return Err(LineFault::Outside);
+        return Err(OrNoMemory::Refused(LineRefusal::Outside));
     }
     bytes.truncate(length);
     Ok(())
@@ -125,7 +126,7 @@ fn cut(bytes: &mut Vec<u8>, rest: &str) -> Result<(), LineFault> {
 // `swap OLD => NEW`: a piece in the place of another one that stands in the text once.
 fn swap(alloc: Global, texts: &mut Texts, rest: &str) -> Result<(), LineFault> {
     let Some((old, new)) = rest.split_once(" =>") else {
-        return Err(LineFault::WrongForm);
+        return Err(OrNoMemory::Refused(LineRefusal::WrongForm));
     };
     let new = new.strip_prefix(' ').unwrap_or("");
     let bytes = texts.newest()?;
@@ -136,13 +137,13 @@ fn swap(alloc: Global, texts: &mut Texts, rest: &str) -> Result<(), LineFault> {
 
 fn swapped(alloc: Global, bytes: &[u8], old: &str, new: &str) -> Result<Vec<u8>, LineFault> {
     let Ok(text) = str::from_utf8(bytes) else {
-        return Err(LineFault::WrongForm);
+        return Err(OrNoMemory::Refused(LineRefusal::WrongForm));
     };
     let Some((before, after)) = text.split_once(old) else {
-        return Err(LineFault::NotOnce);
+        return Err(OrNoMemory::Refused(LineRefusal::NotOnce));
     };
     if after.contains(old) {
-        return Err(LineFault::NotOnce);
+        return Err(OrNoMemory::Refused(LineRefusal::NotOnce));
     }
     let mut swapped = Vec::new(alloc);
     for piece in [before, new, after] {

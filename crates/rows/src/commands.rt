@@ -8,6 +8,7 @@ use crate::fault::LineFault;
 use crate::line::words_of;
 use crate::texts::Texts;
 use channels::Device;
+use common::OrNoMemory;
 use flowc::{Task, TaskFault, TaskResult, perform, read_task};
 use std::alloc::Global;
 
@@ -20,11 +21,11 @@ pub fn answer_command(
     let alloc = texts.alloc();
     match task_of(alloc, line)? {
         Ok(asked) => answer_task(texts, &asked, answer),
-        Err(TaskFault::Words(text)) => {
+        Err(OrNoMemory::NoMemory) => Err(OrNoMemory::NoMemory),
+        Err(OrNoMemory::Refused(refusal)) => {
             write_status(alloc, answer, 2)?;
-            write_lines(answer, b'!', text.as_bytes())
+            write_lines(answer, b'!', refusal.text.as_bytes())
         }
-        Err(TaskFault::NoMemory) => Err(LineFault::NoMemory),
     }
 }
 

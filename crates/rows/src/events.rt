@@ -1,14 +1,15 @@
 //! Events and answers of a host as words.
 
 use crate::answer::{write, write_lines};
-use crate::fault::LineFault;
+use crate::fault::{LineFault, LineRefusal};
 use crate::line::{number_of, words_of};
 use crate::texts::Texts;
-use channels::{Pair, World, WorldFault};
-use flowc::{Answer, Event, HostFault};
+use channels::{Pair, World};
+use common::OrNoMemory;
+use flowc::{Answer, Event, HostFault, HostRefusal, LoadRefusal};
 use machine::Status;
-use module_file::{FormatFault, decode};
-use std::alloc::Global;
+use module_file::decode;
+use std::alloc::{AllocError, Global};
 
 /// The event that words ask for: `open MODULE WORLD`, `open MODULE WORLD OTHER` with a world of the inputs of another module,
 /// `turn ID STEPS`, `view ID PRINCIPAL`, or `close ID`.
@@ -20,14 +21,14 @@ pub fn event_of(texts: &Texts, words: &str) -> Result<Event, LineFault> {
         ["turn", id, steps] => Ok(Event::Turn(number_of(id)?, number_of(steps)?)),
         ["view", id, principal] => Ok(Event::View(number_of(id)?, principal_of(principal)?)),
         ["close", id] => Ok(Event::Close(number_of(id)?)),
-        _ => Err(LineFault::WrongForm),
+        _ => Err(OrNoMemory::Refused(LineRefusal::WrongForm)),
     }
 }
 
 fn principal_of(word: &str) -> Result<u32, LineFault> {
     match word.parse::<u32>() {
         Ok(number) => Ok(number),
-        Err(_) => Err(LineFault::WrongForm),
+        Err(_) => Err(OrNoMemory::Refused(LineRefusal::WrongForm)),
     }
 }
 
@@ -40,18 +41,10 @@ fn open(texts: &Texts, module: &str, world: &str, other: &str) -> Result<Event, 
 // The world of a module's inputs that a text is.
 fn world_of(alloc: Global, module: &[u8], text: &[u8]) -> Result<World, LineFault> {
     let Ok(text) = str::from_utf8(text) else {
-        return Err(LineFault::NoWorld);
+        return Err(OrNoMemory::Refused(LineRefusal::NoWorld));
     };
-    let program = match decode(alloc, module) {
-        Ok(program) => program,
-        Err(FormatFault::NoMemory) => return Err(LineFault::NoMemory),
-        Err(FormatFault::Refused(..)) => return Err(LineFault::NoModule),
-    };
-    match World::read(alloc, &program, text) {
-        Ok(world) => Ok(world),
-        Err(WorldFault::NoMemory) => Err(LineFault::NoMemory),
-        Err(WorldFault::Line { .. }) => Err(LineFault::NoWorld),
-    }
+    let program = decode(alloc, module).map_err(OrNoMemory::cast)?;
+    World::read(alloc, &program, text).map_err(OrNoMemory::cast)
 }
 
 /// Writes what a host answered.
@@ -68,7 +61,7 @@ pub fn write_answer(
         Answer::Turned(steps, status) => write_turned(alloc, answer, *steps, *status),
         Answer::Viewed(pairs) => write_view(alloc, answer, pairs),
         Answer::Closed => write(answer, b"= closed\n"),
-        Answer::Refused(fault) => write_refusal(alloc, answer, *fault),
+        Answer::Refused(fault) => write_fault(alloc, answer, *fault),
     }
 }
 
@@ -105,29 +98,30 @@ fn write_pair(alloc: Global, answer: &mut Vec<u8>, pair: Pair) -> Result<(), Lin
     write_lines(answer, b'>', line.as_bytes())
 }
 
-fn write_refusal(alloc: Global, answer: &mut Vec<u8>, fault: HostFault) -> Result<(), LineFault> {
+fn write_fault(alloc: Global, answer: &mut Vec<u8>, fault: HostFault) -> Result<(), LineFault> {
     write(answer, b"= refused\n")?;
-    let place = match fault {
-        HostFault::Bytes(_, offset) => format!(in alloc; "{offset}: ")?,
-        HostFault::Code(fault) => {
-            let (procedure, offset) = (fault.procedure, fault.offset);
-            format!(in alloc; "{procedure}:{offset}: ")?
-        }
-        _ => String::new(alloc),
-    };
-    write_fault(alloc, answer, &place, fault)
-}
-
-fn write_fault(
-    alloc: Global,
-    answer: &mut Vec<u8>,
-    place: &str,
-    fault: HostFault,
-) -> Result<(), LineFault> {
-    let words = fault.words();
-    let line = match fault.number() {
-        Some(number) => format!(in alloc; "{place}{number} {words}\n")?,
-        None => format!(in alloc; "{place}{words}\n")?,
+    let line = match fault {
+        OrNoMemory::NoMemory => String::from_str(alloc, "no memory\n")?,
+        OrNoMemory::Refused(refusal) => line_of(alloc, refusal)?,
     };
     write_lines(answer, b'!', line.as_bytes())
+}
+
+// The place in the bytes, where the refusal has one, its number, and its words.
+fn line_of(alloc: Global, refusal: HostRefusal) -> Result<String, AllocError> {
+    let (number, words) = (refusal.number(), refusal.words());
+    match refusal {
+        HostRefusal::Load(LoadRefusal::Bytes(found)) => {
+            let offset = found.offset;
+            format!(in alloc; "{offset}: {number} {words}\n")
+        }
+        HostRefusal::Load(LoadRefusal::Code(found)) => {
+            let (procedure, offset) = (found.procedure, found.offset);
+            format!(in alloc; "{procedure}:{offset}: {number} {words}\n")
+        }
+        HostRefusal::Full
+        | HostRefusal::UnknownId
+        | HostRefusal::UnknownPrincipal
+        | HostRefusal::New(_) => format!(in alloc; "{number} {words}\n"),
+    }
 }

@@ -1,8 +1,10 @@
-use std::alloc::{AllocError, AllocFailed};
+use common::OrNoMemory;
+use flowc::{ModuleRefusal, WorldRefusal};
+use std::fmt;
 
 /// What is wrong with a line of a data file, or with the file.
 #[derive(Clone, Copy, Debug, PartialEq, Eq)]
-pub enum LineFault {
+pub enum LineRefusal {
     /// No line begins so.
     UnknownWord,
     /// The words behind the first are not those that it takes.
@@ -23,36 +25,36 @@ pub enum LineFault {
     NoModule,
     /// The text is no world of the module.
     NoWorld,
-    NoMemory,
 }
 
-impl LineFault {
-    /// The words that the fault is reported by.
-    pub fn words(self) -> &'static str {
-        match self {
-            LineFault::UnknownWord => "unknown word",
-            LineFault::WrongForm => "wrong form",
-            LineFault::NoRow => "no row before this line",
-            LineFault::NoRows => "no row in this file",
-            LineFault::NoText => "no text of this name",
-            LineFault::NoFile => "no file of this name",
-            LineFault::Outside => "outside the text",
-            LineFault::NotOnce => "not once in the text",
-            LineFault::NoModule => "no module",
-            LineFault::NoWorld => "no world of the module",
-            LineFault::NoMemory => "no memory",
-        }
+/// Why a line of a data file was not done.
+pub type LineFault = OrNoMemory<LineRefusal>;
+
+impl fmt::Display for LineRefusal {
+    fn fmt<W: fmt::Write>(&self, f: &mut fmt::Formatter<W>) -> fmt::Result {
+        f.write_str(match self {
+            LineRefusal::UnknownWord => "unknown word",
+            LineRefusal::WrongForm => "wrong form",
+            LineRefusal::NoRow => "no row before this line",
+            LineRefusal::NoRows => "no row in this file",
+            LineRefusal::NoText => "no text of this name",
+            LineRefusal::NoFile => "no file of this name",
+            LineRefusal::Outside => "outside the text",
+            LineRefusal::NotOnce => "not once in the text",
+            LineRefusal::NoModule => "no module",
+            LineRefusal::NoWorld => "no world of the module",
+        })
     }
 }
 
-impl From<AllocError> for LineFault {
-    fn from(_error: AllocError) -> LineFault {
-        LineFault::NoMemory
+impl From<ModuleRefusal> for LineRefusal {
+    fn from(_refusal: ModuleRefusal) -> LineRefusal {
+        LineRefusal::NoModule
     }
 }
 
-impl<T: Drop> From<AllocFailed<T>> for LineFault {
-    fn from(_error: AllocFailed<T>) -> LineFault {
-        LineFault::NoMemory
+impl From<WorldRefusal> for LineRefusal {
+    fn from(_refusal: WorldRefusal) -> LineRefusal {
+        LineRefusal::NoWorld
     }
 }

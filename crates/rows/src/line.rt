@@ -1,6 +1,7 @@
 //! The words of a line.
 
-use crate::fault::LineFault;
+use crate::fault::{LineFault, LineRefusal};
+use common::OrNoMemory;
 use hex::FromHexError;
 use std::alloc::Global;
 
@@ -25,7 +26,7 @@ pub fn words_of(alloc: Global, line: &str) -> Result<Vec<&str>, LineFault> {
 pub fn number_of(word: &str) -> Result<u64, LineFault> {
     match word.parse::<u64>() {
         Ok(number) => Ok(number),
-        Err(_) => Err(LineFault::WrongForm),
+        Err(_) => Err(OrNoMemory::Refused(LineRefusal::WrongForm)),
     }
 }
 
@@ -33,7 +34,7 @@ pub fn number_of(word: &str) -> Result<u64, LineFault> {
 pub fn place_of(word: &str) -> Result<usize, LineFault> {
     match word.parse::<usize>() {
         Ok(number) => Ok(number),
-        Err(_) => Err(LineFault::WrongForm),
+        Err(_) => Err(OrNoMemory::Refused(LineRefusal::WrongForm)),
     }
 }
 
@@ -49,7 +50,7 @@ pub fn bytes_of(alloc: Global, digits: &str) -> Result<Vec<u8>, LineFault> {
 fn add_hex(alloc: Global, bytes: &mut Vec<u8>, word: &str) -> Result<(), LineFault> {
     match hex::decode(alloc, word) {
         Ok(more) => Ok(bytes.extend_from_slice(&more)?),
-        Err(FromHexError::OutOfMemory) => Err(LineFault::NoMemory),
-        Err(_) => Err(LineFault::WrongForm),
+        Err(FromHexError::OutOfMemory) => Err(OrNoMemory::NoMemory),
+        Err(_) => Err(OrNoMemory::Refused(LineRefusal::WrongForm)),
     }
 }

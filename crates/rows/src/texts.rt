@@ -1,6 +1,7 @@
 //! The texts of a data file, by their names.
 
-use crate::fault::LineFault;
+use crate::fault::{LineFault, LineRefusal};
+use common::OrNoMemory;
 use std::alloc::Global;
 
 #[derive(Drop)]
@@ -32,7 +33,7 @@ impl Texts {
     pub fn get(&self, name: &str) -> Result<&[u8], LineFault> {
         match self.texts.iter().find(|text| text.name.as_str() == name) {
             Some(text) => Ok(text.bytes.as_slice()),
-            None => Err(LineFault::NoText),
+            None => Err(OrNoMemory::Refused(LineRefusal::NoText)),
         }
     }
 
@@ -45,7 +46,7 @@ impl Texts {
     pub fn newest(&mut self) -> Result<&mut Vec<u8>, LineFault> {
         match self.texts.last_mut() {
             Some(text) => Ok(&mut text.bytes),
-            None => Err(LineFault::NoText),
+            None => Err(OrNoMemory::Refused(LineRefusal::NoText)),
         }
     }
 

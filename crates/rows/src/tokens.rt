@@ -1,9 +1,10 @@
 //! Rows that ask what a text is cut into.
 
 use crate::answer::{write, write_lines};
-use crate::fault::LineFault;
+use crate::fault::{LineFault, LineRefusal};
 use crate::texts::Texts;
-use lexer::{LexFault, Token, lex};
+use common::OrNoMemory;
+use lexer::{LexRefusal, Token, lex};
 use std::alloc::Global;
 
 /// `tokens NAME`: the number of tokens, and for each the byte where it begins, what it is, and its text. `count NAME`: the
@@ -16,16 +17,12 @@ pub fn answer_tokens(
 ) -> Result<(), LineFault> {
     let alloc = texts.alloc();
     let Ok(text) = str::from_utf8(texts.get(name)?) else {
-        return Err(LineFault::WrongForm);
+        return Err(OrNoMemory::Refused(LineRefusal::WrongForm));
     };
     match lex(alloc, text) {
         Ok(tokens) => write_tokens(alloc, &tokens, has_lines, answer),
-        Err(LexFault::NoMemory) => Err(LineFault::NoMemory),
-        Err(LexFault::NoToken(at)) => write_refusal(alloc, "no token", at, answer),
-        Err(LexFault::LiteralTooLarge(at)) => {
-            write_refusal(alloc, "literal too large", at, answer)
-        }
-        Err(LexFault::UnclosedComment(at)) => write_refusal(alloc, "open comment", at, answer),
+        Err(OrNoMemory::NoMemory) => Err(OrNoMemory::NoMemory),
+        Err(OrNoMemory::Refused(refusal)) => write_refusal(alloc, refusal, answer),
     }
 }
 
@@ -59,10 +56,14 @@ fn write_token(alloc: Global, token: &Token<'_>, answer: &mut Vec<u8>) -> Result
 
 fn write_refusal(
     alloc: Global,
-    words: &str,
-    at: usize,
+    refusal: LexRefusal,
     answer: &mut Vec<u8>,
 ) -> Result<(), LineFault> {
+    let (at, words) = match refusal {
+        LexRefusal::NoToken(at) => (at, "no token"),
+        LexRefusal::LiteralTooLarge(at) => (at, "literal too large"),
+        LexRefusal::UnclosedComment(at) => (at, "open comment"),
+    };
     let line = format!(in alloc; "= refused\n! {at} {words}\n")?;
     write(answer, line.as_bytes())
 }

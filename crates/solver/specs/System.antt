@@ -6,8 +6,6 @@ use Rattle.labels.specs.Constraints.{FitsAll, IsJoin, IsLeast, IsRefusedAt, Latt
 use Rattle.labels.specs.Constraints as formal
 use Rattle.solver.specs.Broken.{written_at}
 use Rattle.solver.specs.declared.fault.SolveRefusal.{SolveRefusal}
-use Rattle.solver.specs.declared.fault.SolveFault.{SolveFault}
-use Rattle.solver.specs.declared.fault.SolveFault.TheVariants.{NoMemory, Unmet}
 use Rattle.solver.specs.declared.system.Atom.{Atom}
 use Rattle.solver.specs.declared.system.Atom.TheVariants.{Unknown, Written}
 use Rattle.solver.specs.declared.system.Constraint.{Constraint}
@@ -71,10 +69,6 @@ pub record IsSolveRefusal {T V : Type 0} (l : Lattice V) (system : System V T) (
   pub last : formal.Constraint T ℕ V
   pub picked : Picks (constraints_of l system) refusal.chain.items chain
   pub refused : IsRefusedAt l (constraints_of l system) (written_at l system.written.items refusal.from) chain last
-
-abbrev pub Refuses : {T V : Type 0} → Lattice V → System V T → SolveFault → Type 0
-Refuses l system NoMemory = Unit {0}
-Refuses l system (Unmet refusal) = IsSolveRefusal l system refusal
 
 -- a solution: for each written element what it reaches, and so values that fit all constraints and are least
 pub record IsSolution {T V : Type 0} (l : Lattice V) (system : System V T) (reached : List (List ℕ)) : Type 0 where

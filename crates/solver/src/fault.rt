@@ -1,12 +1,11 @@
 //! What `solve` answers where it finds no solution.
-ghost use Rattle.solver.specs.declared.fault.SolveFault.TheVariants.{NoMemory};
-ghost use Rattle.std.specs.Prelude.{◌≡◌};
 
-use std::alloc::AllocError;
+use common::OrNoMemory;
 use thiserror::Error;
 
 /// Why constraints have no solution: a flow that they ask for and rule out.
-#[derive(Debug, Drop)]
+#[derive(Debug, Drop, Error)]
+#[error("no values fit the constraints")]
 pub struct SolveRefusal {
     /// The written element where the flow starts, by its number in the table of written elements.
     pub from: usize,
@@ -15,21 +14,5 @@ pub struct SolveRefusal {
     pub chain: Vec<usize>,
 }
 
-/// Constraints were not solved.
-#[derive(Debug, Drop, Error)]
-pub enum SolveFault {
-    /// Memory ran out.
-    #[error("no memory")]
-    NoMemory,
-    /// No values fit all constraints.
-    #[error("no values fit the constraints")]
-    Unmet(SolveRefusal),
-}
-
-impl From<AllocError> for SolveFault {
-    ghost from_gives = { λ _ fault. fault ≡ NoMemory };
-
-    fn from(_error: AllocError) -> SolveFault {
-        SolveFault::NoMemory
-    }
-}
+/// Why constraints were not solved.
+pub type SolveFault = OrNoMemory<SolveRefusal>;

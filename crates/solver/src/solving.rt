@@ -3,7 +3,8 @@ ghost use Rattle.solver.specs.Breaker.{BreaksAlong, IsBreakChain};
 ghost use Rattle.solver.specs.Broken.{AllRightsInside, is_below};
 ghost use Rattle.solver.specs.Links.{InRange};
 ghost use Rattle.solver.specs.Reach.{LeadsInside};
-ghost use Rattle.solver.specs.System.{IsSolution, Refuses};
+ghost use Rattle.common.specs.Answers.{IfRefused};
+ghost use Rattle.solver.specs.System.{IsSolution, IsSolveRefusal};
 ghost use Rattle.std.specs.Prelude.{IfErr, IfOk, length, ℕ, ◌<◌, ◌≡◌};
 
 use crate::breaker::first_breaker;
@@ -15,6 +16,7 @@ use crate::reached::rows_of;
 use crate::search::trace;
 use crate::solution::Solution;
 use crate::system::System;
+use common::OrNoMemory;
 use labels::Lattice;
 use std::alloc::{AllocError, Global};
 
@@ -32,8 +34,9 @@ pub fn solve<L: Lattice, T>(
 ) -> Result<Solution, SolveFault>
     requires { InRange (length system.now.written.items) system.now.unknowns
         system.now.constraints.items }
-    ensures solved { IfOk result (IsSolution (L.order lattice.now) system.now) }
-    ensures refused { IfErr result (Refuses (L.order lattice.now) system.now) }
+    ensures accepted { IfOk result (IsSolution (L.order lattice.now) system.now) }
+    ensures rejected { IfErr result (IfRefused
+        (IsSolveRefusal (L.order lattice.now) system.now)) }
 {
     lattice.keep_laws();
     let count = system.written.len();
@@ -46,7 +49,7 @@ pub fn solve<L: Lattice, T>(
         None => Ok(Solution::of(count, rows)),
         Some(value) => {
             let refusal = find_refusal(alloc, lattice, written, &edges, value)?;
-            Err(SolveFault::Unmet(refusal))
+            Err(OrNoMemory::Refused(refusal))
         }
     }
 }

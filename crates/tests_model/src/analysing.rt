@@ -1,11 +1,12 @@
 //! Sources of the whole language: what stands before labels is right, or the first fault is found at its byte.
 
 use acceptance::Cause;
-use analysis::{AnalysisFault, analyse};
+use analysis::analyse;
+use common::OrNoMemory;
 use principals::Hierarchy;
 use std::test::Fail;
 
-// Each source with its fault, if it has one.
+// Each source with its refusal, if it has one.
 const SOURCES: [(&str, Option<(Cause, usize)>); 46] = [
     (
         "output{} pub; void main() { int a[0]; }",
@@ -164,8 +165,8 @@ fn finds_the_first_fault_before_labels(rt: HostRuntime) -> Result<(), Fail> {
     for (source, wanted) in SOURCES {
         let found = match analyse(alloc, &hierarchy, source.as_bytes()) {
             Ok(_) => None,
-            Err(AnalysisFault::NoMemory) => Some((Cause::TextTooLong, 0)),
-            Err(AnalysisFault::Refused(cause, at)) => Some((cause, at)),
+            Err(OrNoMemory::NoMemory) => Some((Cause::TextTooLong, 0)),
+            Err(OrNoMemory::Refused(refusal)) => Some((refusal.cause, refusal.at)),
         };
         assert!(rt; found == wanted, "{source}");
     }

@@ -3,9 +3,10 @@
 ghost use Rattle.solver.specs.Links.{InRange};
 ghost use Rattle.std.specs.Prelude.{IfOk, [], length, ◌∷◌, ◌<◌, ◌≡◌};
 
+use common::OrNoMemory;
 use labels::{Label, LabelLattice, Policy};
 use principals::Hierarchy;
-use solver::{Atom, Constraint, SolveFault, System, solve};
+use solver::{Atom, Constraint, System, solve};
 use std::alloc::{AllocError, Global};
 use std::test::Fail;
 
@@ -65,6 +66,6 @@ fn refuses(rt: HostRuntime) -> Result<(), Fail> {
     };
     let system = system(alloc, 1)?;
     let answer = solve(alloc, &lattice, &system);
-    assert!(rt; matches!(&answer, Err(SolveFault::Unmet(_))));
+    assert!(rt; matches!(&answer, Err(OrNoMemory::Refused(_))));
     Ok(())
 }

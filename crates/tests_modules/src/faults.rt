@@ -1,23 +1,26 @@
-//! The number and the words of each refusal, defect and fault.
+//! The number and the words of each defect and refusal.
 
-use bytecode::ModuleRefusal;
+use bytecode::ModuleDefect;
 use channels::WorldDefect;
-use host::HostFault;
+use common::OrNoMemory;
+use host::{HostFault, HostRefusal};
+use machine::NewRefusal;
+use module_file::ModuleRefusal;
 use std::test::Fail;
-use verifier::{CodeFault, Defect};
+use verifier::{CodeDefect, CodeRefusal, LoadRefusal};
 
 #[test]
-fn refusals_of_bytes(rt: HostRuntime) {
-    for (refusal, number, words) in [
-        (ModuleRefusal::Magic, 801, "magic"),
-        (ModuleRefusal::Version, 802, "version"),
-        (ModuleRefusal::Short, 803, "short"),
-        (ModuleRefusal::BadValue, 804, "bad value"),
-        (ModuleRefusal::NotCanonical, 805, "not canonical"),
-        (ModuleRefusal::Trailing, 806, "trailing bytes"),
+fn defects_of_bytes(rt: HostRuntime) {
+    for (defect, number, words) in [
+        (ModuleDefect::Magic, 801, "magic"),
+        (ModuleDefect::Version, 802, "version"),
+        (ModuleDefect::Short, 803, "short"),
+        (ModuleDefect::BadValue, 804, "bad value"),
+        (ModuleDefect::NotCanonical, 805, "not canonical"),
+        (ModuleDefect::Trailing, 806, "trailing bytes"),
     ] {
         assert!(rt;
-            refusal.number() == number && refusal.words() == words,
+            defect.number() == number && defect.words() == words,
             "{number}"
         );
     }
@@ -26,11 +29,11 @@ fn refusals_of_bytes(rt: HostRuntime) {
 #[test]
 fn defects_of_code(rt: HostRuntime) {
     for (defect, number, words) in [
-        (Defect::Jump, 811, "jump"),
-        (Defect::OperandKind, 812, "operand kind"),
-        (Defect::OperandDepth, 813, "operand depth"),
-        (Defect::SlotOrIndex, 814, "slot or index"),
-        (Defect::FallsOffEnd, 815, "falls off the end"),
+        (CodeDefect::Jump, 811, "jump"),
+        (CodeDefect::OperandKind, 812, "operand kind"),
+        (CodeDefect::OperandDepth, 813, "operand depth"),
+        (CodeDefect::SlotOrIndex, 814, "slot or index"),
+        (CodeDefect::FallsOffEnd, 815, "falls off the end"),
     ] {
         assert!(rt;
             defect.number() == number && defect.words() == words,
@@ -55,31 +58,60 @@ fn defects_of_worlds(rt: HostRuntime) {
 }
 
 #[test]
-fn faults_of_a_host(rt: HostRuntime) -> Result<(), Fail> {
-    let fault = CodeFault {
-        defect: Defect::FallsOffEnd,
+fn the_refusal_of_a_machine(rt: HostRuntime) -> Result<(), Fail> {
+    let refusal = NewRefusal::UnknownChannel;
+    assert!(rt; refusal.number() == 852 && refusal.words() == "unknown channel");
+    let printed = format!(in rt.alloc(); "{refusal}")?;
+    assert!(rt; printed.as_str() == "unknown channel");
+    Ok(())
+}
+
+#[test]
+fn refusals_of_a_host(rt: HostRuntime) -> Result<(), Fail> {
+    let in_bytes = ModuleRefusal {
+        defect: ModuleDefect::Trailing,
+        offset: 9,
+    };
+    let in_code = CodeRefusal {
+        defect: CodeDefect::FallsOffEnd,
         procedure: 0,
         offset: 9,
     };
-    for (fault, number, words) in [
-        (HostFault::NoMemory, None, "no memory"),
-        (HostFault::Full, Some(901), "full"),
-        (HostFault::UnknownId, Some(902), "unknown id"),
-        (HostFault::UnknownPrincipal, Some(153), "unknown principal"),
-        (HostFault::UnknownChannel, Some(852), "unknown channel"),
+    for (refusal, number, words) in [
+        (HostRefusal::Full, 901, "full"),
+        (HostRefusal::UnknownId, 902, "unknown id"),
+        (HostRefusal::UnknownPrincipal, 153, "unknown principal"),
         (
-            HostFault::Bytes(ModuleRefusal::Trailing, 9),
-            Some(806),
+            HostRefusal::Load(LoadRefusal::Bytes(in_bytes)),
+            806,
             "trailing bytes",
         ),
-        (HostFault::Code(fault), Some(815), "falls off the end"),
+        (
+            HostRefusal::Load(LoadRefusal::Code(in_code)),
+            815,
+            "falls off the end",
+        ),
+        (
+            HostRefusal::New(NewRefusal::UnknownChannel),
+            852,
+            "unknown channel",
+        ),
     ] {
         assert!(rt;
-            fault.number() == number && fault.words() == words,
+            refusal.number() == number && refusal.words() == words,
             "{words}"
         );
+        let fault = OrNoMemory::Refused(refusal);
         let printed = format!(in rt.alloc(); "{fault}")?;
         assert!(rt; printed.as_str() == words);
     }
+    Ok(())
+}
+
+#[test]
+fn a_host_out_of_memory(rt: HostRuntime) -> Result<(), Fail> {
+    let fault: HostFault = OrNoMemory::NoMemory;
+    let printed = format!(in rt.alloc(); "{fault}")?;
+    assert!(rt; printed.as_str() == "no memory");
     Ok(())
 }

@@ -3,7 +3,8 @@
 //! Undisturbed these tests show that the calls answer; `tools/refused-memory` runs them with each allocation refused in turn.
 
 use channels::World;
-use host::{Event, Host, HostFault, Id, laws};
+use common::OrNoMemory;
+use host::{Event, Host, HostFault, HostRefusal, Id, laws};
 use machine::Status;
 use module_file::decode;
 use std::alloc::Global;
@@ -46,7 +47,7 @@ fn world_of(alloc: Global) -> Result<World, Fail> {
 // Opens a session, and tries again where memory is refused.
 fn opened(alloc: Global, host: &mut Host) -> Result<Id, Fail> {
     match host.open(&MODULE, world_of(alloc)?) {
-        Err(HostFault::NoMemory) => Ok(host.open(&MODULE, world_of(alloc)?)?),
+        Err(OrNoMemory::NoMemory) => Ok(host.open(&MODULE, world_of(alloc)?)?),
         other => Ok(other?),
     }
 }
@@ -64,7 +65,7 @@ fn turned(host: &mut Host, id: Id) -> Result<(u64, Status), Fail> {
 // How many pairs Alice sees, asked again where memory is refused.
 fn count_of_view(host: &Host, id: Id) -> Result<usize, HostFault> {
     match host.view(id, 0) {
-        Err(HostFault::NoMemory) => Ok(host.view(id, 0)?.len()),
+        Err(OrNoMemory::NoMemory) => Ok(host.view(id, 0)?.len()),
         other => Ok(other?.len()),
     }
 }
@@ -99,7 +100,10 @@ fn a_refused_list_answers_nothing(rt: HostRuntime) -> Result<(), Fail> {
     };
     match host.run(events) {
         Ok(answers) => assert_eq!(rt; answers.len(), 2),
-        Err(_) => assert_eq!(rt; host.close(0), Err(HostFault::UnknownId)),
+        Err(_) => {
+            let refused = Err(OrNoMemory::Refused(HostRefusal::UnknownId));
+            assert_eq!(rt; host.close(0), refused)
+        }
     }
     Ok(())
 }

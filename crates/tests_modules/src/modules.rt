@@ -3,8 +3,8 @@
 use bytecode::{
     Arithmetic, Cell, Comparison, Global, Handler, Instruction, Kind, Module, Procedure, Slot,
 };
-use channels::{Device, ViewFault};
-use common::Direction;
+use channels::{Device, SinkFault};
+use common::{Direction, OrNoMemory};
 use listing::write_listing;
 use module_file::{decode, encode, laws};
 use std::alloc::Global as Heap;
@@ -237,7 +237,7 @@ fn lists_up_to_a_failure(rt: HostRuntime) -> Result<(), Fail> {
     let module = decode(rt.alloc(), &SENDS)?;
     let mut device = Device::new(Cursor::new([0u8; 4]));
     let listed = write_listing(rt.alloc(), &module, &mut device);
-    assert_eq!(rt; listed, Err(ViewFault::Sink));
+    assert_eq!(rt; listed, Err(OrNoMemory::Refused(SinkFault)));
     assert_eq!(rt;
         device.into_inner().into_inner().as_slice(),
         b"outp".as_slice()

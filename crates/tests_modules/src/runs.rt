@@ -2,11 +2,12 @@
 
 use bytecode::{Cell, Instruction, Module};
 use channels::{Pair, World};
-use machine::{Machine, NewFault, Status};
+use common::OrNoMemory;
+use machine::{Machine, NewFault, NewRefusal, Status};
 use module_file::{decode, encode};
 use std::alloc::Global;
 use std::test::Fail;
-use verifier::{LoadFault, load, verify};
+use verifier::{load, verify};
 
 // One output `pub`, and one procedure: PUSH 7, SEND 0, RET.
 const SENDS: [u8; 76] = [
@@ -54,8 +55,8 @@ fn machine_of(alloc: Global) -> Option<Machine> {
 fn is_module(alloc: Global, bytes: &[u8], steps: u64) -> Result<bool, Fail> {
     let verified = match load(alloc, bytes) {
         Ok(verified) => verified,
-        Err(LoadFault::NoMemory) => return None.ok_or("no memory")?,
-        Err(LoadFault::Bytes(..) | LoadFault::Code(_)) => return Ok(false),
+        Err(OrNoMemory::NoMemory) => return None.ok_or("no memory")?,
+        Err(OrNoMemory::Refused(_)) => return Ok(false),
     };
     let spelled = encode(alloc, verified.module()).ok().ok_or("no memory")?;
     if spelled.as_slice() != bytes {
@@ -153,10 +154,11 @@ fn fault_of_another_world(alloc: Global) -> Option<NewFault> {
 #[test]
 fn refuses_the_world_of_another_module(rt: HostRuntime) {
     let mut fault = fault_of_another_world(rt.alloc());
-    if fault.is_none() || fault == Some(NewFault::NoMemory) {
+    if fault.is_none() || fault == Some(OrNoMemory::NoMemory) {
         fault = fault_of_another_world(rt.alloc());
     }
-    assert_eq!(rt; fault, Some(NewFault::UnknownChannel));
+    let refused = OrNoMemory::Refused(NewRefusal::UnknownChannel);
+    assert_eq!(rt; fault, Some(refused));
 }
 
 #[test]

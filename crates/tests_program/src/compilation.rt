@@ -1,5 +1,6 @@
 //! Causes by number and words, and a compilation whose growths are refused.
 
+use common::OrNoMemory;
 use flowc::{Cause, CompileFault, check_texts, compile};
 use std::alloc::Global;
 use std::test::Fail;
@@ -54,7 +55,7 @@ fn size_of(alloc: Global) -> Result<usize, CompileFault> {
 #[test]
 fn a_refused_growth_changes_no_answer(rt: HostRuntime) -> Result<(), Fail> {
     let mut answer = size_of(rt.alloc());
-    if answer.as_ref().err() == Some(&CompileFault::NoMemory) {
+    if answer.as_ref().err() == Some(&OrNoMemory::NoMemory) {
         answer = size_of(rt.alloc());
     }
     assert!(rt; matches!(&answer, Ok(76)));

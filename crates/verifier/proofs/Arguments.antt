@@ -8,7 +8,7 @@ use Rattle.bytecode.specs.declared.declaration.Slot.{Slot}
 use Rattle.bytecode.specs.declared.declaration.Slot.TheVariants.{Scalar, Array}
 use Rattle.verifier.specs.Flow.{Effect, Leaves, Misses, all_popped, and_then, popped, slot_kind}
 use Rattle.verifier.specs.Operands.{bit, packed, blocks, full_blocks}
-use Rattle.verifier.specs.declared.fault.Defect.{Defect}
+use Rattle.verifier.specs.declared.fault.CodeDefect.{CodeDefect}
 use Rattle.verifier.proofs.Packing.{blocks_more, drop_drop, length-blocks}
 
 kinds_of-push : (slots : List Slot) (slot : Slot) → kinds_of (slots ++ slot ∷ []) ≡ kinds_of slots ++ slot_kind (Some slot) ∷ []
@@ -63,7 +63,7 @@ module _ (slots : List Slot) (k count : ℕ) (d : Slot) (more : count ≡ k + 1)
     pub pop_step : (rest : List Kind) → popped (Some kind) kinds ≡ Leaves rest → all_popped (map (λ kind. Some kind) (reverse (kinds_of (take count slots)))) kinds ≡ all_popped (map (λ kind. Some kind) (reverse (kinds_of (take k slots)))) rest
     pop_step rest e = first_of (Leaves rest) e
 
-    pub pop_fail : (wrong : Defect) → popped (Some kind) kinds ≡ Misses wrong → all_popped (map (λ kind. Some kind) (reverse (kinds_of (take count slots)))) kinds ≡ Misses wrong
+    pub pop_fail : (wrong : CodeDefect) → popped (Some kind) kinds ≡ Misses wrong → all_popped (map (λ kind. Some kind) (reverse (kinds_of (take count slots)))) kinds ≡ Misses wrong
     pop_fail wrong e = first_of (Misses wrong) e
 
 -- ---- the blocks of parameters

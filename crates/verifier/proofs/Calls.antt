@@ -12,7 +12,7 @@ use Rattle.bytecode.specs.declared.value.Kind.{Kind}
 use Rattle.bytecode.specs.declared.value.Cell.{Cell}
 use Rattle.verifier.specs.Faults.{HasNoFault}
 use Rattle.verifier.specs.Flow.{Effect, Leaves, Misses, and_then, all_popped, effect, exchanged, called, pushed, value_kinds}
-use Rattle.verifier.specs.declared.fault.Defect.TheVariants.{OperandKind}
+use Rattle.verifier.specs.declared.fault.CodeDefect.TheVariants.{OperandKind}
 use Rattle.verifier.proofs.Holds.{same_of, holds_first}
 use Rattle.verifier.proofs.Laws.{start_in_flow}
 use Rattle.verifier.proofs.Rows.{right_kind}

@@ -12,7 +12,7 @@ use Rattle.verifier.specs.Depth.{IsMet, IsGreatestDepth, found, left}
 use Rattle.verifier.specs.Flow.{Effect, Leaves, Misses, OperandEffect, all_popped, and_then, exchanged, goes_on, is_own, next, pushed, signature}
 use Rattle.verifier.specs.Operands.{greatest, list_of, IsShared}
 use Rattle.verifier.specs.Search.{row, table, IsSearching, HaveLongest}
-use Rattle.verifier.specs.declared.fault.Defect.TheVariants.{OperandKind}
+use Rattle.verifier.specs.declared.fault.CodeDefect.TheVariants.{OperandKind}
 use Rattle.verifier.specs.declared.operands.Link.{Link}
 use Rattle.verifier.specs.declared.search.Search.{Search}
 use Rattle.verifier.proofs.Laws.{flow_within}

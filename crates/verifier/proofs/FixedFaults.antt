@@ -15,10 +15,10 @@ use Rattle.bytecode.specs.declared.instruction.Instruction.TheVariants.{Jump, Ju
 use Rattle.bytecode.specs.Machine.{machine_code}
 use Rattle.bytecode.specs.Targets.{target_of}
 use Rattle.verifier.specs.Boundaries.{IsBoundary, KeepsBoundaries}
-use Rattle.verifier.specs.declared.fault.Defect.{Defect}
-use Rattle.verifier.specs.declared.fault.Defect.TheVariants as defect
+use Rattle.verifier.specs.declared.fault.CodeDefect.{CodeDefect}
+use Rattle.verifier.specs.declared.fault.CodeDefect.TheVariants as defect
 use Rattle.verifier.proofs.Offsets.{next_boundary}
-use Rattle.verifier.specs.declared.fault.CodeFault.{CodeFault}
+use Rattle.verifier.specs.declared.fault.CodeRefusal.{CodeRefusal}
 
 module _ (m : ModuleContents) (number : ℕ) (procedure : ProcedureContents) where
   -- ---- the loop over instructions
@@ -30,7 +30,7 @@ module _ (m : ModuleContents) (number : ℕ) (procedure : ProcedureContents) whe
       ∙ ap (λ o. fault_list number offset o ++ instruction_faults m number procedure (offset + width_of (get_or code k d)) (drop (k + 1) code)) e
 
   -- an instruction with a defect is the first fault of what is left
-  pub first_fault : (offset : ℕ) (code : List Instruction) (k : ℕ) (d : Instruction) (wrong : Defect) → k < length code → instruction_defect m procedure (get_or code k d) ≡ Some wrong → slice_get (instruction_faults m number procedure offset (drop k code)) 0 ≡ Some (record { defect = wrong; procedure = number; offset = offset })
+  pub first_fault : (offset : ℕ) (code : List Instruction) (k : ℕ) (d : Instruction) (wrong : CodeDefect) → k < length code → instruction_defect m procedure (get_or code k d) ≡ Some wrong → slice_get (instruction_faults m number procedure offset (drop k code)) 0 ≡ Some (record { defect = wrong; procedure = number; offset = offset })
   first_fault offset code k d wrong h e =
       ap (λ faults. slice_get faults 0)
       (ap (instruction_faults m number procedure offset) (drop_more code k d h)
@@ -43,22 +43,22 @@ module _ (m : ModuleContents) (number : ℕ) (procedure : ProcedureContents) whe
       ap (handler_faults m number procedure) (drop_more handlers k d h)
       ∙ ap (λ o. fault_list number (get_or handlers k d).start o ++ handler_faults m number procedure (drop (k + 1) handlers)) e
 
-  pub first_handler : (handlers : List Handler) (k : ℕ) (d : Handler) (wrong : Defect) → k < length handlers → handler_defect m procedure (get_or handlers k d) ≡ Some wrong → slice_get (handler_faults m number procedure (drop k handlers)) 0 ≡ Some (record { defect = wrong; procedure = number; offset = (get_or handlers k d).start })
+  pub first_handler : (handlers : List Handler) (k : ℕ) (d : Handler) (wrong : CodeDefect) → k < length handlers → handler_defect m procedure (get_or handlers k d) ≡ Some wrong → slice_get (handler_faults m number procedure (drop k handlers)) 0 ≡ Some (record { defect = wrong; procedure = number; offset = (get_or handlers k d).start })
   first_handler handlers k d wrong h e =
       ap (λ faults. slice_get faults 0)
       (ap (handler_faults m number procedure) (drop_more handlers k d h)
       ∙ ap (λ o. fault_list number (get_or handlers k d).start o ++ handler_faults m number procedure (drop (k + 1) handlers)) e)
 
 -- the first of two lists together
-pub first_of_both : (xs ys : List CodeFault) → slice_get xs 0 ≡ None → slice_get (xs ++ ys) 0 ≡ slice_get ys 0
+pub first_of_both : (xs ys : List CodeRefusal) → slice_get xs 0 ≡ None → slice_get (xs ++ ys) 0 ≡ slice_get ys 0
 first_of_both [] ys e = refl
 first_of_both (x ∷ xs) ys e = absurd (let no : Some x ≡ None = e in cc)
 
-pub first_of_front : (xs ys : List CodeFault) (x : CodeFault) → slice_get xs 0 ≡ Some x → slice_get (xs ++ ys) 0 ≡ Some x
+pub first_of_front : (xs ys : List CodeRefusal) (x : CodeRefusal) → slice_get xs 0 ≡ Some x → slice_get (xs ++ ys) 0 ≡ Some x
 first_of_front [] ys x e = absurd (let no : None ≡ Some x = e in cc)
 first_of_front (y ∷ xs) ys x e = e
 
-pub nothing_first : (xs : List CodeFault) → slice_get xs 0 ≡ None → xs ≡ []
+pub nothing_first : (xs : List CodeRefusal) → slice_get xs 0 ≡ None → xs ≡ []
 nothing_first [] e = refl
 nothing_first (x ∷ xs) e = absurd (let no : Some x ≡ None = e in cc)
 
@@ -70,7 +70,7 @@ module _ (m : ModuleContents) (number : ℕ) where
       ap (λ (ps : List ProcedureContents). slice_get (procedure_faults m number ps) 0) (drop_more procedures k d h)
       ∙ first_of_both (own_faults m number (get_or procedures k d)) (procedure_faults m (number + 1) (drop (k + 1) procedures)) e
 
-  pub first_procedure : (procedures : List ProcedureContents) (k : ℕ) (d : ProcedureContents) (x : CodeFault) → k < length procedures → slice_get (own_faults m number (get_or procedures k d)) 0 ≡ Some x → slice_get (procedure_faults m number (drop k procedures)) 0 ≡ Some x
+  pub first_procedure : (procedures : List ProcedureContents) (k : ℕ) (d : ProcedureContents) (x : CodeRefusal) → k < length procedures → slice_get (own_faults m number (get_or procedures k d)) 0 ≡ Some x → slice_get (procedure_faults m number (drop k procedures)) 0 ≡ Some x
   first_procedure procedures k d x h e =
       ap (λ (ps : List ProcedureContents). slice_get (procedure_faults m number ps) 0) (drop_more procedures k d h)
       ∙ first_of_front (own_faults m number (get_or procedures k d)) (procedure_faults m (number + 1) (drop (k + 1) procedures)) x e
@@ -81,7 +81,7 @@ append_nothing : {X : Type 0} (xs ys : List X) → xs ++ ys ≡ [] → (xs ≡ [
 append_nothing [] ys e = (refl, e)
 append_nothing {X} (x ∷ xs) ys e = absurd (let no : ◌≡◌ {A = List X} (x ∷ (xs ++ ys)) [] = e in cc)
 
-no_defect : (number offset : ℕ) (o : Option Defect) → fault_list number offset o ≡ [] → o ≡ None
+no_defect : (number offset : ℕ) (o : Option CodeDefect) → fault_list number offset o ≡ [] → o ≡ None
 no_defect number offset None e = refl
 no_defect number offset (Some wrong) e = absurd (cc)
 
@@ -156,7 +156,7 @@ pub started : (o : Option Instruction) → is_some o ≡ true → (i : Instructi
 started None e = absurd (let no : false ≡ true = e in cc)
 started (Some i) e = (i, refl)
 
-pub right_of_unless : (b : Bool) (wrong : Defect) → unless b wrong ≡ None → b ≡ true
+pub right_of_unless : (b : Bool) (wrong : CodeDefect) → unless b wrong ≡ None → b ≡ true
 right_of_unless true wrong e = refl
 right_of_unless false wrong e = absurd (let no : Some wrong ≡ None = e in cc)
 
@@ -199,13 +199,13 @@ get_at [] k d h = absurd (omega arith)
 get_at (x ∷ xs) zero d h = refl
 get_at (x ∷ xs) (suc k) d h = get_at xs k d (omega arith)
 
-module _ (m q : ModuleContents) (number index : ℕ) (procedures : List ProcedureContents) (item body : ProcedureContents) (same_module : q ≡ m) (same_procedure : body ≡ item) (is : item ≡ get_or procedures index item) (inside : index < length procedures) (o : Option CodeFault) (found : o ≡ slice_get (own_faults q number body) 0) where
+module _ (m q : ModuleContents) (number index : ℕ) (procedures : List ProcedureContents) (item body : ProcedureContents) (same_module : q ≡ m) (same_procedure : body ≡ item) (is : item ≡ get_or procedures index item) (inside : index < length procedures) (o : Option CodeRefusal) (found : o ≡ slice_get (own_faults q number body) 0) where
   own_are : o ≡ slice_get (own_faults m number (get_or procedures index item)) 0
   own_are =
       found ∙ ap (λ x. slice_get (own_faults x number body) 0) same_module
       ∙ ap (λ x. slice_get (own_faults m number x) 0) (same_procedure ∙ is)
 
-  pub procedure_some : (fault : CodeFault) → o ≡ Some fault → slice_get (procedure_faults m number (drop index procedures)) 0 ≡ Some fault
+  pub procedure_some : (fault : CodeRefusal) → o ≡ Some fault → slice_get (procedure_faults m number (drop index procedures)) 0 ≡ Some fault
   procedure_some fault e = first_procedure m number procedures index item fault inside (sym own_are ∙ e)
 
   pub procedure_none : o ≡ None → slice_get (procedure_faults m number (drop index procedures)) 0 ≡ slice_get (procedure_faults m (number + 1) (drop (index + 1) procedures)) 0

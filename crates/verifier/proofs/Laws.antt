@@ -5,15 +5,15 @@ use Rattle.bytecode.specs.Contents.{ProcedureContents, ModuleContents}
 use Rattle.bytecode.specs.Code.{code_length, instruction_at}
 use Rattle.bytecode.specs.declared.value.Kind.{Kind}
 use Rattle.bytecode.specs.declared.instruction.Instruction.{Instruction}
-use Rattle.verifier.specs.declared.fault.Defect.{Defect}
+use Rattle.verifier.specs.declared.fault.CodeDefect.{CodeDefect}
 use Rattle.verifier.specs.Flow.{Edge, Flow, starts, grows, changed, nowhere, effect, Misses, IsOperandDefect, misses, meets, falls, FlowsWell, between}
 use Rattle.bytecode.specs.declared.value.Kind.TheVariants.{Int, Boolean}
-use Rattle.verifier.specs.declared.fault.Defect.TheVariants.{FallsOffEnd}
+use Rattle.verifier.specs.declared.fault.CodeDefect.TheVariants.{FallsOffEnd}
 
 -- a table that is done: it has the start, keeps every edge, each of its instructions finds its operands, and none is at the end
 pub record IsDone (m : ModuleContents) (p : ProcedureContents) (table : ℕ → Option (List Kind)) : Type 0 where
   pub first : table 0 ≡ Some []
-  pub finds : (at : ℕ) (kinds : List Kind) (i : Instruction) (wrong : Defect) → table at ≡ Some kinds → instruction_at p.code at ≡ Some i → effect m p i kinds ≡ Misses wrong → ⊥
+  pub finds : (at : ℕ) (kinds : List Kind) (i : Instruction) (wrong : CodeDefect) → table at ≡ Some kinds → instruction_at p.code at ≡ Some i → effect m p i kinds ≡ Misses wrong → ⊥
   pub keeps : (at : ℕ) (kinds : List Kind) (to : ℕ) (after : List Kind) → table at ≡ Some kinds → Edge m p at kinds to after → table to ≡ Some after
   pub none_at_end : table (code_length p.code) ≡ None
 
@@ -49,7 +49,7 @@ flow_within m p done _ d (grows table from before to after f has edge none) at k
 pub no_fault : (m : ModuleContents) (p : ProcedureContents) (done : ℕ → Option (List Kind)) → IsDone m p done → FlowsWell m p
 no_fault m p done d offset defect fault = none offset defect fault
   where
-    none : (offset : ℕ) (defect : Defect) → IsOperandDefect m p offset defect → ⊥
+    none : (offset : ℕ) (defect : CodeDefect) → IsOperandDefect m p offset defect → ⊥
     none _ _ (misses table at kinds i wrong f has is e) = d.finds at kinds i wrong (flow_within m p done table d f at kinds has) is e
     none _ _ (meets table at kinds to after others f has edge inside there ne) =
         let a = flow_within m p done table d f at kinds has in
@@ -112,7 +112,7 @@ along_in_flow m p free at kinds to after h edge = cases (h.table to) refl
         ]
 
 -- so an instruction finds its operands, and control does not come to the end
-pub flow_finds : (m : ModuleContents) (p : ProcedureContents) → FlowsWell m p → (at : ℕ) (kinds : List Kind) (i : Instruction) (wrong : Defect) → IsInFlow m p at kinds → instruction_at p.code at ≡ Some i → effect m p i kinds ≡ Misses wrong → ⊥
+pub flow_finds : (m : ModuleContents) (p : ProcedureContents) → FlowsWell m p → (at : ℕ) (kinds : List Kind) (i : Instruction) (wrong : CodeDefect) → IsInFlow m p at kinds → instruction_at p.code at ≡ Some i → effect m p i kinds ≡ Misses wrong → ⊥
 flow_finds m p free at kinds i wrong h is e = free at wrong (misses h.table at kinds i wrong h.flow h.has is e)
 
 pub flow_stays : (m : ModuleContents) (p : ProcedureContents) → FlowsWell m p → (kinds : List Kind) → IsInFlow m p (code_length p.code) kinds → ⊥

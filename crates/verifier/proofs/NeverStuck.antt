@@ -19,7 +19,7 @@ use Rattle.verifier.specs.Fixed.{instruction_defect, is_scalar, is_array, is_inp
 use Rattle.verifier.specs.Flow.{Edge, next, jumps, caught, Flow, starts, grows, nowhere, Effect, Leaves, Misses, and_then, effect, slot_kind}
 use Rattle.verifier.specs.Safety.{HasRow, IsNeverStuck}
 use Rattle.verifier.specs.Boundaries.{IsBoundary, KeepsBoundaries}
-use Rattle.verifier.specs.declared.fault.Defect.TheVariants.{SlotOrIndex}
+use Rattle.verifier.specs.declared.fault.CodeDefect.TheVariants.{SlotOrIndex}
 use Rattle.verifier.proofs.Bounds.{IsBounded}
 use Rattle.verifier.proofs.Calls.{get_header, calls_good, returns_good, gives_back_good}
 use Rattle.verifier.proofs.FixedFaults.{all_right, boundaries, right_of_unless}

@@ -10,7 +10,7 @@ use Rattle.bytecode.specs.Code.{width_of, code_length, instruction_at}
 use Rattle.bytecode.specs.declared.value.Kind.{Kind}
 use Rattle.bytecode.specs.declared.declaration.Handler.{Handler}
 use Rattle.bytecode.specs.declared.instruction.Instruction.{Instruction}
-use Rattle.verifier.specs.declared.fault.Defect.{Defect}
+use Rattle.verifier.specs.declared.fault.CodeDefect.{CodeDefect}
 use Rattle.bytecode.specs.Targets.{target_of}
 use Rattle.verifier.specs.Flow.{Edge, next, jumps, caught, Flow, starts, nowhere, grows, misses, meets, falls, IsOperandDefect, FlowsWell, changed, between, effect, all_popped, pushed, exchanged, signature, is_own, and_then, Leaves, Misses, goes_on}
 use Rattle.verifier.specs.Operands.{list_of, IsLonger}
@@ -19,7 +19,7 @@ use Rattle.verifier.specs.Coverage.{IsCoverage, Waits}
 use Rattle.verifier.specs.Depth as Depth
 use Rattle.verifier.specs.Depth.{IsMet, found}
 use Rattle.verifier.specs.Search.{row, table, AreMet, IsWaiting, IsFollowed, IsSearching, IsAtEdge, Flowed, KeepsSearching, IsApplied, HasEffect, HasInstruction, StartsWithEmpty, left, unset}
-use Rattle.verifier.specs.declared.fault.Defect.TheVariants.{OperandKind, FallsOffEnd}
+use Rattle.verifier.specs.declared.fault.CodeDefect.TheVariants.{OperandKind, FallsOffEnd}
 use Rattle.verifier.specs.declared.coverage.Coverage.{Coverage}
 use Rattle.verifier.specs.declared.search.Search.{Search}
 use Rattle.verifier.proofs.Offsets.{start_inside}
@@ -60,7 +60,7 @@ falls_at m p s busy at to after g e is =
     (falls (changed (table s) (code_length p.code) (Some after)) after (grows (table s) at e.kinds (code_length p.code) after g.flow e.has (subst (λ t. Edge m p at e.kinds t after) is e.edge) (none_at_end m p s busy g)) (changed_at (table s) (code_length p.code) after))
 
 -- an edge that brings another list is a fault
-pub meets_at : (m : ModuleContents) (p : ProcedureContents) (s : Search) (busy : List ℕ) (at to : ℕ) (after others : List Kind) (defect : Defect) → IsSearching m p s busy → IsAtEdge m p s at to after → to ≢ code_length p.code → table s to ≡ Some others → after ≢ others → defect ≡ between after others → IsOperandDefect m p to defect
+pub meets_at : (m : ModuleContents) (p : ProcedureContents) (s : Search) (busy : List ℕ) (at to : ℕ) (after others : List Kind) (defect : CodeDefect) → IsSearching m p s busy → IsAtEdge m p s at to after → to ≢ code_length p.code → table s to ≡ Some others → after ≢ others → defect ≡ between after others → IsOperandDefect m p to defect
 meets_at m p s busy at to after others defect g e inside there ne is =
     subst (IsOperandDefect m p to) (sym is) (meets (table s) at e.kinds to after others g.flow e.has e.edge inside there ne)
 
@@ -307,7 +307,7 @@ edge_caught m p s at kinds i h has is inside low high = record { kinds = kinds; 
 effect_own : (m : ModuleContents) (p : ProcedureContents) (i : Instruction) (kinds : List Kind) → is_own p i ≡ true → effect m p i kinds ≡ exchanged (signature m p i) kinds
 effect_own m p i kinds own = ap (λ (b : Bool). if b then exchanged (signature m p i) kinds else Misses OperandKind) own
 
-pub misses_at : (m : ModuleContents) (p : ProcedureContents) (s : Search) (busy : List ℕ) (at : ℕ) (kinds : List Kind) (i : Instruction) (wrong : Defect) → IsSearching m p s busy → table s at ≡ Some kinds → instruction_at p.code at ≡ Some i → is_own p i ≡ true → all_popped (signature m p i).pops kinds ≡ Misses wrong → IsOperandDefect m p at wrong
+pub misses_at : (m : ModuleContents) (p : ProcedureContents) (s : Search) (busy : List ℕ) (at : ℕ) (kinds : List Kind) (i : Instruction) (wrong : CodeDefect) → IsSearching m p s busy → table s at ≡ Some kinds → instruction_at p.code at ≡ Some i → is_own p i ≡ true → all_popped (signature m p i).pops kinds ≡ Misses wrong → IsOperandDefect m p at wrong
 misses_at m p s busy at kinds i wrong g has is own e =
     misses (table s) at kinds i wrong g.flow has is (effect_own m p i kinds own ∙ ap (λ o. and_then o (λ rest. Leaves (pushed (signature m p i).pushes rest))) e)
 

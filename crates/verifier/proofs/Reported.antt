@@ -4,7 +4,7 @@ use Rattle.bytecode.specs.Contents.{ProcedureContents, ModuleContents}
 use Rattle.verifier.specs.Faults.{HasNoFault, IsOperandFault, IsReported, IsReportedAfter}
 use Rattle.verifier.specs.Fixed.{fixed_faults}
 use Rattle.verifier.specs.Flow.{FlowsWell, IsOperandDefect}
-use Rattle.verifier.specs.declared.fault.CodeFault.{CodeFault}
+use Rattle.verifier.specs.declared.fault.CodeRefusal.{CodeRefusal}
 use Rattle.std.proofs.lemmas.List.{get_or_append_left}
 use Rattle.std.proofs.Math.Seq.{get_or-append_seam}
 use Rattle.verifier.specs.Depth.{IsGreatestDepth}
@@ -15,19 +15,19 @@ use Rattle.verifier.proofs.NeverStuck.{never_stuck}
 use Rattle.verifier.proofs.FixedFaults.{get_at}
 
 -- a fault that may be reported is there
-pub excluded : (m : ModuleContents) (fault : CodeFault) → IsReported m fault → HasNoFault m → ⊥
-excluded m fault reported free = free.flow fault (subst (λ (faults : List CodeFault). IsReportedAfter m faults fault) free.fixed reported)
+pub excluded : (m : ModuleContents) (fault : CodeRefusal) → IsReported m fault → HasNoFault m → ⊥
+excluded m fault reported free = free.flow fault (subst (λ (faults : List CodeRefusal). IsReportedAfter m faults fault) free.fixed reported)
 
 -- the first fixed fault may be reported, and one of the flow where there is no fixed one
-pub reported_first : (m : ModuleContents) (fault : CodeFault) → Some fault ≡ slice_get (fixed_faults m) 0 → IsReported m fault
+pub reported_first : (m : ModuleContents) (fault : CodeRefusal) → Some fault ≡ slice_get (fixed_faults m) 0 → IsReported m fault
 reported_first m fault e = split (fixed_faults m) e
   where
-    split : (faults : List CodeFault) → Some fault ≡ slice_get faults 0 → IsReportedAfter m faults fault
+    split : (faults : List CodeRefusal) → Some fault ≡ slice_get faults 0 → IsReportedAfter m faults fault
     split [] e = absurd (let no : Some fault ≡ None = e in cc)
     split (x ∷ faults) e = cc
 
-pub reported_flow : (m : ModuleContents) (fault : CodeFault) → fixed_faults m ≡ [] → IsOperandFault m fault → IsReported m fault
-reported_flow m fault none e = subst (λ (faults : List CodeFault). IsReportedAfter m faults fault) (sym none) e
+pub reported_flow : (m : ModuleContents) (fault : CodeRefusal) → fixed_faults m ≡ [] → IsOperandFault m fault → IsReported m fault
+reported_flow m fault none e = subst (λ (faults : List CodeRefusal). IsReportedAfter m faults fault) (sym none) e
 
 pub there_inside : (all : List ProcedureContents) (k : ℕ) (p : ProcedureContents) → slice_get all k ≡ Some p → k < length all
 there_inside [] k p e = absurd (let no : None ≡ Some p = e in cc)
@@ -59,7 +59,7 @@ module _ (m : ModuleContents) (procedures : List ProcedureContents) (are : proce
   pub item_there : slice_get m.procedures index ≡ Some body
   item_there = ap (λ all. slice_get all index) (sym are) ∙ get_at procedures index item inside ∙ ap Some (sym is ∙ sym same)
 
-  pub item_fault : (q : ModuleContents) (number : ℕ) (fault : CodeFault) → q ≡ m → number ≡ index → IsFaultOf q number body fault → IsOperandFault m fault
+  pub item_fault : (q : ModuleContents) (number : ℕ) (fault : CodeRefusal) → q ≡ m → number ≡ index → IsFaultOf q number body fault → IsOperandFault m fault
   item_fault q number fault same_module number_is e = record {
     procedure = body;
     there = ap (slice_get m.procedures) (e.procedure ∙ number_is) ∙ item_there;

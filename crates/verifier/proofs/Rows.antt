@@ -19,7 +19,7 @@ use Rattle.verifier.specs.Faults.{HasNoFault}
 use Rattle.verifier.specs.Fixed.{is_scalar, is_array, is_input, is_output}
 use Rattle.bytecode.specs.Targets.{target_of}
 use Rattle.verifier.specs.Flow.{Effect, Leaves, Misses, and_then, all_popped, effect, goes_on, pushed, slot_kind}
-use Rattle.verifier.specs.declared.fault.Defect.TheVariants.{OperandKind}
+use Rattle.verifier.specs.declared.fault.CodeDefect.TheVariants.{OperandKind}
 use Rattle.verifier.proofs.Holds.{AllOf, same_of, all_zero, element_kind, with_element_kind, scalar_kind}
 use Rattle.verifier.proofs.Runs.{Stands, Good, leaves_same, next_good, jump_good, raised_good}
 

@@ -5,30 +5,23 @@ use Rattle.std.specs.Prelude.{◌≡◌, List, [], ◌∷◌, slice_get, Some}
 use Rattle.bytecode.specs.Contents.{ProcedureContents, ModuleContents}
 use Rattle.verifier.specs.Fixed.{fixed_faults}
 use Rattle.verifier.specs.Flow.{IsOperandDefect}
-use Rattle.verifier.specs.declared.fault.CodeFault.{CodeFault}
-use Rattle.verifier.specs.declared.fault.VerifyFault.{VerifyFault}
-use Rattle.verifier.specs.declared.fault.VerifyFault.TheVariants.{NoMemory, Wrong}
+use Rattle.verifier.specs.declared.fault.CodeRefusal.{CodeRefusal}
 
 -- a fault of the flow of a module
-pub record IsOperandFault (m : ModuleContents) (fault : CodeFault) : Type 0 where
+pub record IsOperandFault (m : ModuleContents) (fault : CodeRefusal) : Type 0 where
   pub procedure : ProcedureContents
   pub there : slice_get m.procedures fault.procedure ≡ Some procedure
   pub defect : IsOperandDefect m procedure fault.offset fault.defect
 
 -- a fault that may be reported: the first fixed one, or one of the flow where there is no fixed one
-abbrev pub IsReportedAfter : ModuleContents → List CodeFault → CodeFault → Type 0
+abbrev pub IsReportedAfter : ModuleContents → List CodeRefusal → CodeRefusal → Type 0
 IsReportedAfter m [] fault = IsOperandFault m fault
 IsReportedAfter m (first ∷ more) fault = fault ≡ first
 
-abbrev pub IsReported : ModuleContents → CodeFault → Type 0
+abbrev pub IsReported : ModuleContents → CodeRefusal → Type 0
 IsReported m fault = IsReportedAfter m (fixed_faults m) fault
-
--- the answer of a verifier that refuses a module
-abbrev pub ReportsModuleFault : ModuleContents → VerifyFault → Type 0
-ReportsModuleFault m NoMemory = Unit {0}
-ReportsModuleFault m (Wrong fault) = IsReported m fault
 
 -- a module without a fault
 pub record HasNoFault (m : ModuleContents) : Type 0 where
   pub fixed : fixed_faults m ≡ []
-  pub flow : (fault : CodeFault) → IsOperandFault m fault → ⊥
+  pub flow : (fault : CodeRefusal) → IsOperandFault m fault → ⊥

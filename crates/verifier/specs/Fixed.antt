@@ -11,9 +11,9 @@ use Rattle.bytecode.specs.declared.declaration.Slot.TheVariants as slot
 use Rattle.bytecode.specs.declared.declaration.Handler.{Handler}
 use Rattle.common.specs.declared.direction.Direction.{Direction}
 use Rattle.common.specs.declared.direction.Direction.TheVariants.{Input, Output}
-use Rattle.verifier.specs.declared.fault.Defect.{Defect}
-use Rattle.verifier.specs.declared.fault.Defect.TheVariants as defect
-use Rattle.verifier.specs.declared.fault.CodeFault.{CodeFault}
+use Rattle.verifier.specs.declared.fault.CodeDefect.{CodeDefect}
+use Rattle.verifier.specs.declared.fault.CodeDefect.TheVariants as defect
+use Rattle.verifier.specs.declared.fault.CodeRefusal.{CodeRefusal}
 
 -- whether an instruction's first byte stands at an offset
 abbrev pub is_start : ProcedureContents → ℕ → Bool
@@ -41,12 +41,12 @@ is_output None = false
 is_output (Some Input) = false
 is_output (Some Output) = true
 
-abbrev pub unless : Bool → Defect → Option Defect
+abbrev pub unless : Bool → CodeDefect → Option CodeDefect
 unless right wrong = if right then None else Some wrong
 
 -- what is wrong with an instruction by itself: a target that is no instruction's first byte, or a slot, global, array,
 -- procedure, channel or exception that is not there or of another sort
-abbrev pub instruction_defect : ModuleContents → ProcedureContents → Instruction → Option Defect
+abbrev pub instruction_defect : ModuleContents → ProcedureContents → Instruction → Option CodeDefect
 instruction_defect m procedure (Load k) = unless (is_scalar (slice_get procedure.slots k)) defect.SlotOrIndex
 instruction_defect m procedure (Store k) = unless (is_scalar (slice_get procedure.slots k)) defect.SlotOrIndex
 instruction_defect m procedure (LoadGlobal k) = unless (is_scalar (slice_get (machine_code m).globals k)) defect.SlotOrIndex
@@ -86,37 +86,37 @@ has_right_offsets procedure handler =
     && (is_end procedure handler.end && nat_lt handler.start handler.end))
 
 -- what is wrong with a handler
-abbrev pub handler_defect : ModuleContents → ProcedureContents → Handler → Option Defect
+abbrev pub handler_defect : ModuleContents → ProcedureContents → Handler → Option CodeDefect
 handler_defect m procedure handler =
     if has_right_offsets procedure handler
     then unless (nat_lt handler.exception (machine_code m).exceptions) defect.SlotOrIndex
     else Some defect.Jump
 
 -- the fault of a procedure at an offset, if there is one
-abbrev pub fault_list : ℕ → ℕ → Option Defect → List CodeFault
+abbrev pub fault_list : ℕ → ℕ → Option CodeDefect → List CodeRefusal
 fault_list number offset None = []
 fault_list number offset (Some wrong) = record { defect = wrong; procedure = number; offset = offset } ∷ []
 
 -- the faults of instructions that stand from an offset on
-abbrev pub instruction_faults : ModuleContents → ℕ → ProcedureContents → ℕ → List Instruction → List CodeFault
+abbrev pub instruction_faults : ModuleContents → ℕ → ProcedureContents → ℕ → List Instruction → List CodeRefusal
 instruction_faults m number procedure offset [] = []
 instruction_faults m number procedure offset (instruction ∷ code) =
     fault_list number offset (instruction_defect m procedure instruction)
     ++ instruction_faults m number procedure (offset + width_of instruction) code
 
 -- the faults of handlers, each at its start
-abbrev pub handler_faults : ModuleContents → ℕ → ProcedureContents → List Handler → List CodeFault
+abbrev pub handler_faults : ModuleContents → ℕ → ProcedureContents → List Handler → List CodeRefusal
 handler_faults m number procedure [] = []
 handler_faults m number procedure (handler ∷ handlers) =
     fault_list number handler.start (handler_defect m procedure handler) ++ handler_faults m number procedure handlers
 
 -- the fixed faults of procedures that are numbered from a number on
-abbrev pub procedure_faults : ModuleContents → ℕ → List ProcedureContents → List CodeFault
+abbrev pub procedure_faults : ModuleContents → ℕ → List ProcedureContents → List CodeRefusal
 procedure_faults m number [] = []
 procedure_faults m number (procedure ∷ procedures) =
     instruction_faults m number procedure 0 procedure.code ++ handler_faults m number procedure procedure.handlers
     ++ procedure_faults m (number + 1) procedures
 
 -- the fixed faults of a module: procedures in order, instructions by offset, then handlers in order
-abbrev pub fixed_faults : ModuleContents → List CodeFault
+abbrev pub fixed_faults : ModuleContents → List CodeRefusal
 fixed_faults m = procedure_faults m 0 m.procedures

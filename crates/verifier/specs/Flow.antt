@@ -15,8 +15,8 @@ use Rattle.bytecode.specs.declared.value.Kind.TheVariants.{Int, Boolean}
 use Rattle.bytecode.specs.declared.declaration.Slot.{Slot}
 use Rattle.bytecode.specs.declared.declaration.Slot.TheVariants as slot
 use Rattle.bytecode.specs.declared.declaration.Handler.{Handler}
-use Rattle.verifier.specs.declared.fault.Defect.{Defect}
-use Rattle.verifier.specs.declared.fault.Defect.TheVariants.{OperandKind, OperandDepth, FallsOffEnd}
+use Rattle.verifier.specs.declared.fault.CodeDefect.{CodeDefect}
+use Rattle.verifier.specs.declared.fault.CodeDefect.TheVariants.{OperandKind, OperandDepth, FallsOffEnd}
 
 -- ---- what an instruction pops and pushes
 
@@ -110,7 +110,7 @@ is_own procedure (Throw exception) = true
 -- what becomes of the kinds of the operands, the top first: other kinds, or a defect
 pub data Effect : Type 0 where
   Leaves : List Kind → Effect
-  Misses : Defect → Effect
+  Misses : CodeDefect → Effect
 
 -- pop an operand of a kind, or of any
 abbrev pub popped : Option Kind → List Kind → Effect
@@ -193,16 +193,16 @@ pub data Flow (m : ModuleContents) (procedure : ProcedureContents) : (ℕ → Op
   grows : (table : ℕ → Option (List Kind)) (at : ℕ) (kinds : List Kind) (to : ℕ) (after : List Kind) → Flow m procedure table → table at ≡ Some kinds → Edge m procedure at kinds to after → table to ≡ None → Flow m procedure (changed table to (Some after))
 
 -- the defect of two paths that meet with different lists
-abbrev pub between : List Kind → List Kind → Defect
+abbrev pub between : List Kind → List Kind → CodeDefect
 between kinds others = if length kinds == length others then OperandKind else OperandDepth
 
 -- a fault of the flow at an offset: an instruction that control reaches misses an operand or finds one of another kind; an edge
 -- brings another list to an instruction than it has; control comes to the end of the code
-pub data IsOperandDefect (m : ModuleContents) (procedure : ProcedureContents) : ℕ → Defect → Type 0 where
-  misses : (table : ℕ → Option (List Kind)) (at : ℕ) (kinds : List Kind) (i : Instruction) (wrong : Defect) → Flow m procedure table → table at ≡ Some kinds → instruction_at procedure.code at ≡ Some i → effect m procedure i kinds ≡ Misses wrong → IsOperandDefect m procedure at wrong
+pub data IsOperandDefect (m : ModuleContents) (procedure : ProcedureContents) : ℕ → CodeDefect → Type 0 where
+  misses : (table : ℕ → Option (List Kind)) (at : ℕ) (kinds : List Kind) (i : Instruction) (wrong : CodeDefect) → Flow m procedure table → table at ≡ Some kinds → instruction_at procedure.code at ≡ Some i → effect m procedure i kinds ≡ Misses wrong → IsOperandDefect m procedure at wrong
   meets : (table : ℕ → Option (List Kind)) (at : ℕ) (kinds : List Kind) (to : ℕ) (after others : List Kind) → Flow m procedure table → table at ≡ Some kinds → Edge m procedure at kinds to after → to ≢ code_length procedure.code → table to ≡ Some others → after ≢ others → IsOperandDefect m procedure to (between after others)
   falls : (table : ℕ → Option (List Kind)) (kinds : List Kind) → Flow m procedure table → table (code_length procedure.code) ≡ Some kinds → IsOperandDefect m procedure (code_length procedure.code) FallsOffEnd
 
 -- no fault of the flow
 abbrev pub FlowsWell : ModuleContents → ProcedureContents → Type 0
-FlowsWell m procedure = (offset : ℕ) (defect : Defect) → IsOperandDefect m procedure offset defect → ⊥
+FlowsWell m procedure = (offset : ℕ) (defect : CodeDefect) → IsOperandDefect m procedure offset defect → ⊥

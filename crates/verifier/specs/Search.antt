@@ -13,8 +13,7 @@ use Rattle.verifier.specs.Coverage.{IsCoverage, Waits}
 use Rattle.verifier.specs.Depth.{IsMet}
 use Rattle.verifier.specs.Operands.{list_of}
 use Rattle.verifier.specs.declared.search.Search.{Search}
-use Rattle.verifier.specs.declared.search.SearchStop.{SearchStop}
-use Rattle.verifier.specs.declared.search.SearchStop.TheVariants.{NoMemory, Wrong}
+use Rattle.verifier.specs.declared.search.FlowRefusal.{FlowRefusal}
 use Rattle.verifier.specs.declared.body.Body.{Body}
 use Rattle.verifier.specs.declared.coverage.Coverage.{Coverage}
 
@@ -154,7 +153,6 @@ pub record IsWaiting (p : ProcedureContents) (c : Coverage) (s : Search) : Type 
   pub real : (h : Handler) → Waits c h → Contains p.handlers h
   pub gone : (h : Handler) (at : ℕ) → Contains p.handlers h → h.start ≤ at → at < h.end → Waits c h ⊎ (table s h.target ≡ Some [])
 
--- why a search stopped
-abbrev pub IsStop : ModuleContents → ProcedureContents → SearchStop → Type 0
-IsStop m p NoMemory = Unit {0}
-IsStop m p (Wrong offset defect) = IsOperandDefect m p offset defect
+-- a fault of the flow of a procedure
+abbrev pub IsOperandRefusal : ModuleContents → ProcedureContents → FlowRefusal → Type 0
+IsOperandRefusal m p refusal = IsOperandDefect m p refusal.offset refusal.defect

@@ -8,7 +8,7 @@ use Rattle.verifier.specs.Fixed.{instruction_faults, handler_faults}
 use Rattle.verifier.specs.Flow.{FlowsWell, IsOperandDefect}
 use Rattle.verifier.specs.Safety.{IsNeverStuck}
 use Rattle.verifier.specs.Positions.{VerifiedCode, positioned, positioned_codes}
-use Rattle.verifier.specs.declared.fault.CodeFault.{CodeFault}
+use Rattle.verifier.specs.declared.fault.CodeRefusal.{CodeRefusal}
 
 pub record IsVerified (m : ModuleContents) : Type 0 where
   pub no_fault : HasNoFault m
@@ -21,17 +21,17 @@ pub record HasCodes (m : ModuleContents) (codes : List VerifiedCode) : Type 0 wh
   pub depths : (k : ℕ) (p : ProcedureContents) (d : VerifiedCode) → slice_get m.procedures k ≡ Some p → IsGreatestDepth m p (slice_index_or codes k d).greatest_depth
 
 -- the fixed faults of a procedure with a number: instructions by offset, then handlers in order
-abbrev pub own_faults : ModuleContents → ℕ → ProcedureContents → List CodeFault
+abbrev pub own_faults : ModuleContents → ℕ → ProcedureContents → List CodeRefusal
 own_faults m number procedure =
     instruction_faults m number procedure 0 procedure.code ++ handler_faults m number procedure procedure.handlers
 
 -- a fault of the flow of a procedure with a number
-pub record IsFaultOf (m : ModuleContents) (number : ℕ) (p : ProcedureContents) (fault : CodeFault) : Type 0 where
+pub record IsFaultOf (m : ModuleContents) (number : ℕ) (p : ProcedureContents) (fault : CodeRefusal) : Type 0 where
   pub procedure : fault.procedure ≡ number
   pub defect : IsOperandDefect m p fault.offset fault.defect
 
 -- no fault of the flow was found before or in this procedure, and its code was added
-pub record AddsVerifiedCode (m : ModuleContents) (p : ProcedureContents) (found : Option CodeFault) (old new : List VerifiedCode) : Type 0 where
+pub record AddsVerifiedCode (m : ModuleContents) (p : ProcedureContents) (found : Option CodeRefusal) (old new : List VerifiedCode) : Type 0 where
   pub none_before : found ≡ None
   pub flow : FlowsWell m p
   pub last : VerifiedCode

@@ -1,13 +1,12 @@
 ghost use Rattle.std.specs.Prelude.{◌≡◌};
-ghost use Rattle.verifier.specs.declared.fault.VerifyFault.TheVariants.{NoMemory};
-ghost use Rattle.verifier.specs.Words.{defect_number, defect_words};
+ghost use Rattle.verifier.specs.Words.{code_defect_number, code_defect_words};
 
-use std::alloc::{AllocError, AllocFailed};
+use common::OrNoMemory;
 use thiserror::Error;
 
 /// What is wrong in a module's code.
 #[derive(Clone, Copy, Debug, PartialEq, Eq)]
-pub enum Defect {
+pub enum CodeDefect {
     /// 811: a target that is no instruction, or a handler with wrong offsets.
     Jump,
     /// 812: an operand of the wrong kind.
@@ -20,65 +19,42 @@ pub enum Defect {
     FallsOffEnd,
 }
 
-impl Defect {
-    /// The number that a fault is reported by, 811 to 815.
+impl CodeDefect {
+    /// The number that the defect is reported by, 811 to 815.
     pub fn number(self) -> u32
-        ensures { result ≡ defect_number self }
+        ensures { result ≡ code_defect_number self }
     {
         match self {
-            Defect::Jump => 811,
-            Defect::OperandKind => 812,
-            Defect::OperandDepth => 813,
-            Defect::SlotOrIndex => 814,
-            Defect::FallsOffEnd => 815,
+            CodeDefect::Jump => 811,
+            CodeDefect::OperandKind => 812,
+            CodeDefect::OperandDepth => 813,
+            CodeDefect::SlotOrIndex => 814,
+            CodeDefect::FallsOffEnd => 815,
         }
     }
 
-    /// The words that a fault is reported by.
+    /// The words that the defect is reported by.
     pub fn words(self) -> &'static str
-        ensures { result.now ≡ defect_words self }
+        ensures { result.now ≡ code_defect_words self }
     {
         match self {
-            Defect::Jump => "jump",
-            Defect::OperandKind => "operand kind",
-            Defect::OperandDepth => "operand depth",
-            Defect::SlotOrIndex => "slot or index",
-            Defect::FallsOffEnd => "falls off the end",
+            CodeDefect::Jump => "jump",
+            CodeDefect::OperandKind => "operand kind",
+            CodeDefect::OperandDepth => "operand depth",
+            CodeDefect::SlotOrIndex => "slot or index",
+            CodeDefect::FallsOffEnd => "falls off the end",
         }
     }
 }
 
 /// A fault of a module's code: what is wrong, and the procedure and the byte offset where.
-#[derive(Clone, Copy, Debug, PartialEq, Eq)]
-pub struct CodeFault {
-    pub defect: Defect,
+#[derive(Clone, Copy, Debug, PartialEq, Eq, Error)]
+#[error("a fault in the code")]
+pub struct CodeRefusal {
+    pub defect: CodeDefect,
     pub procedure: u32,
     pub offset: u32,
 }
 
-/// A module was not verified.
-#[derive(Clone, Copy, Debug, PartialEq, Eq, Error)]
-pub enum VerifyFault {
-    /// Out of memory.
-    #[error("no memory")]
-    NoMemory,
-    /// The module has this fault.
-    #[error("a fault in the code")]
-    Wrong(CodeFault),
-}
-
-impl From<AllocError> for VerifyFault {
-    ghost from_gives = { λ _ fault. fault ≡ NoMemory };
-
-    fn from(_error: AllocError) -> VerifyFault {
-        VerifyFault::NoMemory
-    }
-}
-
-impl<T: Drop> From<AllocFailed<T>> for VerifyFault {
-    ghost from_gives = { λ _ fault. fault ≡ NoMemory };
-
-    fn from(_error: AllocFailed<T>) -> VerifyFault {
-        VerifyFault::NoMemory
-    }
-}
+/// Why a module was not verified.
+pub type VerifyFault = OrNoMemory<CodeRefusal>;

@@ -18,6 +18,6 @@ mod search;
 pub mod verified;
 mod work;
 
-pub use fault::{CodeFault, Defect, VerifyFault};
-pub use loading::{LoadFault, load};
+pub use fault::{CodeDefect, CodeRefusal, VerifyFault};
+pub use loading::{LoadFault, LoadRefusal, load};
 pub use verified::{Verified, verify};

@@ -2,46 +2,43 @@
 ghost use Rattle.bytecode.specs.Contents.{ModuleContents};
 ghost use Rattle.bytecode.specs.Form.{Spells};
 ghost use Rattle.bytecode.specs.Format.{module_file};
+ghost use Rattle.common.specs.Answers.{Answers, IfRefused};
 ghost use Rattle.std.specs.Prelude.{◌≡◌, IfErr, IfOk};
 ghost use Rattle.verifier.specs.Faults.{HasNoFault};
-ghost use Rattle.verifier.specs.Loaded.{CannotLoad, IsLoaded, IsLoadedAs, fault_of_bytes, fault_of_code};
+ghost use Rattle.verifier.specs.Loaded.{CannotLoad, IsLoaded};
+ghost use Rattle.verifier.specs.declared.loading.LoadRefusal.TheVariants.{Bytes, Code};
 
-use crate::fault::{CodeFault, VerifyFault};
+use crate::fault::CodeRefusal;
 use crate::verified::{Verified, verify};
-use bytecode::ModuleRefusal;
-use module_file::{FormatFault, decode};
+use common::OrNoMemory;
+use module_file::{ModuleRefusal, decode};
 use std::alloc::Global;
 
-/// Why bytes were not loaded.
+/// Why bytes are not loaded.
 #[derive(Clone, Copy, Debug, PartialEq, Eq)]
-pub enum LoadFault {
-    /// Out of memory.
-    NoMemory,
-    /// 801 to 806: the bytes spell no module. The first refusal, and its offset in the bytes.
-    Bytes(ModuleRefusal, usize),
+pub enum LoadRefusal {
+    /// 801 to 806: the bytes spell no module.
+    Bytes(ModuleRefusal),
     /// 811 to 815: the module has this fault in its code.
-    Code(CodeFault),
+    Code(CodeRefusal),
 }
 
-impl From<FormatFault> for LoadFault {
-    ghost from_gives = { λ fault given. given ≡ fault_of_bytes fault };
+/// Why bytes were not loaded.
+pub type LoadFault = OrNoMemory<LoadRefusal>;
 
-    fn from(fault: FormatFault) -> LoadFault {
-        match fault {
-            FormatFault::NoMemory => LoadFault::NoMemory,
-            FormatFault::Refused(refusal, offset) => LoadFault::Bytes(refusal, offset),
-        }
+impl From<ModuleRefusal> for LoadRefusal {
+    ghost from_gives = { λ refusal given. given ≡ Bytes refusal };
+
+    fn from(refusal: ModuleRefusal) -> LoadRefusal {
+        LoadRefusal::Bytes(refusal)
     }
 }
 
-impl From<VerifyFault> for LoadFault {
-    ghost from_gives = { λ fault given. given ≡ fault_of_code fault };
+impl From<CodeRefusal> for LoadRefusal {
+    ghost from_gives = { λ refusal given. given ≡ Code refusal };
 
-    fn from(fault: VerifyFault) -> LoadFault {
-        match fault {
-            VerifyFault::NoMemory => LoadFault::NoMemory,
-            VerifyFault::Wrong(fault) => LoadFault::Code(fault),
-        }
+    fn from(refusal: CodeRefusal) -> LoadRefusal {
+        LoadRefusal::Code(refusal)
     }
 }
 
@@ -52,9 +49,9 @@ impl From<VerifyFault> for LoadFault {
 pub fn load(alloc: Global, bytes: &[u8]) -> Result<Verified, LoadFault>
     ensures accepted { IfOk result (IsLoaded bytes.now) }
     ensures exact { (m : ModuleContents) → Spells module_file m bytes.now → HasNoFault m →
-        IsLoadedAs m result }
-    ensures rejected { IfErr result (CannotLoad bytes.now) }
+        Answers (λ found. found ≡ m) (λ _. ⊥) result }
+    ensures rejected { IfErr result (IfRefused (CannotLoad bytes.now)) }
 {
-    let module = decode(alloc, bytes)?;
-    Ok(verify(alloc, module)?)
+    let module = decode(alloc, bytes).map_err(OrNoMemory::cast)?;
+    verify(alloc, module).map_err(OrNoMemory::cast)
 }

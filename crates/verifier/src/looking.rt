@@ -1,17 +1,20 @@
 //! Looks for a fault of a module.
 
+ghost use Rattle.common.specs.Answers.{IfRefused};
+ghost use Rattle.common.specs.declared.fault.OrNoMemory.TheVariants.{NoMemory};
 ghost use Rattle.std.specs.Prelude.{IfErr, IfNone, IfOk, IfSome, Some, length, ◌<◌, ◌^◌, ◌≡◌, ◌⊎◌};
 ghost use Rattle.verifier.specs.Boundaries.{KeepsBoundaries};
-ghost use Rattle.verifier.specs.Faults.{ReportsModuleFault};
+ghost use Rattle.verifier.specs.Faults.{IsReported};
 ghost use Rattle.verifier.specs.Search.{IsSearchableBody};
 ghost use Rattle.verifier.specs.Verified.{HasCodes, AddsVerifiedCode, IsFaultOf};
 
 use crate::body::Body;
-use crate::fault::{CodeFault, VerifyFault};
+use crate::fault::{CodeRefusal, VerifyFault};
 use crate::fixed::find_body_fault;
 use crate::parameters::PackedModule;
 use crate::positions::Code;
-use crate::search::{SearchStop, find_defect};
+use crate::search::{FlowRefusal, find_defect};
+use common::OrNoMemory;
 use std::alloc::Global;
 
 /// Looks for a fault of a module, and answers the code of each procedure where there is none.
@@ -22,8 +25,8 @@ pub(crate) fn look_for_faults(
     alloc: Global,
     program: &PackedModule,
 ) -> Result<Vec<Code>, VerifyFault>
-    ensures ok { IfOk result (λ codes. HasCodes program.now codes.items) }
-    ensures err { IfErr result (λ fault. ReportsModuleFault program.now fault) }
+    ensures accepted { IfOk result (λ codes. HasCodes program.now codes.items) }
+    ensures rejected { IfErr result (IfRefused (IsReported program.now)) }
 {
     let procedures = program.procedures();
     let mut codes = Vec::new(alloc);
@@ -32,14 +35,14 @@ pub(crate) fn look_for_faults(
     for procedure in procedures {
         let body = Body::new(alloc, program, procedure)?;
         if let Some(fault) = find_body_fault(&body, number) {
-            return Err(VerifyFault::Wrong(fault));
+            return Err(OrNoMemory::Refused(fault));
         }
         found = look_for_flow_fault(alloc, &body, number, found, &mut codes)?;
         number += 1;
     }
     match found {
         None => Ok(codes),
-        Some(fault) => Err(VerifyFault::Wrong(fault)),
+        Some(fault) => Err(OrNoMemory::Refused(fault)),
     }
 }
 
@@ -49,9 +52,9 @@ fn look_for_flow_fault(
     alloc: Global,
     body: &Body,
     number: u32,
-    found: Option<CodeFault>,
+    found: Option<CodeRefusal>,
     codes: &mut Vec<Code>,
-) -> Result<Option<CodeFault>, VerifyFault>
+) -> Result<Option<CodeRefusal>, VerifyFault>
     requires boundaries { KeepsBoundaries body.now.procedure.now }
     requires body { IsSearchableBody body.now }
     requires few { length body.now.procedure.now.handlers < 2 ^ 32 }
@@ -59,7 +62,7 @@ fn look_for_flow_fault(
         AddsVerifiedCode body.now.program.now body.now.procedure.now found codes.old.items codes.new.items)) }
     ensures some { IfOk result (λ fault. IfSome fault (λ fault.
         (found ≡ Some fault) ⊎ IsFaultOf body.now.program.now number body.now.procedure.now fault)) }
-    ensures no_memory { IfErr result (λ fault. fault ≡ VerifyFault.NoMemory) }
+    ensures no_memory { IfErr result (λ fault. fault ≡ NoMemory) }
 {
     if found.is_some() {
         return Ok(found);
@@ -69,8 +72,8 @@ fn look_for_flow_fault(
             codes.push(Code::of(alloc, body, greatest_depth)?)?;
             Ok(None)
         }
-        Err(SearchStop::NoMemory) => Err(VerifyFault::NoMemory),
-        Err(SearchStop::Wrong(offset, defect)) => Ok(Some(CodeFault {
+        Err(OrNoMemory::NoMemory) => Err(OrNoMemory::NoMemory),
+        Err(OrNoMemory::Refused(FlowRefusal { defect, offset })) => Ok(Some(CodeRefusal {
             defect,
             procedure: number,
             offset,

@@ -5,7 +5,7 @@ ghost use Rattle.verifier.specs.Operands.{bit, full_blocks, greatest, list_of, p
 ghost use Rattle.std.specs.Prelude.{◌≡◌, ◌≢◌, ◌+◌, ◌*◌, ◌<◌, ◌≤◌, ◌^◌, ℕ, List, Some, ◌∷◌, [], IfOk, IfErr, IfNone, IfSome, OnOk, drop, length, map};
 ghost use Rattle.bytecode.specs.declared.value.Kind.{Kind};
 
-use crate::fault::Defect;
+use crate::fault::CodeDefect;
 use bytecode::Kind;
 use std::alloc::{AllocError, Global};
 use std::marker::Model;
@@ -205,17 +205,17 @@ impl Operands {
     }
 
     /// Takes an operand of a kind off a list, or of any kind.
-    pub fn pop(&self, list: u32, wanted: Option<Kind>) -> Result<u32, Defect>
+    pub fn pop(&self, list: u32, wanted: Option<Kind>) -> Result<u32, CodeDefect>
         requires { list < length self.now }
         ensures there { IfOk result (λ r. r < length self.now) }
-        ensures ok { IfOk result (λ r.
+        ensures accepted { IfOk result (λ r.
             popped wanted (list_of self.now list) ≡ Leaves (list_of self.now r)) }
-        ensures err { IfErr result (λ defect.
+        ensures rejected { IfErr result (λ defect.
             popped wanted (list_of self.now list) ≡ Misses defect) }
     {
         let _ = &self.links;
         if list == 0 {
-            return Err(Defect::OperandDepth);
+            return Err(CodeDefect::OperandDepth);
         }
         let link = self.links[list as usize - 1];
         match wanted {
@@ -224,19 +224,19 @@ impl Operands {
                 if kind == link.kind {
                     Ok(link.below)
                 } else {
-                    Err(Defect::OperandKind)
+                    Err(CodeDefect::OperandKind)
                 }
             }
         }
     }
 
     /// Takes operands of some kinds off a list, the first one from the top.
-    pub fn pop_all(&self, list: u32, kinds: &[Option<Kind>]) -> Result<u32, Defect>
+    pub fn pop_all(&self, list: u32, kinds: &[Option<Kind>]) -> Result<u32, CodeDefect>
         requires { list < length self.now }
         ensures there { IfOk result (λ r. r < length self.now) }
-        ensures ok { IfOk result (λ r.
+        ensures accepted { IfOk result (λ r.
             all_popped kinds.now (list_of self.now list) ≡ Leaves (list_of self.now r)) }
-        ensures err { IfErr result (λ defect.
+        ensures rejected { IfErr result (λ defect.
             all_popped kinds.now (list_of self.now list) ≡ Misses defect) }
     {
         let mut rest = list;
@@ -312,21 +312,21 @@ impl Operands {
     }
 
     /// Whether two lists are the same, or else what is wrong where they meet.
-    pub fn meet(&self, list: u32, other: u32) -> Result<(), Defect>
+    pub fn meet(&self, list: u32, other: u32) -> Result<(), CodeDefect>
         requires list { list < length self.now }
         requires other { other < length self.now }
-        ensures ok { OnOk result (list_of self.now list ≡ list_of self.now other) }
+        ensures accepted { OnOk result (list_of self.now list ≡ list_of self.now other) }
         ensures differ { IfErr result (λ defect. list_of self.now list ≢ list_of self.now other) }
-        ensures err { IfErr result (λ defect.
+        ensures rejected { IfErr result (λ defect.
             defect ≡ between (list_of self.now list) (list_of self.now other)) }
     {
         let _ = &self.links;
         if list == other {
             Ok(())
         } else if self.depth(list) == self.depth(other) {
-            Err(Defect::OperandKind)
+            Err(CodeDefect::OperandKind)
         } else {
-            Err(Defect::OperandDepth)
+            Err(CodeDefect::OperandDepth)
         }
     }
 }

@@ -7,7 +7,7 @@ ghost use Rattle.verifier.specs.Depth.{IsNeverDeeper};
 ghost use Rattle.verifier.specs.Faults.{HasNoFault, IsReported};
 ghost use Rattle.verifier.specs.Positions.{ReadsAsCode};
 ghost use Rattle.verifier.specs.Safety.{IsNeverStuck};
-ghost use Rattle.verifier.specs.declared.fault.CodeFault.{CodeFault};
+ghost use Rattle.verifier.specs.declared.fault.CodeRefusal.{CodeRefusal};
 
 /// No run of a module without a fault is ever stuck, whatever the world gives.
 pub fn faultless_modules_are_never_stuck()
@@ -16,7 +16,7 @@ pub fn faultless_modules_are_never_stuck()
 
 /// A module of which a fault may be reported is not without faults.
 pub fn reported_faults_are_there()
-    ensures { (m : ModuleContents) (fault : CodeFault) → IsReported m fault → HasNoFault m → ⊥ }
+    ensures { (m : ModuleContents) (fault : CodeRefusal) → IsReported m fault → HasNoFault m → ⊥ }
 {}
 
 /// No frame of a run of a module without a fault ever has more operands than the greatest depth of its procedure.

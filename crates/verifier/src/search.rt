@@ -4,6 +4,8 @@ ghost use Rattle.bytecode.specs.Code.{code_length, instruction_at, width_of};
 ghost use Rattle.bytecode.specs.Contents.{ModuleContents, ProcedureContents};
 ghost use Rattle.bytecode.specs.declared.declaration.Handler.{Handler};
 ghost use Rattle.bytecode.specs.declared.value.Kind.{Kind};
+ghost use Rattle.common.specs.Answers.{IfRefused};
+ghost use Rattle.common.specs.declared.fault.OrNoMemory.TheVariants.{Refused};
 ghost use Rattle.std.specs.List.{Contains};
 ghost use Rattle.std.specs.Prelude.{List, Some, false, true, ℕ, [], ◌≡◌, ◌+◌, ◌<◌, ◌≤◌, ◌^◌, ◌∷◌, IfErr, IfOk, OnOk, length};
 ghost use Rattle.bytecode.specs.Targets as targets;
@@ -12,40 +14,34 @@ ghost use Rattle.verifier.specs.Flow.{FlowsWell};
 ghost use Rattle.verifier.specs.Depth.{IsGreatestDepth};
 ghost use Rattle.verifier.specs.Operands.{list_of};
 ghost use Rattle.verifier.specs.Boundaries.{IsBoundary, KeepsBoundaries};
-ghost use Rattle.verifier.specs.declared.search.SearchStop.TheVariants.{NoMemory};
-ghost use Rattle.verifier.specs.Search.{Flowed, HasEffect, HaveLongest, HasInstruction, IsApplied, IsAtEdge, IsSearchableBody, IsSearchingNext, IsSearching, IsStop, IsWaiting, KeepsSearching, count, left, table, waiting};
+ghost use Rattle.verifier.specs.Search.{Flowed, HasEffect, HaveLongest, HasInstruction, IsApplied, IsAtEdge, IsSearchableBody, IsSearchingNext, IsSearching, IsOperandRefusal, IsWaiting, KeepsSearching, count, left, table, waiting};
 
 use crate::body::Body;
 use crate::coverage::Coverage;
 use crate::effects::{goes_on, is_own, pops, pushes, target_of};
-use crate::fault::Defect;
+use crate::fault::CodeDefect;
 use crate::numbers::Numbers;
 use crate::operands::Operands;
 use crate::work::Work;
 use bytecode::Instruction;
-use std::alloc::{AllocError, AllocFailed, Global};
+use common::OrNoMemory;
+use std::alloc::Global;
 
-/// Why a search stopped: memory ran out, or there is a defect at an offset.
+/// A fault of the flow of a procedure: what is wrong, and the offset where.
 #[derive(Clone, Copy, Debug, PartialEq, Eq)]
-pub(crate) enum SearchStop {
-    NoMemory,
-    Wrong(u32, Defect),
+pub(crate) struct FlowRefusal {
+    pub defect: CodeDefect,
+    pub offset: u32,
 }
 
-impl From<AllocError> for SearchStop {
-    ghost from_gives = { λ _ stop. stop ≡ NoMemory };
+/// Why a search gave no answer.
+pub(crate) type FlowFault = OrNoMemory<FlowRefusal>;
 
-    fn from(_error: AllocError) -> SearchStop {
-        SearchStop::NoMemory
-    }
-}
-
-impl<T: Drop> From<AllocFailed<T>> for SearchStop {
-    ghost from_gives = { λ _ stop. stop ≡ NoMemory };
-
-    fn from(_error: AllocFailed<T>) -> SearchStop {
-        SearchStop::NoMemory
-    }
+/// The refusal of a procedure for a defect at an offset.
+fn refuse(defect: CodeDefect, offset: u32) -> FlowFault
+    ensures { result ≡ Refused (record { defect = defect; offset = offset }) }
+{
+    OrNoMemory::Refused(FlowRefusal { defect, offset })
 }
 
 /// The lists of the offsets that control reaches, and the offsets that are still to be looked at.
@@ -60,7 +56,7 @@ pub(crate) struct Search {
 impl Search {
     // Control goes from an offset to another one with a list. Answers whether it is the first there; then that offset is
     // still to be looked at.
-    fn arrive(&mut self, body: &Body, at: u32, to: u32, list: u32) -> Result<bool, SearchStop>
+    fn arrive(&mut self, body: &Body, at: u32, to: u32, list: u32) -> Result<bool, FlowFault>
         requires searching { IsSearching body.now.program.now body.now.procedure.now self.old (at ∷ []) }
         requires edge { IsAtEdge body.now.program.now body.now.procedure.now self.old at to (list_of self.old.operands list) }
         requires list { list < length self.old.operands }
@@ -68,10 +64,10 @@ impl Search {
         requires room { length self.old.operands + left self.old ≤ 2 ^ 32 }
         ensures first { IfOk result (λ first. first ≡ true → Flowed body.now.program.now body.now.procedure.now self.old (waiting self.new to) at to list) }
         ensures other { IfOk result (λ first. first ≡ false → Flowed body.now.program.now body.now.procedure.now self.old self.new at to list) }
-        ensures err { IfErr result (λ stop. IsStop body.now.program.now body.now.procedure.now stop) }
+        ensures rejected { IfErr result (IfRefused (IsOperandRefusal body.now.program.now body.now.procedure.now)) }
     {
         if to as usize == self.shapes.len() {
-            return Err(SearchStop::Wrong(to, Defect::FallsOffEnd));
+            return Err(refuse(CodeDefect::FallsOffEnd, to));
         }
         match self.shapes.at(to) {
             None => {
@@ -80,20 +76,20 @@ impl Search {
             }
             Some(other) => match self.operands.meet(list, other) {
                 Ok(()) => Ok(false),
-                Err(defect) => Err(SearchStop::Wrong(to, defect)),
+                Err(defect) => Err(refuse(defect, to)),
             },
         }
     }
 
     // Control goes from an offset to another one with a list, and that one waits if control is the first there.
-    fn reach(&mut self, body: &Body, at: u32, to: u32, list: u32) -> Result<(), SearchStop>
+    fn reach(&mut self, body: &Body, at: u32, to: u32, list: u32) -> Result<(), FlowFault>
         requires searching { IsSearching body.now.program.now body.now.procedure.now self.old (at ∷ []) }
         requires edge { IsAtEdge body.now.program.now body.now.procedure.now self.old at to (list_of self.old.operands list) }
         requires list { list < length self.old.operands }
         requires boundary { IsBoundary body.now.procedure.now to }
         requires room { length self.old.operands + left self.old ≤ 2 ^ 32 }
-        ensures ok { OnOk result (Flowed body.now.program.now body.now.procedure.now self.old self.new at to list) }
-        ensures err { IfErr result (λ stop. IsStop body.now.program.now body.now.procedure.now stop) }
+        ensures accepted { OnOk result (Flowed body.now.program.now body.now.procedure.now self.old self.new at to list) }
+        ensures rejected { IfErr result (IfRefused (IsOperandRefusal body.now.program.now body.now.procedure.now)) }
     {
         if !self.arrive(body, at, to, list)? {
             return Ok(());
@@ -109,27 +105,27 @@ impl Search {
         at: u32,
         instruction: Instruction,
         list: u32,
-    ) -> Result<u32, SearchStop>
+    ) -> Result<u32, FlowFault>
         requires searching { IsSearching body.now.program.now body.now.procedure.now self.old (at ∷ []) }
         requires shape { table self.old at ≡ Some (list_of self.old.operands list) }
         requires list { list < length self.old.operands }
         requires instruction { instruction_at body.now.procedure.now.code at ≡ Some instruction }
         requires room { length self.old.operands < 2 ^ 32 }
-        ensures ok { OnOk result (IsApplied body.now.program.now body.now.procedure.now self.old self.new at) }
+        ensures accepted { OnOk result (IsApplied body.now.program.now body.now.procedure.now self.old self.new at) }
         ensures there { IfOk result (λ r. r < length self.new.operands) }
         ensures effect { IfOk result (λ r. HasEffect body.now.program.now body.now.procedure.now self.new at instruction (list_of self.new.operands r)) }
-        ensures err { IfErr result (λ stop. IsStop body.now.program.now body.now.procedure.now stop) }
+        ensures rejected { IfErr result (IfRefused (IsOperandRefusal body.now.program.now body.now.procedure.now)) }
     {
         if is_own(body.procedure, instruction) {
             match pops(&self.operands, body, instruction, list) {
-                Err(defect) => Err(SearchStop::Wrong(at, defect)),
+                Err(defect) => Err(refuse(defect, at)),
                 Ok(rest) => match pushes(body, instruction) {
                     None => Ok(rest),
                     Some(kind) => Ok(self.operands.push(rest, kind)?),
                 },
             }
         } else {
-            Err(SearchStop::Wrong(at, Defect::OperandKind))
+            Err(refuse(CodeDefect::OperandKind, at))
         }
     }
 
@@ -140,16 +136,16 @@ impl Search {
         at: u32,
         instruction: Instruction,
         list: u32,
-    ) -> Result<(), SearchStop>
+    ) -> Result<(), FlowFault>
         requires searching { IsSearching body.now.program.now body.now.procedure.now self.old (at ∷ []) }
         requires effect { HasEffect body.now.program.now body.now.procedure.now self.old at instruction (list_of self.old.operands list) }
         requires list { list < length self.old.operands }
         requires boundaries { KeepsBoundaries body.now.procedure.now }
         requires room { length self.old.operands + left self.old ≤ 2 ^ 32 }
-        ensures ok { OnOk result (KeepsSearching body.now.program.now body.now.procedure.now
+        ensures accepted { OnOk result (KeepsSearching body.now.program.now body.now.procedure.now
             self.old self.new at) }
         ensures there { OnOk result ((to : ℕ) → targets.target_of instruction ≡ Some to → table self.new to ≡ Some (list_of self.old.operands list)) }
-        ensures err { IfErr result (λ stop. IsStop body.now.program.now body.now.procedure.now stop) }
+        ensures rejected { IfErr result (IfRefused (IsOperandRefusal body.now.program.now body.now.procedure.now)) }
     {
         match target_of(instruction) {
             Some(to) => self.reach(body, at, to, list),
@@ -158,17 +154,17 @@ impl Search {
     }
 
     // Control goes to each handler whose range holds the offset. Where it went before, it need not go again.
-    fn raise(&mut self, body: &Body, coverage: &mut Coverage, at: u32) -> Result<(), SearchStop>
+    fn raise(&mut self, body: &Body, coverage: &mut Coverage, at: u32) -> Result<(), FlowFault>
         requires searching { IsSearching body.now.program.now body.now.procedure.now self.old (at ∷ []) }
         requires there { HasInstruction body.now.procedure.now self.old at }
         requires boundaries { KeepsBoundaries body.now.procedure.now }
         requires waiting { IsWaiting body.now.procedure.now coverage.old self.old }
         requires room { length self.old.operands + left self.old ≤ 2 ^ 32 }
-        ensures ok { OnOk result (KeepsSearching body.now.program.now body.now.procedure.now
+        ensures accepted { OnOk result (KeepsSearching body.now.program.now body.now.procedure.now
             self.old self.new at) }
         ensures waiting { OnOk result (IsWaiting body.now.procedure.now coverage.new self.new) }
         ensures there { OnOk result ((h : Handler) → Contains body.now.procedure.now.handlers h → h.start ≤ at → at < h.end → table self.new h.target ≡ Some []) }
-        ensures err { IfErr result (λ stop. IsStop body.now.program.now body.now.procedure.now stop) }
+        ensures rejected { IfErr result (IfRefused (IsOperandRefusal body.now.program.now body.now.procedure.now)) }
     {
         while let Some(handler) = coverage.take(at) {
             self.reach(body, at, handler.target, 0)?;
@@ -184,7 +180,7 @@ impl Search {
         at: u32,
         instruction: Instruction,
         list: u32,
-    ) -> Result<Option<u32>, SearchStop>
+    ) -> Result<Option<u32>, FlowFault>
         requires searching { IsSearching body.now.program.now body.now.procedure.now self.old (at ∷ []) }
         requires effect { HasEffect body.now.program.now body.now.procedure.now self.old at instruction (list_of self.old.operands list) }
         requires list { list < length self.old.operands }
@@ -198,7 +194,7 @@ impl Search {
         ensures keeps { OnOk result ((offset : ℕ) (kinds : List Kind) → table self.old offset ≡ Some kinds → table self.new offset ≡ Some kinds) }
         ensures same { OnOk result (self.new.operands ≡ self.old.operands) }
         ensures left { IfOk result (λ next. left self.new + count next ≤ left self.old) }
-        ensures err { IfErr result (λ stop. IsStop body.now.program.now body.now.procedure.now stop) }
+        ensures rejected { IfErr result (IfRefused (IsOperandRefusal body.now.program.now body.now.procedure.now)) }
     {
         if !goes_on(instruction) {
             return Ok(None);
@@ -219,7 +215,7 @@ impl Search {
         at: u32,
         instruction: Instruction,
         list: u32,
-    ) -> Result<Option<u32>, SearchStop>
+    ) -> Result<Option<u32>, FlowFault>
         requires searching { IsSearching body.now.program.now body.now.procedure.now self.old (at ∷ []) }
         requires shape { table self.old at ≡ Some (list_of self.old.operands list) }
         requires list { list < length self.old.operands }
@@ -233,7 +229,7 @@ impl Search {
         ensures waiting { OnOk result (IsWaiting body.now.procedure.now coverage.new self.new) }
         ensures left { IfOk result (λ next. left self.new + count next ≤ left self.old) }
         ensures few { OnOk result (length self.new.operands ≤ length self.old.operands + 1) }
-        ensures err { IfErr result (λ stop. IsStop body.now.program.now body.now.procedure.now stop) }
+        ensures rejected { IfErr result (IfRefused (IsOperandRefusal body.now.program.now body.now.procedure.now)) }
     {
         let after = self.apply(body, at, instruction, list)?;
         self.jump(body, at, instruction, after)?;
@@ -248,7 +244,7 @@ impl Search {
         body: &Body,
         coverage: &mut Coverage,
         at: u32,
-    ) -> Result<Option<u32>, SearchStop>
+    ) -> Result<Option<u32>, FlowFault>
         requires searching { IsSearching body.now.program.now body.now.procedure.now self.old (at ∷ []) }
         requires there { HasInstruction body.now.procedure.now self.old at }
         requires boundaries { KeepsBoundaries body.now.procedure.now }
@@ -260,7 +256,7 @@ impl Search {
         ensures waiting { OnOk result (IsWaiting body.now.procedure.now coverage.new self.new) }
         ensures left { IfOk result (λ next. left self.new + count next ≤ left self.old) }
         ensures few { OnOk result (length self.new.operands ≤ length self.old.operands + 1) }
-        ensures err { IfErr result (λ stop. IsStop body.now.program.now body.now.procedure.now stop) }
+        ensures rejected { IfErr result (IfRefused (IsOperandRefusal body.now.program.now body.now.procedure.now)) }
     {
         let Some(list) = self.shapes.at(at) else {
             unreachable!()
@@ -272,18 +268,18 @@ impl Search {
     }
 
     // Looks at an offset that has a list, and at those to which control goes straight on from there.
-    fn follow(&mut self, body: &Body, coverage: &mut Coverage, at: u32) -> Result<(), SearchStop>
+    fn follow(&mut self, body: &Body, coverage: &mut Coverage, at: u32) -> Result<(), FlowFault>
         requires searching { IsSearching body.now.program.now body.now.procedure.now self.old (at ∷ []) }
         requires there { HasInstruction body.now.procedure.now self.old at }
         requires boundaries { KeepsBoundaries body.now.procedure.now }
         requires waiting { IsWaiting body.now.procedure.now coverage.old self.old }
         requires body { IsSearchableBody body.now }
         requires room { length self.old.operands + left self.old < 2 ^ 32 }
-        ensures ok { OnOk result (IsSearching body.now.program.now body.now.procedure.now self.new []) }
+        ensures accepted { OnOk result (IsSearching body.now.program.now body.now.procedure.now self.new []) }
         ensures waiting { OnOk result (IsWaiting body.now.procedure.now coverage.new self.new) }
         ensures left { OnOk result (left self.new ≤ left self.old) }
         ensures few { OnOk result (length self.new.operands + left self.new ≤ length self.old.operands + left self.old + 1) }
-        ensures err { IfErr result (λ stop. IsStop body.now.program.now body.now.procedure.now stop) }
+        ensures rejected { IfErr result (IfRefused (IsOperandRefusal body.now.program.now body.now.procedure.now)) }
     {
         let mut next = Some(at);
         while let Some(at) = next {
@@ -293,15 +289,15 @@ impl Search {
     }
 
     // Looks at each offset that waits, until none does.
-    fn run(&mut self, body: &Body, coverage: &mut Coverage) -> Result<(), SearchStop>
+    fn run(&mut self, body: &Body, coverage: &mut Coverage) -> Result<(), FlowFault>
         requires searching { IsSearching body.now.program.now body.now.procedure.now self.old [] }
         requires boundaries { KeepsBoundaries body.now.procedure.now }
         requires waiting { IsWaiting body.now.procedure.now coverage.old self.old }
         requires body { IsSearchableBody body.now }
         requires room { length self.old.operands + left self.old ≤ 2 ^ 32 }
-        ensures ok { OnOk result (FlowsWell body.now.program.now body.now.procedure.now) }
+        ensures accepted { OnOk result (FlowsWell body.now.program.now body.now.procedure.now) }
         ensures longest { OnOk result (HaveLongest body.now.program.now body.now.procedure.now self.new.operands) }
-        ensures err { IfErr result (λ stop. IsStop body.now.program.now body.now.procedure.now stop) }
+        ensures rejected { IfErr result (IfRefused (IsOperandRefusal body.now.program.now body.now.procedure.now)) }
     {
         while let Some(at) = self.work.pop() {
             self.follow(body, coverage, at)?;
@@ -312,17 +308,17 @@ impl Search {
 
 /// Looks for a fault of the flow of a procedure whose targets are right, and answers the greatest number of operands where there
 /// is none.
-pub(crate) fn find_defect(alloc: Global, body: &Body) -> Result<u32, SearchStop>
+pub(crate) fn find_defect(alloc: Global, body: &Body) -> Result<u32, FlowFault>
     requires boundaries { KeepsBoundaries body.now.procedure.now }
     requires body { IsSearchableBody body.now }
     requires few { length body.now.procedure.now.handlers < 2 ^ 32 }
-    ensures ok { OnOk result (FlowsWell body.now.program.now body.now.procedure.now) }
+    ensures accepted { OnOk result (FlowsWell body.now.program.now body.now.procedure.now) }
     ensures depth { IfOk result (λ depth. IsGreatestDepth body.now.program.now body.now.procedure.now depth) }
-    ensures err { IfErr result (λ stop. IsStop body.now.program.now body.now.procedure.now stop) }
+    ensures rejected { IfErr result (IfRefused (IsOperandRefusal body.now.program.now body.now.procedure.now)) }
 {
     let size = body.indices.len();
     if size == 0 {
-        return Err(SearchStop::Wrong(0, Defect::FallsOffEnd));
+        return Err(refuse(CodeDefect::FallsOffEnd, 0));
     }
     let mut coverage = Coverage::new(alloc, body.procedure.handlers())?;
     let operands = Operands::new(alloc)?;

@@ -1,8 +1,9 @@
 ghost use Rattle.bytecode.specs.Machine.{code_of};
 ghost use Rattle.std.specs.Prelude.{IfErr, IfOk, OnOk, Some, length, slice_get, ◌<◌, ◌≡◌};
 ghost use Rattle.bytecode.specs.Contents.{ProcedureContents};
+ghost use Rattle.common.specs.Answers.{IfRefused};
 ghost use Rattle.verifier.specs.Depth.{IsGreatestDepth};
-ghost use Rattle.verifier.specs.Faults.{HasNoFault, ReportsModuleFault};
+ghost use Rattle.verifier.specs.Faults.{HasNoFault, IsReported};
 ghost use Rattle.verifier.specs.Safety.{IsNeverStuck};
 ghost use Rattle.verifier.specs.Positions.{positioned};
 
@@ -70,10 +71,10 @@ impl Verified {
 /// that an instruction or a handler has by itself, or else one of the flow of operands.
 /// Memory grows with the size of the module.
 pub fn verify(alloc: Global, program: Module) -> Result<Verified, VerifyFault>
-    ensures value { IfOk result (λ verified. verified ≡ program) }
+    ensures accepted { IfOk result (λ verified. verified ≡ program) }
     ensures safe { OnOk result (IsNeverStuck program) }
     ensures faultless { OnOk result (HasNoFault program) }
-    ensures fault { IfErr result (λ fault. ReportsModuleFault program fault) }
+    ensures rejected { IfErr result (IfRefused (IsReported program)) }
 {
     let packed = PackedModule::new(alloc, program)?;
     let codes = look_for_faults(alloc, &packed)?;

@@ -1,21 +1,40 @@
 use Rattle.std.proofs.Common.{refl}
-use Rattle.std.specs.Prelude.{Err}
+use Rattle.std.proofs.lemmas.Result.{err_from_is_err_and, IfErr-at_err}
+use Rattle.std.specs.Prelude.{Ok}
+use Rattle.common.specs.Answers.{IfRefused}
+use Rattle.common.proofs.Casting.{cast-answer, mapped-ok}
+use Rattle.lexer.specs.Cut.{IsCut, IsTextRefused}
 use Rattle.lexer.specs.Terminal.{terminals_of}
-use Rattle.analysis.proofs.Early.{early-tokens, early-tree}
+use Rattle.parser.specs.Refusal.{AreTokensRefused}
+use Rattle.parser.proofs.Spelled.{cut_of_text}
+use Rattle.analysis.specs.Reported.{IsSourceRefusal}
 use Rattle.analysis.proofs.Faults.{lexed, parsed}
 use Rattle.analysis.proofs.phases.read.Goals as goal
 
-pub returns-in-Err-clause-first_fault : goal.returns-in-Err-clause-first_fault
-returns-in-Err-clause-first_fault c = λ h.
-    rw c.of_tokens.ensures (lexed h c.args.source.now c.in-Err.fault c.requires.text c.in-Err.ensures.refused)
+pub returns-in_err-tokens-clause-first_fault : goal.returns-in_err-tokens-clause-first_fault
+returns-in_err-tokens-clause-first_fault c = λ h.
+    let p = err_from_is_err_and c.from_residual.result c.from_residual.ensures.1 in
+    let source = c.args.source.now in
+    rw (p.1, p.2) (IfErr-at_err (IfRefused (IsSourceRefusal h source)) c.in_err-tokens.was
+    (cast-answer (IsTextRefused source) (IsSourceRefusal h source) (λ r s is refused. rw is (lexed h source r c.requires.text refused))
+    c.lex.result c.map_err.result c.map_err.ensures.cases c.lex.ensures.rejected))
 
-pub returns-clause-first_fault : goal.returns-clause-first_fault
-returns-clause-first_fault c = λ h.
-    rw c.of_tree.ensures
-    (parsed h c.args.source.now (terminals_of c.as_slice.result.now) c.in-Err-parse.fault (Err c.in-Err-parse.fault) c.requires.text (rw c.as_slice.ensures.value c.in-Ok.ensures.cut) refl c.in-Err-parse.ensures.unexpected c.in-Err-parse.ensures.too_deep)
+pub returns-in_err-tree-clause-first_fault : goal.returns-in_err-tree-clause-first_fault
+returns-in_err-tree-clause-first_fault c = λ h.
+    let p = err_from_is_err_and c.from_residual-in_err-tree.result c.from_residual-in_err-tree.ensures.1 in
+    let source = c.args.source.now in
+    let tokens = c.in_ok-tokens.tokens in
+    let cut : IsCut source (terminals_of tokens.items) =
+    mapped-ok c.lex.result (Ok tokens) tokens (λ found. IsCut source (terminals_of found.items)) refl c.in_ok-tokens.ensures.cases (λ fault no. no) c.lex.ensures.accepted in
+    rw (p.1, p.2) (IfErr-at_err (IfRefused (IsSourceRefusal h source)) c.in_err-tree.was
+    (cast-answer (AreTokensRefused (terminals_of c.as_slice.result.now)) (IsSourceRefusal h source)
+    (λ r s is refused. rw is (parsed h source (terminals_of c.as_slice.result.now) r c.requires.text (rw c.as_slice.ensures.value cut) refused))
+    c.parse.result c.map_err-2.result c.map_err-2.ensures.cases c.parse.ensures.rejected))
 
-pub returns-in-Err-clause-before_labels : goal.returns-in-Err-clause-before_labels
-returns-in-Err-clause-before_labels c = rw c.of_tokens.ensures (early-tokens c.in-Err.fault)
-
-pub returns-clause-before_labels : goal.returns-clause-before_labels
-returns-clause-before_labels c = rw c.of_tree.ensures (early-tree c.in-Err-parse.fault)
+pub parse-requires-clause-of_text : goal.parse-requires-clause-of_text
+parse-requires-clause-of_text c =
+    let source = c.args.source.now in
+    let tokens = c.in_ok-tokens.tokens in
+    let cut : IsCut source (terminals_of tokens.items) =
+    mapped-ok c.lex.result (Ok tokens) tokens (λ found. IsCut source (terminals_of found.items)) refl c.in_ok-tokens.ensures.cases (λ fault no. no) c.lex.ensures.accepted in
+    rw c.as_slice.ensures.value (cut_of_text source (terminals_of tokens.items) c.utf8.source cut c.requires.text.short)

@@ -1,4 +1,4 @@
-use Rattle.std.proofs.Common.{◌∙◌, sym, Result, Ok, Err, OnErr}
+use Rattle.std.proofs.Common.{◌∙◌, sym}
 use Rattle.channels.proofs.Views.{all_shown, cut_before, cut_within, none_shown, on_err, one_hidden, one_shown}
 use Rattle.channels.proofs.view.write_lines.Goals as goal
 use Rattle.channels.proofs.view.write_lines.Goals.{then-sees+in_ok-line+in_ok-write_all, else-sees}
@@ -11,7 +11,7 @@ loop-pair-preserved g c = elim c.if-sees.branch [
   | then-sees+in_ok-line+in_ok-write_all w ↦ rw w.out-is
       (one_shown c.args.observer.now.program.now c.args.observer.now.principal c.args.pairs.now c.loop-pair.pair-index _ _ _ _ _ c.loop-pair-test.true
       (sym c.sees.ensures ∙ w.if-sees.true) (w.as_bytes.ensures.value ∙ w.in_ok-line.ensures)
-      c.loop-pair.invariant w.in_ok-write_all.ensures.written)
+      c.loop-pair.invariant w.in_ok-write_all.ensures.accepted)
   | else-sees w ↦ rw w.out-is
       (one_hidden c.args.observer.now.program.now c.args.observer.now.principal c.args.pairs.now c.loop-pair.pair-index _ _ _ c.loop-pair-test.true
       (sym c.sees.ensures ∙ w.if-sees.false) c.loop-pair.invariant)

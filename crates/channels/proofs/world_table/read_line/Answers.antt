@@ -14,6 +14,6 @@ returns-clause-table c = λ name.
     let words = c.args.words.now in
     let d : Bor (List ℕ) = record { ref_ptr = (0, 0); now = [] } in
     let entry = λ (e : Option (Vec ℤ Global)). option_map (λ (numbers : Vec ℤ Global). numbers.items) e in
-    let found = btree_map_updates_str (get_or words 0 d).now c.args.inputs.now c.insert.new.self (Some (Some c.in-Some.numbers)) c.in-Ok-insert.ensures.updates name in
-    let numbers : Some c.in-Some.numbers.items ≡ option_map (λ (n : Vec ℤ Global). n.items) c.in-Ok.numbers = ap (λ (e : Option (Vec ℤ Global)). option_map (λ (n : Vec ℤ Global). n.items) e) (sym c.in-Some.is) in
-    ap (option_map entry) found ∙ put_entry words d c.args.inputs.now c.in-Some.numbers name c.in-len2-up.len_at_least (numbers ∙ c.in-Ok.ensures)
+    let found = btree_map_updates_str (get_or words 0 d).now c.args.inputs.now c.insert.new.self (Some (Some c.in-Some.numbers)) c.in_ok-insert.ensures.updates name in
+    let numbers : Some c.in-Some.numbers.items ≡ option_map (λ (n : Vec ℤ Global). n.items) c.in_ok-numbers.field-0 = ap (λ (e : Option (Vec ℤ Global)). option_map (λ (n : Vec ℤ Global). n.items) e) (sym c.in-Some.is) in
+    ap (option_map entry) found ∙ put_entry words d c.args.inputs.now c.in-Some.numbers name c.in-len2-up.len_at_least (numbers ∙ c.in_ok-numbers.ensures)

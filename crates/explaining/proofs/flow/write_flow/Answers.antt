@@ -15,14 +15,14 @@ returns-in_err-write_all-clause-prefix g c =
     (cut_front _ _ (policy_line flow.core.hierarchy flow.policy) (flat_map (step_line c.args.source.now (program_of flow.core)) flow.steps.items)
     _ (c.as_bytes.ensures.value ∙ c.in_ok-line.ensures) c.in_err-write_all.ensures.prefix)
 
-pub returns-clause-written : goal.returns-clause-written
-returns-clause-written g c =
+pub returns-clause-accepted : goal.returns-clause-accepted
+returns-clause-accepted g c =
     let flow = c.args.flow.now in
     all_or_none _ _ _ (policy_line flow.core.hierarchy flow.policy) (flat_map (step_line c.args.source.now (program_of flow.core)) flow.steps.items)
     _ _ c.write_steps.result (c.as_bytes.ensures.value ∙ c.in_ok-line.ensures)
     (ap (λ text. flat_map (step_line text (program_of flow.core)) c.as_slice.result.now) c.in_ok-marked.ensures
     ∙ ap (flat_map (step_line c.args.source.now (program_of flow.core))) c.as_slice.ensures.value)
-    c.in_ok-write_all.ensures.written c.write_steps.ensures.written
+    c.in_ok-write_all.ensures.accepted c.write_steps.ensures.accepted
 
 pub returns-clause-prefix : goal.returns-clause-prefix
 returns-clause-prefix g c =
@@ -31,4 +31,4 @@ returns-clause-prefix g c =
     _ _ c.write_steps.result (c.as_bytes.ensures.value ∙ c.in_ok-line.ensures)
     (ap (λ text. flat_map (step_line text (program_of flow.core)) c.as_slice.result.now) c.in_ok-marked.ensures
     ∙ ap (flat_map (step_line c.args.source.now (program_of flow.core))) c.as_slice.ensures.value)
-    c.in_ok-write_all.ensures.written c.write_steps.ensures.prefix
+    c.in_ok-write_all.ensures.accepted c.write_steps.ensures.prefix

@@ -38,7 +38,7 @@ loop-number-preserved g c =
     record {
       written =
           writes_procedure c.args.source.now c.args.checked.now procedures number here c.as_slice-slots.result.now _ _ _ within is c.as_slice-slots.ensures.value
-          c.loop-number.invariant.written _ c.in_ok-marked.ensures c.in_ok-write_locals.ensures.written;
+          c.loop-number.invariant.written _ c.in_ok-marked.ensures c.in_ok-write_locals.ensures.accepted;
       counted = before-next procedures number c.loop-number.first c.loop-number.invariant.counted here c.in_ok-first.first within is c.in_ok-first.ensures.sum;
     }
 
@@ -52,7 +52,7 @@ returns-in_err-first-clause-prefix g c =
     let is : here ≡ get_or procedures number here = c.procedure-item.is ∙ ap (λ list. get_or list number here) c.deref-procedure-items.ensures.value in
     on_err c.from_residual-in_err-first.result _
     (writes_procedures c.args.source.now c.args.checked.now procedures number here c.as_slice-slots.result.now _ _ _ within is c.as_slice-slots.ensures.value
-    c.loop-number.invariant.written _ c.in_ok-marked.ensures c.in_ok-write_locals.ensures.written)
+    c.loop-number.invariant.written _ c.in_ok-marked.ensures c.in_ok-write_locals.ensures.accepted)
 
 pub write_locals-requires : goal.write_locals-requires
 write_locals-requires g c =

@@ -5,8 +5,8 @@ use Rattle.explaining.proofs.Texts.{on_err}
 use Rattle.explaining.proofs.Lists.{part_of_none, with_label, writes_none, writes_one, writes_part}
 use Rattle.explaining.proofs.labels_of_locals.write_local.Goals as goal
 
-pub returns-then-is_some-clause-written : goal.returns-then-is_some-clause-written
-returns-then-is_some-clause-written g c =
+pub returns-then-is_some-clause-accepted : goal.returns-then-is_some-clause-accepted
+returns-then-is_some-clause-accepted g c =
     let slot = slot_entry c.args.slot.now in
     let local = local_of c.args.procedure c.args.number slot in
     writes_none c.args.marked.now.text.now c.args.checked.now (if_unlabelled local slot.written)
@@ -27,10 +27,10 @@ returns-in_err-write_all-clause-prefix g c =
     (subst (λ (line : List ℕ). IsLocalLine c.args.marked.now.text.now c.args.checked.now local line) (sym c.as_bytes.ensures.value) c.in_ok-line.ensures)
     c.in_err-write_all.ensures.prefix)
 
-pub returns-clause-written : goal.returns-clause-written
-returns-clause-written g c =
+pub returns-clause-accepted : goal.returns-clause-accepted
+returns-clause-accepted g c =
     let slot = slot_entry c.args.slot.now in
     let local = local_of c.args.procedure c.args.number slot in
     writes_one c.args.marked.now.text.now c.args.checked.now _ _ local slot.written (sym c.is_some.ensures ∙ c.if-is_some.false) c.as_bytes.result.now
     (subst (λ (line : List ℕ). IsLocalLine c.args.marked.now.text.now c.args.checked.now local line) (sym c.as_bytes.ensures.value) c.in_ok-line.ensures)
-    c.in_ok-write_all.ensures.written
+    c.in_ok-write_all.ensures.accepted

@@ -15,4 +15,4 @@ returns-in_err-write_local-clause-prefix g c =
 pub loop-number-preserved : goal.loop-number-preserved
 loop-number-preserved g c =
     writes_slot c.args.marked.now.text.now c.args.checked.now c.args.procedure c.args.slots.now c.loop-number.number c.index-slots-number.result _ _ _
-    c.loop-number-test.true c.index-slots-number.is c.loop-number.invariant c.in_ok-write_local.ensures.written
+    c.loop-number-test.true c.index-slots-number.is c.loop-number.invariant c.in_ok-write_local.ensures.accepted

@@ -1,18 +1,20 @@
+use Rattle.flowc.proofs.Cut.{on_err}
+use Rattle.flowc.proofs.Settled.{not_accepted}
 use Rattle.flowc.specs.Explained.ExplainsSome.{labels}
 use Rattle.flowc.proofs.explain.explain.Goals as goal
 
-pub returns-in-Ok-write_labels-clause-stdout : goal.returns-in-Ok-write_labels-clause-stdout
-returns-in-Ok-write_labels-clause-stdout g c =
-    (c.in-Ok.checked, record { stands = c.in-Ok.ensures.accepted; least = c.in-Ok.ensures.least }, c.in-Ok-write_labels.ensures.listed)
+pub returns-in_ok-write_labels-in-Ok-clause-stdout : goal.returns-in_ok-write_labels-in-Ok-clause-stdout
+returns-in_ok-write_labels-in-Ok-clause-stdout g c =
+    (c.in-Ok.checked, record { stands = c.in-Ok.ensures.accepted; least = c.in-Ok.ensures.least }, c.in_ok-write_labels-in-Ok.ensures.accepted)
 
-pub returns-in-Err-Sink-clause-some : goal.returns-in-Err-Sink-clause-some
-returns-in-Err-Sink-clause-some g c =
-    labels c.in-Ok.checked (record { stands = c.in-Ok.ensures.accepted; least = c.in-Ok.ensures.least }) c.in-Err-Sink.ensures.prefix
+pub returns-in_err-write_labels-in-Ok-clause-prefix : goal.returns-in_err-write_labels-in-Ok-clause-prefix
+returns-in_err-write_labels-in-Ok-clause-prefix g c =
+    on_err _ _ (labels c.in-Ok.checked (record { stands = c.in-Ok.ensures.accepted; least = c.in-Ok.ensures.least })
+    c.in_err-write_labels-in-Ok.ensures.prefix)
 
-pub returns-in-Ok-clause-some : goal.returns-in-Ok-clause-some
-returns-in-Ok-clause-some g c =
-    labels c.in-Ok.checked (record { stands = c.in-Ok.ensures.accepted; least = c.in-Ok.ensures.least }) c.in-Err-NoMemory.ensures.prefix
+pub returns-in_ok-line-in-Err-Refused-clause-rejected : goal.returns-in_ok-line-in-Err-Refused-clause-rejected
+returns-in_ok-line-in-Err-Refused-clause-rejected g c = λ one.
+    not_accepted _ _ _ _ c.in-Err-Refused.field-0-is c.in-Err-Refused.ensures.rejected
 
-pub returns-clause-refused : goal.returns-clause-refused
-returns-clause-refused g c = λ one accepted.
-    c.in-Err.ensures.refused (c.explain_refusal.ensures.refusal one) accepted.0 accepted.1
+pub returns-in_err-line-in-Err-Refused-clause-prefix : goal.returns-in_err-line-in-Err-Refused-clause-prefix
+returns-in_err-line-in-Err-Refused-clause-prefix g c = on_err _ _ c.in_err-line-in-Err-Refused.ensures.prefix

@@ -1,24 +1,32 @@
 use Rattle.std.proofs.Common.{refl}
 use Rattle.flowc.proofs.Cut.{appended_all}
-use Rattle.flowc.proofs.Explaining.{chain_of}
+use Rattle.flowc.proofs.Explaining.{chain_of, reported_chain, reported_other}
 use Rattle.flowc.specs.Explained.ExplainsSome.{nothing}
 use Rattle.flowc.proofs.explain.explain_refusal.Goals as goal
-use Rattle.flowc.proofs.explain.explain_refusal.Goals.{in-Some+in-Ok, in_default}
+use Rattle.flowc.proofs.explain.explain_refusal.Goals.{in-Some+in_ok-write_flow, in_default}
 
-pub returns-in-Err-Sink-clause-some : goal.returns-in-Err-Sink-clause-some
-returns-in-Err-Sink-clause-some g c =
-    chain_of _ _ _ _ _ _ _ c.in-Some.is c.requires.first c.requires.flow c.requires.asked c.in-Err-Sink.ensures.prefix
+pub returns-in_err-write_flow-clause-prefix : goal.returns-in_err-write_flow-clause-prefix
+returns-in_err-write_flow-clause-prefix g c =
+    chain_of _ _ _ _ _ _ _ c.in-Some.is c.requires.first_fault c.requires.flow c.requires.asked c.in_err-write_flow.ensures.prefix
 
-pub returns-in-Err-NoMemory-clause-some : goal.returns-in-Err-NoMemory-clause-some
-returns-in-Err-NoMemory-clause-some g c =
-    chain_of _ _ _ _ _ _ _ c.in-Some.is c.requires.first c.requires.flow c.requires.asked c.in-Err-NoMemory.ensures.prefix
-
-pub returns-clause-some : goal.returns-clause-some
-returns-clause-some g c = elim c.match-refused.branch [
-  | in-Some+in-Ok w ↦ rw w.out-is
-      (chain_of _ _ _ _ _ _ _ w.in-Some.is c.requires.first c.requires.flow c.requires.asked (appended_all _ _ _ w.in-Ok.ensures.written))
+pub returns-in_err-texts_line-clause-prefix : goal.returns-in_err-texts_line-clause-prefix
+returns-in_err-texts_line-clause-prefix g c = elim c.match-refused.branch [
+  | in-Some+in_ok-write_flow w ↦ rw w.out-is
+      (chain_of _ _ _ _ _ _ _ w.in-Some.is c.requires.first_fault c.requires.flow c.requires.asked (appended_all _ _ _ w.in_ok-write_flow.ensures.accepted))
   | in_default w ↦ rw w.out-is (nothing refl)
 ]
 
-pub returns-clause-message : goal.returns-clause-message
-returns-clause-message g c = c.texts_fault.ensures.message _
+pub returns-clause-prefix : goal.returns-clause-prefix
+returns-clause-prefix g c = elim c.match-refused.branch [
+  | in-Some+in_ok-write_flow w ↦ rw w.out-is
+      (chain_of _ _ _ _ _ _ _ w.in-Some.is c.requires.first_fault c.requires.flow c.requires.asked (appended_all _ _ _ w.in_ok-write_flow.ensures.accepted))
+  | in_default w ↦ rw w.out-is (nothing refl)
+]
+
+pub returns-clause-chain : goal.returns-clause-chain
+returns-clause-chain g c = elim c.match-refused.branch [
+  | in-Some+in_ok-write_flow w ↦ rw w.out-is
+      (reported_chain _ _ _ _ _ _ _ w.in-Some.is c.requires.first_fault c.requires.flow c.requires.asked w.in_ok-write_flow.ensures.accepted)
+  | in_default w ↦ rw w.out-is
+      (reported_other _ _ _ _ _ _ w.in_default.is c.requires.first_fault c.requires.flow c.requires.asked refl)
+]

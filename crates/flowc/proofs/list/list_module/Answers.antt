@@ -1,12 +1,8 @@
+use Rattle.flowc.proofs.Cut.{on_err}
 use Rattle.flowc.proofs.Listed.{listed_some}
 use Rattle.flowc.proofs.list.list_module.Goals as goal
 
-pub returns-in-Err-Sink-clause-some : goal.returns-in-Err-Sink-clause-some
-returns-in-Err-Sink-clause-some g c =
-    listed_some _ c.in_ok-verified.verified c.module.result.now _ _ c.in_ok-verified.ensures.spelled c.in_ok-verified.ensures.faultless c.module.ensures.value
-    c.in-Err-Sink.ensures.prefix
-
-pub returns-clause-some : goal.returns-clause-some
-returns-clause-some g c =
-    listed_some _ c.in_ok-verified.verified c.module.result.now _ _ c.in_ok-verified.ensures.spelled c.in_ok-verified.ensures.faultless c.module.ensures.value
-    c.in-Err-NoMemory.ensures.prefix
+pub returns-in_err-write_listing-clause-prefix : goal.returns-in_err-write_listing-clause-prefix
+returns-in_err-write_listing-clause-prefix g c =
+    on_err _ _ (listed_some _ c.in_ok-verified.verified c.module.result.now _ _ c.in_ok-verified.ensures.accepted.spelled c.in_ok-verified.ensures.accepted.faultless c.module.ensures.value
+    c.in_err-write_listing.ensures.prefix)

@@ -1,19 +1,18 @@
-use Rattle.std.proofs.Common.{Err, ap}
 use Rattle.channels.specs.WorldText.{lines_of}
-use Rattle.flowc.proofs.Refusals.{named_world}
+use Rattle.flowc.proofs.Refusals.{named_world, unknown_channel}
 use Rattle.flowc.proofs.Reporting.{module_message, world_message}
 use Rattle.flowc.proofs.running.start.Goals as goal
 
-pub returns-in_ok-line-in-Err-UnknownChannel-clause-refused :
-    goal.returns-in_ok-line-in-Err-UnknownChannel-clause-refused
-returns-in_ok-line-in-Err-UnknownChannel-clause-refused c = λ one program spelled none encoded right.
-    let named = named_world c.in_ok-verified.verified c.module.result.now c.in_ok-numbers.numbers (lines_of c.args.world.bytes.now) c.module.ensures.value c.in_ok-numbers.ensures.world in
-    c.in-Err-UnknownChannel.ensures.unknown.0 (ap (λ fault. Err fault) c.in-Err-UnknownChannel.field-0-is) named
+pub returns-in_ok-world_line-in-Err-Refused-UnknownChannel-clause-rejected :
+    goal.returns-in_ok-world_line-in-Err-Refused-UnknownChannel-clause-rejected
+returns-in_ok-world_line-in-Err-Refused-UnknownChannel-clause-rejected c = λ one program spelled none encoded right.
+    let named = named_world c.in_ok-verified.verified c.module.result.now c.in_ok-numbers.numbers (lines_of c.args.world.bytes.now) c.module.ensures.value c.in_ok-numbers.ensures.exact in
+    c.in-Err-Refused-UnknownChannel.ensures.unknown.0 (unknown_channel _ _ c.in-Err-Refused-UnknownChannel.field-0-is) named
 
-pub returns-in_ok-line-in-Err-UnknownChannel-clause-message : goal.returns-in_ok-line-in-Err-UnknownChannel-clause-message
-returns-in_ok-line-in-Err-UnknownChannel-clause-message c =
-    let named = named_world c.in_ok-verified.verified c.module.result.now c.in_ok-numbers.numbers (lines_of c.args.world.bytes.now) c.module.ensures.value c.in_ok-numbers.ensures.world in
-    absurd (c.in-Err-UnknownChannel.ensures.unknown.0 (ap (λ fault. Err fault) c.in-Err-UnknownChannel.field-0-is) named)
+pub returns-in_ok-world_line-in-Err-Refused-UnknownChannel-clause-message : goal.returns-in_ok-world_line-in-Err-Refused-UnknownChannel-clause-message
+returns-in_ok-world_line-in-Err-Refused-UnknownChannel-clause-message c =
+    let named = named_world c.in_ok-verified.verified c.module.result.now c.in_ok-numbers.numbers (lines_of c.args.world.bytes.now) c.module.ensures.value c.in_ok-numbers.ensures.exact in
+    absurd (c.in-Err-Refused-UnknownChannel.ensures.unknown.0 (unknown_channel _ _ c.in-Err-Refused-UnknownChannel.field-0-is) named)
 
 pub returns-in_err-verified-clause-message : goal.returns-in_err-verified-clause-message
 returns-in_err-verified-clause-message c =
@@ -22,5 +21,5 @@ returns-in_err-verified-clause-message c =
 pub returns-in_err-numbers-clause-message : goal.returns-in_err-numbers-clause-message
 returns-in_err-numbers-clause-message c =
     world_message c.from_residual-in_err-numbers.result c.in_ok-verified.verified c.module.result.now _ _ _ _ _
-    c.in_ok-verified.ensures.spelled c.in_ok-verified.ensures.faultless c.module.ensures.value
+    c.in_ok-verified.ensures.accepted.spelled c.in_ok-verified.ensures.accepted.faultless c.module.ensures.value
     c.from_residual-in_err-numbers.ensures.1 c.in_err-numbers.ensures.message

@@ -1,8 +1,10 @@
+use Rattle.flowc.proofs.Cut.{nothing_written, on_err}
+use Rattle.flowc.proofs.Settled.{not_accepted}
 use Rattle.flowc.proofs.texts.check.Goals as goal
 
-pub returns-in-Err-clause-refused : goal.returns-in-Err-clause-refused
-returns-in-Err-clause-refused g c = λ one accepted.
-    c.in-Err.ensures.refused (c.texts_fault.ensures.refusal one) accepted.0 accepted.1
+pub returns-in_ok-line-in-Err-Refused-clause-rejected : goal.returns-in_ok-line-in-Err-Refused-clause-rejected
+returns-in_ok-line-in-Err-Refused-clause-rejected g c = λ one.
+    not_accepted _ _ _ _ c.in-Err-Refused.field-0-is c.in-Err-Refused.ensures.rejected
 
-pub returns-in-Err-clause-message : goal.returns-in-Err-clause-message
-returns-in-Err-clause-message g c = c.texts_fault.ensures.message _
+pub returns-in_err-line-in-Err-Refused-clause-prefix : goal.returns-in_err-line-in-Err-Refused-clause-prefix
+returns-in_err-line-in-Err-Refused-clause-prefix g c = on_err _ _ (nothing_written _ _)

@@ -1,12 +1,11 @@
-use Rattle.std.proofs.Common.{◌≡◌, ◌⊎◌, inl, Option, Result, Some, None, Ok, Err, refl, sym, ap, subst, ◌∙◌, arith, rules}
+use Rattle.std.proofs.Common.{◌≡◌, Option, Some, None, Ok, Err, refl, sym, ap, subst, ◌∙◌, arith, rules}
 use Rattle.std.proofs.lemmas.List.{map-append}
 use Rattle.std.specs.Str.{chars, IsUtf8}
 use Rattle.lexer.specs.declared.token.Kind.{Kind}
-use Rattle.lexer.specs.declared.fault.LexFault.{LexFault}
-use Rattle.lexer.specs.declared.fault.LexFault.TheVariants.{NoMemory}
-use Rattle.std.specs.Result.{MatchResult, IfErr}
-use Rattle.lexer.specs.Cut.{IsCut, IsTextRefused}
-use Rattle.lexer.specs.Listing.{IsFaultAtCharacter}
+use Rattle.common.proofs.Casting.{refuse-answer, refused-weaker}
+use Rattle.common.specs.Answers.{IfRefused}
+use Rattle.lexer.specs.Cut.{IsCut, IsStuck, IsTextRefused}
+use Rattle.lexer.specs.Listing.{IsRefusedAtCharacter}
 use Rattle.lexer.specs.Scan.{Reads}
 use Rattle.lexer.specs.Terminal.{terminal_of, terminals_of}
 use Rattle.lexer.proofs.Growing.{IsCutSoFar, GrowsBy, begin, gap, token, shorter_by, refused, whole}
@@ -20,7 +19,9 @@ loop-first-init c = (c.utf8.src, subst (λ ts. IsCutSoFar c.args.src.now c.args.
 pub overflow_sub-end : goal.overflow_sub-end
 overflow_sub-end c =
     let left_ok : IsUtf8 c.in_ok-kind.field-0.rest.now = search rules in
-    let shorter = shorter_by c.loop-first.rest.now c.in_ok-kind.field-0.rest.now c.in_ok-kind.field-0.kind c.loop-first.invariant.0 left_ok c.in_ok-kind.ensures in
+    let read = refuse-answer (λ p. Reads (chars c.loop-first.rest.now) p.kind (chars p.rest.now)) (IsStuck _ (chars c.loop-first.rest.now))
+    c.cut_piece.result (Ok c.in_ok-kind.field-0) c.in_ok-kind.ensures.cases c.cut_piece.ensures in
+    let shorter = shorter_by c.loop-first.rest.now c.in_ok-kind.field-0.rest.now c.in_ok-kind.field-0.kind c.loop-first.invariant.0 left_ok read in
     let within = c.loop-first.invariant.1.within in
     omega arith
 
@@ -31,7 +32,8 @@ pushed c =
     let left = c.in_ok-kind.field-0.rest.now in
     let left_ok : IsUtf8 left = search rules in
     let P : Option Kind → Type 0 = λ k. Reads (chars rest) k (chars left) in
-    let read : Reads (chars rest) (Some c.in-Some-kind.kind) (chars left) = subst P c.in-Some-kind.is c.in_ok-kind.ensures in
+    let any = refuse-answer (λ p. Reads (chars rest) p.kind (chars p.rest.now)) (IsStuck _ (chars rest)) c.cut_piece.result (Ok c.in_ok-kind.field-0) c.in_ok-kind.ensures.cases c.cut_piece.ensures in
+    let read : Reads (chars rest) (Some c.in-Some-kind.kind) (chars left) = subst P c.in-Some-kind.is any in
     let tokens = c.loop-first.tokens.items in
     let t = token c.args.src.now rest left c.take_front-text.result.now (terminals_of tokens) c.in-Some-kind.kind c.loop-first.invariant.0 left_ok c.take_front-text.utf8 c.loop-first.invariant.1 read c.take_front-text.ensures _ refl in
     subst (GrowsBy c.args.src.now rest left) (sym (ap terminals_of c.in_ok-push.ensures.items ∙ map-append terminal_of tokens _)) t
@@ -50,7 +52,8 @@ passed c =
     let left_ok : IsUtf8 left = search rules in
     let P : Option Kind → Type 0 = λ k. Reads (chars rest) k (chars left) in
     let none : c.in_ok-kind.field-0.kind ≡ None = c.in_default-kind.is in
-    gap c.args.src.now rest left (terminals_of c.loop-first.tokens.items) c.loop-first.invariant.0 left_ok c.loop-first.invariant.1 (subst P none c.in_ok-kind.ensures)
+    let any = refuse-answer (λ p. Reads (chars rest) p.kind (chars p.rest.now)) (IsStuck _ (chars rest)) c.cut_piece.result (Ok c.in_ok-kind.field-0) c.in_ok-kind.ensures.cases c.cut_piece.ensures in
+    gap c.args.src.now rest left (terminals_of c.loop-first.tokens.items) c.loop-first.invariant.0 left_ok c.loop-first.invariant.1 (subst P none any)
 
 pub loop-first-smaller : goal.loop-first-smaller
 loop-first-smaller c = (passed c).shorter
@@ -58,33 +61,29 @@ loop-first-smaller c = (passed c).shorter
 pub loop-first-preserved : goal.loop-first-preserved
 loop-first-preserved c = (search rules, (passed c).grown)
 
--- a result that is the one refusal of the text
-at_err : {X : Type 0} (r : Result X LexFault) (fault other : LexFault) → r ≡ Err fault → fault ≡ other
-    → MatchResult r (λ _. ⊥) (λ reported. (reported ≡ other) ⊎ (reported ≡ NoMemory))
-at_err (Ok x) fault other e h = absurd cc
-at_err (Err reported) fault other e h = let same : reported ≡ fault = cc in inl (same ∙ h)
+-- the text is refused for what is reported
+told : (c : goal.After-drop-tokens) → IfRefused (IsTextRefused c.args.src.now) c.in_err-kind.field-0.0
+told c =
+    refused-weaker (IsStuck _ (chars c.loop-first.rest.now)) (IsTextRefused c.args.src.now)
+    (λ r stuck. refused c.args.src.now c.loop-first.rest.now (terminals_of c.loop-first.tokens.items) r c.loop-first.invariant.1 stuck)
+    c.in_err-kind.field-0.0
+    (refuse-answer (λ p. Reads (chars c.loop-first.rest.now) p.kind (chars p.rest.now)) (IsStuck _ (chars c.loop-first.rest.now))
+    c.cut_piece.result (Err c.in_err-kind.field-0.0) c.in_err-kind.ensures.cases c.cut_piece.ensures)
 
-placed : {X : Type 0} (r : Result X LexFault) (fault : LexFault) (P : LexFault → Type 0) → r ≡ Err fault → P fault → IfErr r P
-placed {X} r fault P e h = let Q : Result X LexFault → Type 0 = λ x. IfErr x P in subst Q (sym e) h
-
--- the refusal that is reported
-reported : (c : goal.After-drop-tokens) → IsTextRefused c.args.src.now c.in_err-kind.field-0.0
-reported c =
-    refused c.args.src.now c.loop-first.rest.now (terminals_of c.loop-first.tokens.items) c.in_err-kind.field-0.0 c.loop-first.invariant.1 c.in_err-kind.ensures
-
-pub returns-in_err-kind-clause-only : goal.returns-in_err-kind-clause-only
-returns-in_err-kind-clause-only c = λ tokens cut. absurd (not_cut_and_refused c.args.src.now tokens c.in_err-kind.field-0.0 cut (reported c))
-
-pub returns-in_err-kind-clause-first : goal.returns-in_err-kind-clause-first
-returns-in_err-kind-clause-first c = λ fault refusal.
+pub returns-in_err-kind-clause-exact : goal.returns-in_err-kind-clause-exact
+returns-in_err-kind-clause-exact c = λ tokens cut.
     let e : c.from_residual.result ≡ Err c.in_err-kind.field-0.0 = search rules in
-    at_err c.from_residual.result c.in_err-kind.field-0.0 fault e (has_one_refusal c.args.src.now c.in_err-kind.field-0.0 fault (reported c) refusal)
+    rw e (refused-weaker (IsTextRefused c.args.src.now) (λ _. ⊥) (λ r h. not_cut_and_refused c.args.src.now tokens r cut h) c.in_err-kind.field-0.0 (told c))
 
-pub returns-in_err-kind-clause-fault_at_character : goal.returns-in_err-kind-clause-fault_at_character
-returns-in_err-kind-clause-fault_at_character c =
+pub returns-in_err-kind-clause-first_fault : goal.returns-in_err-kind-clause-first_fault
+returns-in_err-kind-clause-first_fault c = λ refusal first.
     let e : c.from_residual.result ≡ Err c.in_err-kind.field-0.0 = search rules in
-    placed c.from_residual.result c.in_err-kind.field-0.0 (IsFaultAtCharacter c.args.src.now) e
-    (refused_at c.args.src.now c.in_err-kind.field-0.0 c.utf8.src (reported c))
+    rw e (refused-weaker (IsTextRefused c.args.src.now) (λ r. r ≡ refusal) (λ r h. has_one_refusal c.args.src.now r refusal h first) c.in_err-kind.field-0.0 (told c))
+
+pub returns-in_err-kind-clause-refused_at_character : goal.returns-in_err-kind-clause-refused_at_character
+returns-in_err-kind-clause-refused_at_character c =
+    let e : c.from_residual.result ≡ Err c.in_err-kind.field-0.0 = search rules in
+    rw e (refused-weaker (IsTextRefused c.args.src.now) (IsRefusedAtCharacter c.args.src.now) (λ r h. refused_at c.args.src.now r c.utf8.src h) c.in_err-kind.field-0.0 (told c))
 
 -- the whole cut
 ended : (c : goal.In_ok-push-2) → IsCut c.args.src.now (terminals_of c.push-2.new.self.items)
@@ -96,14 +95,14 @@ ended c =
 all : (c : goal.In_ok-push-2) → Listed c.args.src.now (terminals_of c.push-2.new.self.items)
 all c = listed c.args.src.now (terminals_of c.push-2.new.self.items) c.utf8.src (ended c)
 
-pub returns-clause-cut : goal.returns-clause-cut
-returns-clause-cut c = ended c
+pub returns-clause-accepted : goal.returns-clause-accepted
+returns-clause-accepted c = ended c
 
-pub returns-clause-only : goal.returns-clause-only
-returns-clause-only c = λ tokens cut. has_one_cut c.args.src.now (terminals_of c.push-2.new.self.items) tokens (ended c) cut
+pub returns-clause-exact : goal.returns-clause-exact
+returns-clause-exact c = λ tokens cut. has_one_cut c.args.src.now (terminals_of c.push-2.new.self.items) tokens (ended c) cut
 
-pub returns-clause-first : goal.returns-clause-first
-returns-clause-first c = λ fault refusal. not_cut_and_refused c.args.src.now (terminals_of c.push-2.new.self.items) fault (ended c) refusal
+pub returns-clause-first_fault : goal.returns-clause-first_fault
+returns-clause-first_fault c = λ fault refusal. not_cut_and_refused c.args.src.now (terminals_of c.push-2.new.self.items) fault (ended c) refusal
 
 pub returns-clause-terminated : goal.returns-clause-terminated
 returns-clause-terminated c = (all c).terminated

@@ -15,4 +15,4 @@ pub loop-channel-preserved : goal.loop-channel-preserved
 loop-channel-preserved g c =
     went_on _ _ _ _ _ _ _
     (lines_next (channel_line c.args.hierarchy.now) c.args.channels.now c.loop-channel.channel-index _ _ c.loop-channel-test.true (c.as_bytes.ensures.value ∙ c.in_ok-line.ensures ∙ ap (channel_line c.args.hierarchy.now) c.channel-item.is))
-    c.loop-channel.invariant c.in_ok-write_all.ensures.written
+    c.loop-channel.invariant c.in_ok-write_all.ensures.accepted

@@ -14,7 +14,7 @@ pub loop-instruction-preserved : goal.loop-instruction-preserved
 loop-instruction-preserved g c = (
   went_on _ _ _ _ _ _ _
       (code_next c.args.code.now c.loop-instruction.instruction-index c.loop-instruction.offset _ _ _ c.loop-instruction-test.true (c.as_bytes.ensures.value ∙ c.in_ok-line.ensures) c.width-offset.ensures)
-      c.loop-instruction.invariant.0 c.in_ok-write_all.ensures.written,
+      c.loop-instruction.invariant.0 c.in_ok-write_all.ensures.accepted,
   code_left c.args.code.now c.loop-instruction.instruction-index c.loop-instruction.offset _ _ c.loop-instruction-test.true c.width-offset.ensures
       c.loop-instruction.invariant.1,
 )

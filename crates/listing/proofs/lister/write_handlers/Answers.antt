@@ -15,4 +15,4 @@ pub loop-handler-preserved : goal.loop-handler-preserved
 loop-handler-preserved g c =
     went_on _ _ _ _ _ _ _
     (lines_next handler_line c.args.handlers.now c.loop-handler.handler-index _ _ c.loop-handler-test.true (c.as_bytes.ensures.value ∙ c.in_ok-line.ensures))
-    c.loop-handler.invariant c.in_ok-write_all.ensures.written
+    c.loop-handler.invariant c.in_ok-write_all.ensures.accepted

@@ -15,4 +15,4 @@ write_procedures-requires g c = rw c.procedures.ensures.procedures (all_short c.
 pub returns-clause-prefix : goal.returns-clause-prefix
 returns-clause-prefix g c = on_err_then c.write_procedures.result _ _
     (λ part. rw (sym c.hierarchy.ensures.hierarchy, sym c.channels.ensures, sym c.procedures.ensures.procedures)
-    (cut_second _ _ _ _ _ _ refl c.in_ok-write_channels.ensures.listed part)) c.write_procedures.ensures.prefix
+    (cut_second _ _ _ _ _ _ refl c.in_ok-write_channels.ensures.accepted part)) c.write_procedures.ensures.prefix

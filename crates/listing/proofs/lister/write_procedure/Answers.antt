@@ -15,12 +15,12 @@ returns-in_err-write_code-clause-prefix g c =
     rw (sym c.code.ensures)
     (on_err c.from_residual-in_err-write_code.result _
     (cut_first _ _ _ _ _ refl
-    (cut_second _ _ _ _ _ _ (c.as_bytes.ensures.value ∙ c.in_ok-line.ensures) c.in_ok-write_all.ensures.written c.in_err-write_code.ensures.prefix)))
+    (cut_second _ _ _ _ _ _ (c.as_bytes.ensures.value ∙ c.in_ok-line.ensures) c.in_ok-write_all.ensures.accepted c.in_err-write_code.ensures.prefix)))
 
 pub returns-clause-prefix : goal.returns-clause-prefix
 returns-clause-prefix g c =
     on_err_then c.write_handlers.result _ _
     (λ part. rw (sym c.code.ensures, sym c.handlers.ensures)
     (cut_second _ _ _ _ _ _ (ap (λ line. line ++ code_text 0 c.code.result.now) (c.as_bytes.ensures.value ∙ c.in_ok-line.ensures))
-    (Appends-trans _ _ _ _ _ c.in_ok-write_all.ensures.written c.in_ok-write_code.ensures.listed) part))
+    (Appends-trans _ _ _ _ _ c.in_ok-write_all.ensures.accepted c.in_ok-write_code.ensures.accepted) part))
     c.write_handlers.ensures.prefix

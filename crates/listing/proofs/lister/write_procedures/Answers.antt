@@ -19,4 +19,4 @@ returns-in_err-write_procedure-clause-prefix g c =
 pub loop-number-preserved : goal.loop-number-preserved
 loop-number-preserved g c =
     went_on _ _ _ _ _ _ _ (procedures_next c.args.procedures.now c.loop-number.number _ _ c.loop-number-test.true c.index-procedures-number.is)
-    c.loop-number.invariant c.in_ok-write_procedure.ensures.listed
+    c.loop-number.invariant c.in_ok-write_procedure.ensures.accepted

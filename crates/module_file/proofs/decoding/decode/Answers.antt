@@ -19,12 +19,12 @@ pub returns-in-Ok-clause-exact : goal.returns-in-Ok-clause-exact
 returns-in-Ok-clause-exact c = λ m spells.
     c.module_of.ensures ∙ same_value (contents_of c.in-Ok.fields) m (sym c.in-Ok.ensures ∙ module_again c.args.bytes.now m spells)
 
-pub returns-in-Err-Stop-clause-exact : goal.returns-in-Err-Stop-clause-exact
-returns-in-Err-Stop-clause-exact c = λ m spells.
-    let stopped : read_all module_file c.args.bytes.now ≡ Err c.in-Err-Stop.stop = rw c.in-Err-Stop.field-0-is at c.in-Err-Stop.ensures in
+pub returns-in-Err-Refused-clause-exact : goal.returns-in-Err-Refused-clause-exact
+returns-in-Err-Refused-clause-exact c = λ m spells.
+    let stopped : read_all module_file c.args.bytes.now ≡ Err c.in-Err-Refused.stop = rw c.in-Err-Refused.field-0-is at c.in-Err-Refused.ensures in
     absurd (cc (stopped, module_again c.args.bytes.now m spells))
 
 pub overflow_sub-offset : goal.overflow_sub-offset
 overflow_sub-offset c =
-    let stopped : read_all module_file c.args.bytes.now ≡ Err c.in-Err-Stop.stop = rw c.in-Err-Stop.field-0-is at c.in-Err-Stop.ensures in
-    omega (arith, stop_inside module_file c.args.bytes.now c.in-Err-Stop.stop stopped)
+    let stopped : read_all module_file c.args.bytes.now ≡ Err c.in-Err-Refused.stop = rw c.in-Err-Refused.field-0-is at c.in-Err-Refused.ensures in
+    omega (arith, stop_inside module_file c.args.bytes.now c.in-Err-Refused.stop stopped)

@@ -1,9 +1,7 @@
-use Rattle.std.proofs.Common.{◌≡◌, ℕ, ◌+◌, ◌&&◌, not, map, take, List, ap, ◌∙◌, sym, ◌++◌, ◌∷◌, [], get_or, ◌<◌, length}
+use Rattle.std.proofs.Common.{ℕ, ◌&&◌, not, map, take, ap, ◌∙◌, sym}
 use Rattle.std.specs.Prelude.{◌==◌}
-use Rattle.std.proofs.lemmas.List.{take_more}
 use Rattle.resolved.specs.Ends.{declared_by}
 use Rattle.resolved.specs.ProgramOf.{thrown_entry}
-use Rattle.resolved.specs.declared.tables.Thrown.{Thrown}
 use Rattle.path_map.specs.Sets.{row_has, is_one_of}
 use Rattle.path_map.proofs.Procedures.{declared-more, not-more}
 use Rattle.path_map.proofs.map.are_declared.Goals as goal

@@ -1,7 +1,7 @@
-use Rattle.std.proofs.Common.{◌≡◌, ap, sym, ◌∙◌, subst, map, drop, ◌+◌, ◌∷◌, ◌++◌, [], rules, List}
+use Rattle.common.specs.Answers.{IfRefused}
+use Rattle.std.proofs.Common.{◌≡◌, sym, subst, map, drop, ◌+◌, ◌++◌, [], rules}
 use Rattle.resolved.specs.CoreOf.{program_of}
 use Rattle.resolved.specs.EndFaults.{end_faults, procedure_faults}
-use Rattle.resolved.specs.Program.{ProcedureEntry}
 use Rattle.resolved.specs.ProgramOf.{procedure_entry}
 use Rattle.path_map.specs.Exits.{exits_of}
 use Rattle.path_map.specs.FirstFault.{IsFirstEndFault}
@@ -34,15 +34,15 @@ returns-in_err-walk_procedure-clause-first_fault c =
     let procedure = procedure_entry c.procedure-item.result in
     let all = map procedure_entry c.args.core.now.procedures.items in
     let tail = map procedure_entry (drop (c.loop-procedure.procedure-index + 1) c.deref-procedure-items.result.now) in
-    let first : IsFirstEndFault (end_faults program) c.in_err-walk_procedure.field-0.0 =
+    let first : IfRefused (IsFirstEndFault (end_faults program)) c.in_err-walk_procedure.field-0.0 =
     beside-first program all procedure tail c.loop-procedure.entries.items c.in_err-walk_procedure.field-0.0
     (subst (λ list. Beside program all list c.loop-procedure.entries.items)
     (next-procedure c.deref-procedure-items.result.now c.loop-procedure.procedure-index c.procedure-item.result c.loop-procedure-test.true c.procedure-item.is) c.loop-procedure.invariant)
-    (subst (λ core. IsFirstEndFault (procedure_faults (program_of core) procedure) c.in_err-walk_procedure.field-0.0) c.in_ok-walk.ensures c.in_err-walk_procedure.ensures.first_fault) in
+    (subst (λ core. IfRefused (IsFirstEndFault (procedure_faults (program_of core) procedure)) c.in_err-walk_procedure.field-0.0) c.in_ok-walk.ensures c.in_err-walk_procedure.ensures.first_fault) in
     search (rules, first)
 
-pub returns-clause-exact : goal.returns-clause-exact
-returns-clause-exact c =
+pub returns-clause-found : goal.returns-clause-found
+returns-clause-found c =
     let program = program_of c.args.core.now in
     let all = map procedure_entry c.args.core.now.procedures.items in
     beside-end program all c.loop-procedure.entries.items

@@ -1,18 +1,12 @@
-use Rattle.std.proofs.Common.{◌≡◌, refl, ap, sym, ◌∙◌, subst, map, ◌++◌, [], List, true, false, not, ◌||◌, ◌&&◌, rules, Bool, ℕ}
-use Rattle.std.specs.Prelude.{is_some}
-use Rattle.std.specs.List.{list_all}
+use Rattle.common.specs.Answers.{IfRefused}
+use Rattle.std.proofs.Common.{ap, sym, ◌∙◌, subst, map, ◌++◌, not}
 use Rattle.resolved.specs.CoreOf.{program_of}
 use Rattle.resolved.specs.TreeOf.{block_of}
-use Rattle.resolved.specs.declared.statement.Exit.TheVariants.{Normal}
-use Rattle.resolved.specs.Ends.{has_end, block_ends}
-use Rattle.resolved.specs.EndFaults.{block_faults, may_end, procedure_faults}
+use Rattle.resolved.specs.EndFaults.{procedure_faults}
 use Rattle.resolved.specs.ProgramOf.{procedure_entry}
-use Rattle.path_map.specs.declared.exits.Exits.{Exits}
 use Rattle.path_map.specs.FirstFault.{IsFirstEndFault}
 use Rattle.path_map.specs.Exits.{exits_of}
 use Rattle.path_map.specs.Paths.{block_paths}
-use Rattle.path_map.specs.Sets.{row_has, throws}
-use Rattle.path_map.specs.Walks.{IsFound}
 use Rattle.path_map.proofs.Procedures.{walked, all-may-end, no-value-first, undeclared-first, no-faults}
 use Rattle.path_map.proofs.map.walk_procedure.Goals as goal
 
@@ -34,7 +28,7 @@ pub returns-then-lacks_value-clause-first_fault : goal.returns-then-lacks_value-
 returns-then-lacks_value-clause-first_fault c =
     let piece = walked (program_of c.args.walk.now.core.now) c.args.procedure.now c.deref.result.now c.args.entries.now.items c.walk_block.new.entries.items
     c.new-raised.result.words.items c.walk_block.new.raised.words.items c.in_ok-exits.exits c.deref.ensures.value c.new-raised.ensures c.in_ok-exits.ensures.found c.in_ok-exits.ensures.accepted in
-    subst (λ fault. IsFirstEndFault (procedure_faults (program_of c.args.walk.now.core.now) (procedure_entry c.args.procedure.now)) fault) (sym c.refused.ensures)
+    subst (λ fault. IfRefused (IsFirstEndFault (procedure_faults (program_of c.args.walk.now.core.now) (procedure_entry c.args.procedure.now))) fault) (sym c.refused.ensures)
     (no-value-first (program_of c.args.walk.now.core.now) (procedure_entry c.args.procedure.now) piece.clean
     (piece.value ∙ (sym c.lacks_value.ensures ∙ c.if-lacks_value.true)))
 
@@ -42,7 +36,7 @@ pub returns-then-lets_out-clause-first_fault : goal.returns-then-lets_out-clause
 returns-then-lets_out-clause-first_fault c =
     let piece = walked (program_of c.args.walk.now.core.now) c.args.procedure.now c.deref.result.now c.args.entries.now.items c.walk_block.new.entries.items
     c.new-raised.result.words.items c.walk_block.new.raised.words.items c.in_ok-exits.exits c.deref.ensures.value c.new-raised.ensures c.in_ok-exits.ensures.found c.in_ok-exits.ensures.accepted in
-    subst (λ fault. IsFirstEndFault (procedure_faults (program_of c.args.walk.now.core.now) (procedure_entry c.args.procedure.now)) fault) (sym c.refused-then-lets_out.ensures)
+    subst (λ fault. IfRefused (IsFirstEndFault (procedure_faults (program_of c.args.walk.now.core.now) (procedure_entry c.args.procedure.now))) fault) (sym c.refused-then-lets_out.ensures)
     (undeclared-first (program_of c.args.walk.now.core.now) (procedure_entry c.args.procedure.now) piece.clean
     (piece.value ∙ (sym c.lacks_value.ensures ∙ c.if-lacks_value.false))
     (all-may-end (program_of c.args.walk.now.core.now) c.args.procedure.now c.deref-2.result.now c.walk_block.new.raised.words.items c.in_ok-exits.exits c.are_declared-declared.result

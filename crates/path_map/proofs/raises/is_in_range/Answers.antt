@@ -1,4 +1,4 @@
-use Rattle.std.proofs.Common.{◌≡◌, ap, ◌∙◌, sym, arith, ◌≤◌, ◌<◌, false, leb}
+use Rattle.std.proofs.Common.{ap, ◌∙◌, sym, arith}
 use Rattle.resolved.specs.Value.{in_range}
 use Rattle.std.proofs.lemmas.Bool.{lt-leb}
 use Rattle.path_map.proofs.Rows.{large-literal}

@@ -1,6 +1,5 @@
-use Rattle.std.proofs.Common.{◌≡◌, ℕ, ◌<◌, ◌^◌, ◌%◌, ◌*◌, refl, arith}
+use Rattle.std.proofs.Common.{ℕ, ◌^◌, ◌%◌, ◌*◌, refl, arith}
 use Rattle.std.specs.Int.{bit_not, trailing_zeros}
-use Rattle.std.specs.Int.Bits.{bit_and}
 use Rattle.std.proofs.lemmas.Nat.{and_le_l}
 use mir.Syntax.{w64}
 use Rattle.path_map.proofs.Rows.{word-one, word-several}

@@ -1,17 +1,15 @@
-use Rattle.std.proofs.Common.{◌≡◌, refl, sym, ap, ◌∙◌, subst, ℕ, ◌+◌, List, [], ◌∷◌, Bool, true, false, not, map, drop, rules, ◌++◌}
-use Rattle.std.specs.Prelude.{Some, None, if◌then◌else◌}
-use Rattle.std.specs.Result.{IfOk, IfErr, OnOk}
+use Rattle.common.specs.Answers.{IfRefused}
+use Rattle.std.proofs.Common.{◌≡◌, refl, sym, ap, ◌∙◌, subst, ◌+◌, List, [], true, map, drop, rules, ◌++◌}
 use Rattle.std.proofs.lemmas.Bool.{not-false}
 use Rattle.std.proofs.lemmas.Result.{IfOk-weaker, IfErr-weaker, on_ok_weaker}
 use Rattle.resolved.specs.CoreOf.{program_of}
-use Rattle.resolved.specs.Program.{Program, procedure_at}
-use Rattle.resolved.specs.Ends.{block_ends, handlers_ends, raises, raises_all, index_raises, declared_by, statement_ends, thrown_ends}
+use Rattle.resolved.specs.Ends.{block_ends, raises, raises_all, index_raises, statement_ends}
 use Rattle.resolved.specs.EndFaults.{block_faults, handlers_faults, inner_faults}
 use Rattle.resolved.specs.Tree as T
 use Rattle.resolved.specs.TreeOf.{expression_of, some_expression_of, statement_of, block_of, handlers_of}
 use Rattle.resolved.specs.declared.statement.Exit.{Exit}
 use Rattle.path_map.specs.declared.fault.EndDefect.TheVariants as defect
-use Rattle.path_map.specs.declared.fault.EndsFault.TheVariants.{Refused}
+use Rattle.common.specs.declared.fault.OrNoMemory.TheVariants.{Refused}
 use Rattle.path_map.specs.FirstFault.{IsFirstEndFault}
 use Rattle.path_map.specs.Paths.{block_paths, rest_paths, inner_paths}
 use Rattle.path_map.specs.Joins.{raised_list, raises_some}
@@ -125,7 +123,7 @@ walk_form-returns-in_ok-no-in-If-clause-accepted t c =
 pub walk_form-returns-in_err-yes-in-If-clause-first_fault : goal.walk_form-returns-in_err-yes-in-If-clause-first_fault
 walk_form-returns-in_err-yes-in-If-clause-first_fault t c =
     let program = program_of c.args.walk.now.core.now in
-    let first : IsFirstEndFault (inner_faults program c.args.in_loop (statement_of c.args.statement.now)) c.in_err-yes-in-If.field-0.0 =
+    let first : IfRefused (IsFirstEndFault (inner_faults program c.args.in_loop (statement_of c.args.statement.now))) c.in_err-yes-in-If.field-0.0 =
     first-at program c.args.statement.now (T.If c.in-If.field-0 (expression_of c.in-If.condition) (block_of c.deref-in-If.result.now) (block_of c.in-If.no_block.items))
     (tree-if c.args.statement.now c.in-If.field-0 c.in-If.condition c.in-If.yes_block c.in-If.no_block c.deref-in-If.result.now c.in-If.no_block.items c.in-If.is c.deref-in-If.ensures.value refl)
     c.args.in_loop c.in_err-yes-in-If.field-0.0
@@ -138,7 +136,7 @@ walk_form-returns-in_err-no-in-If-clause-first_fault t c =
     let program = program_of c.args.walk.now.core.now in
     let yes_block = block_of c.deref-in-If.result.now in
     let no_block = block_of c.deref-in-If-2.result.now in
-    let first : IsFirstEndFault (inner_faults program c.args.in_loop (statement_of c.args.statement.now)) c.in_err-no-in-If.field-0.0 =
+    let first : IfRefused (IsFirstEndFault (inner_faults program c.args.in_loop (statement_of c.args.statement.now))) c.in_err-no-in-If.field-0.0 =
     first-at program c.args.statement.now (T.If c.in-If.field-0 (expression_of c.in-If.condition) yes_block no_block)
     (tree-if c.args.statement.now c.in-If.field-0 c.in-If.condition c.in-If.yes_block c.in-If.no_block c.deref-in-If.result.now c.deref-in-If-2.result.now c.in-If.is c.deref-in-If.ensures.value c.deref-in-If-2.ensures.value)
     c.args.in_loop c.in_err-no-in-If.field-0.0
@@ -169,7 +167,7 @@ walk_form-returns-in_ok-body-in-While-clause-accepted t c =
 pub walk_form-returns-in_err-body-in-While-clause-first_fault : goal.walk_form-returns-in_err-body-in-While-clause-first_fault
 walk_form-returns-in_err-body-in-While-clause-first_fault t c =
     let program = program_of c.args.walk.now.core.now in
-    let first : IsFirstEndFault (inner_faults program c.args.in_loop (statement_of c.args.statement.now)) c.in_err-body-in-While.field-0.0 =
+    let first : IfRefused (IsFirstEndFault (inner_faults program c.args.in_loop (statement_of c.args.statement.now))) c.in_err-body-in-While.field-0.0 =
     first-at program c.args.statement.now (T.While c.in-While.field-0 c.in-While.field-1 (expression_of c.in-While.condition) (block_of c.deref-in-While.result.now))
     (tree-while c.args.statement.now c.in-While.field-0 c.in-While.field-1 c.in-While.condition c.in-While.body c.deref-in-While.result.now c.in-While.is c.deref-in-While.ensures.value)
     c.args.in_loop c.in_err-body-in-While.field-0.0 c.in_err-body-in-While.ensures.first_fault in
@@ -208,7 +206,7 @@ walk_form-returns-in_err-tried-in-Try-clause-first_fault t c =
     let program = program_of c.args.walk.now.core.now in
     let block = block_of c.deref-in-Try.result.now in
     let handlers = handlers_of c.in-Try.handlers.items in
-    let first : IsFirstEndFault (inner_faults program c.args.in_loop (statement_of c.args.statement.now)) c.in_err-tried-in-Try.field-0.0 =
+    let first : IfRefused (IsFirstEndFault (inner_faults program c.args.in_loop (statement_of c.args.statement.now))) c.in_err-tried-in-Try.field-0.0 =
     first-at program c.args.statement.now (T.Try c.in-Try.field-0 block handlers)
     (tree-try c.args.statement.now c.in-Try.field-0 c.in-Try.block c.in-Try.handlers c.deref-in-Try.result.now c.in-Try.handlers.items c.in-Try.is c.deref-in-Try.ensures.value refl)
     c.args.in_loop c.in_err-tried-in-Try.field-0.0
@@ -221,7 +219,7 @@ walk_form-returns-in_err-handled-in-Try-clause-first_fault t c =
     let program = program_of c.args.walk.now.core.now in
     let block = block_of c.deref-in-Try.result.now in
     let handlers = handlers_of c.deref-in-Try-2.result.now in
-    let first : IsFirstEndFault (inner_faults program c.args.in_loop (statement_of c.args.statement.now)) c.in_err-handled-in-Try.field-0.0 =
+    let first : IfRefused (IsFirstEndFault (inner_faults program c.args.in_loop (statement_of c.args.statement.now))) c.in_err-handled-in-Try.field-0.0 =
     first-at program c.args.statement.now (T.Try c.in-Try.field-0 block handlers)
     (tree-try c.args.statement.now c.in-Try.field-0 c.in-Try.block c.in-Try.handlers c.deref-in-Try.result.now c.deref-in-Try-2.result.now c.in-Try.is c.deref-in-Try.ensures.value c.deref-in-Try-2.ensures.value)
     c.args.in_loop c.in_err-handled-in-Try.field-0.0
@@ -262,8 +260,8 @@ walk_form-returns-in-Nested-clause-first_fault t c =
     let program = program_of c.args.walk.now.core.now in
     let block = block_of c.deref-in-Nested.result.now in
     IfErr-weaker c.walk_block-in-Nested.result
-    (λ fault. IsFirstEndFault (block_faults program c.args.in_loop true block) fault)
-    (λ fault. IsFirstEndFault (inner_faults program c.args.in_loop (statement_of c.args.statement.now)) fault)
+    (λ fault. IfRefused (IsFirstEndFault (block_faults program c.args.in_loop true block)) fault)
+    (λ fault. IfRefused (IsFirstEndFault (inner_faults program c.args.in_loop (statement_of c.args.statement.now))) fault)
     (λ fault first.
     first-at program c.args.statement.now (T.Nested c.in-Nested.field-0 block)
     (tree-nested c.args.statement.now c.in-Nested.field-0 c.in-Nested.block c.deref-in-Nested.result.now c.in-Nested.is c.deref-in-Nested.ensures.value)
@@ -280,7 +278,7 @@ walk_statements-returns-then-not-may_stand-clause-first_fault t c =
     let along : Along program c.args.in_loop block (T.Then statement tail) c.args.entries.now.items c.loop-statement.entries.items c.args.raised.now.words.items c.loop-statement.raised.words.items c.loop-statement.exits =
     subst (λ rest. Along program c.args.in_loop block rest c.args.entries.now.items c.loop-statement.entries.items c.args.raised.now.words.items c.loop-statement.raised.words.items c.loop-statement.exits)
     (next-statement c.args.block.now c.loop-statement.statement-index c.statement-item.result c.loop-statement-test.true c.statement-item.is) c.loop-statement.invariant in
-    subst (λ fault. IsFirstEndFault (block_faults program c.args.in_loop true block) fault)
+    subst (λ fault. IfRefused (IsFirstEndFault (block_faults program c.args.in_loop true block)) fault)
     (sym (c.refused.ensures ∙ ap (λ at. Refused (record { defect = defect.OutsideLoop; at = at })) c.at.ensures))
     (outside program c.args.in_loop block c.args.entries.now.items c.args.raised.now.words.items statement tail c.loop-statement.entries.items c.loop-statement.raised.words.items c.loop-statement.exits along
     (sym c.may_stand.ensures ∙ c.if-not-may_stand.true))
@@ -311,7 +309,7 @@ walk_handlers-returns-then-not-remove-clause-first_fault t c =
     subst (λ rest. Handling program c.args.in_loop handlers rest c.args.entries.now.items c.loop-handler.entries.items c.args.raised.now.words.items c.loop-handler.raised.words.items c.args.inner.now.words.items c.loop-handler.inner.words.items c.loop-handler.exits)
     (next-handler c.args.handlers.now c.loop-handler.handler-index handler handler.body.items c.loop-handler-test.true c.handler-item.is refl) c.loop-handler.invariant in
     λ ends are.
-    subst (λ fault. IsFirstEndFault (handlers_faults program c.args.in_loop ends handlers) fault) (sym c.refused.ensures)
+    subst (λ fault. IfRefused (IsFirstEndFault (handlers_faults program c.args.in_loop ends handlers)) fault) (sym c.refused.ensures)
     (never-raised program c.args.in_loop handlers c.args.entries.now.items c.args.raised.now.words.items c.args.inner.now.words.items handler.at handler.exception body tail c.loop-handler.entries.items c.loop-handler.raised.words.items c.loop-handler.inner.words.items c.remove.new.self.words.items c.loop-handler.exits along
     c.remove.ensures.left (sym c.remove.ensures.there ∙ c.if-not-remove.true) ends are)
 
@@ -325,7 +323,7 @@ walk_handlers-returns-in_err-found-clause-first_fault t c =
     let along : Handling program c.args.in_loop handlers (T.Catch handler.at handler.exception body tail) c.args.entries.now.items c.loop-handler.entries.items c.args.raised.now.words.items c.loop-handler.raised.words.items c.args.inner.now.words.items c.loop-handler.inner.words.items c.loop-handler.exits =
     subst (λ rest. Handling program c.args.in_loop handlers rest c.args.entries.now.items c.loop-handler.entries.items c.args.raised.now.words.items c.loop-handler.raised.words.items c.args.inner.now.words.items c.loop-handler.inner.words.items c.loop-handler.exits)
     (next-handler c.args.handlers.now c.loop-handler.handler-index handler c.deref.result.now c.loop-handler-test.true c.handler-item.is c.deref.ensures.value) c.loop-handler.invariant in
-    let first : (ends : List Exit) → AreThrown c.args.inner.now.words.items ends → IsFirstEndFault (handlers_faults program c.args.in_loop ends handlers) c.in_err-found.field-0.0 =
+    let first : (ends : List Exit) → AreThrown c.args.inner.now.words.items ends → IfRefused (IsFirstEndFault (handlers_faults program c.args.in_loop ends handlers)) c.in_err-found.field-0.0 =
     in-handler program c.args.in_loop handlers c.args.entries.now.items c.args.raised.now.words.items c.args.inner.now.words.items handler.at handler.exception body tail c.loop-handler.entries.items c.loop-handler.raised.words.items c.loop-handler.inner.words.items c.remove.new.self.words.items c.loop-handler.exits along
     c.remove.ensures.left (sym c.remove.ensures.there ∙ c.if-not-remove.false) c.in_err-found.field-0.0 c.in_err-found.ensures.first_fault in
     search (rules, first)

@@ -10,13 +10,13 @@ use Rattle.principals.specs.Table.{names_of}
 use Rattle.principals.proofs.Names.{listed_iff, not_listed}
 use Rattle.principals.proofs.declaring.declare.Goals as goal
 
-pub returns-then-contains-clause-refused : goal.returns-then-contains-clause-refused
-returns-then-contains-clause-refused c =
+pub returns-then-contains-clause-rejected : goal.returns-then-contains-clause-rejected
+returns-then-contains-clause-rejected c =
     Twice (terminal_of c.args.name.now)
     ((listed_iff (λ name. string_bytes name) c.args.names.now.keys c.args.name.now.text.now).0 (sym c.if-contains.ensures))
 
-pub returns-then-full-clause-refused : goal.returns-then-full-clause-refused
-returns-then-full-clause-refused c =
+pub returns-then-full-clause-rejected : goal.returns-then-full-clause-rejected
+returns-then-full-clause-rejected c =
     let full : 256 ≤ length (names_of c.args.names.now) =
     omega (arith, length-map c.args.names.now.keys (λ name. string_bytes name), c.len-full.ensures.len, c.if-full.true) in
     Crowded (terminal_of c.args.name.now)

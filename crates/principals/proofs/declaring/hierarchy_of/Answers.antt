@@ -1,17 +1,20 @@
-use Rattle.std.proofs.Common.{◌≡◌, ◌≤◌, ◌+◌, ◌++◌, ◌∷◌, [], length, take, drop, sym, ap, subst, ◌∙◌, arith}
+use Rattle.std.proofs.Common.{◌≡◌, ◌≤◌, ◌+◌, ◌++◌, ◌∷◌, [], Some, Ok, Err, slice_get, length, take, drop, refl, sym, ap, subst, ◌∙◌, arith}
 use Rattle.std.proofs.lemmas.List.{take_all}
 use Rattle.std.proofs.lemmas.Result.{err_from_is_err_and}
 use Rattle.lexer.specs.Terminal.{terminal_of}
 use Rattle.principals.specs.ActsFor.{AllBelow, AllDifferent}
-use Rattle.principals.specs.HierarchyText.{Declares, Relates}
-use Rattle.principals.specs.Reading.{IsStatementsFault, entry_of, entries_of}
+use Rattle.common.specs.Answers.{IfRefused}
+use Rattle.common.specs.declared.fault.OrNoMemory.TheVariants.{Refused}
+use Rattle.common.proofs.Casting.{map-answer, mapped-ok, refused-weaker}
+use Rattle.principals.specs.HierarchyText.{Declares, IsEntryRefusal, IsFirstRefusal, Relates}
+use Rattle.principals.specs.Reading.{entry_of, entries_of}
 use Rattle.principals.specs.Table.{names_of}
-use Rattle.principals.proofs.Building.{built_name, built_pair, built_said, built_same, fault_of_entry, entries_around, entries_more}
+use Rattle.principals.proofs.Building.{built_name, built_pair, built_said, built_refused, built_same, entries_around, entries_more}
 use Rattle.principals.proofs.declaring.hierarchy_of.Goals as goal
-use Rattle.principals.proofs.declaring.hierarchy_of.Goals.{in-Declares+in_ok-declare-in-Declares, in-Relates+in_ok-relate-in-Relates+in_ok-push-in-Relates}
+use Rattle.principals.proofs.declaring.hierarchy_of.Goals.{in-Declares+in_ok-declare-in-Declares, in-Relates+in_ok-pair-in-Relates+in_ok-push-in-Relates}
 
-pub returns-in_err-declare-in-Declares-clause-refused : goal.returns-in_err-declare-in-Declares-clause-refused
-returns-in_err-declare-in-Declares-clause-refused c =
+pub returns-in_err-declare-in-Declares-clause-rejected : goal.returns-in_err-declare-in-Declares-clause-rejected
+returns-in_err-declare-in-Declares-clause-rejected c =
     let p = err_from_is_err_and c.from_residual.result c.from_residual.ensures.1 in
     let statements = c.args.statements.now in
     let i = c.loop-statement.statement-index in
@@ -19,23 +22,26 @@ returns-in_err-declare-in-Declares-clause-refused c =
     let whole : entries_of statements ≡ entries_of (take i statements) ++ Declares (terminal_of c.in-Declares.name) ∷ entries_of (drop (i + 1) statements) =
     entries_around statements i _ c.loop-statement-test.true
     ∙ ap (λ x. entries_of (take i statements) ++ entry_of x ∷ entries_of (drop (i + 1) statements)) c.in-Declares.is in
-    rw (p.1, p.2) (subst (λ x. IsStatementsFault x fault) (sym whole)
-    (fault_of_entry (entries_of (take i statements)) (entries_of (drop (i + 1) statements)) (names_of c.loop-statement.names) c.loop-statement.pairs.items
-    (Declares (terminal_of c.in-Declares.name)) fault c.loop-statement.invariant c.in_err-declare-in-Declares.ensures.refused))
+    rw (p.1, p.2) (subst (λ x. IfRefused (IsFirstRefusal x) fault) (sym whole)
+    (refused-weaker (IsEntryRefusal (names_of c.loop-statement.names) (Declares (terminal_of c.in-Declares.name))) (IsFirstRefusal _)
+    (λ r h. built_refused (entries_of (take i statements)) (entries_of (drop (i + 1) statements)) (names_of c.loop-statement.names) c.loop-statement.pairs.items
+    (Declares (terminal_of c.in-Declares.name)) r c.loop-statement.invariant h) fault c.in_err-declare-in-Declares.ensures.rejected))
 
-pub returns-in_err-relate-in-Relates-clause-refused : goal.returns-in_err-relate-in-Relates-clause-refused
-returns-in_err-relate-in-Relates-clause-refused c =
-    let p = err_from_is_err_and c.from_residual-in_err-relate-in-Relates.result c.from_residual-in_err-relate-in-Relates.ensures.1 in
+pub returns-in_err-pair-in-Relates-clause-rejected : goal.returns-in_err-pair-in-Relates-clause-rejected
+returns-in_err-pair-in-Relates-clause-rejected c =
+    let p = err_from_is_err_and c.from_residual-in_err-pair-in-Relates.result c.from_residual-in_err-pair-in-Relates.ensures.1 in
     let statements = c.args.statements.now in
     let i = c.loop-statement.statement-index in
-    let fault = c.in_err-relate-in-Relates.field-0.0 in
+    let fault = c.in_err-pair-in-Relates.field-0.0 in
     let entry = Relates (terminal_of c.in-Relates.left) (terminal_of c.in-Relates.right) in
     let whole : entries_of statements ≡ entries_of (take i statements) ++ entry ∷ entries_of (drop (i + 1) statements) =
     entries_around statements i _ c.loop-statement-test.true
     ∙ ap (λ x. entries_of (take i statements) ++ entry_of x ∷ entries_of (drop (i + 1) statements)) c.in-Relates.is in
-    rw (p.1, p.2) (subst (λ x. IsStatementsFault x fault) (sym whole)
-    (fault_of_entry (entries_of (take i statements)) (entries_of (drop (i + 1) statements)) (names_of c.loop-statement.names) c.loop-statement.pairs.items
-    entry fault c.loop-statement.invariant c.in_err-relate-in-Relates.ensures.refused))
+    let refused = map-answer (IsEntryRefusal (names_of c.loop-statement.names) entry) (IfRefused (IsFirstRefusal (entries_of statements)))
+    (λ r f (is : f ≡ Refused r) h. rw is (subst (λ x. IsFirstRefusal x r) (sym whole)
+    (built_refused (entries_of (take i statements)) (entries_of (drop (i + 1) statements)) (names_of c.loop-statement.names) c.loop-statement.pairs.items
+    entry r c.loop-statement.invariant h))) c.relate.result (Err fault) c.in_err-pair-in-Relates.ensures.cases c.relate.ensures.rejected in
+    rw (p.1, p.2) refused
 
 pub loop-statement-preserved : goal.loop-statement-preserved
 loop-statement-preserved c =
@@ -54,10 +60,10 @@ loop-statement-preserved c =
           built_same more same_names same_pairs
           (built_name es names pairs (terminal_of w.in-Declares.name) c.loop-statement.invariant
           w.in_ok-declare-in-Declares.ensures.fresh w.in_ok-declare-in-Declares.ensures.room)
-      | in-Relates+in_ok-relate-in-Relates+in_ok-push-in-Relates w ↦
+      | in-Relates+in_ok-pair-in-Relates+in_ok-push-in-Relates w ↦
           let left = terminal_of w.in-Relates.left in
           let right = terminal_of w.in-Relates.right in
-          let pair = w.in_ok-relate-in-Relates.field-0 in
+          let pair = w.in_ok-pair-in-Relates.pair in
           let more : entries_of (take (i + 1) statements) ≡ es ++ Relates left right ∷ [] =
           entries_more statements i _ c.loop-statement-test.true ∙ ap (λ x. es ++ entry_of x ∷ []) w.in-Relates.is in
           let same_names : names_of c.match-statement.names ≡ names = ap (λ x. names_of x) w.names-is in
@@ -65,7 +71,8 @@ loop-statement-preserved c =
           ap (λ x. x.items) w.pairs-is ∙ w.in_ok-push-in-Relates.ensures.items in
           built_same more same_names same_pairs
           (built_pair es names pairs left right pair.0 pair.1 c.loop-statement.invariant
-          w.in_ok-relate-in-Relates.ensures.left w.in_ok-relate-in-Relates.ensures.right)
+          (mapped-ok w.relate.result (Ok pair) pair (λ p. slice_get names p.0 ≡ Some left.text) refl w.in_ok-pair-in-Relates.ensures.cases (λ fault no. no) w.relate.ensures.left)
+          (mapped-ok w.relate.result (Ok pair) pair (λ p. slice_get names p.1 ≡ Some right.text) refl w.in_ok-pair-in-Relates.ensures.cases (λ fault no. no) w.relate.ensures.right))
     ]
 
 pub returns-clause-said : goal.returns-clause-said

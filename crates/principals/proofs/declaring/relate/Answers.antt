@@ -5,14 +5,14 @@ use Rattle.principals.specs.Table.{names_of}
 use Rattle.principals.proofs.Names.{contains_number}
 use Rattle.principals.proofs.declaring.relate.Goals as goal
 
-pub returns-in_err-first-clause-refused : goal.returns-in_err-first-clause-refused
-returns-in_err-first-clause-refused c =
+pub returns-in_err-first-clause-rejected : goal.returns-in_err-first-clause-rejected
+returns-in_err-first-clause-rejected c =
     let p = err_from_is_err_and c.from_residual.result c.from_residual.ensures.1 in
     let u = c.in_err-first.ensures.unknown in
     rw (p.1, p.2, u.0) (UnknownLeft (terminal_of c.args.left.now) (terminal_of c.args.right.now) u.1)
 
-pub returns-in_err-second-clause-refused : goal.returns-in_err-second-clause-refused
-returns-in_err-second-clause-refused c =
+pub returns-in_err-second-clause-rejected : goal.returns-in_err-second-clause-rejected
+returns-in_err-second-clause-rejected c =
     let p = err_from_is_err_and c.from_residual-in_err-second.result c.from_residual-in_err-second.ensures.1 in
     let u = c.in_err-second.ensures.unknown in
     rw (p.1, p.2, u.0) (UnknownRight (terminal_of c.args.left.now) (terminal_of c.args.right.now)

@@ -1,20 +1,35 @@
-use Rattle.std.proofs.Common.{sym, subst}
-use Rattle.std.proofs.lemmas.Result.{IfErr-weaker}
+use Rattle.std.proofs.Common.{refl, sym, subst}
+use Rattle.std.specs.Prelude.{Ok}
+use Rattle.std.proofs.lemmas.Result.{err_from_is_err_and, IfErr-at_err, IfErr-weaker}
+use Rattle.common.specs.Answers.{IfRefused}
+use Rattle.common.proofs.Casting.{cast-answer, mapped-ok, refused-weaker}
+use Rattle.lexer.specs.Cut.{IsCut, IsTextRefused}
 use Rattle.lexer.specs.Terminal.{terminals_of}
-use Rattle.principals.specs.HierarchyText.{IsHierarchyForm, Says}
-use Rattle.principals.specs.Reading.{IsReadFault, IsStatementsFault, entries_of}
-use Rattle.principals.proofs.Uniqueness.{entries_fault}
+use Rattle.principals.specs.HierarchyText.{IsFirstRefusal, IsHierarchyForm, IsRefusedText, Says}
+use Rattle.principals.specs.Reading.{entries_of}
+use Rattle.principals.proofs.Uniqueness.{entries_refused, tokens_refused}
 use Rattle.principals.proofs.read.read_text.Goals as goal
 
-pub returns-clause-refused : goal.returns-clause-refused
-returns-clause-refused c =
+pub returns-in_err-tokens-clause-rejected : goal.returns-in_err-tokens-clause-rejected
+returns-in_err-tokens-clause-rejected c =
+    let p = err_from_is_err_and c.from_residual.result c.from_residual.ensures.1 in
+    let text = c.args.text.now in
+    rw (p.1, p.2) (IfErr-at_err (IfRefused (IsRefusedText text)) c.in_err-tokens.was
+    (cast-answer (IsTextRefused text) (IsRefusedText text) (λ r f is h. tokens_refused text r f c.if-text-gt-MAX_TEXT.false is h)
+    c.lex.result c.map_err.result c.map_err.ensures.cases c.lex.ensures.rejected))
+
+pub returns-clause-rejected : goal.returns-clause-rejected
+returns-clause-rejected c =
     let text = c.args.text.now in
     let entries = entries_of c.as_slice-2.result.now in
+    let tokens = mapped-ok c.lex.result (Ok c.in_ok-tokens.tokens) c.in_ok-tokens.tokens (λ found. IsCut text (terminals_of found.items)) refl
+    c.in_ok-tokens.ensures.cases (λ fault no. no) c.lex.ensures.accepted in
     let says : Says text entries = record {
       fits = c.if-text-gt-MAX_TEXT.false;
       tokens = terminals_of c.in_ok-tokens.tokens.items;
-      cut = c.in_ok-tokens.ensures.cut;
+      cut = tokens;
       form = subst (λ x. IsHierarchyForm (terminals_of x) entries) c.as_slice.ensures.value
           (subst (λ x. IsHierarchyForm (terminals_of c.as_slice.result.now) (entries_of x)) (sym c.as_slice-2.ensures.value) c.in_ok-statements.ensures.form);
     } in
-    IfErr-weaker c.hierarchy_of.result (IsStatementsFault entries) (IsReadFault text) (λ f h. entries_fault text entries f says h) c.hierarchy_of.ensures.refused
+    IfErr-weaker c.hierarchy_of.result (IfRefused (IsFirstRefusal entries)) (IfRefused (IsRefusedText text))
+    (λ f h. refused-weaker (IsFirstRefusal entries) (IsRefusedText text) (λ r refused. entries_refused text entries r says refused) f h) c.hierarchy_of.ensures.rejected

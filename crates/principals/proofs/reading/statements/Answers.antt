@@ -70,21 +70,24 @@ returns-clause-form c =
     let ended : state_of c.loop-token.progress ≡ Ended = run_ends (terminals_of tokens) Fresh (state_of c.loop-token.progress) (entries_of c.loop-token.statements.items) c.requires whole in
     read_is_open (terminals_of tokens) Fresh (entries_of c.loop-token.statements.items) (whole ∙ ap (λ x. Some (x, entries_of c.loop-token.statements.items)) ended)
 
-pub returns-in_default-clause-refused : goal.returns-in_default-clause-refused
-returns-in_default-clause-refused c =
+pub returns-in_default-clause-rejected : goal.returns-in_default-clause-rejected
+returns-in_default-clause-rejected c =
     let tokens = c.args.tokens.now in
     let i = c.loop-token.token-index in
     let front = terminals_of (take i tokens) in
     let token = terminal_of (get_or tokens i past) in
     let state = state_of c.loop-token.progress in
     let es = entries_of c.loop-token.statements.items in
-    let stop : next state token ≡ None = sym c.in_default.ensures in
-    record {
-      before = front;
-      token = token;
-      after = terminals_of (drop (i + 1) tokens);
-      tokens_are = cut tokens i past c.loop-token-test.true;
-      goes_on = is_prefix front state es c.loop-token.invariant;
-      stops = stops front token state es c.loop-token.invariant stop;
-      place = refl;
-    }
+    let stop : next state token ≡ None = sym c.in_default.ensures in (
+      _,
+      refl,
+      record {
+        before = front;
+        token = token;
+        after = terminals_of (drop (i + 1) tokens);
+        tokens_are = cut tokens i past c.loop-token-test.true;
+        goes_on = is_prefix front state es c.loop-token.invariant;
+        stops = stops front token state es c.loop-token.invariant stop;
+        place = refl;
+      },
+    )

@@ -11,8 +11,8 @@ use Rattle.solver.proofs.solving.solve.Goals as goal
 pub rows_of-requires : goal.rows_of-requires
 rows_of-requires g c = unknowns-inside c.args.system.now.constraints.items c.in_ok-edges.edges (are-edges c.args.system.now.constraints.items c.as_slice-constraints.result.now c.in_ok-edges.edges c.as_slice-constraints.ensures.value c.in_ok-edges.ensures.written c.in_ok-edges.ensures.unknown) (length c.args.system.now.written.items) c.args.system.now.unknowns c.requires c.in_ok-edges.ensures.unknown_count
 
-pub returns-in-None-clause-solved : goal.returns-in-None-clause-solved
-returns-in-None-clause-solved g c =
+pub returns-in-None-clause-accepted : goal.returns-in-None-clause-accepted
+returns-in-None-clause-accepted g c =
     let l = (g.L.Lattice.order c.args.lattice.now) in
     let table = c.args.system.now.written.items in
     let cs = c.args.system.now.constraints.items in
@@ -47,8 +47,8 @@ find_refusal-requires-clause-breaks g c =
           (breaks-along l c.keep_laws.ensures table cs c.in_ok-edges.edges (are-edges c.args.system.now.constraints.items c.as_slice-constraints.result.now c.in_ok-edges.edges c.as_slice-constraints.ensures.value c.in_ok-edges.ensures.written c.in_ok-edges.ensures.unknown) c.args.system.now.unknowns c.requires rows c.in_ok-rows.ensures c.in-Some.value first.index first.breaks),
     )
 
-pub returns-clause-refused : goal.returns-clause-refused
-returns-clause-refused g c =
+pub returns-clause-rejected : goal.returns-clause-rejected
+returns-clause-rejected g c =
     let l = (g.L.Lattice.order c.args.lattice.now) in
     let table = c.args.system.now.written.items in
     let cs = c.args.system.now.constraints.items in

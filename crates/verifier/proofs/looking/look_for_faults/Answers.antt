@@ -3,7 +3,7 @@ use Rattle.std.specs.Prelude.{IfNone, IfSome}
 use Rattle.bytecode.specs.Contents.{ProcedureContents}
 use Rattle.verifier.specs.Fixed.{fixed_faults, procedure_faults}
 use Rattle.verifier.specs.Verified.{AddsVerifiedCode, IsFaultOf}
-use Rattle.verifier.specs.declared.fault.CodeFault.{CodeFault}
+use Rattle.verifier.specs.declared.fault.CodeRefusal.{CodeRefusal}
 use Rattle.verifier.proofs.Reported.{item_at, item_fault, flow_more, depth_more, there_inside, all_flow, is_verified, reported_first, reported_flow}
 use Rattle.verifier.proofs.Bounds.{bounded}
 use Rattle.verifier.proofs.FixedFaults.{boundaries, own_right, none_left, procedure_some, procedure_none}
@@ -29,8 +29,8 @@ look_for_flow_fault-requires-clause-boundaries c =
     boundaries c.in_ok-body.body.program.now c.in_ok-body.body.procedure.now
     (own_right c.in_ok-body.body.program.now c.loop-procedure.number c.in_ok-body.body.procedure.now (sym c.in_default.is ∙ c.find_body_fault.ensures))
 
-pub returns-in-Some-clause-err : goal.returns-in-Some-clause-err
-returns-in-Some-clause-err c =
+pub returns-in-Some-clause-rejected : goal.returns-in-Some-clause-rejected
+returns-in-Some-clause-rejected c =
     let m = c.args.program.now in
     let l = c.loop-procedure in
     reported_first m c.in-Some.fault
@@ -47,13 +47,13 @@ loop-procedure-preserved c =
     let are = c.procedures-procedures.ensures.procedures in
     let now = c.in_ok-found in
     let added : now.found ≡ None → AddsVerifiedCode b.body.program.now b.body.procedure.now l.found l.codes.items c.look_for_flow_fault.new.codes.items =
-    λ e. subst (λ (o : Option CodeFault). IfNone o (AddsVerifiedCode b.body.program.now b.body.procedure.now l.found l.codes.items c.look_for_flow_fault.new.codes.items)) e now.ensures.none in
+    λ e. subst (λ (o : Option CodeRefusal). IfNone o (AddsVerifiedCode b.body.program.now b.body.procedure.now l.found l.codes.items c.look_for_flow_fault.new.codes.items)) e now.ensures.none in
     record {
       number_is = omega (arith, l.invariant.number_is);
       same =
           sym (procedure_none m b.body.program.now l.number l.procedure-index procedures c.procedure-item.result b.body.procedure.now b.ensures.program b.ensures.procedure c.procedure-item.is c.loop-procedure-test.true c.find_body_fault.result c.find_body_fault.ensures c.in_default.is)
           ∙ l.invariant.same;
-      found = λ fault e. elim (subst (λ (o : Option CodeFault). IfSome o (λ f. (l.found ≡ Some f) ⊎ IsFaultOf b.body.program.now l.number b.body.procedure.now f)) e now.ensures.some) [
+      found = λ fault e. elim (subst (λ (o : Option CodeRefusal). IfSome o (λ f. (l.found ≡ Some f) ⊎ IsFaultOf b.body.program.now l.number b.body.procedure.now f)) e now.ensures.some) [
         | inl before ↦ l.invariant.found fault before
         | inr here ↦ item_fault m procedures are l.procedure-index c.procedure-item.result b.body.procedure.now c.procedure-item.is b.ensures.procedure c.loop-procedure-test.true b.body.program.now l.number fault b.ensures.program l.invariant.number_is here
       ];
@@ -69,15 +69,15 @@ loop-procedure-preserved c =
           l.codes.items c.look_for_flow_fault.new.codes.items now_added.last long now_added.added now_added.depth (l.invariant.depths now_added.none_before);
     }
 
-pub returns-in-Some-found-clause-err : goal.returns-in-Some-found-clause-err
-returns-in-Some-found-clause-err c =
+pub returns-in-Some-found-clause-rejected : goal.returns-in-Some-found-clause-rejected
+returns-in-Some-found-clause-rejected c =
     let m = c.args.program.now in
     let l = c.loop-procedure in
     let none : fixed_faults m ≡ [] = none_left m l.number l.procedure-index c.procedures-procedures.result.now c.procedures-procedures.ensures.procedures c.loop-procedure-test.false l.invariant.same in
     reported_flow m c.in-Some-found.fault none (l.invariant.found c.in-Some-found.fault c.in-Some-found.is)
 
-pub returns-in-None-clause-ok : goal.returns-in-None-clause-ok
-returns-in-None-clause-ok c =
+pub returns-in-None-clause-accepted : goal.returns-in-None-clause-accepted
+returns-in-None-clause-accepted c =
     let m = c.args.program.now in
     let l = c.loop-procedure in
     let are = c.procedures-procedures.ensures.procedures in

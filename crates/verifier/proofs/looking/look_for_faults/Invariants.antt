@@ -5,7 +5,7 @@ use Rattle.verifier.specs.Faults.{IsOperandFault}
 use Rattle.verifier.specs.Fixed.{procedure_faults}
 use Rattle.verifier.specs.Flow.{FlowsWell}
 use Rattle.verifier.specs.Positions.{VerifiedCode}
-use Rattle.verifier.specs.declared.fault.CodeFault.{CodeFault}
+use Rattle.verifier.specs.declared.fault.CodeRefusal.{CodeRefusal}
 use Rattle.verifier.proofs.Positioned.{code_at}
 use Rattle.verifier.proofs.looking.look_for_faults.Given as goal
 
@@ -14,7 +14,7 @@ abbrev pub invariant-loop-procedure : goal.invariant-loop-procedure
 invariant-loop-procedure l = record {
   number_is : l.number ≡ l.procedure-index;
   same : slice_get (procedure_faults l.program l.number (drop l.procedure-index l.procedures)) 0 ≡ slice_get (procedure_faults l.program 0 l.procedures) 0;
-  found : (fault : CodeFault) → l.found ≡ Some fault → IsOperandFault l.program fault;
+  found : (fault : CodeRefusal) → l.found ≡ Some fault → IsOperandFault l.program fault;
   flow : l.found ≡ None → (k : ℕ) (p : ProcedureContents) → k < l.procedure-index → slice_get l.procedures k ≡ Some p → FlowsWell l.program p;
   codes_are : l.found ≡ None → map (λ code. code.instructions) l.codes.items ≡ map code_at (take l.procedure-index l.procedures);
   depths : l.found ≡ None → (k : ℕ) (p : ProcedureContents) (d : VerifiedCode) → k < l.procedure-index → slice_get l.procedures k ≡ Some p → IsGreatestDepth l.program p (get_or l.codes.items k d).greatest_depth;

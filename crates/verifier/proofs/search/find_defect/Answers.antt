@@ -7,8 +7,8 @@ use Rattle.verifier.specs.Search.{left}
 use Rattle.verifier.specs.declared.search.Search.{Search}
 use Rattle.verifier.proofs.search.find_defect.Goals as goal
 
-pub returns-then-size-eq0-clause-err : goal.returns-then-size-eq0-clause-err
-returns-then-size-eq0-clause-err c = empty_falls c.args.body.now.program.now c.args.body.now.procedure.now (omega (arith, c.len-size.ensures, ap length c.requires.body.indices, length-indices 0 c.args.body.now.procedure.now.code))
+pub returns-then-size-eq0-clause-rejected : goal.returns-then-size-eq0-clause-rejected
+returns-then-size-eq0-clause-rejected c = rw c.refuse.ensures (empty_falls c.args.body.now.program.now c.args.body.now.procedure.now (omega (arith, c.len-size.ensures, ap length c.requires.body.indices, length-indices 0 c.args.body.now.procedure.now.code)))
 
 pub run-requires-clause-searching : goal.run-requires-clause-searching
 run-requires-clause-searching c =

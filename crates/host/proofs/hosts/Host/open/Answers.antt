@@ -1,4 +1,4 @@
-use Rattle.std.proofs.Common.{◌≡◌, ◌<◌, length, refl, sym, ap, ◌∙◌, subst, arith}
+use Rattle.std.proofs.Common.{◌≡◌, ◌<◌, List, length, refl, sym, ap, ◌∙◌, subst, arith}
 use Rattle.std.proofs.lemmas.Result.{err_from_is_err_and}
 use Rattle.machine.specs.Run.{machine_of}
 use Rattle.host.specs.Meaning.{CanOpen, HasRoom, first_machine}
@@ -18,7 +18,14 @@ pub returns-in_err-run : goal.returns-in_err-run
 returns-in_err-run c =
     let p = err_from_is_err_and c.from_residual.result c.from_residual.ensures.1 in
     rw (p.1, p.2)
-    (refused_with_room MAX_SESSIONS (host_of c.args.self.now) c.args.bytes.now c.args.world c.in_err-run.field-0.0 (room (goal.at.returns-in_err-run c).After-first_run) c.in_err-run.ensures.cannot, refl)
+    (refused_with_room MAX_SESSIONS (host_of c.args.self.now) c.args.bytes.now c.args.world c.in_err-run.field-0.0 (room (goal.at.returns-in_err-run c).After-first_run) c.in_err-run.ensures.rejected, refl)
+
+pub returns-in_err-insert : goal.returns-in_err-insert
+returns-in_err-insert c =
+    let p = err_from_is_err_and c.from_residual-in_err-insert.result c.from_residual-in_err-insert.ensures.1 in
+    let unchanged : host_of (record { next = next_of c.self.inside.next; sessions = c.insert.new.self.items }) ≡ host_of c.args.self.now =
+    ap (λ (xs : List SessionRun). host_of (record { next = next_of c.self.inside.next; sessions = xs })) c.in_err-insert.ensures.items ∙ ap host_of c.self.view_is in
+    rw (p.1, p.2) (room (goal.at.returns-in_err-insert c).After-first_run, unchanged)
 
 pub returns : goal.returns
 returns c =
@@ -29,7 +36,7 @@ returns c =
       sym (ap next_of c.in-Some.is) ∙ ap (λ (h : HostRuns). h.next) c.self.view_is,
       (
         new.run.program,
-        subst (λ (s : SessionRun). CanOpen c.args.bytes.now c.args.world s.run.program) (sym c.new.ensures) c.in_ok-run.ensures.can,
-        opened_as c.args.self.now c.self.inside.next c.next_id-after.result c.self.inside.sessions.items c.insert.new.self.items c.self.view_is c.in-Some.id c.in-Some.is c.next_id-after.ensures.next new c.in-Ok.ensures.items c.args.world (ap (λ (s : SessionRun). s.id) c.new.ensures) first,
+        subst (λ (s : SessionRun). CanOpen c.args.bytes.now c.args.world s.run.program) (sym c.new.ensures) c.in_ok-run.ensures.accepted,
+        opened_as c.args.self.now c.self.inside.next c.next_id-after.result c.self.inside.sessions.items c.insert.new.self.items c.self.view_is c.in-Some.id c.in-Some.is c.next_id-after.ensures.next new c.in_ok-insert.ensures.items c.args.world (ap (λ (s : SessionRun). s.id) c.new.ensures) first,
       ),
     )

@@ -10,7 +10,7 @@ use Rattle.host.proofs.hosts.Host.turn.Goals as goal
 pub returns-in_default : goal.returns-in_default
 returns-in_default c =
     let are = c.deref.ensures.value ∙ ap (λ (h : HostRuns). h.sessions) c.self.view_is in
-    (refl, is_not_open c.args.self.now c.deref.result.now are c.args.id c.find.result c.find.ensures c.in_default.is, refl)
+    ((refl, is_not_open c.args.self.now c.deref.result.now are c.args.id c.find.result c.find.ensures c.in_default.is), refl)
 
 pub returns : goal.returns
 returns c =

@@ -1,5 +1,6 @@
 use Rattle.std.proofs.Common.{◌≡◌, ◌<◌, ◌==◌, List, length, refl, ap, ◌∙◌, subst, arith}
 use Rattle.std.specs.Prelude.{position}
+use Rattle.std.proofs.lemmas.Result.{err_from_is_err_and}
 use Rattle.principals.specs.ActsFor.{PrincipalHierarchy}
 use Rattle.bytecode.specs.Contents.{ModuleContents}
 use Rattle.bytecode.specs.Isolated.{seen_of}
@@ -31,10 +32,12 @@ returns-then-principal-count c =
     let count = counted after in
     ((contents_of c.index-session.result.now, found after, λ h. let low = c.if-principal-count.true in omega arith), refl)
 
-pub returns-in_default-pairs_for : goal.returns-in_default-pairs_for
-returns-in_default-pairs_for c =
-    let after = (goal.at.returns-in_default-pairs_for c).After-count in
+pub returns-in_err-pairs : goal.returns-in_err-pairs
+returns-in_err-pairs c =
+    let after = (goal.at.returns-in_err-pairs c).After-count in
     let count = counted after in
+    let p = err_from_is_err_and c.from_residual.result c.from_residual.ensures.1 in
+    rw (p.1, p.2)
     ((contents_of c.index-session.result.now, found after, subst (λ n. c.args.principal < n) count c.if-principal-count.false), refl)
 
 pub returns : goal.returns
@@ -44,6 +47,6 @@ returns c =
       contents_of c.index-session.result.now,
       found after,
       subst (λ n. c.args.principal < n) count c.if-principal-count.false,
-      c.in-Ok.ensures ∙ (λ i. seen_of (c.module-program.ensures i) c.args.principal (c.sent.ensures i)),
+      c.in_ok-pairs.ensures ∙ (λ i. seen_of (c.module-program.ensures i) c.args.principal (c.sent.ensures i)),
       refl,
     )

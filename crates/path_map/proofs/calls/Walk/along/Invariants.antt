@@ -1,8 +1,4 @@
-use Rattle.std.proofs.Common.{◌≡◌, ℕ, length, ◌<◌}
-use Rattle.std.specs.Prelude.{slice_index_or}
-use Rattle.resolved.specs.CoreOf.{program_of}
-use Rattle.resolved.specs.Ends.{declared_by}
-use Rattle.resolved.specs.Program.{procedure_at}
+use Rattle.std.proofs.Common.{◌≡◌, length}
 use Rattle.path_map.specs.Rows.{AreDeclaredRows}
 use Rattle.path_map.proofs.calls.Walk.along.Given as goal
 

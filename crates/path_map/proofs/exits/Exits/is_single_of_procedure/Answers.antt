@@ -1,6 +1,5 @@
 use Rattle.std.proofs.Common.{◌≡◌, sym, ap, ◌∙◌, map, Bool, false, ◌||◌}
 use Rattle.resolved.specs.Labelled.{as_one_end}
-use Rattle.path_map.specs.declared.exits.Exits.{Exits}
 use Rattle.path_map.proofs.Single.{joined-is}
 use Rattle.path_map.proofs.exits.Exits.is_single_of_procedure.Goals as goal
 use Rattle.path_map.proofs.exits.Exits.is_single_of_procedure.Goals.{then-self, else-self}

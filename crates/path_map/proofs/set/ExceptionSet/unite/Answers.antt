@@ -1,4 +1,4 @@
-use Rattle.std.proofs.Common.{◌≡◌, ℕ, ◌+◌, ◌<◌, ◌≤◌, ◌||◌, length, get_or, take, ap, ◌∙◌, sym, refl, arith}
+use Rattle.std.proofs.Common.{ℕ, ◌<◌, ◌||◌, length, get_or, take, ap, ◌∙◌, sym, arith}
 use Rattle.std.specs.Int.Bits.{bit_or}
 use Rattle.std.proofs.lemmas.List.{get_or_read, length-set}
 use Rattle.path_map.specs.Sets.{row_has, word_has}

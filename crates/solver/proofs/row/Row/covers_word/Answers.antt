@@ -1,6 +1,5 @@
-use Rattle.std.proofs.Common.{◌∙◌, sym, ap, ◌<◌, ◌≡◌, ◌+◌, ◌/◌, ◌%◌, length, arith, get_or, refl, eqb-true, eq-eqb}
+use Rattle.std.proofs.Common.{◌∙◌, sym, ◌<◌, ◌≡◌, length, arith, get_or, eqb-true}
 use Rattle.std.specs.Prelude.{bit_or}
-use Rattle.std.specs.Int.{bit_at}
 use Rattle.std.proofs.lemmas.List.{get_or_read}
 use Rattle.solver.proofs.Members.{kept-word}
 use Rattle.solver.proofs.row.Row.covers_word.Goals as goal

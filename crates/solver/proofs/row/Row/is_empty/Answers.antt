@@ -1,4 +1,4 @@
-use Rattle.std.proofs.Common.{◌∙◌, sym, subst, ℕ, ◌<◌, ◌≤◌, ◌≡◌, ◌/◌, length, arith, get_or, ⊎_elim}
+use Rattle.std.proofs.Common.{◌∙◌, sym, subst, ◌<◌, ◌≤◌, ◌≡◌, ◌/◌, length, arith, get_or, ⊎_elim}
 use Rattle.std.proofs.lemmas.List.{get_or_read}
 use Rattle.solver.proofs.Members.{empty-bit, get_or-beyond, lt_or_ge, last-of}
 use Rattle.solver.proofs.row.Row.is_empty.Goals as goal

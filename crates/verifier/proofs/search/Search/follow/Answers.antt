@@ -22,8 +22,8 @@ loop-next-preserved c = record {
 pub loop-next-smaller : goal.loop-next-smaller
 loop-next-smaller c = omega (arith, ap count c.in-Some.is, c.in_ok-next.ensures.left)
 
-pub returns-clause-ok : goal.returns-clause-ok
-returns-clause-ok c = subst (IsSearchingNext c.args.body.now.program.now c.args.body.now.procedure.now c.loop-next.self) c.in_default.is c.loop-next.invariant.next
+pub returns-clause-accepted : goal.returns-clause-accepted
+returns-clause-accepted c = subst (IsSearchingNext c.args.body.now.program.now c.args.body.now.procedure.now c.loop-next.self) c.in_default.is c.loop-next.invariant.next
 
 pub returns-clause-few : goal.returns-clause-few
 returns-clause-few c = omega (arith, c.loop-next.invariant.few)

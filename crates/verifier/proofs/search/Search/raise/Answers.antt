@@ -18,7 +18,7 @@ pub loop-handler-preserved : goal.loop-handler-preserved
 loop-handler-preserved c =
     let v = c.loop-handler.invariant in
     let took = c.in-Some.ensures in
-    let flowed = c.in_ok-reach.ensures.ok in
+    let flowed = c.in_ok-reach.ensures.accepted in
     record {
       steps = steps_more c.args.body.now.program.now c.args.body.now.procedure.now c.args.self.now c.loop-handler.self c.reach.new.self c.args.at c.in-Some.handler.target 0 v.steps flowed;
       waiting = waiting_less c.args.body.now.procedure.now c.loop-handler.coverage c.take.new.self c.loop-handler.self c.reach.new.self c.in-Some.handler v.waiting took.coverage took.within took.rest flowed.keeps (flowed.arrives ∙ ap Some v.steps.searching.root.1);

@@ -9,8 +9,8 @@ follow-requires-clause-searching c = taken c.args.body.now.program.now c.args.bo
 pub follow-requires-clause-there : goal.follow-requires-clause-there
 follow-requires-clause-there c = taken_instruction c.args.body.now.program.now c.args.body.now.procedure.now c.loop-at.self _ c.in-Some.at c.loop-at.invariant.searching refl refl c.in-Some.ensures.some
 
-pub returns-clause-ok : goal.returns-clause-ok
-returns-clause-ok c = search_done c.args.body.now.program.now c.args.body.now.procedure.now c.loop-at.self c.loop-at.invariant.searching c.in_default.ensures.none
+pub returns-clause-accepted : goal.returns-clause-accepted
+returns-clause-accepted c = search_done c.args.body.now.program.now c.args.body.now.procedure.now c.loop-at.self c.loop-at.invariant.searching c.in_default.ensures.none
 
 pub returns-clause-longest : goal.returns-clause-longest
 returns-clause-longest c =
@@ -24,7 +24,7 @@ follow-requires-clause-room c = omega (arith, c.loop-at.invariant.room, ap lengt
 
 pub loop-at-preserved : goal.loop-at-preserved
 loop-at-preserved c = record {
-  searching = c.in_ok-follow.ensures.ok;
+  searching = c.in_ok-follow.ensures.accepted;
   waiting = c.in_ok-follow.ensures.waiting;
   room = omega (arith, c.loop-at.invariant.room, c.in_ok-follow.ensures.few, ap length c.in-Some.ensures.some, length-append c.pop.new.self (c.in-Some.at ∷ []));
 }

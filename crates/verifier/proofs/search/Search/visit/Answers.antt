@@ -11,13 +11,13 @@ raise-requires-clause-there c =
       instruction = c.args.instruction;
       there = c.requires.instruction;
       kinds = e.kinds;
-      has = c.in_ok-jump.ensures.ok.keeps c.args.at e.kinds e.has;
+      has = c.in_ok-jump.ensures.accepted.keeps c.args.at e.kinds e.has;
     }
 
 pub raise-requires-clause-waiting : goal.raise-requires-clause-waiting
 raise-requires-clause-waiting c =
     waiting_kept c.args.body.now.procedure.now c.args.coverage.now c.args.self.now c.jump.new.self
-    (λ offset kinds has. c.in_ok-jump.ensures.ok.keeps offset kinds (c.in_ok-after.ensures.ok.keeps offset kinds has))
+    (λ offset kinds has. c.in_ok-jump.ensures.accepted.keeps offset kinds (c.in_ok-after.ensures.accepted.keeps offset kinds has))
     c.requires.waiting
 
 pub go_on-requires-clause-effect : goal.go_on-requires-clause-effect
@@ -26,13 +26,13 @@ go_on-requires-clause-effect c =
     record {
       there = e.there;
       kinds = e.kinds;
-      has = c.in_ok-raise.ensures.ok.keeps c.args.at e.kinds (c.in_ok-jump.ensures.ok.keeps c.args.at e.kinds e.has);
-      effect = e.effect ∙ ap Leaves (ap (λ ls. list_of ls c.in_ok-after.after) (sym (c.in_ok-raise.ensures.ok.same ∙ c.in_ok-jump.ensures.ok.same)));
+      has = c.in_ok-raise.ensures.accepted.keeps c.args.at e.kinds (c.in_ok-jump.ensures.accepted.keeps c.args.at e.kinds e.has);
+      effect = e.effect ∙ ap Leaves (ap (λ ls. list_of ls c.in_ok-after.after) (sym (c.in_ok-raise.ensures.accepted.same ∙ c.in_ok-jump.ensures.accepted.same)));
     }
 
 pub go_on-requires-clause-jumps : goal.go_on-requires-clause-jumps
 go_on-requires-clause-jumps c =
-    λ to e. c.in_ok-raise.ensures.ok.keeps to _ (c.in_ok-jump.ensures.there to e) ∙ ap Some (ap (λ ls. list_of ls c.in_ok-after.after) (sym (c.in_ok-raise.ensures.ok.same ∙ c.in_ok-jump.ensures.ok.same)))
+    λ to e. c.in_ok-raise.ensures.accepted.keeps to _ (c.in_ok-jump.ensures.there to e) ∙ ap Some (ap (λ ls. list_of ls c.in_ok-after.after) (sym (c.in_ok-raise.ensures.accepted.same ∙ c.in_ok-jump.ensures.accepted.same)))
 
 pub returns-clause-waiting : goal.returns-clause-waiting
 returns-clause-waiting c = waiting_kept c.args.body.now.procedure.now c.raise.new.coverage c.raise.new.self c.go_on.new.self c.in_ok-next.ensures.keeps c.in_ok-raise.ensures.waiting
