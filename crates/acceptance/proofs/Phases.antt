@@ -26,7 +26,7 @@ use Rattle.syntax.specs.Grammar.{SpellsProgram}
 use Rattle.syntax.specs.Tree.{ProgramTree}
 use Rattle.labels.specs.Label.{ReaderPolicy}
 use Rattle.resolved.specs.Program.{Program}
-use Rattle.resolved.specs.EndFaults.{EndFault, end_faults}
+use Rattle.resolved.specs.EndFaults.{EndRefusal, end_faults}
 use Rattle.resolved.specs.Labelled.{Demand, Labelled}
 use Rattle.resolved.specs.Flow as flow
 use Rattle.resolved.proofs.Flow.{labelled-or_refused, chain-refuses}
@@ -73,42 +73,42 @@ readable bytes =
 
 -- ---- the source: what a phase let pass is not what an earlier one refused
 
-cut_refused : (source : List ℕ) (tokens : List Terminal) (fault : LexRefusal) → IsCut source tokens → lexer.IsTextRefused source fault → ⊥
-cut_refused source tokens fault cut refused = not_cut_and_refused source tokens fault cut refused
+cut_refused : (source : List ℕ) (tokens : List Terminal) (refusal : LexRefusal) → IsCut source tokens → lexer.IsTextRefused source refusal → ⊥
+cut_refused source tokens refusal cut refused = not_cut_and_refused source tokens refusal cut refused
 
 same_tokens : (source : List ℕ) (tree : ProgramTree) (of : IsTreeOf source tree) (tokens : List Terminal) → IsCut source tokens → of.tokens ≡ tokens
 same_tokens source tree of tokens cut = has_one_cut source of.tokens tokens of.cut cut
 
-tree_refused : (source : List ℕ) (tree : ProgramTree) (tokens : List Terminal) (fault : ParseRefusal) → IsTreeOf source tree → IsCut source tokens → parser.AreTokensRefused tokens fault → ⊥
-tree_refused source tree tokens fault of cut refused =
-    spelled_not_refused tokens tree fault (subst (λ ts. SpellsProgram ts tree) (same_tokens source tree of tokens cut) of.spelled) refused
+tree_refused : (source : List ℕ) (tree : ProgramTree) (tokens : List Terminal) (refusal : ParseRefusal) → IsTreeOf source tree → IsCut source tokens → parser.AreTokensRefused tokens refusal → ⊥
+tree_refused source tree tokens refusal of cut refused =
+    spelled_not_refused tokens tree refusal (subst (λ ts. SpellsProgram ts tree) (same_tokens source tree of tokens cut) of.spelled) refused
 
 same_tree : (source : List ℕ) (tree other : ProgramTree) → IsTreeOf source tree → IsTreeOf source other → tree ≡ other
 same_tree source tree other one two =
     one_tree two.tokens tree other (subst (λ ts. SpellsProgram ts tree) (same_tokens source tree one two.tokens two.cut) one.spelled) two.spelled
 
 module _ (h : PrincipalHierarchy) (source : List ℕ) where
-  named_refused : (tree : ProgramTree) (fault : NameRefusal) (program : Program) → IsTreeOf source tree → resolution h tree ≡ Err fault → IsResolvedFrom h source program → ⊥
-  named_refused tree fault program of refused resolved =
+  named_refused : (tree : ProgramTree) (refusal : NameRefusal) (program : Program) → IsTreeOf source tree → resolution h tree ≡ Err refusal → IsResolvedFrom h source program → ⊥
+  named_refused tree refusal program of refused resolved =
       let same = same_tree source tree resolved.tree of resolved.tree_of in
-      let both : Err fault ≡ Ok program = sym refused ∙ (ap (resolution h) same ∙ resolved.resolved) in
+      let both : Err refusal ≡ Ok program = sym refused ∙ (ap (resolution h) same ∙ resolved.resolved) in
       cc
 
-  same_fault : (tree other : ProgramTree) (fault again : NameRefusal) → IsTreeOf source tree → IsTreeOf source other → resolution h tree ≡ Err fault → resolution h other ≡ Err again → fault ≡ again
-  same_fault tree other fault again one two e f =
-      let both : Err fault ≡ Err again = sym e ∙ (ap (resolution h) (same_tree source tree other one two) ∙ f) in cc
+  same_refusal : (tree other : ProgramTree) (refusal again : NameRefusal) → IsTreeOf source tree → IsTreeOf source other → resolution h tree ≡ Err refusal → resolution h other ≡ Err again → refusal ≡ again
+  same_refusal tree other refusal again one two e f =
+      let both : Err refusal ≡ Err again = sym e ∙ (ap (resolution h) (same_tree source tree other one two) ∙ f) in cc
 
   same_program : (program other : Program) → IsResolvedFrom h source program → IsResolvedFrom h source other → program ≡ other
   same_program program other one two =
       let both : Ok program ≡ Ok other = sym one.resolved ∙ (ap (resolution h) (same_tree source one.tree two.tree one.tree_of two.tree_of) ∙ two.resolved) in cc
 
-  same_end : (program other : Program) (fault again : EndFault) (faults more : List EndFault) → program ≡ other → end_faults program ≡ fault ∷ faults → end_faults other ≡ again ∷ more → fault ≡ again
-  same_end program other fault again faults more same e f =
-      let both : fault ∷ faults ≡ again ∷ more = sym e ∙ (ap end_faults same ∙ f) in cc
+  same_end : (program other : Program) (refusal again : EndRefusal) (faults more : List EndRefusal) → program ≡ other → end_faults program ≡ refusal ∷ faults → end_faults other ≡ again ∷ more → refusal ≡ again
+  same_end program other refusal again faults more same e f =
+      let both : refusal ∷ faults ≡ again ∷ more = sym e ∙ (ap end_faults same ∙ f) in cc
 
-  ended_refused : (program other : Program) (fault : EndFault) (faults : List EndFault) → program ≡ other → end_faults program ≡ fault ∷ faults → end_faults other ≡ [] → ⊥
-  ended_refused program other fault faults same e f =
-      let both : fault ∷ faults ≡ [] = sym e ∙ (ap end_faults same ∙ f) in cc
+  ended_refused : (program other : Program) (refusal : EndRefusal) (faults : List EndRefusal) → program ≡ other → end_faults program ≡ refusal ∷ faults → end_faults other ≡ [] → ⊥
+  ended_refused program other refusal faults same e f =
+      let both : refusal ∷ faults ≡ [] = sym e ∙ (ap end_faults same ∙ f) in cc
 
   same_flow : (program other : Program) (policy other_policy : ReaderPolicy) (chain others : List Demand) (last again : Demand) → program ≡ other →
       flow.IsProgramRefused program policy chain last → flow.IsProgramRefused other other_policy others again → last ≡ again
@@ -116,53 +116,53 @@ module _ (h : PrincipalHierarchy) (source : List ℕ) where
       one_last other policy other_policy chain others last again (subst (λ p. flow.IsProgramRefused p policy chain last) same one) two
 
   -- what an earlier phase refuses does not come to a later one
-  lexed_later : (fault : LexRefusal) → lexer.IsTextRefused source fault → (tree : ProgramTree) → IsTreeOf source tree → ⊥
-  lexed_later fault refused tree of = cut_refused source of.tokens fault of.cut refused
+  lexed_later : (refusal : LexRefusal) → lexer.IsTextRefused source refusal → (tree : ProgramTree) → IsTreeOf source tree → ⊥
+  lexed_later refusal refused tree of = cut_refused source of.tokens refusal of.cut refused
 
   source_once : (cause other : Cause) (at there : ℕ) → IsSourceRefused h source cause at → IsSourceRefused h source other there → Same cause at other there
   source_once cause other at there (NoText _ _ one) (NoText _ _ two) = no_text_once source cause other at there one two
   source_once cause other at there (NoText _ _ one) (NoTokens _ _ text _ _ _) = absurd (text_or_none source cause at one text)
   source_once cause other at there (NoText _ _ one) (NoTree _ _ text _ _ _ _ _) = absurd (text_or_none source cause at one text)
-  source_once cause _ at _ (NoText _ _ one) (WrongName tree of fault e) = absurd (text_or_none source cause at one of.text)
-  source_once cause _ at _ (NoText _ _ one) (WrongEnd program from fault others e) = absurd (text_or_none source cause at one from.tree_of.text)
+  source_once cause _ at _ (NoText _ _ one) (WrongName tree of refusal e) = absurd (text_or_none source cause at one of.text)
+  source_once cause _ at _ (NoText _ _ one) (WrongEnd program from refusal others e) = absurd (text_or_none source cause at one from.tree_of.text)
   source_once cause _ at _ (NoText _ _ one) (WrongFlow program from ended policy chain last refused) = absurd (text_or_none source cause at one from.tree_of.text)
   source_once cause other at there (NoTokens _ _ text _ _ _) (NoText _ _ two) = absurd (text_or_none source other there two text)
-  source_once cause other at there (NoTokens _ _ _ fault refused named) (NoTokens _ _ _ again refused_too named_too) =
-      same_pair cause other at there (lexical_cause fault) named (ap lexical_cause (has_one_refusal source fault again refused refused_too) ∙ named_too)
-  source_once cause other at there (NoTokens _ _ _ fault refused named) (NoTree _ _ _ tokens cut _ _ _) = absurd (cut_refused source tokens fault cut refused)
-  source_once cause _ at _ (NoTokens _ _ _ fault refused named) (WrongName tree of wrong e) = absurd (lexed_later fault refused tree of)
-  source_once cause _ at _ (NoTokens _ _ _ fault refused named) (WrongEnd program from wrong others e) = absurd (lexed_later fault refused from.tree from.tree_of)
-  source_once cause _ at _ (NoTokens _ _ _ fault refused named) (WrongFlow program from ended policy chain last unmet) = absurd (lexed_later fault refused from.tree from.tree_of)
+  source_once cause other at there (NoTokens _ _ _ refusal refused named) (NoTokens _ _ _ again refused_too named_too) =
+      same_pair cause other at there (lexical_cause refusal) named (ap lexical_cause (has_one_refusal source refusal again refused refused_too) ∙ named_too)
+  source_once cause other at there (NoTokens _ _ _ refusal refused named) (NoTree _ _ _ tokens cut _ _ _) = absurd (cut_refused source tokens refusal cut refused)
+  source_once cause _ at _ (NoTokens _ _ _ refusal refused named) (WrongName tree of wrong e) = absurd (lexed_later refusal refused tree of)
+  source_once cause _ at _ (NoTokens _ _ _ refusal refused named) (WrongEnd program from wrong others e) = absurd (lexed_later refusal refused from.tree from.tree_of)
+  source_once cause _ at _ (NoTokens _ _ _ refusal refused named) (WrongFlow program from ended policy chain last unmet) = absurd (lexed_later refusal refused from.tree from.tree_of)
   source_once cause other at there (NoTree _ _ text _ _ _ _ _) (NoText _ _ two) = absurd (text_or_none source other there two text)
-  source_once cause other at there (NoTree _ _ _ tokens cut _ _ _) (NoTokens _ _ _ fault refused named) = absurd (cut_refused source tokens fault cut refused)
-  source_once cause other at there (NoTree _ _ _ tokens cut fault refused named) (NoTree _ _ _ others cut_too again refused_too named_too) =
+  source_once cause other at there (NoTree _ _ _ tokens cut _ _ _) (NoTokens _ _ _ refusal refused named) = absurd (cut_refused source tokens refusal cut refused)
+  source_once cause other at there (NoTree _ _ _ tokens cut refusal refused named) (NoTree _ _ _ others cut_too again refused_too named_too) =
       let same : tokens ≡ others = has_one_cut source tokens others cut cut_too in
-      same_pair cause other at there (parse_cause fault) named
-      (ap parse_cause (one_refusal others fault again (subst (λ ts. parser.AreTokensRefused ts fault) same refused) refused_too) ∙ named_too)
-  source_once cause _ at _ (NoTree _ _ _ tokens cut fault refused named) (WrongName tree of wrong e) = absurd (tree_refused source tree tokens fault of cut refused)
-  source_once cause _ at _ (NoTree _ _ _ tokens cut fault refused named) (WrongEnd program from wrong others e) = absurd (tree_refused source from.tree tokens fault from.tree_of cut refused)
-  source_once cause _ at _ (NoTree _ _ _ tokens cut fault refused named) (WrongFlow program from ended policy chain last unmet) = absurd (tree_refused source from.tree tokens fault from.tree_of cut refused)
+      same_pair cause other at there (parse_cause refusal) named
+      (ap parse_cause (one_refusal others refusal again (subst (λ ts. parser.AreTokensRefused ts refusal) same refused) refused_too) ∙ named_too)
+  source_once cause _ at _ (NoTree _ _ _ tokens cut refusal refused named) (WrongName tree of wrong e) = absurd (tree_refused source tree tokens refusal of cut refused)
+  source_once cause _ at _ (NoTree _ _ _ tokens cut refusal refused named) (WrongEnd program from wrong others e) = absurd (tree_refused source from.tree tokens refusal from.tree_of cut refused)
+  source_once cause _ at _ (NoTree _ _ _ tokens cut refusal refused named) (WrongFlow program from ended policy chain last unmet) = absurd (tree_refused source from.tree tokens refusal from.tree_of cut refused)
   source_once _ other _ there (WrongName tree of wrong e) (NoText _ _ two) = absurd (text_or_none source other there two of.text)
-  source_once _ other _ there (WrongName tree of wrong e) (NoTokens _ _ _ fault refused named) = absurd (lexed_later fault refused tree of)
-  source_once _ other _ there (WrongName tree of wrong e) (NoTree _ _ _ tokens cut fault refused named) = absurd (tree_refused source tree tokens fault of cut refused)
+  source_once _ other _ there (WrongName tree of wrong e) (NoTokens _ _ _ refusal refused named) = absurd (lexed_later refusal refused tree of)
+  source_once _ other _ there (WrongName tree of wrong e) (NoTree _ _ _ tokens cut refusal refused named) = absurd (tree_refused source tree tokens refusal of cut refused)
   source_once _ _ _ _ (WrongName tree of wrong e) (WrongName other of_too again f) =
-      let same : wrong ≡ again = same_fault tree other wrong again of of_too e f in
-      (ap (λ (fault : NameRefusal). cause_of_name fault.defect) same, ap (λ (fault : NameRefusal). fault.at) same)
-  source_once _ _ _ _ (WrongName tree of wrong e) (WrongEnd program from fault others f) = absurd (named_refused tree wrong program of e from)
+      let same : wrong ≡ again = same_refusal tree other wrong again of of_too e f in
+      (ap (λ (refusal : NameRefusal). cause_of_name refusal.defect) same, ap (λ (refusal : NameRefusal). refusal.at) same)
+  source_once _ _ _ _ (WrongName tree of wrong e) (WrongEnd program from refusal others f) = absurd (named_refused tree wrong program of e from)
   source_once _ _ _ _ (WrongName tree of wrong e) (WrongFlow program from ended policy chain last unmet) = absurd (named_refused tree wrong program of e from)
   source_once _ other _ there (WrongEnd program from wrong others e) (NoText _ _ two) = absurd (text_or_none source other there two from.tree_of.text)
-  source_once _ other _ there (WrongEnd program from wrong others e) (NoTokens _ _ _ fault refused named) = absurd (lexed_later fault refused from.tree from.tree_of)
-  source_once _ other _ there (WrongEnd program from wrong others e) (NoTree _ _ _ tokens cut fault refused named) = absurd (tree_refused source from.tree tokens fault from.tree_of cut refused)
-  source_once _ _ _ _ (WrongEnd program from wrong others e) (WrongName tree of fault f) = absurd (named_refused tree fault program of f from)
+  source_once _ other _ there (WrongEnd program from wrong others e) (NoTokens _ _ _ refusal refused named) = absurd (lexed_later refusal refused from.tree from.tree_of)
+  source_once _ other _ there (WrongEnd program from wrong others e) (NoTree _ _ _ tokens cut refusal refused named) = absurd (tree_refused source from.tree tokens refusal from.tree_of cut refused)
+  source_once _ _ _ _ (WrongEnd program from wrong others e) (WrongName tree of refusal f) = absurd (named_refused tree refusal program of f from)
   source_once _ _ _ _ (WrongEnd program from wrong others e) (WrongEnd other from_too again more f) =
       let same : wrong ≡ again = same_end program other wrong again others more (same_program program other from from_too) e f in
-      (ap (λ (fault : EndFault). cause_of_end fault.refusal) same, ap (λ (fault : EndFault). fault.at) same)
+      (ap (λ (refusal : EndRefusal). cause_of_end refusal.defect) same, ap (λ (refusal : EndRefusal). refusal.at) same)
   source_once _ _ _ _ (WrongEnd program from wrong others e) (WrongFlow other from_too ended policy chain last unmet) =
       absurd (ended_refused program other wrong others (same_program program other from from_too) e ended)
   source_once _ other _ there (WrongFlow program from ended policy chain last unmet) (NoText _ _ two) = absurd (text_or_none source other there two from.tree_of.text)
-  source_once _ other _ there (WrongFlow program from ended policy chain last unmet) (NoTokens _ _ _ fault refused named) = absurd (lexed_later fault refused from.tree from.tree_of)
-  source_once _ other _ there (WrongFlow program from ended policy chain last unmet) (NoTree _ _ _ tokens cut fault refused named) = absurd (tree_refused source from.tree tokens fault from.tree_of cut refused)
-  source_once _ _ _ _ (WrongFlow program from ended policy chain last unmet) (WrongName tree of fault f) = absurd (named_refused tree fault program of f from)
+  source_once _ other _ there (WrongFlow program from ended policy chain last unmet) (NoTokens _ _ _ refusal refused named) = absurd (lexed_later refusal refused from.tree from.tree_of)
+  source_once _ other _ there (WrongFlow program from ended policy chain last unmet) (NoTree _ _ _ tokens cut refusal refused named) = absurd (tree_refused source from.tree tokens refusal from.tree_of cut refused)
+  source_once _ _ _ _ (WrongFlow program from ended policy chain last unmet) (WrongName tree of refusal f) = absurd (named_refused tree refusal program of f from)
   source_once _ _ _ _ (WrongFlow program from ended policy chain last unmet) (WrongEnd other from_too again more f) =
       absurd (ended_refused other program again more (same_program other program from_too from) f ended)
   source_once _ _ _ _ (WrongFlow program from ended policy chain last unmet) (WrongFlow other from_too ended_too other_policy others again unmet_too) =
@@ -171,8 +171,8 @@ module _ (h : PrincipalHierarchy) (source : List ℕ) where
   -- an accepted source is not refused
   pub accepted_refused : (program : Program) (cause : Cause) (at : ℕ) → IsAccepted h source program → IsSourceRefused h source cause at → ⊥
   accepted_refused program cause at accepted (NoText _ _ no_text) = text_or_none source cause at no_text accepted.resolved.tree_of.text
-  accepted_refused program cause at accepted (NoTokens _ _ _ fault refused named) = lexed_later fault refused accepted.resolved.tree accepted.resolved.tree_of
-  accepted_refused program cause at accepted (NoTree _ _ _ tokens cut fault refused named) = tree_refused source accepted.resolved.tree tokens fault accepted.resolved.tree_of cut refused
+  accepted_refused program cause at accepted (NoTokens _ _ _ refusal refused named) = lexed_later refusal refused accepted.resolved.tree accepted.resolved.tree_of
+  accepted_refused program cause at accepted (NoTree _ _ _ tokens cut refusal refused named) = tree_refused source accepted.resolved.tree tokens refusal accepted.resolved.tree_of cut refused
   accepted_refused program _ _ accepted (WrongName tree of wrong e) = named_refused tree wrong program of e accepted.resolved
   accepted_refused program _ _ accepted (WrongEnd other from wrong others e) =
       ended_refused other program wrong others (same_program other program from accepted.resolved) e accepted.ended
@@ -187,8 +187,8 @@ module _ (h : PrincipalHierarchy) (source : List ℕ) where
   checked : (program : Program) → IsResolvedFrom h source program → ((found : Program) × IsAccepted h source found) ⊎ Refusal
   checked program from = by_ends (end_faults program) refl
     where
-      by_ends : (faults : List EndFault) → end_faults program ≡ faults → ((found : Program) × IsAccepted h source found) ⊎ Refusal
-      by_ends (fault ∷ others) e = inr (cause_of_end fault.refusal, fault.at, WrongEnd program from fault others e)
+      by_ends : (faults : List EndRefusal) → end_faults program ≡ faults → ((found : Program) × IsAccepted h source found) ⊎ Refusal
+      by_ends (refusal ∷ others) e = inr (cause_of_end refusal.defect, refusal.at, WrongEnd program from refusal others e)
       by_ends [] e =
           ⊎_elim
           (λ labelled. inl (program, record { resolved = from; ended = e; labelled = labelled }))
@@ -200,27 +200,27 @@ module _ (h : PrincipalHierarchy) (source : List ℕ) where
     where
       by_finding : (finding : Finding Program) → resolution h tree ≡ finding → ((found : Program) × IsAccepted h source found) ⊎ Refusal
       by_finding (Ok program) e = checked program (record { tree = tree; tree_of = of; resolved = e })
-      by_finding (Err fault) e = inr (cause_of_name fault.defect, fault.at, WrongName tree of fault e)
+      by_finding (Err refusal) e = inr (cause_of_name refusal.defect, refusal.at, WrongName tree of refusal e)
 
   parsed : (text : IsText source) (tokens : List Terminal) → IsCut source tokens → ((found : Program) × IsAccepted h source found) ⊎ Refusal
   parsed text tokens cut =
       ⊎_elim
       (λ found. named found.0 (record { text = text; tokens = tokens; cut = cut; spelled = found.1 }))
-      (λ found. inr (by_fault found.0 found.1))
+      (λ found. inr (by_refusal found.0 found.1))
       (spelled_or_refused tokens (listed source tokens (IsUtf8-from_is_utf8 source text.characters) cut).terminated)
     where
-      by_fault : (fault : ParseRefusal) → parser.AreTokensRefused tokens fault → Refusal
-      by_fault (syntactic.Unexpected at) refused = (causes.UnexpectedToken, at, NoTree causes.UnexpectedToken at text tokens cut (syntactic.Unexpected at) refused refl)
-      by_fault (syntactic.TooDeep at) refused = (causes.TooDeep, at, NoTree causes.TooDeep at text tokens cut (syntactic.TooDeep at) refused refl)
+      by_refusal : (refusal : ParseRefusal) → parser.AreTokensRefused tokens refusal → Refusal
+      by_refusal (syntactic.Unexpected at) refused = (causes.UnexpectedToken, at, NoTree causes.UnexpectedToken at text tokens cut (syntactic.Unexpected at) refused refl)
+      by_refusal (syntactic.TooDeep at) refused = (causes.TooDeep, at, NoTree causes.TooDeep at text tokens cut (syntactic.TooDeep at) refused refl)
 
   lexed : IsText source → ((found : Program) × IsAccepted h source found) ⊎ Refusal
   lexed text =
-      ⊎_elim (λ found. parsed text found.0 found.1) (λ found. inr (by_fault found.0 found.1)) (is_cut_or_refused source (IsUtf8-from_is_utf8 source text.characters))
+      ⊎_elim (λ found. parsed text found.0 found.1) (λ found. inr (by_refusal found.0 found.1)) (is_cut_or_refused source (IsUtf8-from_is_utf8 source text.characters))
     where
-      by_fault : (fault : LexRefusal) → lexer.IsTextRefused source fault → Refusal
-      by_fault (lexical.NoToken at) refused = (causes.NoToken, at, NoTokens causes.NoToken at text (lexical.NoToken at) refused refl)
-      by_fault (lexical.LiteralTooLarge at) refused = (causes.LiteralTooLarge, at, NoTokens causes.LiteralTooLarge at text (lexical.LiteralTooLarge at) refused refl)
-      by_fault (lexical.UnclosedComment at) refused = (causes.OpenComment, at, NoTokens causes.OpenComment at text (lexical.UnclosedComment at) refused refl)
+      by_refusal : (refusal : LexRefusal) → lexer.IsTextRefused source refusal → Refusal
+      by_refusal (lexical.NoToken at) refused = (causes.NoToken, at, NoTokens causes.NoToken at text (lexical.NoToken at) refused refl)
+      by_refusal (lexical.LiteralTooLarge at) refused = (causes.LiteralTooLarge, at, NoTokens causes.LiteralTooLarge at text (lexical.LiteralTooLarge at) refused refl)
+      by_refusal (lexical.UnclosedComment at) refused = (causes.OpenComment, at, NoTokens causes.OpenComment at text (lexical.UnclosedComment at) refused refl)
 
   read : ((found : Program) × IsAccepted h source found) ⊎ Refusal
   read = ⊎_elim lexed (λ none. inr (none.0, none.1, NoText none.0 none.1 none.2)) (readable source)
@@ -237,21 +237,21 @@ module _ (laws : HierarchyLaws) where
 
   hierarchy_once : (text : List ℕ) (cause other : Cause) (at there : ℕ) → IsHierarchyRefused text cause at → IsHierarchyRefused text other there → Same cause at other there
   hierarchy_once text cause other at there (Unreadable _ _ one) (Unreadable _ _ two) = no_text_once text cause other at there one two
-  hierarchy_once text cause other at there (Unreadable _ _ one) (Wrong _ _ is_text fault refused named) = absurd (text_or_none text cause at one is_text)
-  hierarchy_once text cause other at there (Wrong _ _ is_text fault refused named) (Unreadable _ _ two) = absurd (text_or_none text other there two is_text)
-  hierarchy_once text cause other at there (Wrong _ _ _ fault refused named) (Wrong _ _ _ again refused_too named_too) =
-      let same : fault ≡ again = laws.one_refusal text fault again refused refused_too in
-      same_pair cause other at there (hierarchy_cause fault) named (ap hierarchy_cause same ∙ named_too)
+  hierarchy_once text cause other at there (Unreadable _ _ one) (Wrong _ _ is_text refusal refused named) = absurd (text_or_none text cause at one is_text)
+  hierarchy_once text cause other at there (Wrong _ _ is_text refusal refused named) (Unreadable _ _ two) = absurd (text_or_none text other there two is_text)
+  hierarchy_once text cause other at there (Wrong _ _ _ refusal refused named) (Wrong _ _ _ again refused_too named_too) =
+      let same : refusal ≡ again = laws.one_refusal text refusal again refused refused_too in
+      same_pair cause other at there (hierarchy_cause refusal) named (ap hierarchy_cause same ∙ named_too)
 
   hierarchy_or_refused : (text : List ℕ) (h : PrincipalHierarchy) (cause : Cause) (at : ℕ) → HasHierarchy text h → IsHierarchyRefused text cause at → ⊥
   hierarchy_or_refused text h cause at has (Unreadable _ _ no_text) =
       text_or_none text cause at no_text (record { short = has.hierarchy_of.says.fits; characters = has.characters })
-  hierarchy_or_refused text h cause at has (Wrong _ _ is_text fault refused named) = laws.not_both text h fault has.hierarchy_of refused
+  hierarchy_or_refused text h cause at has (Wrong _ _ is_text refusal refused named) = laws.not_both text h refusal has.hierarchy_of refused
 
   hierarchy_read : (text : List ℕ) → ((h : PrincipalHierarchy) × HasHierarchy text h) ⊎ ((cause : Cause) × (at : ℕ) × IsHierarchyRefused text cause at)
   hierarchy_read text = ⊎_elim reads (λ none. inr (none.0, none.1, Unreadable none.0 none.1 none.2)) (readable text)
     where
-      refused_by : (fault : HierarchyRefusal) → IsText text → IsRefusedText text fault → (cause : Cause) × (at : ℕ) × IsHierarchyRefused text cause at
+      refused_by : (refusal : HierarchyRefusal) → IsText text → IsRefusedText text refusal → (cause : Cause) × (at : ℕ) × IsHierarchyRefused text cause at
       refused_by hierarchies.TooLong is_text r = absurd (omega (arith, r, is_text.short))
       refused_by (hierarchies.Syntax at) is_text r = (causes.Syntax, at, Wrong causes.Syntax at is_text (hierarchies.Syntax at) r refl)
       refused_by (hierarchies.DeclaredTwice at) is_text r = (causes.PrincipalTwice, at, Wrong causes.PrincipalTwice at is_text (hierarchies.DeclaredTwice at) r refl)

@@ -18,7 +18,7 @@ use Rattle.principals.specs.declared.fault.HierarchyRefusal.TheVariants as hiera
 use Rattle.syntax.specs.Tree.{ProgramTree}
 use Rattle.labels.specs.Label.{ReaderPolicy}
 use Rattle.resolved.specs.Program.{Program}
-use Rattle.resolved.specs.EndFaults.{EndRefusal, EndFault, end_faults}
+use Rattle.resolved.specs.EndFaults.{EndDefect, EndRefusal, end_faults}
 use Rattle.resolved.specs.EndFaults as ends
 use Rattle.resolved.specs.Labelled.{Demand}
 use Rattle.resolved.specs.Flow as flow
@@ -45,7 +45,7 @@ cause_of_name names.ArraySize = causes.ArraySize
 cause_of_name names.TooManyCells = causes.TooManyCells
 
 -- the causes of refused ends
-abbrev pub cause_of_end : EndRefusal → Cause
+abbrev pub cause_of_end : EndDefect → Cause
 cause_of_end ends.OutsideLoop = causes.OutsideLoop
 cause_of_end ends.Unreachable = causes.Unreachable
 cause_of_end ends.NeverRaised = causes.NeverRaised
@@ -90,8 +90,8 @@ pub data IsSourceRefused (h : PrincipalHierarchy) (source : List ℕ) : Cause �
       → parser.AreTokensRefused tokens refusal → parse_cause refusal ≡ (cause, at) → IsSourceRefused h source cause at
   WrongName : (tree : ProgramTree) → IsTreeOf source tree → (refusal : NameRefusal) → resolution h tree ≡ Err refusal
       → IsSourceRefused h source (cause_of_name refusal.defect) refusal.at
-  WrongEnd : (program : Program) → IsResolvedFrom h source program → (fault : EndFault) (others : List EndFault)
-      → end_faults program ≡ fault ∷ others → IsSourceRefused h source (cause_of_end fault.refusal) fault.at
+  WrongEnd : (program : Program) → IsResolvedFrom h source program → (refusal : EndRefusal) (others : List EndRefusal)
+      → end_faults program ≡ refusal ∷ others → IsSourceRefused h source (cause_of_end refusal.defect) refusal.at
   WrongFlow : (program : Program) → IsResolvedFrom h source program → end_faults program ≡ [] → (policy : ReaderPolicy)
       (chain : List Demand) (last : Demand) → flow.IsProgramRefused program policy chain last
       → IsSourceRefused h source causes.FlowNotAllowed last.at

@@ -10,11 +10,11 @@ use Rattle.parser.specs.declared.fault.ParseRefusal.{ParseRefusal}
 use Rattle.principals.specs.ActsFor.{PrincipalHierarchy}
 use Rattle.syntax.specs.Tree.{ProgramTree}
 use Rattle.resolved.specs.Program.{Program}
-use Rattle.resolved.specs.EndFaults.{EndFault, end_faults}
+use Rattle.resolved.specs.EndFaults.{EndRefusal, end_faults}
 use Rattle.names.specs.Resolution.{resolution}
 use Rattle.names.specs.declared.fault.NameRefusal.{NameRefusal}
-use Rattle.path_map.specs.FirstFault.{first_of, fault_of}
-use Rattle.path_map.specs.declared.fault.EndRefusal.{EndRefusal}
+use Rattle.path_map.specs.FirstFault.{first_of, refusal_of}
+use Rattle.path_map.specs.declared.fault.EndRefusal.{EndRefusal as CodeRefusal}
 use Rattle.acceptance.specs.Accepted.{IsText, IsTreeOf, IsResolvedFrom}
 use Rattle.acceptance.specs.Refused.{IsSourceRefused, NoTokens, NoTree, WrongName, WrongEnd, lexical_cause, parse_cause, cause_of_end}
 use Rattle.analysis.specs.Reported.{IsSourceRefusal, of_cause, of_name, of_end}
@@ -33,14 +33,14 @@ module _ (h : PrincipalHierarchy) (source : List ℕ) where
       → IsSourceRefusal h source (of_name refusal)
   named tree refusal of found = WrongName tree of refusal found
 
-  pub ended : (program : Program) (refusal : EndRefusal) → IsResolvedFrom h source program
-      → first_of (end_faults program) ≡ Some (fault_of refusal) → IsSourceRefusal h source (of_end refusal)
+  pub ended : (program : Program) (refusal : CodeRefusal) → IsResolvedFrom h source program
+      → first_of (end_faults program) ≡ Some (refusal_of refusal) → IsSourceRefusal h source (of_end refusal)
   ended program refusal from first = by_faults (end_faults program) refl first
     where
-      by_faults : (faults : List EndFault) → end_faults program ≡ faults → first_of faults ≡ Some (fault_of refusal)
+      by_faults : (faults : List EndRefusal) → end_faults program ≡ faults → first_of faults ≡ Some (refusal_of refusal)
           → IsSourceRefusal h source (of_end refusal)
-      by_faults [] e none = let no : None ≡ Some (fault_of refusal) = none in absurd (cc)
-      by_faults (fault ∷ others) e some =
-          let both : Some fault ≡ Some (fault_of refusal) = some in
-          let same : fault ≡ fault_of refusal = cc in
-          subst (λ (f : EndFault). IsSourceRefused h source (cause_of_end f.refusal) f.at) same (WrongEnd program from fault others e)
+      by_faults [] e none = let no : None ≡ Some (refusal_of refusal) = none in absurd (cc)
+      by_faults (first ∷ others) e some =
+          let both : Some first ≡ Some (refusal_of refusal) = some in
+          let same : first ≡ refusal_of refusal = cc in
+          subst (λ (r : EndRefusal). IsSourceRefused h source (cause_of_end r.defect) r.at) same (WrongEnd program from first others e)

@@ -3,7 +3,7 @@
 use Rattle.std.specs.Prelude.{◌≢◌, ℕ, List}
 use Rattle.principals.specs.ActsFor.{PrincipalHierarchy}
 use Rattle.names.specs.declared.fault.NameRefusal.{NameRefusal}
-use Rattle.path_map.specs.FirstFault.{refusal_of}
+use Rattle.path_map.specs.FirstFault.{defect_of}
 use Rattle.path_map.specs.declared.fault.EndRefusal.{EndRefusal}
 use Rattle.acceptance.specs.Refused as acceptance
 use Rattle.acceptance.specs.Refused.{cause_of_name, cause_of_end}
@@ -19,7 +19,7 @@ abbrev pub of_name : NameRefusal → SourceRefusal
 of_name refusal = record { cause = cause_of_name refusal.defect; at = refusal.at }
 
 abbrev pub of_end : EndRefusal → SourceRefusal
-of_end refusal = record { cause = cause_of_end (refusal_of refusal.defect); at = refusal.at }
+of_end refusal = record { cause = cause_of_end (defect_of refusal.defect); at = refusal.at }
 
 -- the source is refused so
 abbrev pub IsSourceRefusal : PrincipalHierarchy → (source : List ℕ) → SourceRefusal → Type 0

@@ -1,7 +1,7 @@
 //! The causes of refused names and ends.
 
 ghost use Rattle.acceptance.specs.Refused as spec;
-ghost use Rattle.path_map.specs.FirstFault.{refusal_of};
+ghost use Rattle.path_map.specs.FirstFault.{defect_of};
 ghost use Rattle.std.specs.Prelude.{◌≡◌};
 
 use acceptance::Cause;
@@ -25,7 +25,7 @@ pub(crate) fn cause_of_name(defect: NameDefect) -> Cause
 }
 
 pub(crate) fn cause_of_end(defect: EndDefect) -> Cause
-    ensures { result ≡ spec.cause_of_end (refusal_of defect) }
+    ensures { result ≡ spec.cause_of_end (defect_of defect) }
 {
     match defect {
         EndDefect::Unreachable => Cause::Unreachable,

@@ -1,2 +1,3 @@
 pub mod Spelling
 mod Operands
+pub mod Executing

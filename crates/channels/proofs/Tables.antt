@@ -17,7 +17,7 @@ use Rattle.channels.specs.declared.defect.WorldRefusal.{WorldRefusal}
 use Rattle.std.specs.List.{list_all, list_any}
 use Rattle.std.specs.Str.{bytes_eq}
 use Rattle.std.proofs.lemmas.Slice.Eq.{bytes_eq-Decides}
-use Rattle.channels.specs.WorldText.{Table, table_after, table_with, table_defect, entry_defect, given_by, gives_to, numbers_of, numbers_given, has_form, is_int, defect_of, world_of, numbers_in, input_of, texts_of, lines_of, words_of, defect_at, IsRightBefore, IsFirstDefect}
+use Rattle.channels.specs.WorldText.{Table, table_after, table_with, table_defect, entry_defect, given_by, gives_to, numbers_of, numbers_given, has_form, is_int, defect_of, world_of, numbers_in, input_of, texts_of, lines_of, words_of, defect_at, IsRightBefore, IsWorldRefusal}
 use Rattle.channels.specs.declared.defect.WorldDefect.{WorldDefect}
 use Rattle.channels.specs.declared.defect.WorldDefect.TheVariants.{Syntax, UnknownChannel, RepeatedChannel, NumberOutOfRange}
 
@@ -192,9 +192,9 @@ module _ (text : List ℕ) (lines : List (Bor (List ℕ))) (cut : texts_of lines
     -- the first wrong line
     pub line_reported : (given : OrNoMemory WorldDefect) (number : ℕ) (fault : OrNoMemory WorldRefusal) → number ≡ k + 1
         → IsRightBefore names (lines_of text) k → IsCast (λ (defect : WorldDefect) (refusal : WorldRefusal). refusal ≡ record { line = number; defect = defect }) given fault
-        → IfRefused (λ defect. table_defect table words ≡ Some defect) given → IfRefused (IsFirstDefect names (lines_of text)) fault
+        → IfRefused (λ defect. table_defect table words ≡ Some defect) given → IfRefused (IsWorldRefusal names (lines_of text)) fault
     line_reported given number fault e before is h = cast-refused given _ _ first fault is h
       where
-        first : (defect : WorldDefect) (refusal : WorldRefusal) → refusal ≡ record { line = number; defect = defect } → table_defect table words ≡ Some defect → IsFirstDefect names (lines_of text) refusal
+        first : (defect : WorldDefect) (refusal : WorldRefusal) → refusal ≡ record { line = number; defect = defect } → table_defect table words ≡ Some defect → IsWorldRefusal names (lines_of text) refusal
         first defect refusal placed wrong =
-            subst (IsFirstDefect names (lines_of text)) (sym placed) (record { place = k; line_is = e; there = line_within; wrong = defect_here ∙ wrong; first = before })
+            subst (IsWorldRefusal names (lines_of text)) (sym placed) (record { place = k; line_is = e; there = line_within; wrong = defect_here ∙ wrong; first = before })

@@ -82,7 +82,7 @@ abbrev pub IsWorldText : List (List ℕ) → List (List (List ℕ)) → Type 0
 IsWorldText inputs lines = IsRightBefore inputs lines (length lines)
 
 -- the refusal names the first wrong line, by its number from 1, and what is wrong with it
-pub record IsFirstDefect (inputs : List (List ℕ)) (lines : List (List (List ℕ))) (refusal : WorldRefusal) : Type 0 where
+pub record IsWorldRefusal (inputs : List (List ℕ)) (lines : List (List (List ℕ))) (refusal : WorldRefusal) : Type 0 where
   pub place : ℕ
   pub line_is : refusal.line ≡ place + 1
   pub there : place < length lines

@@ -18,7 +18,7 @@ pub enum WorldDefect {
 }
 
 impl WorldDefect {
-    /// The number that faults are reported by, 851 to 854.
+    /// The number that the defect is reported by, 851 to 854.
     pub fn number(self) -> u32
         ensures { result ≡ world_number self }
     {
@@ -30,7 +30,7 @@ impl WorldDefect {
         }
     }
 
-    /// The words that faults are reported by.
+    /// The words that the defect is reported by.
     pub fn words(self) -> &'static str
         ensures { result.now ≡ world_words self }
     {

@@ -123,11 +123,11 @@ fn write_lines<S: Sink>(
     out: &mut S,
 ) -> Result<(), ViewFault>
     ensures accepted { OnOk result (Appends (S.taken out.old) (S.taken out.new)
-        (view_text observer.now.program.now (view_for observer.now.program.now observer.now.principal
-        pairs.now))) }
+        (view_text observer.now.program.now
+        (view_for observer.now.program.now observer.now.principal pairs.now))) }
     ensures prefix { OnErr result (AppendsPrefix (S.taken out.old) (S.taken out.new)
-        (view_text observer.now.program.now (view_for observer.now.program.now observer.now.principal
-        pairs.now))) }
+        (view_text observer.now.program.now
+        (view_for observer.now.program.now observer.now.principal pairs.now))) }
     ensures rejected { IfErr result (IfRefused (λ _. IsTrue (S.has_failed out.new))) }
 {
     for pair in pairs {

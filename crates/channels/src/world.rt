@@ -1,5 +1,5 @@
 ghost use Rattle.channels.specs.World.{input_names};
-ghost use Rattle.channels.specs.WorldText.{IsFirstDefect, IsWorldText, lines_of, world_of};
+ghost use Rattle.channels.specs.WorldText.{IsWorldRefusal, IsWorldText, lines_of, world_of};
 ghost use Rattle.common.specs.Answers.{IfRefused};
 ghost use Rattle.std.specs.Prelude.{◌≡◌, IfErr, IfOk, OnOk};
 ghost use Rattle.std.specs.String.{string_bytes};
@@ -85,7 +85,7 @@ impl World {
         ensures accepted { OnOk result (IsWorldText (input_names program.now) (lines_of text.now)) }
         ensures exact { IfOk result (λ world. world
             ≡ world_of (input_names program.now) (lines_of text.now)) }
-        ensures first_fault { IfErr result (IfRefused (IsFirstDefect (input_names program.now)
+        ensures first_fault { IfErr result (IfRefused (IsWorldRefusal (input_names program.now)
             (lines_of text.now))) }
     {
         let names = names_of(alloc, program.channels())?;

@@ -1,7 +1,7 @@
 ghost use Rattle.channels.specs.Table.{table_of};
 ghost use Rattle.channels.specs.World.{is_input};
 ghost use Rattle.channels.specs.WorldText as spec;
-ghost use Rattle.channels.specs.WorldText.{IsFirstDefect, IsWorldText, input_of, numbers_in, table_after, texts_of};
+ghost use Rattle.channels.specs.WorldText.{IsWorldRefusal, IsWorldText, input_of, numbers_in, table_after, texts_of};
 ghost use Rattle.common.specs.Answers.{IfRefused, IsCast};
 ghost use Rattle.std.specs.Prelude.{[], ◌≡◌, ℕ, List, IfErr, IfOk, OnOk, filter, map};
 
@@ -49,7 +49,7 @@ pub fn read_lines<'a>(
     ensures accepted { OnOk result (IsWorldText (texts_of names.now) (spec.lines_of text.now)) }
     ensures table { IfOk result (λ inputs. (name : List ℕ) → table_of inputs name
         ≡ table_after (texts_of names.now) (spec.lines_of text.now) name) }
-    ensures first_fault { IfErr result (IfRefused (IsFirstDefect (texts_of names.now)
+    ensures first_fault { IfErr result (IfRefused (IsWorldRefusal (texts_of names.now)
         (spec.lines_of text.now))) }
 {
     let mut inputs = empty_table(alloc, names)?;

@@ -26,7 +26,7 @@ pub fn read_task<'a>(alloc: Global, words: &'a [&'a str]) -> Result<Task, TaskFa
     ensures matched { IfOk result (IsTaskOf (subcommand_of flowc_command (texts words.now))) }
     ensures steps { IfOk result (λ task. steps_of task ≤ MAX_STEPS) }
     ensures accepted { IfOk result (λ _. fault_of flowc_command (texts words.now) ≡ []) }
-    ensures exact { GrantsPlainRequests (texts words.now) result }
+    ensures complete { GrantsPlainRequests (texts words.now) result }
     ensures rejected { IfErr result (IfRefused (λ _.
         fault_of flowc_command (texts words.now) ≢ [])) }
     ensures spelled { HasNoOption (texts words.now) → IfOk result (IsSpelling (texts words.now)) }

@@ -12,7 +12,7 @@ use Rattle.bytecode.specs.Format.{module_file, pair_cmp}
 use Rattle.bytecode.specs.Machine.{after_steps}
 use Rattle.module_file.proofs.Both.{module_again}
 use Rattle.layout.specs.Offsets.{laid_out}
-use Rattle.verifier.specs.Faults.{HasNoFault}
+use Rattle.verifier.specs.Refusals.{HasNoDefect}
 use Rattle.verifier.specs.Safety.{IsNeverStuck}
 use Rattle.lowering.specs.Graphs.{graph_of}
 use Rattle.lowering.specs.Kept.{MeaningKept}
@@ -36,7 +36,7 @@ same-interface program = record {
     same = ascending_set-SameSet pair_cmp-exact program.hierarchy.pairs
 
 pub code_of_module : (program : Program) (m : ModuleContents) (code : List ℕ) → m ≡ laid_out (graph_of program) → Spells module_file m code →
-    HasNoFault (laid_out (graph_of program)) → IsNeverStuck (laid_out (graph_of program)) → MeaningKept program (after_steps (laid_out (graph_of program))) →
+    HasNoDefect (laid_out (graph_of program)) → IsNeverStuck (laid_out (graph_of program)) → MeaningKept program (after_steps (laid_out (graph_of program))) →
     Isolated program → IsCodeOf program code
 code_of_module program m code is spelled faultless never_stuck kept isolated = record {
   not_refused = ap (refusal_of code) (module_again code m spelled);

@@ -10,7 +10,7 @@ use Rattle.bytecode.specs.Form.{Spells}
 use Rattle.bytecode.specs.Format.{module_file}
 use Rattle.bytecode.specs.Isolated.{IsIsolated}
 use Rattle.bytecode.specs.Machine.{after_steps}
-use Rattle.verifier.specs.Faults.{HasNoFault}
+use Rattle.verifier.specs.Refusals.{HasNoDefect}
 use Rattle.verifier.specs.Safety.{IsNeverStuck}
 use Rattle.lowering.specs.Interface.{channel_contents}
 use Rattle.lowering.specs.Kept.{MeaningKept}
@@ -31,7 +31,7 @@ pub record IsCodeOf (program : Program) (code : List ℕ) : Type 0 where
   pub not_refused : first_refusal code ≡ None
   pub contents : ModuleContents
   pub spelled : Spells module_file contents code
-  pub faultless : HasNoFault contents
+  pub faultless : HasNoDefect contents
   pub never_stuck : IsNeverStuck contents
   pub interface : HasInterfaceOf program contents
   pub kept : MeaningKept program (after_steps contents)

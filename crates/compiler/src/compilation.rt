@@ -87,7 +87,7 @@ pub fn check_texts(
         Ok(checked) => Ok(checked),
         Err(OrNoMemory::NoMemory) => Err(OrNoMemory::NoMemory),
         Err(OrNoMemory::Refused(refusal)) => {
-            Err(OrNoMemory::Refused(not_accepted(source, refusal)))
+            Err(OrNoMemory::Refused(refuse_source(source, refusal)))
         }
     }
 }
@@ -114,7 +114,7 @@ fn principals_of(alloc: Global, bytes: &[u8]) -> Result<Hierarchy, CompileFault>
 }
 
 // Why a source is not accepted, by the refusal of its check.
-fn not_accepted(source: &[u8], refusal: CheckRefusal) -> NotAccepted
+fn refuse_source(source: &[u8], refusal: CheckRefusal) -> NotAccepted
     ensures { result ≡ not_accepted source.now refusal }
 {
     match refusal {

@@ -14,7 +14,7 @@ ghost use Rattle.resolved.specs.declared.statement.Exit.{Exit};
 ghost use Rattle.resolved.specs.declared.target.Target.TheVariants.{ToLoop};
 ghost use Rattle.std.specs.Prelude.{IfOk, List, OnOk, [], drop, ◌∷◌, ◌≡◌};
 
-use crate::lefts::alone;
+use crate::lefts::left_of_pc;
 use crate::statements::Walk;
 use crate::takers::{Entry, Takers};
 use path_map::raises::raises_of;
@@ -61,7 +61,7 @@ impl<'a> Walk<'a> {
         match exits.single() {
             None => Ok(()),
             Some(exit) => {
-                let left = alone(self.alloc, pc)?;
+                let left = left_of_pc(self.alloc, pc)?;
                 let taker = takers.at(thrown, exit);
                 self.table.add_flow(self.alloc, &left, taker, constraints)?;
                 Ok(())
@@ -132,7 +132,7 @@ impl<'a> Walk<'a> {
             (ToLoop self.now.procedure number))
             constraints.old.items constraints.new.items) }
     {
-        let left = alone(self.alloc, pc)?;
+        let left = left_of_pc(self.alloc, pc)?;
         let target = Target::ToLoop(self.procedure, number);
         self.table.add_rule(at, 8, left, target, constraints)?;
         Ok(())
@@ -161,7 +161,7 @@ impl<'a> Walk<'a> {
         let turn = self.table.part(Target::ToLoop(self.procedure, number))?;
         self.add_branch(condition, inner, turn, constraints)?;
         let body = self.table.inner(inner)?;
-        let left = alone(self.alloc, body)?;
+        let left = left_of_pc(self.alloc, body)?;
         let taker = takers.at(thrown, Exit::Normal);
         self.table.add_flow(self.alloc, &left, taker, constraints)?;
         self.add_condition(condition, turn, takers, thrown, constraints)?;

@@ -15,7 +15,7 @@ ghost use Rattle.resolved.specs.declared.statement.Exit.TheVariants.{Normal, Thr
 ghost use Rattle.resolved.specs.declared.target.Target.TheVariants.{ToValue};
 ghost use Rattle.std.specs.Prelude.{IfOk, List, OnOk, map, ℕ, ◌++◌, ◌∷◌, ◌≡◌};
 
-use crate::lefts::alone;
+use crate::lefts::left_of_pc;
 use crate::rows::ThrownLabel;
 use crate::statements::Walk;
 use crate::takers::{Entry, Takers};
@@ -47,7 +47,7 @@ impl<'a> Walk<'a> {
                 .table
                 .left_of_label(self.alloc, own, Target::ToEnd(callee));
         }
-        alone(self.alloc, own)
+        left_of_pc(self.alloc, own)
     }
 
     // The label of the value of a call.
@@ -265,7 +265,7 @@ impl<'a> Walk<'a> {
         let raised = table.left_of_arguments(self.alloc, pc, self.procedure, arguments)?;
         table.add_inner(raised, number, constraints)?;
         let own = table.inner(number)?;
-        let begin = alone(self.alloc, own)?;
+        let begin = left_of_pc(self.alloc, own)?;
         table.add_rule(at, 6, begin, Target::ToBegin(callee), constraints)?;
         self.add_arguments(at, own, callee, arguments, constraints)?;
         let received = self.left_of_result(own, callee)?;

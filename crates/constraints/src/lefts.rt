@@ -15,7 +15,7 @@ use solver::Atom;
 use std::alloc::{AllocError, Global};
 
 /// The left side of the pc alone.
-pub fn alone(alloc: Global, pc: Atom) -> Result<Vec<Atom>, AllocError>
+pub fn left_of_pc(alloc: Global, pc: Atom) -> Result<Vec<Atom>, AllocError>
     ensures { IfOk result (λ left. left.items ≡ pc ∷ []) }
 {
     let mut left = Vec::new(alloc);
@@ -34,7 +34,7 @@ impl<'a> Table<'a> {
         ensures { IfOk result (λ left. IsLeftFrom self.now.core.now self.now.written.items pc
             (one (label_of (program_of self.now.core.now) target)) left.items) }
     {
-        let mut left = alone(alloc, pc)?;
+        let mut left = left_of_pc(alloc, pc)?;
         self.add_label(target, &mut left)?;
         Ok(left)
     }
@@ -51,7 +51,7 @@ impl<'a> Table<'a> {
             (value_label (scope_of self.now.core.now procedure) (expression_of expression.now))
             left.items) }
     {
-        let mut left = alone(alloc, pc)?;
+        let mut left = left_of_pc(alloc, pc)?;
         self.add_value(procedure, expression, &mut left)?;
         Ok(left)
     }
@@ -68,7 +68,7 @@ impl<'a> Table<'a> {
             (raise_atoms (scope_of self.now.core.now procedure) (expression_of expression.now))
             left.items) }
     {
-        let mut left = alone(alloc, pc)?;
+        let mut left = left_of_pc(alloc, pc)?;
         self.add_raise(procedure, expression, &mut left)?;
         Ok(left)
     }
@@ -86,7 +86,7 @@ impl<'a> Table<'a> {
             (map expression_of arguments.now))
             left.items) }
     {
-        let mut left = alone(alloc, pc)?;
+        let mut left = left_of_pc(alloc, pc)?;
         self.add_raise_all(procedure, arguments, &mut left)?;
         Ok(left)
     }
@@ -105,7 +105,7 @@ impl<'a> Table<'a> {
             ++ value_label (scope_of self.now.core.now procedure) (expression_of value.now))
             left.items) }
     {
-        let mut left = alone(alloc, pc)?;
+        let mut left = left_of_pc(alloc, pc)?;
         self.add_value(procedure, index, &mut left)?;
         self.add_value(procedure, value, &mut left)?;
         Ok(left)
@@ -126,7 +126,7 @@ impl<'a> Table<'a> {
             (expression_of index.now) (expression_of value.now))
             left.items) }
     {
-        let mut left = alone(alloc, pc)?;
+        let mut left = left_of_pc(alloc, pc)?;
         self.add_index(procedure, length, index, &mut left)?;
         self.add_raise(procedure, value, &mut left)?;
         Ok(left)

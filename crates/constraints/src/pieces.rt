@@ -15,7 +15,7 @@ ghost use Rattle.resolved.specs.declared.statement.Exit.{Exit};
 ghost use Rattle.resolved.specs.declared.target.Target.TheVariants.{ToLoop};
 ghost use Rattle.std.specs.Prelude.{IfOk, List, OnOk, [], drop, map, ℕ, ◌+◌, ◌∷◌, ◌≡◌};
 
-use crate::lefts::alone;
+use crate::lefts::left_of_pc;
 use crate::progress::Progress;
 use crate::statements::Walk;
 use crate::takers::{Saved, Takers, numbers_of, take_handled};
@@ -80,7 +80,7 @@ impl<'a> Walk<'a> {
     }
 
     // The pc of what follows a statement with these ends, whose normal end has the taker with this number.
-    pub(crate) fn onward(&self, exits: Exits, pc: Atom, number: u32) -> Result<Atom, AllocError>
+    pub(crate) fn onward_pc(&self, exits: Exits, pc: Atom, number: u32) -> Result<Atom, AllocError>
         ensures { IfOk result (λ atom. (ends : List Exit) (named : NamedAtom) →
             exits ≡ exits_of ends →
             IsPart self.now.table.now.core.now self.now.table.now.written.items named pc →
@@ -112,7 +112,7 @@ impl<'a> Walk<'a> {
         if !reached {
             return Ok(());
         }
-        let left = alone(self.alloc, pc)?;
+        let left = left_of_pc(self.alloc, pc)?;
         let taker = takers.at(&progress.thrown, Exit::Normal);
         self.table
             .add_flow(self.alloc, &left, taker, &mut progress.constraints)?;

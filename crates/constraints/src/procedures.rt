@@ -12,7 +12,7 @@ ghost use Rattle.resolved.specs.Labelled.{here};
 ghost use Rattle.std.specs.Prelude.{IfOk, List, OnOk, [], map, suc, ℕ, ◌<◌, ◌≡◌};
 ghost use Rattle.constraints.specs.declared.takers.Entry.{Entry};
 
-use crate::lefts::alone;
+use crate::lefts::left_of_pc;
 use crate::progress::Progress;
 use crate::statements::Walk;
 use crate::table::Table;
@@ -67,7 +67,7 @@ impl<'a> Walk<'a> {
         for declared in throws {
             let exception = declared.exception;
             let taker = self.table.inner(entry_in(thrown, exception).number)?;
-            let left = alone(self.alloc, taker)?;
+            let left = left_of_pc(self.alloc, taker)?;
             let target = Target::ToThrown(self.procedure, exception);
             self.table.add_rule(at, 13, left, target, constraints)?;
         }
@@ -96,7 +96,7 @@ impl<'a> Walk<'a> {
             return Ok(());
         }
         let taker = self.table.inner(number)?;
-        let left = alone(self.alloc, taker)?;
+        let left = left_of_pc(self.alloc, taker)?;
         let target = Target::ToEnd(self.procedure);
         self.table
             .add_rule(procedure.at, 13, left, target, &mut progress.constraints)?;

@@ -11,7 +11,7 @@ ghost use Rattle.resolved.specs.Tree.{Assign, Clear, Leave, Receive, ReturnWith,
 ghost use Rattle.resolved.specs.TreeOf.{expression_of, some_expression_of};
 ghost use Rattle.std.specs.Prelude.{List, OnOk, ◌++◌};
 
-use crate::lefts::alone;
+use crate::lefts::left_of_pc;
 use crate::table::Table;
 use crate::takers::{Entry, Takers};
 use common::exceptions::END;
@@ -141,7 +141,7 @@ impl<'a> Walk<'a> {
             (Leave at exit)
             constraints.old.items constraints.new.items) }
     {
-        let left = alone(self.alloc, pc)?;
+        let left = left_of_pc(self.alloc, pc)?;
         self.table
             .add_flow(self.alloc, &left, takers.at(thrown, exit), constraints)?;
         Ok(())
@@ -164,7 +164,7 @@ impl<'a> Walk<'a> {
     {
         match value {
             None => {
-                let left = alone(self.alloc, pc)?;
+                let left = left_of_pc(self.alloc, pc)?;
                 let taker = takers.at(thrown, Exit::Return);
                 self.table.add_flow(self.alloc, &left, taker, constraints)?;
                 Ok(())
@@ -195,8 +195,8 @@ impl<'a> Walk<'a> {
     {
         let target = Target::ToVariable(self.procedure, Variable::Local(slot));
         self.table
-            .add_rule(at, 2, alone(self.alloc, pc)?, target, constraints)?;
-        let left = alone(self.alloc, pc)?;
+            .add_rule(at, 2, left_of_pc(self.alloc, pc)?, target, constraints)?;
+        let left = left_of_pc(self.alloc, pc)?;
         let taker = takers.at(thrown, Exit::Normal);
         self.table.add_flow(self.alloc, &left, taker, constraints)?;
         Ok(())
@@ -279,7 +279,7 @@ impl<'a> Walk<'a> {
     {
         let source = Target::ToChannel(channel);
         self.table
-            .add_rule(at, 4, alone(self.alloc, pc)?, source, constraints)?;
+            .add_rule(at, 4, left_of_pc(self.alloc, pc)?, source, constraints)?;
         let left = self.table.left_of_label(self.alloc, pc, source)?;
         let received = self.table.left_of_label(self.alloc, pc, source)?;
         self.add_target(at, 4, received, target, constraints)?;

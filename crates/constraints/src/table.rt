@@ -150,7 +150,7 @@ impl<'a> Table<'a> {
     }
 
     // The part of the label of an exception that a procedure declares.
-    fn thrown(&self, procedure: u32, exception: u32) -> Atom
+    fn thrown_label(&self, procedure: u32, exception: u32) -> Atom
         ensures { part self.now.written.items result
             ≡ Written (thrown_label (procedure_at (program_of self.now.core.now) procedure).throws
             exception) }
@@ -172,7 +172,7 @@ impl<'a> Table<'a> {
             Target::ToParameter(procedure, parameter) => Ok(self.parameter(procedure, parameter)),
             Target::ToValue(procedure) => Ok(self.row(procedure).value),
             Target::ToEnd(procedure) => Ok(self.row(procedure).end),
-            Target::ToThrown(procedure, exception) => Ok(self.thrown(procedure, exception)),
+            Target::ToThrown(procedure, exception) => Ok(self.thrown_label(procedure, exception)),
             Target::ToLoop(procedure, number) => {
                 let row = self.row(procedure);
                 Ok(Atom::Unknown(number_after(row.loops, number as usize)?))

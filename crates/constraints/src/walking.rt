@@ -55,7 +55,7 @@ fn walk_statements(
         let number = progress.make(1)?;
         let exits = walk_statement(walk, statement, number, onward, takers, progress)?;
         reached = exits.normal;
-        onward = walk.onward(exits, onward, number)?;
+        onward = walk.onward_pc(exits, onward, number)?;
     }
     walk.end_block(reached, onward, takers, progress)?;
     Ok(())

@@ -14,7 +14,7 @@ use Rattle.bytecode.specs.Machine.{Machine, Running, after_steps, exec, first_st
 use Rattle.channels.specs.Sink.{AppendsPrefix}
 use Rattle.channels.specs.World.{input_names}
 use Rattle.channels.specs.WorldText.{IsWorldText, lines_of}
-use Rattle.verifier.specs.Faults.{HasNoFault}
+use Rattle.verifier.specs.Refusals.{HasNoDefect}
 use Rattle.machine.specs.Run.{ReportsStatus}
 use Rattle.machine.specs.declared.status.Status.{Status}
 use Rattle.flowc.specs.Messages.{IsEndLine, reported_line}
@@ -38,11 +38,11 @@ nothing_written old text = ([], (text, refl), Appends-nil old)
 
 -- what can be run
 pub can_run : (code text : List ℕ) (name : Option (List ℕ)) (m : ModuleContents) (principal : Option ℕ) (h : PrincipalHierarchy)
-    → Spells module_file m code → HasNoFault m → IsUtf8 text → IsWorldText (input_names m) (lines_of text)
+    → Spells module_file m code → HasNoDefect m → IsUtf8 text → IsWorldText (input_names m) (lines_of text)
     → IsObserver h name principal → h ≡ m.hierarchy → CanRun code text name m principal
-can_run code text name m principal h spelled faultless encoded right observed is = record {
+can_run code text name m principal h spelled no_defect encoded right observed is = record {
   spelled = spelled;
-  faultless = faultless;
+  no_defect = no_defect;
   encoded = encoded;
   right = right;
   observed = subst (λ (people : PrincipalHierarchy). IsObserver people name principal) is observed;

@@ -23,10 +23,10 @@ use Rattle.compiler.specs.Compiled.{IsCompiled}
 use Rattle.channels.specs.WorldText.{IsWorldText, lines_of}
 use Rattle.compiler.proofs.Readers.{seen-module}
 use Rattle.lowering.proofs.Sent.{exec-keeps}
-use Rattle.machine.proofs.Reporting.{exec_more}
+use Rattle.bytecode.proofs.Executing.{exec_more}
 use Rattle.machine.specs.Run.{HasEnded}
 use Rattle.machine.specs.declared.status.Status.{Status}
-use Rattle.verifier.specs.Faults.{HasNoFault}
+use Rattle.verifier.specs.Refusals.{HasNoDefect}
 use Rattle.verifier.specs.Loaded.{CannotLoad}
 use Rattle.verifier.specs.declared.loading.LoadRefusal.{LoadRefusal}
 use Rattle.verifier.specs.declared.loading.LoadRefusal.TheVariants.{Bytes, Code}
@@ -43,7 +43,7 @@ use Rattle.flowc.specs.Messages.IsRefusedLine.{of_module, of_observer, of_world}
 use Rattle.flowc.specs.Messages.IsWorldLine.{no_text, wrong}
 use Rattle.flowc.specs.View.{IsObserver, view_text}
 use Rattle.flowc.proofs.Sessions.{opened_for}
-use Rattle.flowc.proofs.Refusals.{reported_is_fault, wrong_is_no_world}
+use Rattle.flowc.proofs.Refusals.{refused_has_defect, wrong_is_no_world}
 use Rattle.channels.proofs.Views.{view_text-append}
 
 -- ---- sessions
@@ -130,7 +130,7 @@ prefix_of_nothing (x ∷ xs) b = cc b.1
 pub some_show_all : sessions.SessionsAreFreshRuns → sessions.SessionsEndAsReported → SomeSessionsShowAll
 some_show_all fresh ends said source code compiled world p turns named there =
     let m = module_in compiled in
-    let can : CanOpen code world m = record { spelled = compiled.code_of.spelled; faultless = compiled.code_of.faultless; named = named } in
+    let can : CanOpen code world m = record { spelled = compiled.code_of.spelled; no_defect = compiled.code_of.faultless; named = named } in
     let law = no_less fresh ends said source code compiled world p turns in
     let session = opened_for code world m can compiled.code_of.never_stuck p there law.0 in
     (session.pairs, session.shows, law.1 session.pairs session.shows session.has_run)
@@ -240,12 +240,12 @@ module _ (one : (m n : ModuleContents) (bytes : List ℕ) → Spells module_file
 
   -- what can be run is not refused
   module _ (not_refused : (m : ModuleContents) (bytes : List ℕ) → Spells module_file m bytes → first_refusal bytes ≡ None) where
-    right_module : (code : List ℕ) (m : ModuleContents) → Spells module_file m code → HasNoFault m → (refusal : LoadRefusal) → CannotLoad code refusal → ⊥
-    right_module code m spelled faultless (Bytes refusal) found =
+    right_module : (code : List ℕ) (m : ModuleContents) → Spells module_file m code → HasNoDefect m → (refusal : LoadRefusal) → CannotLoad code refusal → ⊥
+    right_module code m spelled no_defect (Bytes refusal) found =
         let none = not_refused m code spelled in
         cc
-    right_module code m spelled faultless (Code refusal) of_code =
-        reported_is_fault of_code.0 refusal of_code.2 (subst (λ (w : ModuleContents). HasNoFault w) (one m of_code.0 code spelled of_code.1) faultless)
+    right_module code m spelled no_defect (Code refusal) of_code =
+        refused_has_defect of_code.0 refusal of_code.2 (subst (λ (w : ModuleContents). HasNoDefect w) (one m of_code.0 code spelled of_code.1) no_defect)
 
     right_world : (path text line : List ℕ) (m other : ModuleContents) → m ≡ other → IsUtf8 text → IsWorldText (input_names m) (lines_of text)
         → IsWorldLine other path text line → ⊥
@@ -265,10 +265,10 @@ module _ (one : (m n : ModuleContents) (bytes : List ℕ) → Spells module_file
     right_run : (code_path text_path code text name line : List ℕ) (m : ModuleContents) (principal : Option ℕ) → CanRun code text (Some name) m principal
         → IsRefusedLine code_path text_path code text (Some name) line → ⊥
     right_run code_path text_path code text name line m principal can (of_module wrong_module) =
-        right_module code m can.spelled can.faultless wrong_module.refusal wrong_module.refused
-    right_run code_path text_path code text name line m principal can (of_world other spelled faultless wrong_world) =
+        right_module code m can.spelled can.no_defect wrong_module.refusal wrong_module.refused
+    right_run code_path text_path code text name line m principal can (of_world other spelled no_defect wrong_world) =
         right_world text_path text line m other (one m other code can.spelled spelled) can.encoded can.right wrong_world
-    right_run code_path text_path code text name line m principal can (of_observer other spelled faultless encoded right unknown) =
+    right_run code_path text_path code text name line m principal can (of_observer other spelled no_defect encoded right unknown) =
         right_observer name line m other principal (one m other code can.spelled spelled) can.observed unknown
 
     pub error_is_fixed : StandardErrorIsFixed

@@ -2,15 +2,15 @@
 use Rattle.std.proofs.Common.{◌≡◌, ap, sym, ◌∙◌, ℕ, List, [], ◌∷◌, refl, inl, inr, ◌⊎◌, Option, Result, Ok, Err, IfOk, IfErr, OnErr, MatchResult}
 use Rattle.bytecode.specs.Contents.{ModuleContents}
 use Rattle.channels.specs.World.{InputNumbers, input_names}
-use Rattle.channels.specs.WorldText.{IsFirstDefect, IsWorldText, world_of}
+use Rattle.channels.specs.WorldText.{IsWorldRefusal, IsWorldText, world_of}
 use Rattle.channels.specs.declared.defect.WorldRefusal.{WorldRefusal}
 use Rattle.common.specs.declared.fault.OrNoMemory.{OrNoMemory}
 use Rattle.common.specs.declared.fault.OrNoMemory.TheVariants as or
 use Rattle.machine.specs.Run.{names_of}
 use Rattle.machine.specs.declared.fault.NewRefusal.{NewRefusal}
 use Rattle.machine.specs.declared.fault.NewRefusal.TheVariants.{UnknownChannel}
-use Rattle.verifier.specs.Faults.{HasNoFault, IsReported, IsReportedAfter}
-use Rattle.verifier.specs.Fixed.{fixed_faults}
+use Rattle.verifier.specs.Refusals.{HasNoDefect, IsCodeRefusal, IsCodeRefusalAfter}
+use Rattle.verifier.specs.Fixed.{fixed_refusals}
 use Rattle.verifier.specs.declared.fault.CodeRefusal.{CodeRefusal}
 use Rattle.flowc.specs.Stdout.{CannotRun, ShowsRun, ShowsSome}
 use Rattle.flowc.specs.Task.{status_of_fault}
@@ -18,17 +18,17 @@ use Rattle.flowc.specs.declared.ended.Ended.{Ended}
 use Rattle.flowc.specs.declared.fault.PerformFault.{PerformFault}
 use Rattle.flowc.specs.declared.fault.PerformFault.TheVariants.{Refused, CannotWrite, NoMemory}
 
-reported_after : (m : ModuleContents) (faults : List CodeRefusal) (fault : CodeRefusal) → IsReportedAfter m faults fault → faults ≡ [] → ((other : CodeRefusal) → IsReportedAfter m [] other → ⊥) → ⊥
-reported_after m [] fault reported fixed flow = flow fault reported
-reported_after m (first ∷ more) fault reported fixed flow = cc
+reported_after : (m : ModuleContents) (refusals : List CodeRefusal) (refusal : CodeRefusal) → IsCodeRefusalAfter m refusals refusal → refusals ≡ [] → ((other : CodeRefusal) → IsCodeRefusalAfter m [] other → ⊥) → ⊥
+reported_after m [] refusal reported fixed flow = flow refusal reported
+reported_after m (first ∷ more) refusal reported fixed flow = cc
 
--- a module with a fault that may be reported is not without one
-pub reported_is_fault : (m : ModuleContents) (fault : CodeRefusal) → IsReported m fault → HasNoFault m → ⊥
-reported_is_fault m fault reported none = reported_after m (fixed_faults m) fault reported none.fixed none.flow
+-- a module for which there is a refusal is not without a defect
+pub refused_has_defect : (m : ModuleContents) (refusal : CodeRefusal) → IsCodeRefusal m refusal → HasNoDefect m → ⊥
+refused_has_defect m refusal reported none = reported_after m (fixed_refusals m) refusal reported none.fixed none.flow
 
 -- a text with a wrong line is no world
 pub wrong_is_no_world : (inputs : List (List ℕ)) (lines : List (List (List ℕ))) (refusal : WorldRefusal)
-    → IsFirstDefect inputs lines refusal → IsWorldText inputs lines → ⊥
+    → IsWorldRefusal inputs lines refusal → IsWorldText inputs lines → ⊥
 wrong_is_no_world inputs lines refusal wrong right =
     let here = right wrong.place wrong.there in
     let there = wrong.wrong in

@@ -12,10 +12,10 @@ use Rattle.common.specs.Answers.{IfRefused}
 use Rattle.common.specs.declared.fault.OrNoMemory.{OrNoMemory}
 use Rattle.common.specs.declared.fault.OrNoMemory.TheVariants as or
 use Rattle.channels.specs.World.{input_names}
-use Rattle.channels.specs.WorldText.{IsFirstDefect, IsWorldText, lines_of}
+use Rattle.channels.specs.WorldText.{IsWorldRefusal, IsWorldText, lines_of}
 use Rattle.channels.specs.declared.defect.WorldRefusal.{WorldRefusal}
 use Rattle.channels.specs.declared.sink.SinkFault.{SinkFault}
-use Rattle.verifier.specs.Faults.{HasNoFault}
+use Rattle.verifier.specs.Refusals.{HasNoDefect}
 use Rattle.verifier.specs.Loaded.{CannotLoad}
 use Rattle.verifier.specs.declared.loading.LoadRefusal.{LoadRefusal}
 use Rattle.flowc.specs.Lines.{IsPerformFault, cannot_write, line_of_fault, module_line, no_memory, world_line}
@@ -48,12 +48,12 @@ module_message outcome code_path text_path code text fault =
     (λ line wrong observer. of_module wrong)
 
 pub world_message : {X : Type 0} (outcome : Result X PerformFault) (m lent : ModuleContents) (code_path text_path code text : List ℕ) (fault : PerformFault)
-    → Spells module_file m code → HasNoFault m → lent ≡ m
+    → Spells module_file m code → HasNoDefect m → lent ≡ m
     → IsErrAnd outcome (λ other. other ≡ fault) → IsPerformFault (IsWorldLine lent text_path text) false fault
     → IfErr outcome (IsPerformFault (λ line. (observer : Option (List ℕ)) → IsRefusedLine code_path text_path code text observer line) false)
-world_message outcome m lent code_path text_path code text fault spelled faultless is =
+world_message outcome m lent code_path text_path code text fault spelled no_defect is =
     passed_on outcome (IsWorldLine lent text_path text) (λ line. (observer : Option (List ℕ)) → IsRefusedLine code_path text_path code text observer line) false fault
-    (λ line wrong observer. of_world m spelled faultless (subst (λ (w : ModuleContents). IsWorldLine w text_path text line) is wrong))
+    (λ line wrong observer. of_world m spelled no_defect (subst (λ (w : ModuleContents). IsWorldLine w text_path text line) is wrong))
 
 pub start_message : {X : Type 0} (outcome : Result X PerformFault) (code_path text_path code text : List ℕ) (observer : Option (List ℕ)) (failed : Bool) (fault : PerformFault)
     → IsErrAnd outcome (λ other. other ≡ fault)
@@ -64,12 +64,12 @@ start_message outcome code_path text_path code text observer failed fault =
     (λ line wrong. wrong observer)
 
 pub observer_message : {X : Type 0} (outcome : Result X PerformFault) (m : ModuleContents) (h : PrincipalHierarchy) (code_path text_path code text : List ℕ) (observer : Option (List ℕ))
-    (failed : Bool) (fault : PerformFault) → Spells module_file m code → HasNoFault m → IsUtf8 text → IsWorldText (input_names m) (lines_of text) → h ≡ m.hierarchy
+    (failed : Bool) (fault : PerformFault) → Spells module_file m code → HasNoDefect m → IsUtf8 text → IsWorldText (input_names m) (lines_of text) → h ≡ m.hierarchy
     → IsErrAnd outcome (λ other. other ≡ fault) → IsPerformFault (IsObserverLine h observer) false fault
     → IfErr outcome (IsPerformFault (IsRefusedLine code_path text_path code text observer) failed)
-observer_message outcome m h code_path text_path code text observer failed fault spelled faultless encoded right is =
+observer_message outcome m h code_path text_path code text observer failed fault spelled no_defect encoded right is =
     passed_on outcome (IsObserverLine h observer) (IsRefusedLine code_path text_path code text observer) failed fault
-    (λ line unknown. of_observer m spelled faultless encoded right (subst (λ (people : PrincipalHierarchy). IsObserverLine people observer line) is unknown))
+    (λ line unknown. of_observer m spelled no_defect encoded right (subst (λ (people : PrincipalHierarchy). IsObserverLine people observer line) is unknown))
 
 -- ---- refusals
 
@@ -81,12 +81,12 @@ refused_module path code line fault refusal is message says =
 
 -- the first wrong line of a text, which is those bytes
 pub wrong_line : (m : ModuleContents) (path text bytes line : List ℕ) (fault : OrNoMemory WorldRefusal) (refusal : WorldRefusal) → fault ≡ or.Refused refusal
-    → IfRefused (IsFirstDefect (input_names m) (lines_of text)) fault → text ≡ bytes → IsUtf8 bytes → line ≡ world_line path refusal
+    → IfRefused (IsWorldRefusal (input_names m) (lines_of text)) fault → text ≡ bytes → IsUtf8 bytes → line ≡ world_line path refusal
     → IsWorldLine m path bytes line
 wrong_line m path text bytes line fault refusal is message same encoded says =
     wrong refusal encoded
-    (subst (λ (b : List ℕ). IsFirstDefect (input_names m) (lines_of b) refusal) same
-    (subst (IfRefused (IsFirstDefect (input_names m) (lines_of text))) is message))
+    (subst (λ (b : List ℕ). IsWorldRefusal (input_names m) (lines_of b) refusal) same
+    (subst (IfRefused (IsWorldRefusal (input_names m) (lines_of text))) is message))
     says
 
 -- ---- texts that were not written to their end

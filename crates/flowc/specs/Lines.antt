@@ -17,9 +17,9 @@ use Rattle.verifier.specs.declared.loading.LoadRefusal.TheVariants.{Bytes, Code}
 use Rattle.flowc.specs.declared.fault.PerformFault.{PerformFault}
 use Rattle.flowc.specs.declared.fault.PerformFault.TheVariants.{Refused, CannotWrite, NoMemory}
 
--- ---- lines of faults
+-- ---- lines of refusals
 
--- what a line says behind the place of a fault: a colon, the number, the words, and a line feed
+-- what a line says behind the place of a refusal: a colon, the number, the words, and a line feed
 abbrev pub saying : (number : ℕ) → (words : List ℕ) → List ℕ
 saying number words = codes ": " ++ (decimal number ++ (codes " " ++ (words ++ codes "\n")))
 

@@ -12,7 +12,7 @@ use Rattle.bytecode.specs.Format.{module_file}
 use Rattle.bytecode.specs.Machine.{after_steps, machine_code}
 use Rattle.channels.specs.Sink.{AppendsPrefix}
 use Rattle.channels.specs.World.{input_names}
-use Rattle.channels.specs.WorldText.{IsFirstDefect, IsWorldText, lines_of}
+use Rattle.channels.specs.WorldText.{IsWorldRefusal, IsWorldText, lines_of}
 use Rattle.channels.specs.declared.defect.WorldRefusal.{WorldRefusal}
 use Rattle.acceptance.specs.declared.cause.Text.{Text}
 use Rattle.acceptance.specs.declared.cause.Text.TheVariants.{Hierarchy, Source}
@@ -20,7 +20,7 @@ use Rattle.compiler.specs.Reported.{IsFirstFault}
 use Rattle.compiler.specs.declared.fault.CompileRefusal.{CompileRefusal}
 use Rattle.machine.specs.Run.{ReportsStatus}
 use Rattle.machine.specs.declared.status.Status.{Status}
-use Rattle.verifier.specs.Faults.{HasNoFault}
+use Rattle.verifier.specs.Refusals.{HasNoDefect}
 use Rattle.verifier.specs.Loaded.{CannotLoad}
 use Rattle.verifier.specs.declared.loading.LoadRefusal.{LoadRefusal}
 use Rattle.command_line.specs.declared.request.Task.{Task}
@@ -47,8 +47,8 @@ pub record IsTextsLine (hierarchy_path source_path hierarchy source line : List 
   pub first : IsFirstFault hierarchy source refusal
   pub says : line ≡ text_line (path_of hierarchy_path source_path refusal.text) refusal
 
--- the line reports why the bytes of a module cannot be loaded: their first refusal, or a fault of the code of the module that they
--- spell
+-- the line reports why the bytes of a module cannot be loaded: their first refusal, or a refusal of the code of the module that
+-- they spell
 pub record IsModuleLine (path code line : List ℕ) : Type 0 where
   pub refusal : LoadRefusal
   pub refused : CannotLoad code refusal
@@ -57,7 +57,7 @@ pub record IsModuleLine (path code line : List ℕ) : Type 0 where
 -- the line says that the bytes of a world are no text, or the first wrong line of the text for a module
 pub data IsWorldLine (program : ModuleContents) (path text line : List ℕ) : Type 0 where
   no_text : ¬ IsUtf8 text → line ≡ encoding_line path → IsWorldLine program path text line
-  wrong : (refusal : WorldRefusal) → IsUtf8 text → IsFirstDefect (input_names program) (lines_of text) refusal → line ≡ world_line path refusal → IsWorldLine program path text line
+  wrong : (refusal : WorldRefusal) → IsUtf8 text → IsWorldRefusal (input_names program) (lines_of text) refusal → line ≡ world_line path refusal → IsWorldLine program path text line
 
 -- the line says that no principal has the name of the observer
 pub record IsObserverLine (hierarchy : PrincipalHierarchy) (observer : Option (List ℕ)) (line : List ℕ) : Type 0 where
@@ -70,8 +70,8 @@ pub record IsObserverLine (hierarchy : PrincipalHierarchy) (observer : Option (L
 -- and the observer is none of its principals
 pub data IsRefusedLine (code_path text_path code text : List ℕ) (observer : Option (List ℕ)) (line : List ℕ) : Type 0 where
   of_module : IsModuleLine code_path code line → IsRefusedLine code_path text_path code text observer line
-  of_world : (program : ModuleContents) → Spells module_file program code → HasNoFault program → IsWorldLine program text_path text line → IsRefusedLine code_path text_path code text observer line
-  of_observer : (program : ModuleContents) → Spells module_file program code → HasNoFault program → IsUtf8 text → IsWorldText (input_names program) (lines_of text) → IsObserverLine program.hierarchy observer line → IsRefusedLine code_path text_path code text observer line
+  of_world : (program : ModuleContents) → Spells module_file program code → HasNoDefect program → IsWorldLine program text_path text line → IsRefusedLine code_path text_path code text observer line
+  of_observer : (program : ModuleContents) → Spells module_file program code → HasNoDefect program → IsUtf8 text → IsWorldText (input_names program) (lines_of text) → IsObserverLine program.hierarchy observer line → IsRefusedLine code_path text_path code text observer line
 
 -- ---- other lines
 

@@ -14,7 +14,7 @@ use Rattle.channels.specs.Sink.{AppendsPrefix}
 use Rattle.channels.specs.World.{input_names, numbers_of_channel}
 use Rattle.channels.specs.WorldText.{IsWorldText, lines_of, world_of}
 use Rattle.listing.specs.Listing.{listing_text}
-use Rattle.verifier.specs.Faults.{HasNoFault}
+use Rattle.verifier.specs.Refusals.{HasNoDefect}
 use Rattle.machine.specs.Run.{ReportsStatus}
 use Rattle.machine.specs.declared.status.Status.{Status}
 use Rattle.command_line.specs.declared.request.Task.{Task}
@@ -32,10 +32,10 @@ numbers_in program text = numbers_of_channel program (world_of (input_names prog
 abbrev pub text_shown : ModuleContents → (world : List ℕ) → (principal : Option ℕ) → (taken : ℕ) → List ℕ
 text_shown program world principal taken = view_text program (view_for program principal (sent_after program (numbers_in program world) taken))
 
--- what can be run for an observer: the bytes of a module without a fault, a world for it, and one of its principals
+-- what can be run for an observer: the bytes of a module without a defect, a world for it, and one of its principals
 pub record CanRun (code text : List ℕ) (observer : Option (List ℕ)) (program : ModuleContents) (principal : Option ℕ) : Type 0 where
   pub spelled : Spells module_file program code
-  pub faultless : HasNoFault program
+  pub no_defect : HasNoDefect program
   pub encoded : IsUtf8 text
   pub right : IsWorldText (input_names program) (lines_of text)
   pub observed : IsObserver program.hierarchy observer principal
@@ -72,10 +72,10 @@ abbrev pub ShowsSome : (code text : List ℕ) (observer : Option (List ℕ)) (st
 ShowsSome code text observer steps old new =
     (old ≡ new) ⊎ ((out : List ℕ) × IsShown code text observer steps out × Appends old new out)
 
--- what can be listed: the bytes of a module without a fault
+-- what can be listed: the bytes of a module without a defect
 pub record CanList (code : List ℕ) (program : ModuleContents) : Type 0 where
   pub spelled : Spells module_file program code
-  pub faultless : HasNoFault program
+  pub no_defect : HasNoDefect program
 
 -- nothing can be listed
 abbrev pub CannotList : List ℕ → Type 0

@@ -45,7 +45,7 @@ pub fn explain<O: Sink>(
     match check_texts(alloc, hierarchy.bytes, source.bytes) {
         Ok(checked) => {
             write_labels(alloc, &checked, source.bytes, out)?;
-            Ok(Ended::silent(alloc))
+            Ok(Ended::report_nothing(alloc))
         }
         Err(OrNoMemory::NoMemory) => Err(PerformFault::NoMemory),
         Err(OrNoMemory::Refused(refused)) => {

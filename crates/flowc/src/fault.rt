@@ -10,7 +10,7 @@ use std::alloc::{AllocError, AllocFailed};
 /// Why a task failed.
 #[derive(Drop)]
 pub enum PerformFault {
-    /// A fault of what was read, by the line that reports it.
+    /// A refusal of what was read, by the line that reports it.
     Refused(String),
     /// Standard output did not take what was written.
     CannotWrite,

@@ -34,5 +34,5 @@ pub fn list_module<O: Sink>(
 {
     let verified = read_module(alloc, code)?;
     write_listing(alloc, verified.module(), out)?;
-    Ok(Ended::silent(alloc))
+    Ok(Ended::report_nothing(alloc))
 }

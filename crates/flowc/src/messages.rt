@@ -1,4 +1,4 @@
-//! The lines of faults, as the program prints them.
+//! The lines of refusals, as the program prints them.
 
 ghost use Rattle.flowc.specs.Lines as lines;
 ghost use Rattle.std.specs.Prelude.{◌≡◌, IfOk};

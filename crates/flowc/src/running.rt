@@ -15,7 +15,7 @@ ghost use Rattle.flowc.specs.declared.fault.PerformFault.TheVariants.{NoMemory};
 ghost use Rattle.machine.specs.Run.{machine_of};
 ghost use Rattle.std.specs.Prelude.{◌≡◌, IfErr, IfOk, IsUtf8, List, ℕ, OnErr, OnOk, Option, false, option_map};
 ghost use Rattle.std.specs.String.{string_bytes};
-ghost use Rattle.verifier.specs.Faults.{HasNoFault};
+ghost use Rattle.verifier.specs.Refusals.{HasNoDefect};
 ghost use Rattle.verifier.specs.Loaded.{IsLoaded};
 
 use crate::ended::Ended;
@@ -69,7 +69,7 @@ pub fn run<O: Sink>(
 fn start(alloc: Global, code: File<'_>, world: File<'_>) -> Result<Machine, PerformFault>
     ensures accepted { IfOk result (λ machine. IsLoaded code.entry.bytes.now machine.program) }
     ensures encoded { OnOk result (IsUtf8 world.entry.bytes.now) }
-    ensures rejected { IfErr result (λ fault. status_of_fault fault ≡ 1 → (program : ModuleContents) → Spells module_file program code.entry.bytes.now → HasNoFault program → IsUtf8 world.entry.bytes.now → ¬ IsWorldText (input_names program) (lines_of world.entry.bytes.now)) }
+    ensures rejected { IfErr result (λ fault. status_of_fault fault ≡ 1 → (program : ModuleContents) → Spells module_file program code.entry.bytes.now → HasNoDefect program → IsUtf8 world.entry.bytes.now → ¬ IsWorldText (input_names program) (lines_of world.entry.bytes.now)) }
     ensures message { IfErr result (IsPerformFault (λ line. (observer : Option (List ℕ)) → IsRefusedLine code.entry.path.now world.entry.path.now code.entry.bytes.now world.entry.bytes.now observer line) false) }
     ensures right { IfOk result (λ machine. IsWorldText (input_names machine.program) (lines_of world.entry.bytes.now)) }
     ensures first { IfOk result (λ machine. machine_of machine ≡ Running (first_state machine.program (numbers_in machine.program world.entry.bytes.now))) }
@@ -120,7 +120,7 @@ fn report_end(
     ensures memory { IfErr result (λ fault. fault ≡ NoMemory) }
 {
     if observer.is_some() {
-        return Ok(Ended::silent(alloc));
+        return Ok(Ended::report_nothing(alloc));
     }
     let (status, line) = match status {
         Status::Finished => (0, String::from_str(alloc, "finished\n")?),

@@ -45,7 +45,7 @@ pub fn check<O: Sink>(
     match check_texts(alloc, hierarchy.bytes, source.bytes) {
         Ok(_checked) => {
             write_all(out, b"ok\n")?;
-            Ok(Ended::silent(alloc))
+            Ok(Ended::report_nothing(alloc))
         }
         Err(OrNoMemory::NoMemory) => Err(PerformFault::NoMemory),
         Err(OrNoMemory::Refused(refused)) => {

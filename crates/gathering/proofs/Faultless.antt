@@ -8,29 +8,29 @@ use Rattle.resolved.specs.declared.statement.Exit.TheVariants.{Normal, Throw}
 use Rattle.resolved.specs.Tree.{Statement, Assign, Clear, Store, Receive, Send, Call, If, While, Leave, ReturnWith, Try, Nested, Block, Empty, Then, Handlers, NoMore, Catch, place_of}
 use Rattle.resolved.specs.Program.{Program, ProcedureEntry}
 use Rattle.resolved.specs.Ends.{same_exit, has_end, statement_ends, block_ends}
-use Rattle.resolved.specs.EndFaults.{EndRefusal, EndFault, OutsideLoop, Unreachable, NeverRaised, NoValueReturned, Undeclared, fault_unless, may_stand, may_end, inner_faults, block_faults, handlers_faults, procedure_faults, end_faults}
+use Rattle.resolved.specs.EndFaults.{EndDefect, EndRefusal, OutsideLoop, Unreachable, NeverRaised, NoValueReturned, Undeclared, fault_unless, may_stand, may_end, inner_faults, block_faults, handlers_faults, procedure_faults, end_faults}
 use Rattle.resolved.specs.Labelled.{program_demands}
 use Rattle.gathering.specs.Walk.{program_constraints}
 use Rattle.gathering.proofs.Reached.{Goes, Part, PartIn, PartBy}
 use Rattle.gathering.proofs.Programs.{PartsFrom, Gathers, gathered_by, all-gathers}
 
-none-left : (xs ys : List EndFault) → (xs ++ ys) ≡ [] → xs ≡ []
+none-left : (xs ys : List EndRefusal) → (xs ++ ys) ≡ [] → xs ≡ []
 none-left [] ys e = refl
 none-left (x ∷ xs) ys e = absurd (cc)
 
-none-right : (xs ys : List EndFault) → (xs ++ ys) ≡ [] → ys ≡ []
+none-right : (xs ys : List EndRefusal) → (xs ++ ys) ≡ [] → ys ≡ []
 none-right [] ys e = e
 none-right (x ∷ xs) ys e = absurd (cc)
 
-passed : (test : Bool) (refusal : EndRefusal) (at : ℕ) → fault_unless test refusal at ≡ [] → test ≡ true
-passed true refusal at e = refl
-passed false refusal at e = absurd (cc)
+passed : (test : Bool) (defect : EndDefect) (at : ℕ) → fault_unless test defect at ≡ [] → test ≡ true
+passed true defect at e = refl
+passed false defect at e = absurd (cc)
 
 module _ (program : Program) where
   reached-first : (loop b : Bool) (s : Statement) (rest : Block) → block_faults program loop b (Then s rest) ≡ [] → b ≡ true
   reached-first loop b s rest none =
-      let a : List EndFault = fault_unless (may_stand loop s) OutsideLoop (place_of s) in
-      let r : List EndFault = fault_unless b Unreachable (place_of s) in
+      let a : List EndRefusal = fault_unless (may_stand loop s) OutsideLoop (place_of s) in
+      let r : List EndRefusal = fault_unless b Unreachable (place_of s) in
       passed b Unreachable (place_of s) (none-right a r (none-left (a ++ r) (inner_faults program loop s)
       (none-left ((a ++ r) ++ inner_faults program loop s) (block_faults program loop (has_end (statement_ends program s) Normal) rest) none)))
 
@@ -47,25 +47,25 @@ module _ (program : Program) where
     part-from (Send at channel e) loop none = tt
     part-from (Call at procedure arguments target) loop none = tt
     part-from (If at e yes_block no_block) loop none =
-        let yes : List EndFault = block_faults program loop true yes_block in
-        let no : List EndFault = block_faults program loop true no_block in
+        let yes : List EndRefusal = block_faults program loop true yes_block in
+        let no : List EndRefusal = block_faults program loop true no_block in
         (part_in-from yes_block loop true (none-left yes no none), part_in-from no_block loop true (none-right yes no none))
     part-from (While at l e body) loop none = part_in-from body true true none
     part-from (Leave at exit) loop none = tt
     part-from (ReturnWith at value) loop none = tt
     part-from (Try at block handlers) loop none =
-        let own : List EndFault = block_faults program loop true block in
-        let more : List EndFault = handlers_faults program loop (block_ends program block) handlers in
+        let own : List EndRefusal = block_faults program loop true block in
+        let more : List EndRefusal = handlers_faults program loop (block_ends program block) handlers in
         (part_in-from block loop true (none-left own more none), part_by-from handlers loop (block_ends program block) (none-right own more none))
     part-from (Nested at block) loop none = part_in-from block loop true none
 
     pub part_in-from : (block : Block) (loop b : Bool) → block_faults program loop b block ≡ [] → PartIn program block
     part_in-from Empty loop b none = tt
     part_in-from (Then s rest) loop b none =
-        let a : List EndFault = fault_unless (may_stand loop s) OutsideLoop (place_of s) in
-        let r : List EndFault = fault_unless b Unreachable (place_of s) in
-        let own : List EndFault = inner_faults program loop s in
-        let more : List EndFault = block_faults program loop (has_end (statement_ends program s) Normal) rest in (
+        let a : List EndRefusal = fault_unless (may_stand loop s) OutsideLoop (place_of s) in
+        let r : List EndRefusal = fault_unless b Unreachable (place_of s) in
+        let own : List EndRefusal = inner_faults program loop s in
+        let more : List EndRefusal = block_faults program loop (has_end (statement_ends program s) Normal) rest in (
           part-from s loop (none-right (a ++ r) own (none-left ((a ++ r) ++ own) more none)),
           goes-on loop s rest (none-right ((a ++ r) ++ own) more none),
           part_in-from rest loop (has_end (statement_ends program s) Normal) (none-right ((a ++ r) ++ own) more none),
@@ -74,9 +74,9 @@ module _ (program : Program) where
     part_by-from : (handlers : Handlers) (loop : Bool) (ends : List Exit) → handlers_faults program loop ends handlers ≡ [] → PartBy program handlers
     part_by-from NoMore loop ends none = tt
     part_by-from (Catch at handled body rest) loop ends none =
-        let a : List EndFault = fault_unless (has_end ends (Throw handled)) NeverRaised at in
-        let own : List EndFault = block_faults program loop true body in
-        let more : List EndFault = handlers_faults program loop (filter (λ exit. not (same_exit (Throw handled) exit)) ends) rest in (
+        let a : List EndRefusal = fault_unless (has_end ends (Throw handled)) NeverRaised at in
+        let own : List EndRefusal = block_faults program loop true body in
+        let more : List EndRefusal = handlers_faults program loop (filter (λ exit. not (same_exit (Throw handled) exit)) ends) rest in (
           part_in-from body loop true (none-right a own (none-left (a ++ own) more none)),
           part_by-from rest loop (filter (λ exit. not (same_exit (Throw handled) exit)) ends) (none-right (a ++ own) more none),
         )
@@ -84,9 +84,9 @@ module _ (program : Program) where
 procedure-part : (program : Program) (procedure : ProcedureEntry) → procedure_faults program procedure ≡ [] → PartIn program procedure.body
 procedure-part program procedure none =
     let ends : List Exit = block_ends program procedure.body in
-    let own : List EndFault = block_faults program false true procedure.body in
-    let valued : List EndFault = fault_unless (not (is_some procedure.result && has_end ends Normal)) NoValueReturned procedure.at in
-    let declared : List EndFault = fault_unless (list_all (may_end procedure) ends) Undeclared procedure.at in
+    let own : List EndRefusal = block_faults program false true procedure.body in
+    let valued : List EndRefusal = fault_unless (not (is_some procedure.result && has_end ends Normal)) NoValueReturned procedure.at in
+    let declared : List EndRefusal = fault_unless (list_all (may_end procedure) ends) Undeclared procedure.at in
     part_in-from program procedure.body false true (none-left own valued (none-left (own ++ valued) declared none))
 
 each-part : (program : Program) (absent : ProcedureEntry) → PartIn program absent.body → (ps : List ProcedureEntry) →

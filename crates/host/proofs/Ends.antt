@@ -6,7 +6,7 @@ use Rattle.bytecode.specs.Machine.{Machine, Ended, Ending, MachineCode, exec, se
 use Rattle.machine.specs.Run.{HasEnded, ReportsStatus}
 use Rattle.machine.specs.declared.status.Status.{Status}
 use Rattle.machine.specs.declared.status.Status.TheVariants as status
-use Rattle.machine.proofs.Reporting.{exec_more}
+use Rattle.bytecode.proofs.Executing.{exec_more}
 use Rattle.host.specs.Laws.{ending_of}
 
 -- a machine that has ended stays so

@@ -9,7 +9,7 @@ use Rattle.bytecode.specs.Format.{module_file}
 use Rattle.bytecode.specs.Machine.{Machine, Ending, exec, machine_code, sent_of}
 use Rattle.channels.specs.World.{InputNumbers}
 use Rattle.bytecode.specs.Isolated.{seen_of}
-use Rattle.machine.proofs.Reporting.{exec_more}
+use Rattle.bytecode.proofs.Executing.{exec_more}
 use Rattle.host.specs.Meaning.{SessionContents, HostContents, HostEvent, Open, Turn, View, Close, HostAnswer, Opened, Turned, Viewed, Closed, Refused, MayAnswer, Answered, session_of, with_machine, without, IsOpen, IsNotOpen, first_machine, with_opened}
 use Rattle.machine.specs.Run.{HasEnded}
 use Rattle.machine.specs.declared.status.Status.{Status}

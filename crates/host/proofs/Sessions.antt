@@ -160,7 +160,7 @@ pub not_made : {T : Type 0} (bytes : List ℕ) (world : List InputNumbers) (m : 
     → IsErrOf made (Refused UnknownChannel) ↔ (names_of world ≢ input_names m) → IfErr made (IfRefused (λ refusal. CannotOpen bytes world (New refusal)))
 not_made bytes world m (Ok machine) loaded unknown = tt
 not_made bytes world m (Err NoMemory) loaded unknown = tt
-not_made bytes world m (Err (Refused UnknownChannel)) loaded unknown = (m, loaded.spelled, loaded.faultless, unknown.0 refl)
+not_made bytes world m (Err (Refused UnknownChannel)) loaded unknown = (m, loaded.spelled, loaded.no_defect, unknown.0 refl)
 
 pub next_after : (id : ℕ) → id < 2 ^ 64 → (after : Option ℕ) → SomeIff after (id + 1 < 18446744073709551616) (id + 1) → next_of after ≡ id + 1
 next_after id below None none = omega (arith, none)

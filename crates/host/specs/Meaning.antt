@@ -1,5 +1,5 @@
 -- The meaning of a host: how it may answer each event and what it then is. A relation, since memory may be refused, and since
--- of several faults of one module any may be reported that the verifier may report.
+-- of several refusals of one module any may be reported that the verifier may report.
 -- Source: our own.
 use Rattle.std.specs.Prelude.{◌≡◌, ◌≢◌, ℕ, ◌+◌, ◌<◌, ◌≤◌, ◌^◌, ◌==◌, not, if◌then◌else◌, List, [], ◌∷◌, length, filter, Option, Some, None}
 use Rattle.labels.specs.declared.sent.Pair.{Pair}
@@ -11,7 +11,7 @@ use Rattle.channels.specs.World.{InputNumbers, input_names, numbers_of_channel}
 use Rattle.machine.specs.Run.{ReportsStatus, WasRunning, names_of}
 use Rattle.machine.specs.declared.status.Status.{Status}
 use Rattle.machine.specs.declared.fault.NewRefusal.TheVariants.{UnknownChannel}
-use Rattle.verifier.specs.Faults.{HasNoFault}
+use Rattle.verifier.specs.Refusals.{HasNoDefect}
 use Rattle.verifier.specs.Loaded.{CannotLoad}
 use Rattle.bytecode.specs.Isolated.{seen_of}
 use Rattle.common.specs.declared.fault.OrNoMemory.{OrNoMemory}
@@ -84,10 +84,10 @@ ReportsFault Asks P (faults.Refused refusal) = P refusal
 
 -- ---- opening
 
--- bytes can be opened on a world as this module: they spell it, its code has no fault, and the world is for its inputs
+-- bytes can be opened on a world as this module: they spell it, its code has no defect, and the world is for its inputs
 pub record CanOpen (bytes : List ℕ) (world : List InputNumbers) (m : ModuleContents) : Type 0 where
   pub spelled : Spells module_file m bytes
-  pub faultless : HasNoFault m
+  pub no_defect : HasNoDefect m
   pub named : names_of world ≡ input_names m
 
 -- a module on a world before its first step
@@ -102,11 +102,11 @@ with_opened host m world = record {
 }
 
 -- why bytes are not opened on a world where there is room. The first of these in this order that applies is reported: a refusal
--- of the bytes, a fault of the code, a world for other inputs
+-- of the bytes, a refusal of the code, a world for other inputs
 abbrev pub CannotOpen : List ℕ → List InputNumbers → HostRefusal → Type 0
 CannotOpen bytes world (Load refusal) = CannotLoad bytes refusal
 CannotOpen bytes world (New UnknownChannel) =
-    (m : ModuleContents) × Spells module_file m bytes × HasNoFault m × (names_of world ≢ input_names m)
+    (m : ModuleContents) × Spells module_file m bytes × HasNoDefect m × (names_of world ≢ input_names m)
 CannotOpen bytes world Full = ⊥
 CannotOpen bytes world UnknownId = ⊥
 CannotOpen bytes world UnknownPrincipal = ⊥

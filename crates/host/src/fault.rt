@@ -17,7 +17,7 @@ pub enum HostRefusal {
     UnknownId,
     /// 153: no principal of the session's module has this number.
     UnknownPrincipal,
-    /// 801 to 806, or 811 to 815: the bytes spell no module, or one with a fault in its code.
+    /// 801 to 806, or 811 to 815: the bytes spell no module, or one with a defect in its code.
     Load(LoadRefusal),
     /// 852: the names of the world's inputs are not those of the module's inputs, in order.
     New(NewRefusal),

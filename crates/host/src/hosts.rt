@@ -53,12 +53,12 @@ impl Host {
     ///
     /// # Errors
     ///
-    /// The first of these that applies: the host is full; the bytes spell no module; the module has a fault in its
+    /// The first of these that applies: the host is full; the bytes spell no module; the module has a defect in its
     /// code; the names of the world's inputs are not those of the module's inputs. Out of memory may be answered
     /// in place of all but the first.
     pub fn open(&mut self, bytes: &[u8], world: World) -> Result<Id, HostFault>
-        ensures { MayAnswer MAX_SESSIONS (host_of self.old) (Open bytes.now world) (opened_or result)
-            (host_of self.new) }
+        ensures { MayAnswer MAX_SESSIONS (host_of self.old) (Open bytes.now world)
+            (opened_or result) (host_of self.new) }
     {
         let Some(id) = self.next else {
             return Err(OrNoMemory::Refused(HostRefusal::Full));

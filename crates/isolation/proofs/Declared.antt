@@ -6,7 +6,7 @@ use Rattle.resolved.specs.declared.statement.Exit.TheVariants.{Normal}
 use Rattle.resolved.specs.Tree.{Empty}
 use Rattle.resolved.specs.Program.{Program, ProcedureEntry}
 use Rattle.resolved.specs.Ends.{has_end, block_ends}
-use Rattle.resolved.specs.EndFaults.{EndRefusal, NoValueReturned, Undeclared, fault_unless, may_end, block_faults, procedure_faults, end_faults}
+use Rattle.resolved.specs.EndFaults.{EndDefect, NoValueReturned, Undeclared, fault_unless, may_end, block_faults, procedure_faults, end_faults}
 use Rattle.isolation.proofs.Among.{EndsAsDeclared}
 
 -- of an empty list both parts are empty
@@ -14,9 +14,9 @@ pub append-empty : {A : Type 0} (xs ys : List A) → xs ++ ys ≡ [] → (xs ≡
 append-empty [] ys h = (refl, h)
 append-empty (x ∷ xs) ys h = absurd (cc)
 
-pub no_fault-test : (test : Bool) (refusal : EndRefusal) (at : ℕ) → fault_unless test refusal at ≡ [] → test ≡ true
-no_fault-test true refusal at h = refl
-no_fault-test false refusal at h = absurd (cc)
+pub no_fault-test : (test : Bool) (defect : EndDefect) (at : ℕ) → fault_unless test defect at ≡ [] → test ≡ true
+no_fault-test true defect at h = refl
+no_fault-test false defect at h = absurd (cc)
 
 procedure-ends : (program : Program) (procedure : ProcedureEntry) → procedure_faults program procedure ≡ [] →
     list_all (may_end procedure) (block_ends program procedure.body) ≡ true

@@ -9,7 +9,7 @@ use Rattle.resolved.specs.declared.expression.Operator.{Operator}
 use Rattle.resolved.specs.declared.expression.Operator.TheVariants.{Add, Subtract, Multiply, Divide, Remainder, LessThan, AtMost, GreaterThan, AtLeast, Equal, Unequal, Same, Different}
 use Rattle.resolved.specs.declared.expression.Connective.{Connective}
 use Rattle.resolved.specs.Tree.{Expression, Integer, Logical, Read, Element, Unary, Binary, Short}
-use Rattle.resolved.specs.Value.{Evaluated, Yields, Raises, then_with, number_in, literal_number, wrapped, is_zero, unless_zero, prefix_value, operator_value, decides, in_range, position_of, checked_index, arith_exception, bounds_exception}
+use Rattle.resolved.specs.Value.{Evaluated, Yields, Raises, then_with, number_in, literal_number, is_zero, unless_zero, prefix_value, operator_value, decides, in_range, position_of, checked_index, arith_exception, bounds_exception}
 use Rattle.resolved.specs.SourceState.{SourceState, cells, cell_at, value_of, values_of}
 use Rattle.resolved.specs.Ends.{index_can_raise, divisor_can_raise, is_division, raises}
 use Rattle.resolved.specs.Labelled.{Scope, variable_label, value_label, raise_label, raise_labels, label_if, any_of, Labelling, Join}

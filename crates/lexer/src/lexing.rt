@@ -18,10 +18,10 @@ use std::alloc::Global;
 /// out before.
 pub fn lex(alloc: Global, src: &str) -> Result<Vec<Token<'_>>, LexFault>
     ensures accepted { IfOk result (λ tokens. IsCut src.now (terminals_of tokens.items)) }
-    ensures exact { (tokens : List Terminal) → IsCut src.now tokens →
+    ensures complete { (tokens : List Terminal) → IsCut src.now tokens →
         Answers (λ found. terminals_of found.items ≡ tokens) (λ _. ⊥) result }
-    ensures rejected { IfErr result (IfRefused (IsTextRefused src.now)) }
-    ensures first_fault { (refusal : LexRefusal) → IsTextRefused src.now refusal →
+    ensures first_fault { IfErr result (IfRefused (IsTextRefused src.now)) }
+    ensures refuses { (refusal : LexRefusal) → IsTextRefused src.now refusal →
         Answers (λ _. ⊥) (λ found. found ≡ refusal) result }
     ensures terminated { IfOk result (λ tokens. IsTerminated (terminals_of tokens.items)) }
     ensures in_order { IfOk result (λ tokens.

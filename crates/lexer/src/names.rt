@@ -11,7 +11,7 @@ use crate::token::Kind;
 pub fn is_name(text: &str) -> bool
     ensures { result ≡ is_name_text text.now }
 {
-    is_identifier(text) && keyword(text).is_none()
+    is_identifier(text) && find_keyword(text).is_none()
 }
 
 fn is_identifier(text: &str) -> bool
@@ -37,7 +37,7 @@ pub(crate) fn continues_name(character: char) -> bool
 }
 
 /// The kind of the keyword that `text` is, if it is one.
-pub(crate) fn keyword(text: &str) -> Option<Kind>
+pub(crate) fn find_keyword(text: &str) -> Option<Kind>
     ensures { result ≡ keyword_of text.now }
 {
     match text {

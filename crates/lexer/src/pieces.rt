@@ -8,7 +8,7 @@ ghost use Rattle.std.specs.Char.{is_ascii_digit};
 ghost use Rattle.std.specs.Str.{chars};
 
 use crate::fault::LexRefusal;
-use crate::names::{begins_name, continues_name, keyword};
+use crate::names::{begins_name, continues_name, find_keyword};
 use crate::token::Kind;
 use common::limits::MAX_INTEGER;
 
@@ -99,7 +99,7 @@ fn cut_word<'a>(text: &'a str, first: char, after: &'a str) -> Piece<'a>
     ensures { Reads (chars text.now) result.kind (chars result.rest.now) }
 {
     let rest = skip_run(after, Class::NamePart);
-    let kind = keyword(take_front(text, rest)).unwrap_or(Kind::Name);
+    let kind = find_keyword(take_front(text, rest)).unwrap_or(Kind::Name);
     Piece {
         kind: Some(kind),
         rest,

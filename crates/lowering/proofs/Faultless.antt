@@ -152,12 +152,12 @@ module _ (program : Program) (formed : well_formed program ≡ true) (entry : Pr
 
 -- ---- modules
 procedures-right : (m : ModuleContents) (number : ℕ) (graphs : List ProcedureContents) → ((k : ℕ) (g : ProcedureContents) → slice_get graphs k ≡ Some g → Sound m g)
-    → fixed.procedure_faults m number (map laid_out_procedure graphs) ≡ []
+    → fixed.procedure_refusals m number (map laid_out_procedure graphs) ≡ []
 procedures-right m number [] sound = refl
 procedures-right m number (g ∷ graphs) sound =
-    let rest = fixed.procedure_faults m (number + 1) (map laid_out_procedure graphs) in
+    let rest = fixed.procedure_refusals m (number + 1) (map laid_out_procedure graphs) in
     let s = sound 0 g refl in
-    ap (λ l. l ++ fixed.handler_faults m number (laid_out_procedure g) (laid_out_procedure g).handlers ++ rest) (sound-instructions m g s number)
+    ap (λ l. l ++ fixed.handler_refusals m number (laid_out_procedure g) (laid_out_procedure g).handlers ++ rest) (sound-instructions m g s number)
     ∙ (ap (λ l. l ++ rest) (sound-handlers m g s number) ∙ procedures-right m (number + 1) graphs (λ k h e. sound (suc k) h e))
 
 sound-at : (program : Program) → well_formed program ≡ true → end_faults program ≡ [] → (k : ℕ) (g : ProcedureContents)
@@ -175,9 +175,9 @@ modules-faultless program formed none =
     let m = laid_out (graph_of program) in
     record {
       fixed = procedures-right m 0 (graph_of program).procedures (sound-at program formed none);
-      flow = λ fault found.
-          let from = mapped-from laid_out_procedure (graph_of program).procedures fault.procedure found.procedure found.there in
-          subst (FlowsWell m) from.2 (sound-flows m from.0 (sound-at program formed none fault.procedure from.0 from.1)) fault.offset fault.defect found.defect;
+      flow = λ refusal found.
+          let from = mapped-from laid_out_procedure (graph_of program).procedures refusal.procedure found.procedure found.there in
+          subst (FlowsWell m) from.2 (sound-flows m from.0 (sound-at program formed none refusal.procedure from.0 from.1)) refusal.offset refusal.defect found.defect;
     }
 
 pub modules-run : ModulesAreNeverStuck

@@ -28,7 +28,7 @@ use Rattle.bytecode.specs.declared.instruction.Instruction.{Instruction}
 use Rattle.bytecode.specs.declared.instruction.Instruction.TheVariants as instruction
 use Rattle.bytecode.specs.Machine as machine
 use Rattle.bytecode.specs.Machine.{Machine, State, Header, clears, with_slot, with_element, goes_on, takes, receives, sends, changed, throws, returns_nothing, leaves_without, returns_value, gives_back, leaves_value, raised, no_row, leaves, bounds, end_of_input}
-use Rattle.lowering.specs.Interface.{kind_of_base, returned_kind}
+use Rattle.lowering.specs.Interface.{kind_of_base}
 use Rattle.lowering.specs.Expressions.{store_of, store_element_of, value_size, value_code}
 use Rattle.lowering.specs.Code.{Loop, kept_code}
 use Rattle.lowering.proofs.Places.{Stands, stands-front, stands-back}

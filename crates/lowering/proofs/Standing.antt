@@ -23,9 +23,9 @@ use Rattle.layout.proofs.Starts.{start-at}
 use Rattle.layout.proofs.Tables.{offset-end}
 use Rattle.verifier.specs.declared.fault.CodeDefect.{CodeDefect}
 use Rattle.verifier.specs.declared.fault.CodeDefect.TheVariants as defect
-use Rattle.verifier.specs.Fixed.{unless, is_start, is_end, instruction_defect, handler_defect, fault_list, instruction_faults, handler_faults}
+use Rattle.verifier.specs.Fixed.{unless, is_start, is_end, instruction_defect, handler_defect, refusals_at, instruction_refusals, handler_refusals}
 use Rattle.verifier.specs.Flow.{Edge, next, jumps, caught, Leaves, Misses, effect, goes_on, FlowsWell}
-use Rattle.verifier.proofs.Laws.{no_fault}
+use Rattle.verifier.proofs.Laws.{flows_well}
 use Rattle.lowering.proofs.Flowing.{Fine, EachFine, fine-at, kinds_at, along, onward, following}
 use Rattle.lowering.proofs.Settled.{Catches}
 
@@ -231,7 +231,7 @@ module _ (m : ModuleContents) (g : ProcedureContents) (s : Sound m g) where
   end-none = ap (listed g.code kinds) (length-renamed (offset g.code) g.code) ∙ listed-end g.code kinds
 
   pub sound-flows : FlowsWell m (laid_out_procedure g)
-  sound-flows = no_fault m (laid_out_procedure g) done (record {
+  sound-flows = flows_well m (laid_out_procedure g) done (record {
     first = first-done;
     finds = λ at list i wrong has e misses.
         let no : Leaves (at-instruction at list has).fine.after ≡ Misses wrong = sym (effect-there at list (at-instruction at list has) i e) ∙ misses in
@@ -252,10 +252,10 @@ module _ (m : ModuleContents) (g : ProcedureContents) (s : Sound m g) where
 
   instructions-right : (number at : ℕ) (code : List Instruction)
       → ((k : ℕ) (x : Instruction) → slice_get code k ≡ Some x → instruction_defect m (laid_out_procedure g) (renamed_instruction (offset g.code) x) ≡ None)
-      → instruction_faults m number (laid_out_procedure g) at (map (renamed_instruction (offset g.code)) code) ≡ []
+      → instruction_refusals m number (laid_out_procedure g) at (map (renamed_instruction (offset g.code)) code) ≡ []
   instructions-right number at [] right = refl
   instructions-right number at (x ∷ code) right =
-      ap (λ (o : Option CodeDefect). fault_list number at o ++ instruction_faults m number (laid_out_procedure g) (at + width_of (renamed_instruction (offset g.code) x)) (map (renamed_instruction (offset g.code)) code))
+      ap (λ (o : Option CodeDefect). refusals_at number at o ++ instruction_refusals m number (laid_out_procedure g) (at + width_of (renamed_instruction (offset g.code) x)) (map (renamed_instruction (offset g.code)) code))
       (right 0 x refl)
       ∙ instructions-right number (at + width_of (renamed_instruction (offset g.code) x)) code (λ k y e. right (suc k) y e)
 
@@ -289,15 +289,15 @@ module _ (m : ModuleContents) (g : ProcedureContents) (s : Sound m g) where
       all a b c d e h1 h2 h3 h4 h5 = rw (h1, h2, h3, h4, h5) refl
 
   handlers-right : (number : ℕ) (table : List Handler) → All (λ (x : Handler). handler_defect m (laid_out_procedure g) (renamed_handler (offset g.code) x) ≡ None) table
-      → handler_faults m number (laid_out_procedure g) (map (renamed_handler (offset g.code)) table) ≡ []
+      → handler_refusals m number (laid_out_procedure g) (map (renamed_handler (offset g.code)) table) ≡ []
   handlers-right number [] right = refl
   handlers-right number (x ∷ table) right =
       let Right : Handler → Type 0 = λ (x : Handler). handler_defect m (laid_out_procedure g) (renamed_handler (offset g.code) x) ≡ None in
-      ap (λ (o : Option CodeDefect). fault_list number (offset g.code x.start) o ++ handler_faults m number (laid_out_procedure g) (map (renamed_handler (offset g.code)) table))
+      ap (λ (o : Option CodeDefect). refusals_at number (offset g.code x.start) o ++ handler_refusals m number (laid_out_procedure g) (map (renamed_handler (offset g.code)) table))
       (All-head Right x table right)
       ∙ handlers-right number table (All-tail Right x table right)
 
-  pub sound-instructions : (number : ℕ) → instruction_faults m number (laid_out_procedure g) 0 (laid_out_procedure g).code ≡ []
+  pub sound-instructions : (number : ℕ) → instruction_refusals m number (laid_out_procedure g) 0 (laid_out_procedure g).code ≡ []
   sound-instructions number =
       instructions-right number 0 g.code
       (λ k x e. instruction-right x (along m (laid_out_procedure g) (take k g.code) []) (fine-at m (laid_out_procedure g) g.code g.code [] k x s.fine e) (targets k x e))
@@ -313,5 +313,5 @@ module _ (m : ModuleContents) (g : ProcedureContents) (s : Sound m g) where
           subst (λ (y : Instruction). IfSome (target_of y) (λ target. target < length g.code)) (same_instruction (get_or g.code k Return) x (sym there ∙ e))
           (s.positions.targets k Return (below g.code k x e))
 
-  pub sound-handlers : (number : ℕ) → handler_faults m number (laid_out_procedure g) (laid_out_procedure g).handlers ≡ []
+  pub sound-handlers : (number : ℕ) → handler_refusals m number (laid_out_procedure g) (laid_out_procedure g).handlers ≡ []
   sound-handlers number = handlers-right number g.handlers (λ k d below. handler-right (get_or g.handlers k d) (s.positions.handlers k d below) (s.catches k d below))

@@ -7,14 +7,14 @@ use Rattle.layout.specs.Offsets.{laid_out}
 use Rattle.resolved.specs.EndFaults.{end_faults}
 use Rattle.resolved.specs.Program.{Program}
 use Rattle.resolved.specs.WellFormed.{well_formed}
-use Rattle.verifier.specs.Faults.{HasNoFault}
+use Rattle.verifier.specs.Refusals.{HasNoDefect}
 use Rattle.verifier.specs.Safety.{IsNeverStuck}
 use Rattle.lowering.specs.Graphs.{graph_of}
 
 -- the module of every well-formed program without a fault of its ends has no fault
 abbrev pub ModulesHaveNoFault : Type 0
 ModulesHaveNoFault = (program : Program) → IsTrue (well_formed program) → end_faults program ≡ []
-    → HasNoFault (laid_out (graph_of program))
+    → HasNoDefect (laid_out (graph_of program))
 
 -- so no run of such a module is stuck, where its graph fits the module file
 abbrev pub ModulesAreNeverStuck : Type 0

@@ -33,7 +33,7 @@ fn turned_operator(operator: Operator) -> Operator
 }
 
 /// The truth at which the left operand of a connective decides.
-fn deciding(connective: Connective) -> bool
+fn decides_at(connective: Connective) -> bool
     ensures { result ≡ deciding connective }
 {
     match connective {
@@ -75,7 +75,7 @@ pub(crate) fn branch_size(wanted: bool, condition: &Expression) -> u32
         Expression::Unary(Prefix::Not, operand) => branch_size(!wanted, operand),
         Expression::Binary(_, _, _) => tested_size(wanted, condition) + 1,
         Expression::Short(connective, left, right) => {
-            branch_size(deciding(*connective), left) + branch_size(wanted, right)
+            branch_size(decides_at(*connective), left) + branch_size(wanted, right)
         }
     }
 }
@@ -157,7 +157,7 @@ pub(crate) fn push_branch(
         Expression::Unary(Prefix::Not, operand) => push_branch(code, !wanted, target, operand),
         Expression::Binary(_, _, _) => push_test(code, wanted, target, condition),
         Expression::Short(connective, left, right) => {
-            let decides = deciding(*connective);
+            let decides = decides_at(*connective);
             let behind = next_place(code) + branch_size(decides, left) + branch_size(wanted, right);
             let inner = inner_target(wanted, decides, target, behind);
             push_branch(code, decides, inner, left)?;

@@ -1,16 +1,7 @@
-pub mod Slab
-pub mod Points
-pub mod Frames
-pub mod Globals
-pub mod Index
 pub mod Inputs
 pub mod Live
 pub mod Run
 pub mod Steps
-pub mod Operations
-pub mod Fusing
 pub mod OpenCells
-pub mod Linked
-pub mod Linking
 pub mod Inner
 pub mod Words

@@ -1,6 +1,7 @@
 ghost use Rattle.machine.specs.Words.{new_refusal_number, new_refusal_words};
 ghost use Rattle.std.specs.Prelude.{◌≡◌, Some};
 
+use channels::WorldDefect;
 use common::OrNoMemory;
 use std::error::Error;
 use std::fmt;
@@ -21,7 +22,7 @@ impl NewRefusal {
         ensures { result ≡ new_refusal_number self }
     {
         match self {
-            NewRefusal::UnknownChannel => 852,
+            NewRefusal::UnknownChannel => WorldDefect::UnknownChannel.number(),
         }
     }
 
@@ -30,7 +31,7 @@ impl NewRefusal {
         ensures { result.now ≡ new_refusal_words self }
     {
         match self {
-            NewRefusal::UnknownChannel => "unknown channel",
+            NewRefusal::UnknownChannel => WorldDefect::UnknownChannel.words(),
         }
     }
 }

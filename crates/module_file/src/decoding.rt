@@ -148,7 +148,7 @@ pub fn decode(alloc: Global, bytes: &[u8]) -> Result<Module, ModuleFault>
     // What is read is spelled so, each byte of it.
     ensures accepted { IfOk result (λ m. Spells module_file m bytes.now) }
     // What is spelled so is read, unless memory is refused.
-    ensures exact { (m : ModuleContents) → Spells module_file m bytes.now →
+    ensures complete { (m : ModuleContents) → Spells module_file m bytes.now →
         Answers (λ found. found ≡ m) (λ _. ⊥) result }
     // A refusal is the first one, at its offset.
     ensures first_fault { IfErr result (IfRefused

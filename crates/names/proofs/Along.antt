@@ -10,12 +10,13 @@ use Rattle.resolved.specs.declared.statement.Handler.{Handler}
 use Rattle.resolved.specs.Tree.{Block, Empty, Then, Handlers, NoMore, Catch}
 use Rattle.resolved.specs.TreeOf.{statement_of, block_of, handlers_of}
 use Rattle.names.specs.declared.body.Body.{Body}
+use Rattle.common.specs.Answers.{IfRefused}
 use Rattle.common.specs.declared.fault.OrNoMemory.{OrNoMemory}
 use Rattle.names.specs.declared.fault.NameRefusal.{NameRefusal}
-use Rattle.names.specs.Finding.{Finding, and_then}
+use Rattle.names.specs.Finding.{IsRefusalOf, Finding, and_then}
 use Rattle.names.specs.Environment.{exception_finding}
 use Rattle.names.specs.Statements.{Point, statement_finding, block_finding, statements_finding, catches_finding}
-use Rattle.names.specs.Views.{ResolvingFails, IsLater, names_of, point_of, setting_of, taken}
+use Rattle.names.specs.Views.{IsLater, names_of, point_of, setting_of, taken}
 use Rattle.names.proofs.Later.{later_same, later_through, setting_same}
 use Rattle.names.proofs.Loops.{fails_later, fails_second, then_ok}
 
@@ -75,13 +76,13 @@ module _ {start now : Body} {written : List Statement} {made : List S.Statement}
     whole_is : and_then (statements_finding (setting_of start) (point_of now) (StatementThen (statement_tree statement) (statements_of (map statement_tree (drop (i + 1) written))))) (with_rest made) ≡ statements_finding (setting_of start) (point_of start) (statements_of (map statement_tree written))
     whole_is = subst (λ trees. and_then (statements_finding (setting_of start) (point_of now) trees) (with_rest made) ≡ statements_finding (setting_of start) (point_of start) (statements_of (map statement_tree written))) rest_is along.on
 
-    pub statement_wrong : (fault : OrNoMemory NameRefusal) → ResolvingFails fault (statement_finding (setting_of now) (point_of now) (statement_tree statement))
-        → ResolvingFails fault (statements_finding (setting_of start) (point_of start) (statements_of (map statement_tree written)))
+    pub statement_wrong : (fault : OrNoMemory NameRefusal) → IfRefused (IsRefusalOf (statement_finding (setting_of now) (point_of now) (statement_tree statement))) fault
+        → IfRefused (IsRefusalOf (statements_finding (setting_of start) (point_of start) (statements_of (map statement_tree written)))) fault
     unfolding statements_finding
     statement_wrong fault wrong =
-        subst (ResolvingFails fault) whole_is
+        subst (λ found. IfRefused (IsRefusalOf found) fault) whole_is
         (fails_later _ (with_rest made) fault (fails_later _ _ fault
-        (subst (λ setting. ResolvingFails fault (statement_finding setting (point_of now) (statement_tree statement))) (setting_same start now along.later) wrong)))
+        (subst (λ setting. IfRefused (IsRefusalOf (statement_finding setting (point_of now) (statement_tree statement))) fault) (setting_same start now along.later) wrong)))
 
     pub statement_right : (after : Body) (one : S.Statement) → statement_finding (setting_of now) (point_of now) (statement_tree statement) ≡ Ok (point_of after, statement_of one)
         → IsLater now after → taken after ≤ taken now + statement_nodes (statement_tree statement)
@@ -162,19 +163,19 @@ module _ {start now : Body} {written : List WrittenCatch} {made : List Handler} 
     all_are : and_then (catches_finding (setting_of start) (point_of now) (CatchThen one.at (name_tree one.exception) (block_tree one.body) (catches_of (map catch_tree (drop (i + 1) written))))) (with_handlers made) ≡ catches_finding (setting_of start) (point_of start) (catches_of (map catch_tree written))
     all_are = subst (λ trees. and_then (catches_finding (setting_of start) (point_of now) trees) (with_handlers made) ≡ catches_finding (setting_of start) (point_of start) (catches_of (map catch_tree written))) catches_are along.on
 
-    pub exception_wrong : (fault : OrNoMemory NameRefusal) → ResolvingFails fault (exception_finding (names_of now (name_tree one.exception).text) one.exception.at)
-        → ResolvingFails fault (catches_finding (setting_of start) (point_of start) (catches_of (map catch_tree written)))
+    pub exception_wrong : (fault : OrNoMemory NameRefusal) → IfRefused (IsRefusalOf (exception_finding (names_of now (name_tree one.exception).text) one.exception.at)) fault
+        → IfRefused (IsRefusalOf (catches_finding (setting_of start) (point_of start) (catches_of (map catch_tree written)))) fault
     unfolding catches_finding
-    exception_wrong fault wrong = subst (ResolvingFails fault) all_are (fails_later _ (with_handlers made) fault (fails_later _ _ fault wrong))
+    exception_wrong fault wrong = subst (λ found. IfRefused (IsRefusalOf found) fault) all_are (fails_later _ (with_handlers made) fault (fails_later _ _ fault wrong))
 
     module _ (number : ℕ) (found : exception_finding (names_of now (name_tree one.exception).text) one.exception.at ≡ Ok number) where
-      pub body_wrong : (fault : OrNoMemory NameRefusal) → ResolvingFails fault (block_finding (setting_of now) (point_of now) (block_tree one.body))
-          → ResolvingFails fault (catches_finding (setting_of start) (point_of start) (catches_of (map catch_tree written)))
+      pub body_wrong : (fault : OrNoMemory NameRefusal) → IfRefused (IsRefusalOf (block_finding (setting_of now) (point_of now) (block_tree one.body))) fault
+          → IfRefused (IsRefusalOf (catches_finding (setting_of start) (point_of start) (catches_of (map catch_tree written)))) fault
       unfolding catches_finding
       body_wrong fault wrong =
-          subst (ResolvingFails fault) all_are
+          subst (λ found. IfRefused (IsRefusalOf found) fault) all_are
           (fails_later _ (with_handlers made) fault (fails_second _ _ number fault found (fails_later _ _ fault
-          (subst (λ setting. ResolvingFails fault (block_finding setting (point_of now) (block_tree one.body))) (setting_same start now along.later) wrong))))
+          (subst (λ setting. IfRefused (IsRefusalOf (block_finding setting (point_of now) (block_tree one.body))) fault) (setting_same start now along.later) wrong))))
 
       pub catch_right : (after : Body) (handler : Handler) → handler.at ≡ one.exception.at → handler.exception ≡ number
           → block_finding (setting_of now) (point_of now) (block_tree one.body) ≡ Ok (point_of after, block_of handler.body.items)

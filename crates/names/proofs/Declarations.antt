@@ -6,15 +6,15 @@ use Rattle.resolved.specs.declared.expression.Base.{Base}
 use Rattle.resolved.specs.declared.expression.Variable.TheVariants.{Local}
 use Rattle.resolved.specs.Program.{SlotEntry}
 use Rattle.resolved.specs.Tree.{Statement, Clear}
+use Rattle.common.specs.Answers.{IfRefused}
 use Rattle.common.specs.declared.fault.OrNoMemory.{OrNoMemory}
 use Rattle.names.specs.declared.fault.NameRefusal.{NameRefusal}
 use Rattle.names.specs.declared.scope.Meaning.{Meaning}
 use Rattle.names.specs.declared.scope.Meaning.TheVariants.{Scalar, Array}
-use Rattle.names.specs.Finding.{give}
+use Rattle.names.specs.Finding.{IsRefusalOf, give}
 use Rattle.names.specs.Environment.{fresh_finding}
 use Rattle.names.specs.Labels.{optional_label_finding}
 use Rattle.names.specs.Statements.{Setting, Point, with_local, scalar_slot, array_slot, assigned_finding, size_finding, declare_finding, declare_array_finding}
-use Rattle.names.specs.Views.{ResolvingFails}
 use Rattle.names.proofs.Loops.{then_ok, fails_later, fails_second}
 use Rattle.names.proofs.Tables.{ok_inside}
 
@@ -47,10 +47,10 @@ module _ (setting : Setting) (point : Point) (at : ℕ) (base : Base) (label : O
       ∙ ap (λ one. Ok (with_local point one (Scalar (Local number) base), statement)) (sym entry)
       ∙ ap (λ one. Ok (one, statement)) (ok_inside _ _ declared)
 
-  pub scalar_refused : (value : RightTree) (fault : OrNoMemory NameRefusal) → ResolvingFails fault (assigned_finding setting.signatures point.names at (Local number) base value)
-      → ResolvingFails fault (declare_finding setting point at base label name value)
+  pub scalar_refused : (value : RightTree) (fault : OrNoMemory NameRefusal) → IfRefused (IsRefusalOf (assigned_finding setting.signatures point.names at (Local number) base value)) fault
+      → IfRefused (IsRefusalOf (declare_finding setting point at base label name value)) fault
   unfolding declare_finding
   scalar_refused value fault wrong =
       fails_second _ _ written fault labelled
       (fails_second _ _ tt fault fresh_there
-      (fails_later _ _ fault (subst (λ m. ResolvingFails fault (assigned_finding setting.signatures point.names at (Local m) base value)) next wrong)))
+      (fails_later _ _ fault (subst (λ m. IfRefused (IsRefusalOf (assigned_finding setting.signatures point.names at (Local m) base value)) fault) next wrong)))

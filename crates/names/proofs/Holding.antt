@@ -4,17 +4,18 @@ use Rattle.syntax.specs.Nodes.{expression_nodes, block_nodes, statement_nodes}
 use Rattle.syntax.specs.Tree.{ExpressionTree, IfElseTree, IfTree, WhileTree, TryTree, NestedTree, BlockTree, BlockOf, StatementTrees, CatchTrees, if_tree}
 use Rattle.resolved.specs.declared.expression.Base.TheVariants.{Boolean}
 use Rattle.resolved.specs.Tree.{Expression, If, While, Try, Nested, Block, Empty, Handlers}
+use Rattle.common.specs.Answers.{IfRefused}
 use Rattle.common.specs.declared.fault.OrNoMemory.{OrNoMemory}
+use Rattle.names.specs.Finding.{IsRefusalOf}
 use Rattle.names.specs.declared.fault.NameRefusal.{NameRefusal}
 use Rattle.names.specs.Expressions.{typed_finding}
 use Rattle.names.specs.Statements.{Setting, Point, in_loop, statement_finding, block_finding, catches_finding}
-use Rattle.names.specs.Views.{ResolvingFails}
 use Rattle.names.proofs.Loops.{fails_later, fails_second, then_ok}
 
 -- ---- conditions
 
 pub condition_wrong : (setting : Setting) (point : Point) (at : ℕ) (condition : ExpressionTree) (body : BlockTree) (otherwise : Option BlockTree) (fault : OrNoMemory NameRefusal)
-    → ResolvingFails fault (typed_finding point.names Boolean condition) → ResolvingFails fault (statement_finding setting point (if_tree at condition body otherwise))
+    → IfRefused (IsRefusalOf (typed_finding point.names Boolean condition)) fault → IfRefused (IsRefusalOf (statement_finding setting point (if_tree at condition body otherwise))) fault
 unfolding statement_finding
 condition_wrong setting point at condition body None fault wrong = fails_later _ _ fault wrong
 condition_wrong setting point at condition body (Some otherwise) fault wrong = fails_later _ _ fault wrong
@@ -34,14 +35,14 @@ module _ (setting : Setting) (point : Point) (at : ℕ) (condition : ExpressionT
   if_else_done body otherwise inside behind block other first second =
       then_ok _ _ e typed ∙ then_ok _ _ (inside, block) first ∙ then_ok _ _ (behind, other) second
 
-  pub if_wrong : (body : BlockTree) (otherwise : Option BlockTree) (fault : OrNoMemory NameRefusal) → ResolvingFails fault (block_finding setting point body)
-      → ResolvingFails fault (statement_finding setting point (if_tree at condition body otherwise))
+  pub if_wrong : (body : BlockTree) (otherwise : Option BlockTree) (fault : OrNoMemory NameRefusal) → IfRefused (IsRefusalOf (block_finding setting point body)) fault
+      → IfRefused (IsRefusalOf (statement_finding setting point (if_tree at condition body otherwise))) fault
   unfolding statement_finding
   if_wrong body None fault wrong = fails_second _ _ e fault typed (fails_later _ _ fault wrong)
   if_wrong body (Some otherwise) fault wrong = fails_second _ _ e fault typed (fails_later _ _ fault wrong)
 
   pub else_wrong : (body otherwise : BlockTree) (inside : Point) (block : Block) (fault : OrNoMemory NameRefusal) → block_finding setting point body ≡ Ok (inside, block)
-      → ResolvingFails fault (block_finding setting inside otherwise) → ResolvingFails fault (statement_finding setting point (IfElseTree at condition body otherwise))
+      → IfRefused (IsRefusalOf (block_finding setting inside otherwise)) fault → IfRefused (IsRefusalOf (statement_finding setting point (IfElseTree at condition body otherwise))) fault
   unfolding statement_finding
   else_wrong body otherwise inside block fault first wrong =
       fails_second _ _ e fault typed (fails_second _ _ (inside, block) fault first (fails_later _ _ fault wrong))
@@ -53,8 +54,8 @@ module _ (setting : Setting) (point : Point) (at : ℕ) (condition : ExpressionT
   unfolding statement_finding
   while_done body inside block done = then_ok _ _ e typed ∙ then_ok _ _ (inside, block) done
 
-  pub while_wrong : (body : BlockTree) (fault : OrNoMemory NameRefusal) → ResolvingFails fault (block_finding setting (in_loop point) body)
-      → ResolvingFails fault (statement_finding setting point (WhileTree at condition body))
+  pub while_wrong : (body : BlockTree) (fault : OrNoMemory NameRefusal) → IfRefused (IsRefusalOf (block_finding setting (in_loop point) body)) fault
+      → IfRefused (IsRefusalOf (statement_finding setting point (WhileTree at condition body))) fault
   unfolding statement_finding
   while_wrong body fault wrong = fails_second _ _ e fault typed (fails_later _ _ fault wrong)
 
@@ -67,13 +68,13 @@ module _ (setting : Setting) (point : Point) (at : ℕ) where
   unfolding statement_finding
   try_done body catches inside behind block handlers first second = then_ok _ _ (inside, block) first ∙ then_ok _ _ (behind, handlers) second
 
-  pub try_wrong : (body : BlockTree) (catches : CatchTrees) (fault : OrNoMemory NameRefusal) → ResolvingFails fault (block_finding setting point body)
-      → ResolvingFails fault (statement_finding setting point (TryTree at body catches))
+  pub try_wrong : (body : BlockTree) (catches : CatchTrees) (fault : OrNoMemory NameRefusal) → IfRefused (IsRefusalOf (block_finding setting point body)) fault
+      → IfRefused (IsRefusalOf (statement_finding setting point (TryTree at body catches))) fault
   unfolding statement_finding
   try_wrong body catches fault wrong = fails_later _ _ fault wrong
 
   pub handlers_wrong : (body : BlockTree) (catches : CatchTrees) (inside : Point) (block : Block) (fault : OrNoMemory NameRefusal) → block_finding setting point body ≡ Ok (inside, block)
-      → ResolvingFails fault (catches_finding setting inside catches) → ResolvingFails fault (statement_finding setting point (TryTree at body catches))
+      → IfRefused (IsRefusalOf (catches_finding setting inside catches)) fault → IfRefused (IsRefusalOf (statement_finding setting point (TryTree at body catches))) fault
   unfolding statement_finding
   handlers_wrong body catches inside block fault first wrong = fails_second _ _ (inside, block) fault first (fails_later _ _ fault wrong)
 
@@ -82,8 +83,8 @@ module _ (setting : Setting) (point : Point) (at : ℕ) where
   unfolding statement_finding
   nested_done statements inside block done = then_ok _ _ (inside, block) done
 
-  pub nested_wrong : (statements : StatementTrees) (fault : OrNoMemory NameRefusal) → ResolvingFails fault (block_finding setting point (BlockOf at statements))
-      → ResolvingFails fault (statement_finding setting point (NestedTree (BlockOf at statements)))
+  pub nested_wrong : (statements : StatementTrees) (fault : OrNoMemory NameRefusal) → IfRefused (IsRefusalOf (block_finding setting point (BlockOf at statements))) fault
+      → IfRefused (IsRefusalOf (statement_finding setting point (NestedTree (BlockOf at statements)))) fault
   unfolding statement_finding
   nested_wrong statements fault wrong = fails_later _ _ fault wrong
 

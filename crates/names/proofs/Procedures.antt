@@ -10,17 +10,17 @@ use Rattle.resolved.specs.declared.expression.Base.{Base}
 use Rattle.resolved.specs.declared.expression.Variable.TheVariants.{Local}
 use Rattle.resolved.specs.Program.{SlotEntry, ResultEntry, ThrownEntry}
 use Rattle.resolved.specs.Tree.{Block}
+use Rattle.common.specs.Answers.{IfRefused}
 use Rattle.common.specs.declared.fault.OrNoMemory.{OrNoMemory}
 use Rattle.names.specs.declared.fault.NameRefusal.{NameRefusal}
 use Rattle.names.specs.declared.scope.Meaning.{Meaning}
 use Rattle.names.specs.declared.scope.Meaning.TheVariants.{Scalar}
-use Rattle.names.specs.Finding.{give, along}
+use Rattle.names.specs.Finding.{IsRefusalOf, give, along}
 use Rattle.names.specs.Environment.{Environment, fresh_finding}
 use Rattle.names.specs.Expressions.{base_of}
 use Rattle.names.specs.Labels.{label_finding, optional_label_finding}
 use Rattle.names.specs.Resolution.{TopLevel, begin_label_of, end_label_of, next_parameter, parameters_finding, procedure_entry_finding, result_base_of, result_finding, throws_finding}
 use Rattle.names.specs.Statements.{Point, with_local, scalar_slot, block_finding}
-use Rattle.names.specs.Views.{ResolvingFails}
 use Rattle.names.proofs.Loops.{then_ok, fails_later, fails_second}
 
 -- ---- parameters
@@ -49,25 +49,25 @@ parameters_few (parameter ∷ rest) = let few = parameters_few rest in omega (ar
 
 module _ (h : PrincipalHierarchy) (top : TopLevel) (procedure : ProcedureTree) (result : Option ResultEntry) (begin : Option Label)
     (valued : result_finding h procedure.result ≡ Ok result) (begun : optional_label_finding h procedure.begin ≡ Ok begin) where
-  pub parameters_wrong : (fault : OrNoMemory NameRefusal) → ResolvingFails fault (parameters_finding h top.names procedure.parameters) → ResolvingFails fault (procedure_entry_finding h top procedure)
+  pub parameters_wrong : (fault : OrNoMemory NameRefusal) → IfRefused (IsRefusalOf (parameters_finding h top.names procedure.parameters)) fault → IfRefused (IsRefusalOf (procedure_entry_finding h top procedure)) fault
   unfolding procedure_entry_finding
   parameters_wrong fault wrong = fails_second _ _ result fault valued (fails_second _ _ begin fault begun (fails_later _ _ fault wrong))
 
   module _ (point : Point) (declared : parameters_finding h top.names procedure.parameters ≡ Ok point) where
-    pub end_wrong : (fault : OrNoMemory NameRefusal) → ResolvingFails fault (optional_label_finding h procedure.end) → ResolvingFails fault (procedure_entry_finding h top procedure)
+    pub end_wrong : (fault : OrNoMemory NameRefusal) → IfRefused (IsRefusalOf (optional_label_finding h procedure.end)) fault → IfRefused (IsRefusalOf (procedure_entry_finding h top procedure)) fault
     unfolding procedure_entry_finding
     end_wrong fault wrong = fails_second _ _ result fault valued (fails_second _ _ begin fault begun (fails_second _ _ point fault declared (fails_later _ _ fault wrong)))
 
     module _ (end : Option Label) (ended : optional_label_finding h procedure.end ≡ Ok end) where
-      pub throws_wrong : (fault : OrNoMemory NameRefusal) → ResolvingFails fault (throws_finding h top.names procedure.throws) → ResolvingFails fault (procedure_entry_finding h top procedure)
+      pub throws_wrong : (fault : OrNoMemory NameRefusal) → IfRefused (IsRefusalOf (throws_finding h top.names procedure.throws)) fault → IfRefused (IsRefusalOf (procedure_entry_finding h top procedure)) fault
       unfolding procedure_entry_finding
       throws_wrong fault wrong =
           fails_second _ _ result fault valued (fails_second _ _ begin fault begun (fails_second _ _ point fault declared (fails_second _ _ end fault ended (fails_later _ _ fault wrong))))
 
       module _ (throws : List ThrownEntry) (thrown : throws_finding h top.names procedure.throws ≡ Ok throws) where
         pub block_wrong : (fault : OrNoMemory NameRefusal)
-            → ResolvingFails fault (block_finding (record { hierarchy = h; signatures = top.signatures; result = result_base_of procedure.result }) point procedure.body)
-            → ResolvingFails fault (procedure_entry_finding h top procedure)
+            → IfRefused (IsRefusalOf (block_finding (record { hierarchy = h; signatures = top.signatures; result = result_base_of procedure.result }) point procedure.body)) fault
+            → IfRefused (IsRefusalOf (procedure_entry_finding h top procedure)) fault
         unfolding procedure_entry_finding
         block_wrong fault wrong =
             fails_second _ _ result fault valued (fails_second _ _ begin fault begun (fails_second _ _ point fault declared (fails_second _ _ end fault ended (fails_second _ _ throws fault thrown (fails_later _ _ fault wrong)))))

@@ -18,7 +18,7 @@ use Rattle.resolved.specs.declared.expression.Base.{Base}
 use Rattle.resolved.specs.declared.expression.Base.TheVariants.{Int, Boolean}
 use Rattle.resolved.specs.declared.expression.Variable.TheVariants.{Global, Local}
 use Rattle.resolved.specs.Program.{Program, ChannelEntry, GlobalEntry, ProcedureEntry}
-use Rattle.resolved.specs.Value.{base_of as value_base}
+use Rattle.resolved.specs.Value.{base_of as base_of_value}
 use Rattle.resolved.specs.WellFormed.{same_base, VariableType, global_type, parameters_of, same_direction, channel_is, label_fits, is_zero_value, first_fits, main_fits, cell_count, cell_limit, array_limit, principal_limit, node_limit, size_fits, label_nodes, procedure_nodes, program_nodes, procedure_fits, well_formed}
 use Rattle.resolved.proofs.Parts.{both_back, program_from_parts}
 use Rattle.resolved.proofs.Sound.Values.{both}
@@ -271,13 +271,13 @@ channel_there h channel =
 abbrev FirstKept : Base → GlobalValueTree → FirstValue → Type 0
 FirstKept base value found =
     (size_fits found.size ≡ true)
-    × ((same_base (value_base found.first) base && (is_none found.size || is_zero_value found.first)) ≡ true) × (found.size ≡ size_of value)
+    × ((same_base (base_of_value found.first) base && (is_none found.size || is_zero_value found.first)) ≡ true) × (found.size ≡ size_of value)
 
-constant_of_base : (constant : ConstantTree) (base : Base) → same_base (constant_base constant) base ≡ true → same_base (value_base (constant_value constant)) base ≡ true
+constant_of_base : (constant : ConstantTree) (base : Base) → same_base (constant_base constant) base ≡ true → same_base (base_of_value (constant_value constant)) base ≡ true
 constant_of_base (IntegerConstant at negative value) base e = e
 constant_of_base (TruthConstant at value) base e = e
 
-zero_fits : (base : Base) → (same_base (value_base (zero_of base)) base && is_zero_value (zero_of base)) ≡ true
+zero_fits : (base : Base) → (same_base (base_of_value (zero_of base)) base && is_zero_value (zero_of base)) ≡ true
 zero_fits Int = refl
 zero_fits Boolean = refl
 
@@ -286,7 +286,7 @@ unfolding first_finding size_finding
 first_there base (ScalarTree constant) =
     if_finds (same_base (constant_base constant) base) (record { size = None; first = constant_value constant }) _ (constant_place constant)
     (FirstKept base (ScalarTree constant)) (λ same.
-    (refl, both_back (same_base (value_base (constant_value constant)) base) true (constant_of_base constant base same) refl, refl))
+    (refl, both_back (same_base (base_of_value (constant_value constant)) base) true (constant_of_base constant base same) refl, refl))
 first_there base (ArrayTree size) =
     then_finds (size_finding size) _ (λ long. (size_fits (Some long) ≡ true) × (long ≡ size.size)) _
     (if_finds (nat_lt 0 size.size && nat_le size.size array_limit) size.size _ size.at (λ long. (size_fits (Some long) ≡ true) × (long ≡ size.size)) (λ fit. (fit, refl)))
@@ -306,7 +306,7 @@ global_there h global =
     then_finds (label_finding h global.label) _ (λ found. (label_fits h found ≡ true) × (1 + label_nodes found ≤ tree.label_nodes global.label)) _
     (label_there h global.label) (λ label there.
     then_finds (first_finding base global.value) _ (FirstKept base global.value) _ (first_there base global.value) (λ value kept. (
-      both_back (size_fits value.size && label_fits h label) (same_base (value_base value.first) base && (is_none value.size || is_zero_value value.first))
+      both_back (size_fits value.size && label_fits h label) (same_base (base_of_value value.first) base && (is_none value.size || is_zero_value value.first))
           (both_back (size_fits value.size) (label_fits h label) kept.0 there.0) kept.1,
       (λ i. record { base = base; size = kept.2 i }),
     )))

@@ -1,7 +1,7 @@
 -- What the private functions work with, as the definitions see it, and what each of them gives: what is found, or the first
 -- fault.
 -- Source: our own.
-use Rattle.std.specs.Prelude.{◌≡◌, ℕ, ◌+◌, List, length, map, take, Option, Some, None, Result, Ok, Err, String, Vec}
+use Rattle.std.specs.Prelude.{◌≡◌, ℕ, ◌+◌, List, length, map, take, Option, Some, None, Result, Ok, String, Vec}
 use Rattle.std.specs.declared.alloc.Global.{Global}
 use Rattle.std.specs.HashMap.{HashMap, get_by_text}
 use Rattle.std.specs.String.{string_bytes}
@@ -16,8 +16,8 @@ use Rattle.resolved.specs.ProgramOf.{channel_entry, global_entry, slot_entry, th
 use Rattle.resolved.specs.TreeOf.{expression_of, block_of, handlers_of}
 use Rattle.names.specs.declared.body.Body.{Body}
 use Rattle.names.specs.declared.expression.TypedExpression.{TypedExpression}
+use Rattle.common.specs.Answers.{Answers}
 use Rattle.common.specs.declared.fault.OrNoMemory.{OrNoMemory}
-use Rattle.common.specs.declared.fault.OrNoMemory.TheVariants.{NoMemory, Refused}
 use Rattle.names.specs.declared.fault.NameRefusal.{NameRefusal}
 use Rattle.names.specs.declared.program.ItemTables.{ItemTables}
 use Rattle.names.specs.declared.scope.Meaning.{Meaning}
@@ -26,21 +26,15 @@ use Rattle.names.specs.declared.scope.FoundScalar.{FoundScalar}
 use Rattle.names.specs.declared.statement.UsedCall.{UsedCall}
 use Rattle.names.specs.declared.top.CodeSignature.{CodeSignature}
 use Rattle.names.specs.declared.top.TopNames.{TopNames}
-use Rattle.names.specs.Finding.{Finding}
+use Rattle.names.specs.Finding.{Finding, IsRefusalOf}
 use Rattle.names.specs.Environment.{Environment, ScalarUse, ArrayUse}
 use Rattle.names.specs.Expressions.{Typed}
 use Rattle.names.specs.Statements.{Signature, Setting, Point, CallUse}
 use Rattle.names.specs.Resolution.{TopLevel, Tables, FirstValue}
 
--- why a function failed, unless memory ran out
-abbrev pub ResolvingFails : {A : Type 0} → OrNoMemory NameRefusal → Finding A → Type 0
-ResolvingFails NoMemory finding = Unit {0}
-ResolvingFails (Refused refusal) finding = finding ≡ Err refusal
-
--- what a function gave is what is found, unless memory ran out
+-- what a function gave is what is found: a value or a refusal, unless memory ran out
 abbrev pub Resolves : {X A : Type 0} → (X → A) → Result X (OrNoMemory NameRefusal) → Finding A → Type 0
-Resolves view (Ok x) finding = finding ≡ Ok (view x)
-Resolves view (Err fault) finding = ResolvingFails fault finding
+Resolves view result finding = Answers (λ x. finding ≡ Ok (view x)) (IsRefusalOf finding) result
 
 abbrev pub itself : {A : Type 0} → A → A
 itself x = x

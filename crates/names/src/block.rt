@@ -109,15 +109,17 @@ impl<'a> Body<'a> {
                 name,
                 size,
             } => self.declare_array(*at, base_of(*base), label, name, *size),
-            syntax::Statement::Assign { target, value } => self.assign(target, value),
+            syntax::Statement::Assign { target, value } => self.resolve_assign(target, value),
             syntax::Statement::AssignElement {
                 array,
                 index,
                 value,
-            } => self.store(array, index, value),
+            } => self.resolve_store(array, index, value),
             syntax::Statement::Call(call) => self.resolve_call_statement(call),
-            syntax::Statement::Receive { at, channel } => self.receive(*at, channel),
-            syntax::Statement::Send { at, channel, value } => self.send(*at, channel, value),
+            syntax::Statement::Receive { at, channel } => self.resolve_receive(*at, channel),
+            syntax::Statement::Send { at, channel, value } => self.resolve_send(
+                *at, channel, value,
+            ),
             syntax::Statement::If {
                 at,
                 condition,
@@ -131,8 +133,8 @@ impl<'a> Body<'a> {
             } => self.resolve_while(*at, condition, body),
             syntax::Statement::Break { at } => Ok(Statement::Leave(*at, Exit::Break)),
             syntax::Statement::Continue { at } => Ok(Statement::Leave(*at, Exit::Continue)),
-            syntax::Statement::Throw { at, exception } => self.throw(*at, exception),
-            syntax::Statement::Return { at, value } => self.return_value(*at, value),
+            syntax::Statement::Throw { at, exception } => self.resolve_throw(*at, exception),
+            syntax::Statement::Return { at, value } => self.resolve_return(*at, value),
             syntax::Statement::Try { at, body, catches } => self.resolve_try(*at, body, catches),
             syntax::Statement::Nested(block) => self.resolve_nested(block),
         }

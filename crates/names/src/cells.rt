@@ -47,7 +47,7 @@ fn add_global(cells: u32, item: &Item) -> Result<u32, NameFault>
 
 /// How many cells the globals of these items have, which are refused where they are too many.
 #[tactic(auto, unfolding(crate::specs::Resolution::global_cells_finding))]
-pub fn cells_of_globals(items: &[Item]) -> Result<u32, NameFault>
+pub fn count_global_cells(items: &[Item]) -> Result<u32, NameFault>
     ensures { Resolves itself result (global_cells_finding (map item_tree items.now)) }
 {
     let mut cells = 0;

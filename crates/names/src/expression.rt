@@ -33,7 +33,7 @@ impl TypedExpression {
 
     /// The expression, whose values have to have a type.
     #[tactic(auto, unfolding(crate::specs::Expressions::of_base))]
-    pub fn of_base(self, base: Base, at: usize) -> Result<Expression, NameFault>
+    pub fn require_base(self, base: Base, at: usize) -> Result<Expression, NameFault>
         ensures { Resolves expression_of result (of_base base at (typed_view self)) }
     {
         if is_same(self.base, base) {
@@ -98,7 +98,7 @@ impl<'a> Body<'a> {
         let found = require_array(self.look_up(name), name.at)?;
         let index = self
             .resolve_expression(index)?
-            .of_base(Base::Int, index.place())?;
+            .require_base(Base::Int, index.place())?;
         let index = Box::new(self.alloc, index)?;
         let element = Expression::Element(found.variable, found.size, index);
         Ok(TypedExpression::new(element, found.base))
@@ -119,7 +119,7 @@ impl<'a> Body<'a> {
         let base = base_of_prefix(prefix);
         let operand = self
             .resolve_expression(operand)?
-            .of_base(base, operand.place())?;
+            .require_base(base, operand.place())?;
         let operand = Box::new(self.alloc, operand)?;
         Ok(TypedExpression::new(Expression::Unary(prefix, operand), base))
     }
@@ -140,10 +140,10 @@ impl<'a> Body<'a> {
         let found = self.resolve_expression(left)?;
         let base = operands_base(used, found.base);
         let given = found.base;
-        let left = found.of_base(base, left.place())?;
+        let left = found.require_base(base, left.place())?;
         let right = self
             .resolve_expression(right)?
-            .of_base(base, right.place())?;
+            .require_base(base, right.place())?;
         let made = combine(self.alloc, used, given, left, right)?;
         Ok(TypedExpression::new(made, value_base(used)))
     }
@@ -159,6 +159,6 @@ impl<'a> Body<'a> {
             (typed_finding (names_of self.now) base (expression_tree written.now)) }
     {
         self.resolve_expression(written)?
-            .of_base(base, written.place())
+            .require_base(base, written.place())
     }
 }

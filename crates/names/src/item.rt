@@ -12,7 +12,7 @@ ghost use Rattle.syntax.specs.Limits.{longest_name};
 use crate::fault::{NameDefect, NameFault, NameRefusal};
 use crate::label::resolve_label;
 use crate::operator::{base_of, is_same};
-use crate::statement::length_of;
+use crate::statement::resolve_size;
 use common::OrNoMemory;
 use principals::Hierarchy;
 use resolved::expression::{Base, Value};
@@ -96,7 +96,7 @@ fn resolve_first_value(base: Base, value: &GlobalValue) -> Result<(Option<u32>, 
                 }))
             }
         }
-        GlobalValue::Array(size) => Ok((Some(length_of(*size)?), zero_of(base))),
+        GlobalValue::Array(size) => Ok((Some(resolve_size(*size)?), zero_of(base))),
     }
 }
 

@@ -12,7 +12,7 @@ ghost use Rattle.syntax.specs.Nodes.{item_nodes};
 ghost use Rattle.syntax.specs.Tree.{item_tree, program_tree};
 ghost use Rattle.syntax.specs.Written.{Anywhere, IsWrittenItem};
 
-use crate::cells::{cells_of_globals, limit_frames};
+use crate::cells::{count_global_cells, limit_frames};
 use crate::fault::{NameDefect, NameFault, NameRefusal};
 use crate::item::{resolve_channel, resolve_global};
 use crate::procedure::resolve_procedure;
@@ -127,7 +127,7 @@ pub fn find_main(found: Option<Meaning>, procedures: &[Procedure]) -> Result<u32
 
 /// The tables of a program, and the number of the procedure at which a run begins.
 #[tactic(auto, unfolding(crate::specs::Resolution::resolution))]
-fn tables_of(
+fn resolve_tables(
     alloc: Global,
     hierarchy: &Hierarchy,
     items: &[Item],
@@ -140,7 +140,7 @@ fn tables_of(
     let top = TopNames::of(alloc, items)?;
     let tables = ItemTables::of(alloc, hierarchy, &top, items)?;
     let main = find_main(find(&top.names, "main"), tables.procedures.as_slice())?;
-    cells_of_globals(items)?;
+    count_global_cells(items)?;
     limit_frames(tables.procedures.as_slice())?;
     Ok((tables, main))
 }
@@ -166,7 +166,7 @@ pub fn resolve(
         (IsRefusalOf (resolution hierarchy.now (program_tree program.now)))) }
 {
     prove!(hierarchy.count() <= MAX_PRINCIPALS);
-    let (tables, main) = tables_of(alloc, hierarchy, program.items())?;
+    let (tables, main) = resolve_tables(alloc, hierarchy, program.items())?;
     Ok(Core {
         hierarchy: hierarchy.clone()?,
         channels: tables.channels,

@@ -36,7 +36,7 @@ pub struct UsedCall {
 
 /// The length of an array.
 #[tactic(auto, unfolding(crate::specs::Statements::size_finding))]
-pub fn length_of(size: Size) -> Result<u32, NameFault>
+pub fn resolve_size(size: Size) -> Result<u32, NameFault>
     ensures { Resolves itself result (size_finding (size_tree size)) }
 {
     if 0 < size.size && size.size <= MAX_ELEMENTS {
@@ -97,7 +97,7 @@ impl<'a> Body<'a> {
 
     /// The assignment of a right side to a variable of a type, by a statement that begins at a byte.
     #[tactic(auto, unfolding(crate::specs::Statements::assigned_finding))]
-    fn resolve_assigned(
+    fn resolve_right_side(
         &self,
         at: usize,
         target: Variable,
@@ -187,7 +187,7 @@ impl<'a> Body<'a> {
         let written = resolve_optional_label(self.alloc, self.hierarchy, label)?;
         require_fresh(self.look_up(name), name.at)?;
         let variable = Variable::Local(self.slots.len() as u32);
-        let statement = self.resolve_assigned(at, variable, base, value)?;
+        let statement = self.resolve_right_side(at, variable, base, value)?;
         let slot = self.make_slot(at, base, None, written, name)?;
         self.declare(slot, Meaning::Scalar(variable, base))?;
         Ok(statement)
@@ -212,7 +212,7 @@ impl<'a> Body<'a> {
     {
         let label = resolve_optional_label(self.alloc, self.hierarchy, written)?;
         require_fresh(self.look_up(name), name.at)?;
-        let length = length_of(size)?;
+        let length = resolve_size(size)?;
         let number = self.slots.len() as u32;
         let slot = self.make_slot(at, base, Some(length), label, name)?;
         self.declare(slot, Meaning::Array(Variable::Local(number), base, length))?;
@@ -220,17 +220,17 @@ impl<'a> Body<'a> {
     }
 
     #[tactic(auto, unfolding(crate::specs::Statements::assign_finding))]
-    pub fn assign(&self, target: &Name, value: &RightSide) -> Result<Statement, NameFault>
+    pub fn resolve_assign(&self, target: &Name, value: &RightSide) -> Result<Statement, NameFault>
         ensures { Resolves statement_of result
             (assign_finding (signatures_of self.now) (names_of self.now) (name_tree target.now)
             (right_tree value.now)) }
     {
         let found = require_scalar(self.look_up(target), target.at)?;
-        self.resolve_assigned(target.at, found.variable, found.base, value)
+        self.resolve_right_side(target.at, found.variable, found.base, value)
     }
 
     #[tactic(auto, unfolding(crate::specs::Statements::store_finding))]
-    pub fn store(
+    pub fn resolve_store(
         &self,
         name: &Name,
         index: &syntax::Expression,
@@ -257,7 +257,7 @@ impl<'a> Body<'a> {
     }
 
     #[tactic(auto, unfolding(crate::specs::Statements::receive_finding))]
-    pub fn receive(&self, at: usize, channel: &Name) -> Result<Statement, NameFault>
+    pub fn resolve_receive(&self, at: usize, channel: &Name) -> Result<Statement, NameFault>
         ensures { Resolves statement_of result
             (receive_finding (names_of self.now) at (name_tree channel.now)) }
     {
@@ -266,7 +266,7 @@ impl<'a> Body<'a> {
     }
 
     #[tactic(auto, unfolding(crate::specs::Statements::send_finding))]
-    pub fn send(
+    pub fn resolve_send(
         &self,
         at: usize,
         channel: &Name,
@@ -281,7 +281,7 @@ impl<'a> Body<'a> {
     }
 
     #[tactic(auto, unfolding(crate::specs::Statements::throw_finding))]
-    pub fn throw(&self, at: usize, name: &Name) -> Result<Statement, NameFault>
+    pub fn resolve_throw(&self, at: usize, name: &Name) -> Result<Statement, NameFault>
         ensures { Resolves statement_of result
             (throw_finding (names_of self.now) at (name_tree name.now)) }
     {
@@ -290,7 +290,7 @@ impl<'a> Body<'a> {
     }
 
     #[tactic(auto, unfolding(crate::specs::Statements::return_finding))]
-    pub fn return_value(
+    pub fn resolve_return(
         &self,
         at: usize,
         value: &Option<syntax::Expression>,

@@ -52,9 +52,9 @@ module _ (tokens : List Token) (terminated : IsTerminated (terminals_of tokens))
   fault_refused (Refused (TooDeep at)) left e =
       (subst (Verdict (terminals_of tokens)) e (verdict (terminals_of tokens) terminated)).0
 
-  pub fault_exact : (fault : OrNoMemory ParseRefusal) (left : List Token) → WasRead (Err fault) left → (tree : ProgramTree)
+  pub fault_complete : (fault : OrNoMemory ParseRefusal) (left : List Token) → WasRead (Err fault) left → (tree : ProgramTree)
       → SpellsProgram (terminals_of tokens) tree → IfRefused (λ _. ⊥) fault
-  fault_exact fault left e tree spelled =
+  fault_complete fault left e tree spelled =
       refused-weaker (AreTokensRefused (terminals_of tokens)) (λ _. ⊥) (λ r h. spelled_not_refused (terminals_of tokens) tree r spelled h) fault
       (fault_refused fault left e)
 

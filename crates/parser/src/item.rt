@@ -58,7 +58,7 @@ impl<'a> Parser<'a> {
                     value: false,
                 })
             }
-            _ => Err(self.unexpected()),
+            _ => Err(self.refuse_next()),
         }
     }
 
@@ -131,7 +131,7 @@ impl<'a> Parser<'a> {
                 let token = self.advance()?;
                 Ok((token.span.start, Direction::Output))
             }
-            _ => Err(self.unexpected()),
+            _ => Err(self.refuse_next()),
         }
     }
 

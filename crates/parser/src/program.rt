@@ -48,12 +48,12 @@ pub fn parse(alloc: Global, tokens: &[Token<'_>]) -> Result<Program, ParseFault>
         program_nodes (program_tree items) ≤ length tokens.now) }
 
     // Where the tokens spell a tree, that tree is the answer, unless memory ran out.
-    ensures exact { (tree : ProgramTree) → SpellsProgram (terminals_of tokens.now) tree →
+    ensures complete { (tree : ProgramTree) → SpellsProgram (terminals_of tokens.now) tree →
         Answers (λ items. program_tree items ≡ tree) (λ _. ⊥) result }
 
     // A refusal is the first fault, and where the tokens have a fault it is the answer, unless memory ran out.
-    ensures rejected { IfErr result (IfRefused (AreTokensRefused (terminals_of tokens.now))) }
-    ensures first_fault { (refusal : ParseRefusal) →
+    ensures first_fault { IfErr result (IfRefused (AreTokensRefused (terminals_of tokens.now))) }
+    ensures refuses { (refusal : ParseRefusal) →
         AreTokensRefused (terminals_of tokens.now) refusal →
         Answers (λ _. ⊥) (λ found. found ≡ refusal) result }
 {

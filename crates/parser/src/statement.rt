@@ -341,7 +341,7 @@ impl<'a> Parser<'a> {
                 let token = self.advance()?;
                 Ok((token.span.start, value))
             }
-            _ => Err(self.unexpected()),
+            _ => Err(self.refuse_next()),
         }
     }
 

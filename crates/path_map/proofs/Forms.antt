@@ -19,7 +19,7 @@ use Rattle.path_map.specs.declared.exits.Raised.{Raised}
 use Rattle.path_map.specs.declared.exits.Exits.{Exits}
 use Rattle.common.specs.declared.fault.OrNoMemory.{OrNoMemory}
 use Rattle.common.specs.Answers.{IfRefused}
-use Rattle.path_map.specs.declared.fault.EndRefusal as code
+use Rattle.path_map.specs.declared.fault.EndRefusal.{EndRefusal as CodeRefusal}
 use Rattle.path_map.specs.FirstFault.{IsFirstEndFault}
 use Rattle.path_map.specs.Joins.{join, of_loop, raised_list, raises_some}
 use Rattle.path_map.specs.Paths.{inner_paths, block_paths, handlers_paths}
@@ -38,7 +38,7 @@ module _ (program : Program) (s : S.Statement) (tree : Statement) (is : statemen
   pub faults-at : (in_loop : Bool) → inner_faults program in_loop tree ≡ [] → inner_faults program in_loop (statement_of s) ≡ []
   faults-at in_loop none = ap (inner_faults program in_loop) is ∙ none
 
-  pub first-at : (in_loop : Bool) (fault : OrNoMemory code.EndRefusal) → IfRefused (IsFirstEndFault (inner_faults program in_loop tree)) fault
+  pub first-at : (in_loop : Bool) (fault : OrNoMemory CodeRefusal) → IfRefused (IsFirstEndFault (inner_faults program in_loop tree)) fault
       → IfRefused (IsFirstEndFault (inner_faults program in_loop (statement_of s))) fault
   first-at in_loop fault first = subst (λ t. IfRefused (IsFirstEndFault (inner_faults program in_loop t)) fault) (sym is) first
 

@@ -24,7 +24,7 @@ use Rattle.path_map.specs.declared.fault.EndDefect.TheVariants as defect
 use Rattle.common.specs.declared.fault.OrNoMemory.{OrNoMemory}
 use Rattle.common.specs.declared.fault.OrNoMemory.TheVariants.{Refused}
 use Rattle.common.specs.Answers.{IfRefused}
-use Rattle.path_map.specs.declared.fault.EndRefusal as code
+use Rattle.path_map.specs.declared.fault.EndRefusal.{EndRefusal as CodeRefusal}
 use Rattle.path_map.specs.FirstFault.{IsFirstEndFault}
 use Rattle.path_map.specs.Exits.{exits_of, raised_by}
 use Rattle.path_map.specs.Joins.{join_raised}
@@ -98,7 +98,7 @@ module _ (program : Program) (procedure : ProcedureEntry) where
   ends_here : List Exit
   ends_here = block_ends program procedure.body
 
-  pub body-first : (fault : OrNoMemory code.EndRefusal) → IfRefused (IsFirstEndFault (block_faults program false true procedure.body)) fault → IfRefused (IsFirstEndFault (procedure_faults program procedure)) fault
+  pub body-first : (fault : OrNoMemory CodeRefusal) → IfRefused (IsFirstEndFault (block_faults program false true procedure.body)) fault → IfRefused (IsFirstEndFault (procedure_faults program procedure)) fault
   body-first fault first =
       first-left (block_faults program false true procedure.body
       ++ fault_unless (not (is_some procedure.result && has_end (block_ends program procedure.body) Normal)) NoValueReturned procedure.at)
@@ -169,7 +169,7 @@ module _ (program : Program) (all : List ProcedureEntry) where
     faults = refl;
   }
 
-  pub beside-first : (procedure : ProcedureEntry) (tail : List ProcedureEntry) (now : List Exits) (fault : OrNoMemory code.EndRefusal) → Beside program all (procedure ∷ tail) now
+  pub beside-first : (procedure : ProcedureEntry) (tail : List ProcedureEntry) (now : List Exits) (fault : OrNoMemory CodeRefusal) → Beside program all (procedure ∷ tail) now
       → IfRefused (IsFirstEndFault (procedure_faults program procedure)) fault → IfRefused (IsFirstEndFault (flat_map (procedure_faults program) all)) fault
   beside-first procedure tail now fault along first =
       subst (λ faults. IfRefused (IsFirstEndFault faults) fault) along.faults

@@ -8,7 +8,7 @@ use Rattle.resolved.specs.declared.statement.Exit.TheVariants.{Normal, Return, B
 use Rattle.resolved.specs.Tree.{Statement, Block, Empty, Then, Handlers, NoMore, Catch, place_of}
 use Rattle.resolved.specs.Program.{Program}
 use Rattle.resolved.specs.Ends.{same_exit, has_end, thrown_ends, then_ends, leaves_loop, handles, passes, statement_ends, block_ends, handlers_ends}
-use Rattle.resolved.specs.EndFaults.{EndFault, may_stand, inner_faults, block_faults, handlers_faults}
+use Rattle.resolved.specs.EndFaults.{EndRefusal, may_stand, inner_faults, block_faults, handlers_faults}
 use Rattle.path_map.specs.declared.exits.Raised.{Raised}
 use Rattle.path_map.specs.declared.exits.Raised.TheVariants.{Nothing}
 use Rattle.path_map.specs.declared.exits.Exits.{Exits}
@@ -16,7 +16,7 @@ use Rattle.path_map.specs.declared.fault.EndDefect.TheVariants as defect
 use Rattle.common.specs.declared.fault.OrNoMemory.{OrNoMemory}
 use Rattle.common.specs.declared.fault.OrNoMemory.TheVariants.{NoMemory, Refused}
 use Rattle.common.specs.Answers.{IfRefused}
-use Rattle.path_map.specs.declared.fault.EndRefusal as code
+use Rattle.path_map.specs.declared.fault.EndRefusal.{EndRefusal as CodeRefusal}
 use Rattle.path_map.specs.FirstFault.{IsFirstEndFault}
 use Rattle.path_map.specs.Exits.{exits_of, raised_by, thrown_in}
 use Rattle.path_map.specs.Joins.{join, join_raised, after, only_raised, of_loop}
@@ -127,15 +127,15 @@ module _ (b h : List Exit) (handlers : Handlers) (pb ph : List (List Exit)) (e0 
       }
 
 -- the first of faults that are put together
-pub first-left : (a b : List EndFault) (fault : OrNoMemory code.EndRefusal) → IfRefused (IsFirstEndFault a) fault → IfRefused (IsFirstEndFault (a ++ b)) fault
+pub first-left : (a b : List EndRefusal) (fault : OrNoMemory CodeRefusal) → IfRefused (IsFirstEndFault a) fault → IfRefused (IsFirstEndFault (a ++ b)) fault
 first-left a b NoMemory first = tt
 first-left [] b (Refused refusal) first = absurd (cc)
 first-left (x ∷ a) b (Refused refusal) first = first
 
-pub first-right : (a b : List EndFault) (fault : OrNoMemory code.EndRefusal) → a ≡ [] → IfRefused (IsFirstEndFault b) fault → IfRefused (IsFirstEndFault (a ++ b)) fault
+pub first-right : (a b : List EndRefusal) (fault : OrNoMemory CodeRefusal) → a ≡ [] → IfRefused (IsFirstEndFault b) fault → IfRefused (IsFirstEndFault (a ++ b)) fault
 first-right a b fault none first = subst (λ xs. IfRefused (IsFirstEndFault (xs ++ b)) fault) (sym none) first
 
-pub none-both : (a b : List EndFault) → a ≡ [] → b ≡ [] → a ++ b ≡ []
+pub none-both : (a b : List EndRefusal) → a ≡ [] → b ≡ [] → a ++ b ≡ []
 none-both a b p q = ap (λ xs. xs ++ b) p ∙ q
 
 -- along the statements of a block: what was found so far, with what is to come, is what is found of the block
@@ -168,7 +168,7 @@ module _ (program : Program) (in_loop : Bool) (block : Block) (old : List Exits)
         subst (λ faults. IfRefused (IsFirstEndFault faults) (Refused (record { defect = defect.Unreachable; at = place_of statement }))) along.faults
         (rw (stands, reached) refl)
 
-    pub inside : may_stand in_loop statement ≡ true → so_far.normal ≡ true → (fault : OrNoMemory code.EndRefusal) → IfRefused (IsFirstEndFault (inner_faults program in_loop statement)) fault
+    pub inside : may_stand in_loop statement ≡ true → so_far.normal ≡ true → (fault : OrNoMemory CodeRefusal) → IfRefused (IsFirstEndFault (inner_faults program in_loop statement)) fault
         → IfRefused (IsFirstEndFault (block_faults program in_loop true block)) fault
     inside stands reached fault first =
         subst (λ faults. IfRefused (IsFirstEndFault faults) fault) along.faults
@@ -218,7 +218,7 @@ module _ (program : Program) (in_loop : Bool) (block : Block) (old : List Exits)
   along-clean now has so_far along = sym along.faults
 
 -- along handlers: what the walk has taken out of the inner set, and the faults that are to come
-pub record Remaining (program : Program) (in_loop : Bool) (faults : List EndFault) (row : List ℕ) (tail : Handlers) : Type 0 where
+pub record Remaining (program : Program) (in_loop : Bool) (faults : List EndRefusal) (row : List ℕ) (tail : Handlers) : Type 0 where
   pub ends : List Exit
   pub are : AreThrown row ends
   pub same : handlers_faults program in_loop ends tail ≡ faults
@@ -273,7 +273,7 @@ module _ (program : Program) (in_loop : Bool) (handlers : Handlers) (old : List 
         let none : throws there.ends handled ≡ false = sym (there.are.has handled) ∙ absent in
         subst (λ faults. IfRefused (IsFirstEndFault faults) (Refused (record { defect = defect.NeverRaised; at = at }))) there.same (rw none refl)
 
-    pub in-handler : row_has row handled ≡ true → (fault : OrNoMemory code.EndRefusal) → IfRefused (IsFirstEndFault (block_faults program in_loop true body)) fault
+    pub in-handler : row_has row handled ≡ true → (fault : OrNoMemory CodeRefusal) → IfRefused (IsFirstEndFault (block_faults program in_loop true body)) fault
         → (ends : List Exit) → AreThrown was ends → IfRefused (IsFirstEndFault (handlers_faults program in_loop ends handlers)) fault
     in-handler present fault first ends are =
         let there = along.remaining ends are in

@@ -9,7 +9,7 @@ use Rattle.resolved.specs.CoreOf.{program_of}
 use Rattle.resolved.specs.TreeOf.{statement_of, block_of, handlers_of}
 use Rattle.resolved.specs.Tree.{Handlers}
 use Rattle.resolved.specs.Ends.{handles, statement_ends, block_ends, handlers_ends}
-use Rattle.resolved.specs.EndFaults.{EndFault, inner_faults, block_faults, handlers_faults}
+use Rattle.resolved.specs.EndFaults.{EndRefusal, inner_faults, block_faults, handlers_faults}
 use Rattle.path_map.specs.declared.exits.Exits.{Exits}
 use Rattle.path_map.specs.Exits.{exits_of}
 use Rattle.path_map.specs.Paths.{statement_paths, inner_paths, block_paths, rest_paths, handlers_paths}
@@ -49,13 +49,13 @@ AreHandlersFound core handlers =
     IsFound (handlers_ends (program_of core) (handlers_of handlers)) (handlers_paths (program_of core) (handlers_of handlers))
 
 -- the faults of a block, of what is in a statement, and of handlers of a block with these ends
-abbrev pub faults_of_block : Core → (in_loop : Bool) → List S.Statement → List EndFault
+abbrev pub faults_of_block : Core → (in_loop : Bool) → List S.Statement → List EndRefusal
 faults_of_block core in_loop block = block_faults (program_of core) in_loop true (block_of block)
 
-abbrev pub faults_within : Core → (in_loop : Bool) → S.Statement → List EndFault
+abbrev pub faults_within : Core → (in_loop : Bool) → S.Statement → List EndRefusal
 faults_within core in_loop statement = inner_faults (program_of core) in_loop (statement_of statement)
 
-abbrev pub faults_of_handlers : Core → (in_loop : Bool) → (ends : List Exit) → List Handler → List EndFault
+abbrev pub faults_of_handlers : Core → (in_loop : Bool) → (ends : List Exit) → List Handler → List EndRefusal
 faults_of_handlers core in_loop ends handlers = handlers_faults (program_of core) in_loop ends (handlers_of handlers)
 
 -- the exceptions of a row are those of ends

@@ -43,7 +43,7 @@ impl Raised {
 
 impl Exits {
     // The summary of these exceptions as ends.
-    pub(crate) fn raising(raised: Raised) -> Exits
+    pub(crate) fn raise_only(raised: Raised) -> Exits
         ensures { result ≡ only_raised raised }
     {
         Exits {
@@ -56,22 +56,22 @@ impl Exits {
     }
 
     // The summary of a normal end and these exceptions.
-    pub(crate) fn going_on(raised: Raised) -> Exits
+    pub(crate) fn go_on_or_raise(raised: Raised) -> Exits
         ensures { result ≡ record (only_raised raised) { normal = true } }
     {
         Exits {
             normal: true,
-            ..Exits::raising(raised)
+            ..Exits::raise_only(raised)
         }
     }
 
     // The summary of a return and these exceptions.
-    pub(crate) fn returning(raised: Raised) -> Exits
+    pub(crate) fn return_or_raise(raised: Raised) -> Exits
         ensures { result ≡ record (only_raised raised) { returns = true } }
     {
         Exits {
             returns: true,
-            ..Exits::raising(raised)
+            ..Exits::raise_only(raised)
         }
     }
 

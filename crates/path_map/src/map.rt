@@ -14,7 +14,7 @@ use crate::calls::Walk;
 use crate::exits::{Exits, Raised};
 use crate::fault::{EndDefect, EndsFault};
 use crate::set::ExceptionSet;
-use crate::walk::{refused, walk_block};
+use crate::walk::{refuse, walk_block};
 use resolved::program::Core;
 use resolved::tables::{Procedure, Thrown};
 use std::alloc::Global;
@@ -61,11 +61,11 @@ fn walk_procedure(
     let mut raised = ExceptionSet::new(walk.alloc);
     let exits = walk_block(walk, false, &procedure.body, entries, &mut raised)?;
     if lacks_value(procedure, exits) {
-        return Err(refused(EndDefect::NoValueReturned, procedure.at));
+        return Err(refuse(EndDefect::NoValueReturned, procedure.at));
     }
     let declared = are_declared(&procedure.throws, &mut raised);
     if lets_out(exits, declared) {
-        return Err(refused(EndDefect::Undeclared, procedure.at));
+        return Err(refuse(EndDefect::Undeclared, procedure.at));
     }
     Ok(())
 }

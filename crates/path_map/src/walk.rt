@@ -64,13 +64,13 @@ fn walk_statements(
     ensures first_fault { IfErr result (IfRefused (IsFirstEndFault
         (faults_of_block walk.now.core.now in_loop block.now))) }
 {
-    let mut exits = Exits::going_on(Raised::Nothing);
+    let mut exits = Exits::go_on_or_raise(Raised::Nothing);
     for statement in block {
         if !may_stand(in_loop, statement) {
-            return Err(refused(EndDefect::OutsideLoop, statement.at()));
+            return Err(refuse(EndDefect::OutsideLoop, statement.at()));
         }
         if !exits.normal {
-            return Err(refused(EndDefect::Unreachable, statement.at()));
+            return Err(refuse(EndDefect::Unreachable, statement.at()));
         }
         let found = walk_statement(walk, in_loop, statement, entries, raised)?;
         exits = exits.then(found);
@@ -174,10 +174,10 @@ fn walk_handlers(
         IfRefused (IsFirstEndFault
         (faults_of_handlers walk.now.core.now in_loop ends handlers.now)) fault) }
 {
-    let mut exits = Exits::raising(Raised::Nothing);
+    let mut exits = Exits::raise_only(Raised::Nothing);
     for handler in handlers {
         if !inner.remove(handler.exception) {
-            return Err(refused(EndDefect::NeverRaised, handler.at));
+            return Err(refuse(EndDefect::NeverRaised, handler.at));
         }
         let found = walk_block(walk, in_loop, &handler.body, entries, raised)?;
         exits = exits.join(found);
@@ -191,7 +191,7 @@ fn reserve(entries: &mut Vec<Exits>) -> Result<usize, AllocError>
     ensures room { OnOk result (entries.new.items ≡ entries.old.items ++ only_raised Nothing ∷ []) }
 {
     let at = entries.len();
-    entries.push(Exits::raising(Raised::Nothing))?;
+    entries.push(Exits::raise_only(Raised::Nothing))?;
     Ok(at)
 }
 
@@ -201,7 +201,7 @@ fn go_on(found: Raises, raised: &mut ExceptionSet) -> Result<Exits, AllocError>
         IsFoundAlone (Normal ∷ thrown_ends exceptions)
         raised.old.words.items raised.new.words.items exits) }
 {
-    Ok(Exits::going_on(found.add_to(raised)?))
+    Ok(Exits::go_on_or_raise(found.add_to(raised)?))
 }
 
 // The ends of a statement that returns or raises these exceptions.
@@ -210,7 +210,7 @@ fn give_back(found: Raises, raised: &mut ExceptionSet) -> Result<Exits, AllocErr
         IsFoundAlone (Return ∷ thrown_ends exceptions)
         raised.old.words.items raised.new.words.items exits) }
 {
-    Ok(Exits::returning(found.add_to(raised)?))
+    Ok(Exits::return_or_raise(found.add_to(raised)?))
 }
 
 // The ends of a condition, for a statement that goes on with its value.
@@ -218,7 +218,7 @@ fn test(condition: &Expression, raised: &mut ExceptionSet) -> Result<Exits, Allo
     ensures { IfOk result (IsFoundAlone (thrown_ends (raises (expression_of condition.now)))
         raised.old.words.items raised.new.words.items) }
 {
-    Ok(Exits::raising(raises_of(condition).add_to(raised)?))
+    Ok(Exits::raise_only(raises_of(condition).add_to(raised)?))
 }
 
 // The ends of a receive.
@@ -227,7 +227,7 @@ fn receive(raised: &mut ExceptionSet) -> Result<Exits, AllocError>
         raised.old.words.items raised.new.words.items) }
 {
     raised.insert(END)?;
-    Ok(Exits::going_on(Raised::One(END)))
+    Ok(Exits::go_on_or_raise(Raised::One(END)))
 }
 
 // The ends of a call, with arguments that can raise these exceptions.
@@ -244,7 +244,7 @@ fn call(
 {
     let own = arguments.add_to(raised)?;
     let declared = walk.add_declared(callee, raised)?;
-    Ok(Exits::going_on(own.join(declared)))
+    Ok(Exits::go_on_or_raise(own.join(declared)))
 }
 
 // The ends of `break`, `continue` or `throw`.
@@ -252,10 +252,10 @@ fn leave(exit: Exit, raised: &mut ExceptionSet) -> Result<Exits, AllocError>
     ensures { IfOk result (IsFoundAlone (exit ∷ [])
         raised.old.words.items raised.new.words.items) }
 {
-    let none = Exits::raising(Raised::Nothing);
+    let none = Exits::raise_only(Raised::Nothing);
     match exit {
-        Exit::Normal => Ok(Exits::going_on(Raised::Nothing)),
-        Exit::Return => Ok(Exits::returning(Raised::Nothing)),
+        Exit::Normal => Ok(Exits::go_on_or_raise(Raised::Nothing)),
+        Exit::Return => Ok(Exits::return_or_raise(Raised::Nothing)),
         Exit::Break => Ok(Exits {
             breaks: true,
             ..none
@@ -266,7 +266,7 @@ fn leave(exit: Exit, raised: &mut ExceptionSet) -> Result<Exits, AllocError>
         }),
         Exit::Throw(exception) => {
             raised.insert(exception)?;
-            Ok(Exits::raising(Raised::One(exception)))
+            Ok(Exits::raise_only(Raised::One(exception)))
         }
     }
 }
@@ -278,8 +278,8 @@ fn may_stand(in_loop: bool, statement: &Statement) -> bool
     in_loop || !matches!(statement, Statement::Leave(_, Exit::Break | Exit::Continue))
 }
 
-// The fault that a refusal reports.
-pub(crate) fn refused(defect: EndDefect, at: usize) -> EndsFault
+// Refuses the ends of a program for this defect at this byte.
+pub(crate) fn refuse(defect: EndDefect, at: usize) -> EndsFault
     ensures { result ≡ Refused (record { defect = defect; at = at }) }
 {
     OrNoMemory::Refused(EndRefusal { defect, at })

@@ -231,10 +231,10 @@ form_refused text tokens f fits cut (at, is, unexpected) = rw is (fits, inr (tok
 
 -- ---- what a reader has to meet
 
-pub read_exact : (text : List ℕ) (h : PrincipalHierarchy) → IsHierarchyOf text h → (r : Result PrincipalHierarchy (OrNoMemory HierarchyRefusal)) →
+pub read_complete : (text : List ℕ) (h : PrincipalHierarchy) → IsHierarchyOf text h → (r : Result PrincipalHierarchy (OrNoMemory HierarchyRefusal)) →
     IfOk r (IsHierarchyOf text) → IfOk r IsHierarchy → IfErr r (IfRefused (IsRefusedText text)) → Answers (λ found. found ≡ h) (λ _. ⊥) r
-read_exact text h of (Ok found) a b e = hierarchy_once text found h b a of
-read_exact text h of (Err f) a b e = refused-weaker (IsRefusedText text) (λ _. ⊥) (λ g k. hierarchy_not_refused text h g of k) f e
+read_complete text h of (Ok found) a b e = hierarchy_once text found h b a of
+read_complete text h of (Err f) a b e = refused-weaker (IsRefusedText text) (λ _. ⊥) (λ g k. hierarchy_not_refused text h g of k) f e
 
 pub read_first : (text : List ℕ) (f : HierarchyRefusal) → IsRefusedText text f → (r : Result PrincipalHierarchy (OrNoMemory HierarchyRefusal)) →
     IfOk r (IsHierarchyOf text) → IfErr r (IfRefused (IsRefusedText text)) → Answers (λ _. ⊥) (λ found. found ≡ f) r

@@ -44,7 +44,7 @@ fn declare(
 }
 
 /// The number of a principal that was declared before.
-fn number(names: &IndexSet<String>, name: &Token<'_>) -> Result<u32, HierarchyRefusal>
+fn find_number(names: &IndexSet<String>, name: &Token<'_>) -> Result<u32, HierarchyRefusal>
     requires { length (names_of names.now) ≤ MAX_PRINCIPALS }
     ensures found { IfOk result (λ number. slice_get (names_of names.now) number ≡ Some name.now.text.now) }
     ensures unknown { IfErr result (λ refusal. (refusal ≡ UnknownPrincipal name.now.span.start)
@@ -57,7 +57,7 @@ fn number(names: &IndexSet<String>, name: &Token<'_>) -> Result<u32, HierarchyRe
 }
 
 /// The numbers of both names of a pair.
-fn relate(
+fn find_pair(
     names: &IndexSet<String>,
     left: &Token<'_>,
     right: &Token<'_>,
@@ -68,8 +68,8 @@ fn relate(
     ensures rejected { IfErr result (IsEntryRefusal (names_of names.now)
         (Relates (terminal_of left.now) (terminal_of right.now))) }
 {
-    let first = number(names, left)?;
-    let second = number(names, right)?;
+    let first = find_number(names, left)?;
+    let second = find_number(names, right)?;
     Ok((first, second))
 }
 
@@ -80,7 +80,7 @@ pub(crate) fn hierarchy_of(
 ) -> Result<Hierarchy, HierarchyFault>
     ensures said { IfOk result (IsSaid (entries_of statements.now)) }
     ensures kept { IfOk result IsHierarchy }
-    ensures rejected { IfErr result (IfRefused (IsFirstRefusal (entries_of statements.now))) }
+    ensures first_fault { IfErr result (IfRefused (IsFirstRefusal (entries_of statements.now))) }
 {
     let mut names = IndexSet::new(alloc);
     let mut pairs = Vec::new(alloc);
@@ -88,7 +88,7 @@ pub(crate) fn hierarchy_of(
         match statement {
             Statement::Declares(name) => declare(alloc, &mut names, name)?,
             Statement::Relates(left, right) => {
-                let pair = relate(&names, left, right).map_err(OrNoMemory::Refused)?;
+                let pair = find_pair(&names, left, right).map_err(OrNoMemory::Refused)?;
                 pairs.push(pair)?;
             }
         }

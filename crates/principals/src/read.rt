@@ -9,7 +9,7 @@ ghost use Rattle.std.specs.Prelude.{IfErr, IfOk, ◌≡◌};
 use crate::Hierarchy;
 use crate::declaring::hierarchy_of;
 use crate::fault::{HierarchyFault, HierarchyRefusal};
-use crate::reading::statements;
+use crate::reading::read_statements;
 use common::OrNoMemory;
 use common::limits::MAX_TEXT;
 use lexer::lex;
@@ -24,12 +24,12 @@ impl Hierarchy {
     pub fn read(alloc: Global, text: &str) -> Result<Hierarchy, HierarchyFault>
         // At a hierarchy it is that of the text, and no text of a hierarchy is refused.
         ensures accepted { IfOk result (IsHierarchyOf text.now) }
-        ensures exact { (hierarchy : PrincipalHierarchy) → IsHierarchyOf text.now hierarchy →
+        ensures complete { (hierarchy : PrincipalHierarchy) → IsHierarchyOf text.now hierarchy →
             Answers (λ found. found ≡ hierarchy) (λ _. ⊥) result }
 
         // A refusal is the first of the text, and no text with a refusal is read.
-        ensures rejected { IfErr result (IfRefused (IsRefusedText text.now)) }
-        ensures first_fault { (refusal : HierarchyRefusal) → IsRefusedText text.now refusal →
+        ensures first_fault { IfErr result (IfRefused (IsRefusedText text.now)) }
+        ensures refuses { (refusal : HierarchyRefusal) → IsRefusedText text.now refusal →
             Answers (λ _. ⊥) (λ found. found ≡ refusal) result }
 
         // The line and the column of a refusal can be found.
@@ -43,12 +43,12 @@ impl Hierarchy {
 fn read_text(alloc: Global, text: &str) -> Result<Hierarchy, HierarchyFault>
     ensures accepted { IfOk result (IsHierarchyOf text.now) }
     ensures kept { IfOk result IsHierarchy }
-    ensures rejected { IfErr result (IfRefused (IsRefusedText text.now)) }
+    ensures first_fault { IfErr result (IfRefused (IsRefusedText text.now)) }
 {
     if text.len() > MAX_TEXT {
         return Err(OrNoMemory::Refused(HierarchyRefusal::TooLong));
     }
     let tokens = lex(alloc, text).map_err(OrNoMemory::cast)?;
-    let statements = statements(alloc, tokens.as_slice())?;
+    let statements = read_statements(alloc, tokens.as_slice())?;
     hierarchy_of(alloc, statements.as_slice())
 }

@@ -111,7 +111,7 @@ impl<'a> Progress<'a> {
     }
 
     /// The statement that one more token makes whole.
-    fn complete(self, token: Token<'a>) -> Option<Statement<'a>>
+    fn finish(self, token: Token<'a>) -> Option<Statement<'a>>
         ensures { map (λ statement. entry_of statement) (option_to_list result) ≡ said (state_of self.entry) (terminal_of token.entry) }
     {
         match self {
@@ -123,7 +123,7 @@ impl<'a> Progress<'a> {
 }
 
 /// What the tokens of a text say, or the first token with which no text of the form goes on.
-pub(crate) fn statements<'a>(
+pub(crate) fn read_statements<'a>(
     alloc: Global,
     tokens: &[Token<'a>],
 ) -> Result<Vec<Statement<'a>>, HierarchyFault>
@@ -138,7 +138,7 @@ pub(crate) fn statements<'a>(
             let at = token.span.start;
             return Err(OrNoMemory::Refused(HierarchyRefusal::Syntax(at)));
         };
-        if let Some(statement) = progress.complete(*token) {
+        if let Some(statement) = progress.finish(*token) {
             statements.push(statement)?;
         }
         progress = after;

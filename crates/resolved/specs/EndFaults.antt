@@ -10,21 +10,21 @@ use Rattle.resolved.specs.Ends.{same_exit, has_end, thrown_ends, declared_by, st
 
 -- `break` or `continue` outside a loop; a statement that is never reached; a handler of an exception that does not come; a
 -- procedure with a value that can end without one; a procedure that lets out an exception which it does not declare
-pub data EndRefusal : Type 0 where
-  OutsideLoop : EndRefusal
-  Unreachable : EndRefusal
-  NeverRaised : EndRefusal
-  NoValueReturned : EndRefusal
-  Undeclared : EndRefusal
+pub data EndDefect : Type 0 where
+  OutsideLoop : EndDefect
+  Unreachable : EndDefect
+  NeverRaised : EndDefect
+  NoValueReturned : EndDefect
+  Undeclared : EndDefect
 
--- a refusal and the byte of the token at which it stands
-pub record EndFault : Type 0 where
-  pub refusal : EndRefusal
+-- a defect and the byte of the token at which it stands
+pub record EndRefusal : Type 0 where
+  pub defect : EndDefect
   pub at : ℕ
 
 -- a fault, unless a test holds
-abbrev pub fault_unless : Bool → EndRefusal → (at : ℕ) → List EndFault
-fault_unless test refusal at = if test then [] else (record { refusal = refusal; at = at } ∷ [])
+abbrev pub fault_unless : Bool → EndDefect → (at : ℕ) → List EndRefusal
+fault_unless test defect at = if test then [] else (record { defect = defect; at = at } ∷ [])
 
 -- whether a statement may stand here, in a loop or not
 abbrev pub may_leave : (in_loop : Bool) → Exit → Bool
@@ -51,7 +51,7 @@ may_stand in_loop (Nested at block) = true
 -- the faults of blocks, statements and handlers. A statement is reached where the one before it can end normally; the ends are
 -- those that the handlers before have not taken
 abbrev mutual
-  pub inner_faults : Program → (in_loop : Bool) → Statement → List EndFault
+  pub inner_faults : Program → (in_loop : Bool) → Statement → List EndRefusal
   inner_faults program in_loop (Assign at x e) = []
   inner_faults program in_loop (Clear at slot) = []
   inner_faults program in_loop (Store at array length index e) = []
@@ -67,7 +67,7 @@ abbrev mutual
       block_faults program in_loop true block ++ handlers_faults program in_loop (block_ends program block) handlers
   inner_faults program in_loop (Nested at block) = block_faults program in_loop true block
 
-  pub block_faults : Program → (in_loop reached : Bool) → Block → List EndFault
+  pub block_faults : Program → (in_loop reached : Bool) → Block → List EndRefusal
   block_faults program in_loop reached Empty = []
   block_faults program in_loop reached (Then statement rest) =
       fault_unless (may_stand in_loop statement) OutsideLoop (place_of statement)
@@ -75,7 +75,7 @@ abbrev mutual
       ++ inner_faults program in_loop statement
       ++ block_faults program in_loop (has_end (statement_ends program statement) Normal) rest
 
-  pub handlers_faults : Program → (in_loop : Bool) → (ends : List Exit) → Handlers → List EndFault
+  pub handlers_faults : Program → (in_loop : Bool) → (ends : List Exit) → Handlers → List EndRefusal
   handlers_faults program in_loop ends NoMore = []
   handlers_faults program in_loop ends (Catch at handled body rest) =
       fault_unless (has_end ends (Throw handled)) NeverRaised at
@@ -91,7 +91,7 @@ may_end procedure Continue = false
 may_end procedure (Throw exception) = has_end (thrown_ends (declared_by procedure.throws)) (Throw exception)
 
 -- the faults of a procedure: those of its body and then those of its own ends, which stand at its name
-abbrev pub procedure_faults : Program → ProcedureEntry → List EndFault
+abbrev pub procedure_faults : Program → ProcedureEntry → List EndRefusal
 procedure_faults program procedure =
     let ends : List Exit = block_ends program procedure.body in
     block_faults program false true procedure.body
@@ -99,5 +99,5 @@ procedure_faults program procedure =
     ++ fault_unless (list_all (may_end procedure) ends) Undeclared procedure.at
 
 -- all faults of a program's ends; the first is the one that is reported
-abbrev pub end_faults : Program → List EndFault
+abbrev pub end_faults : Program → List EndRefusal
 end_faults program = flat_map (procedure_faults program) program.procedures

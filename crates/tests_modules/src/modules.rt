@@ -48,8 +48,8 @@ fn the_laws_are_called(_rt: HostRuntime) {
     laws::spellings_are_not_refused();
     laws::refusals_stand_inside();
     bytecode::laws::instructions_are_spelled();
-    verifier::safety::faultless_modules_are_never_stuck();
-    verifier::safety::reported_faults_are_there();
+    verifier::safety::modules_without_a_defect_are_never_stuck();
+    verifier::safety::refused_modules_have_a_defect();
     verifier::safety::frames_stay_within_their_depth();
     verifier::safety::positions_stand_for_their_offsets();
 }

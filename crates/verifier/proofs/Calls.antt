@@ -10,7 +10,7 @@ use Rattle.bytecode.specs.Values.{kind_of, is_same_kind}
 use Rattle.bytecode.specs.declared.instruction.Instruction.TheVariants.{Call, Return, ReturnValue}
 use Rattle.bytecode.specs.declared.value.Kind.{Kind}
 use Rattle.bytecode.specs.declared.value.Cell.{Cell}
-use Rattle.verifier.specs.Faults.{HasNoFault}
+use Rattle.verifier.specs.Refusals.{HasNoDefect}
 use Rattle.verifier.specs.Flow.{Effect, Leaves, Misses, and_then, all_popped, effect, exchanged, called, pushed, value_kinds}
 use Rattle.verifier.specs.declared.fault.CodeDefect.TheVariants.{OperandKind}
 use Rattle.verifier.proofs.Holds.{same_of, holds_first}
@@ -59,7 +59,7 @@ get_header [] k p e = absurd (let no : None ≡ Some p = e in cc)
 get_header (x ∷ procedures) zero p e = let same : x ≡ p = cc in ap (λ (q : ProcedureContents). Some (header_of q)) same
 get_header (x ∷ procedures) (suc k) p e = get_header procedures k p e
 
-module _ (m : ModuleContents) (free : HasNoFault m) (p : ProcedureContents) (s : State) where
+module _ (m : ModuleContents) (free : HasNoDefect m) (p : ProcedureContents) (s : State) where
   -- ---- a call
 
   enters_good : (callee : ProcedureContents) (number : ℕ) (rest : List Kind) → Stands m p s (Call number) (map kind_of s.frame.operands) → slice_get m.procedures number ≡ Some callee → effect m p (Call number) (map kind_of s.frame.operands) ≡ Leaves (pushed callee.returned rest) → (arguments left : List Cell) → map kind_of arguments ≡ (header_of callee).parameters → map kind_of left ≡ rest → Good m (machine.enters (machine_code m) s number callee.slots (Some (arguments, left)))

@@ -46,8 +46,8 @@ flow_within m p done _ d (grows table from before to after f has edge none) at k
       | inr h ↦ flow_within m p done table d f at kinds h
     ]
 
-pub no_fault : (m : ModuleContents) (p : ProcedureContents) (done : ℕ → Option (List Kind)) → IsDone m p done → FlowsWell m p
-no_fault m p done d offset defect fault = none offset defect fault
+pub flows_well : (m : ModuleContents) (p : ProcedureContents) (done : ℕ → Option (List Kind)) → IsDone m p done → FlowsWell m p
+flows_well m p done d offset defect wrong = none offset defect wrong
   where
     none : (offset : ℕ) (defect : CodeDefect) → IsOperandDefect m p offset defect → ⊥
     none _ _ (misses table at kinds i wrong f has is e) = d.finds at kinds i wrong (flow_within m p done table d f at kinds has) is e
@@ -60,7 +60,7 @@ no_fault m p done d offset defect fault = none offset defect fault
         let a : done (code_length p.code) ≡ Some kinds = flow_within m p done table d f (code_length p.code) kinds has in
         absurd (let no : None ≡ Some kinds = sym d.none_at_end ∙ a in cc)
 
--- ---- without a fault, each list that comes along edges stands in a table of the flow
+-- ---- without a defect, each list that comes along edges stands in a table of the flow
 
 kind_cases : (a b : Kind) → (a ≡ b) ⊎ (a ≢ b)
 kind_cases Int Int = inl refl

@@ -1,7 +1,7 @@
 pub mod Arguments
 pub mod Bounds
 pub mod Calls
-pub mod FixedFaults
+pub mod FixedRefusals
 pub mod Holds
 pub mod Indices
 pub mod Laws

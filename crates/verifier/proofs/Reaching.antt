@@ -23,7 +23,7 @@ use Rattle.verifier.specs.declared.fault.CodeDefect.TheVariants.{OperandKind, Fa
 use Rattle.verifier.specs.declared.coverage.Coverage.{Coverage}
 use Rattle.verifier.specs.declared.search.Search.{Search}
 use Rattle.verifier.proofs.Offsets.{start_inside}
-use Rattle.verifier.proofs.Laws.{IsDone, no_fault, changed_at}
+use Rattle.verifier.proofs.Laws.{IsDone, flows_well, changed_at}
 
 fun_ext : {f g : ℕ → Option (List Kind)} → ((x : ℕ) → f x ≡ g x) → f ≡ g
 fun_ext h = λ i x. h x i
@@ -53,13 +53,13 @@ unset_set (Some other ∷ shapes) (suc k) list h e = unset_set shapes k list (om
 pub none_at_end : (m : ModuleContents) (p : ProcedureContents) (s : Search) (busy : List ℕ) → IsSearching m p s busy → table s (code_length p.code) ≡ None
 none_at_end m p s busy g = ap (row s.operands) (past_end s.shapes (code_length p.code) None (omega (arith, g.sized)))
 
--- an edge to the end is a fault
+-- an edge to the end is a defect
 pub falls_at : (m : ModuleContents) (p : ProcedureContents) (s : Search) (busy : List ℕ) (at to : ℕ) (after : List Kind) → IsSearching m p s busy → IsAtEdge m p s at to after → to ≡ code_length p.code → IsOperandDefect m p to FallsOffEnd
 falls_at m p s busy at to after g e is =
     subst (λ t. IsOperandDefect m p t FallsOffEnd) (sym is)
     (falls (changed (table s) (code_length p.code) (Some after)) after (grows (table s) at e.kinds (code_length p.code) after g.flow e.has (subst (λ t. Edge m p at e.kinds t after) is e.edge) (none_at_end m p s busy g)) (changed_at (table s) (code_length p.code) after))
 
--- an edge that brings another list is a fault
+-- an edge that brings another list is a defect
 pub meets_at : (m : ModuleContents) (p : ProcedureContents) (s : Search) (busy : List ℕ) (at to : ℕ) (after others : List Kind) (defect : CodeDefect) → IsSearching m p s busy → IsAtEdge m p s at to after → to ≢ code_length p.code → table s to ≡ Some others → after ≢ others → defect ≡ between after others → IsOperandDefect m p to defect
 meets_at m p s busy at to after others defect g e inside there ne is =
     subst (IsOperandDefect m p to) (sym is) (meets (table s) at e.kinds to after others g.flow e.has e.edge inside there ne)
@@ -203,7 +203,7 @@ going_done m p s g empty = record {
     along at kinds k _ _ (caught i h is c l m) = k.caught h c l m
 
 pub search_done : (m : ModuleContents) (p : ProcedureContents) (s : Search) → IsSearching m p s [] → s.work ≡ [] → FlowsWell m p
-search_done m p s g empty = no_fault m p (table s) (going_done m p s g empty)
+search_done m p s g empty = flows_well m p (table s) (going_done m p s g empty)
 
 -- ---- a offset is looked at
 

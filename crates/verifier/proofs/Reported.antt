@@ -1,33 +1,33 @@
 -- What the verifier reports.
 use Rattle.std.proofs.Common.{◌≡◌, ◌⊎◌, inl, inr, ℕ, zero, suc, ◌+◌, ◌<◌, List, [], ◌∷◌, ◌++◌, length, get_or, slice_get, Some, None, refl, sym, ap, ◌∙◌, subst, arith}
 use Rattle.bytecode.specs.Contents.{ProcedureContents, ModuleContents}
-use Rattle.verifier.specs.Faults.{HasNoFault, IsOperandFault, IsReported, IsReportedAfter}
-use Rattle.verifier.specs.Fixed.{fixed_faults}
+use Rattle.verifier.specs.Refusals.{HasNoDefect, IsOperandRefusal, IsCodeRefusal, IsCodeRefusalAfter}
+use Rattle.verifier.specs.Fixed.{fixed_refusals}
 use Rattle.verifier.specs.Flow.{FlowsWell, IsOperandDefect}
 use Rattle.verifier.specs.declared.fault.CodeRefusal.{CodeRefusal}
 use Rattle.std.proofs.lemmas.List.{get_or_append_left}
 use Rattle.std.proofs.Math.Seq.{get_or-append_seam}
 use Rattle.verifier.specs.Depth.{IsGreatestDepth}
 use Rattle.verifier.specs.Positions.{VerifiedCode}
-use Rattle.verifier.specs.Verified.{IsFaultOf, IsVerified}
+use Rattle.verifier.specs.Verified.{IsRefusalOf, IsVerified}
 use Rattle.verifier.proofs.Bounds.{IsBounded}
 use Rattle.verifier.proofs.NeverStuck.{never_stuck}
-use Rattle.verifier.proofs.FixedFaults.{get_at}
+use Rattle.verifier.proofs.FixedRefusals.{get_at}
 
--- a fault that may be reported is there
-pub excluded : (m : ModuleContents) (fault : CodeRefusal) → IsReported m fault → HasNoFault m → ⊥
-excluded m fault reported free = free.flow fault (subst (λ (faults : List CodeRefusal). IsReportedAfter m faults fault) free.fixed reported)
+-- where there is a refusal there is a defect
+pub excluded : (m : ModuleContents) (refusal : CodeRefusal) → IsCodeRefusal m refusal → HasNoDefect m → ⊥
+excluded m refusal reported free = free.flow refusal (subst (λ (refusals : List CodeRefusal). IsCodeRefusalAfter m refusals refusal) free.fixed reported)
 
--- the first fixed fault may be reported, and one of the flow where there is no fixed one
-pub reported_first : (m : ModuleContents) (fault : CodeRefusal) → Some fault ≡ slice_get (fixed_faults m) 0 → IsReported m fault
-reported_first m fault e = split (fixed_faults m) e
+-- the first fixed refusal may be reported, and one of the flow where there is no fixed one
+pub reported_first : (m : ModuleContents) (refusal : CodeRefusal) → Some refusal ≡ slice_get (fixed_refusals m) 0 → IsCodeRefusal m refusal
+reported_first m refusal e = split (fixed_refusals m) e
   where
-    split : (faults : List CodeRefusal) → Some fault ≡ slice_get faults 0 → IsReportedAfter m faults fault
-    split [] e = absurd (let no : Some fault ≡ None = e in cc)
-    split (x ∷ faults) e = cc
+    split : (refusals : List CodeRefusal) → Some refusal ≡ slice_get refusals 0 → IsCodeRefusalAfter m refusals refusal
+    split [] e = absurd (let no : Some refusal ≡ None = e in cc)
+    split (x ∷ refusals) e = cc
 
-pub reported_flow : (m : ModuleContents) (fault : CodeRefusal) → fixed_faults m ≡ [] → IsOperandFault m fault → IsReported m fault
-reported_flow m fault none e = subst (λ (faults : List CodeRefusal). IsReportedAfter m faults fault) (sym none) e
+pub reported_flow : (m : ModuleContents) (refusal : CodeRefusal) → fixed_refusals m ≡ [] → IsOperandRefusal m refusal → IsCodeRefusal m refusal
+reported_flow m refusal none e = subst (λ (refusals : List CodeRefusal). IsCodeRefusalAfter m refusals refusal) (sym none) e
 
 pub there_inside : (all : List ProcedureContents) (k : ℕ) (p : ProcedureContents) → slice_get all k ≡ Some p → k < length all
 there_inside [] k p e = absurd (let no : None ≡ Some p = e in cc)
@@ -35,10 +35,10 @@ there_inside (x ∷ all) zero p e = omega arith
 there_inside (x ∷ all) (suc k) p e = omega (arith, there_inside all k p e)
 
 -- each procedure flows well
-pub all_flow : (m : ModuleContents) → fixed_faults m ≡ [] → ((k : ℕ) (p : ProcedureContents) → k < length m.procedures → slice_get m.procedures k ≡ Some p → FlowsWell m p) → HasNoFault m
+pub all_flow : (m : ModuleContents) → fixed_refusals m ≡ [] → ((k : ℕ) (p : ProcedureContents) → k < length m.procedures → slice_get m.procedures k ≡ Some p → FlowsWell m p) → HasNoDefect m
 all_flow m none flow = record {
   fixed = none;
-  flow = λ fault there. flow fault.procedure there.procedure (there_inside m.procedures fault.procedure there.procedure there.there) there.there fault.offset fault.defect there.defect;
+  flow = λ refusal there. flow refusal.procedure there.procedure (there_inside m.procedures refusal.procedure there.procedure there.there) there.there refusal.offset refusal.defect there.defect;
 }
 
 -- ---- the loop over procedures
@@ -52,18 +52,18 @@ last_cases (suc k) (suc n) h = elim (last_cases k n (omega arith)) [ inl l ↦ i
 pub item_at : (m : ModuleContents) (procedures : List ProcedureContents) → procedures ≡ m.procedures → (index : ℕ) (item : ProcedureContents) → item ≡ get_or procedures index item → index < length procedures → slice_get m.procedures index ≡ Some item
 item_at m procedures are index item is inside = ap (λ all. slice_get all index) (sym are) ∙ get_at procedures index item inside ∙ ap Some (sym is)
 
-pub is_verified : (m : ModuleContents) → IsBounded m → HasNoFault m → IsVerified m
-is_verified m bounds free = record { no_fault = free; never_stuck = never_stuck m bounds free }
+pub is_verified : (m : ModuleContents) → IsBounded m → HasNoDefect m → IsVerified m
+is_verified m bounds free = record { no_defect = free; never_stuck = never_stuck m bounds free }
 
 module _ (m : ModuleContents) (procedures : List ProcedureContents) (are : procedures ≡ m.procedures) (index : ℕ) (item body : ProcedureContents) (is : item ≡ get_or procedures index item) (same : body ≡ item) (inside : index < length procedures) where
   pub item_there : slice_get m.procedures index ≡ Some body
   item_there = ap (λ all. slice_get all index) (sym are) ∙ get_at procedures index item inside ∙ ap Some (sym is ∙ sym same)
 
-  pub item_fault : (q : ModuleContents) (number : ℕ) (fault : CodeRefusal) → q ≡ m → number ≡ index → IsFaultOf q number body fault → IsOperandFault m fault
-  item_fault q number fault same_module number_is e = record {
+  pub item_refusal : (q : ModuleContents) (number : ℕ) (refusal : CodeRefusal) → q ≡ m → number ≡ index → IsRefusalOf q number body refusal → IsOperandRefusal m refusal
+  item_refusal q number refusal same_module number_is e = record {
     procedure = body;
     there = ap (slice_get m.procedures) (e.procedure ∙ number_is) ∙ item_there;
-    defect = subst (λ (x : ModuleContents). IsOperandDefect x body fault.offset fault.defect) same_module e.defect;
+    defect = subst (λ (x : ModuleContents). IsOperandDefect x body refusal.offset refusal.defect) same_module e.defect;
   }
 
   pub flow_more : (q : ModuleContents) → q ≡ m → FlowsWell q body → ((k : ℕ) (p : ProcedureContents) → k < index → slice_get procedures k ≡ Some p → FlowsWell m p) → (k : ℕ) (p : ProcedureContents) → k < index + 1 → slice_get procedures k ≡ Some p → FlowsWell m p

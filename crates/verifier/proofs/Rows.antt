@@ -15,7 +15,7 @@ use Rattle.bytecode.specs.declared.declaration.Slot.{Slot}
 use Rattle.bytecode.specs.declared.declaration.Slot.TheVariants as slot
 use Rattle.common.specs.declared.direction.Direction.{Direction}
 use Rattle.common.specs.declared.direction.Direction.TheVariants.{Input, Output}
-use Rattle.verifier.specs.Faults.{HasNoFault}
+use Rattle.verifier.specs.Refusals.{HasNoDefect}
 use Rattle.verifier.specs.Fixed.{is_scalar, is_array, is_input, is_output}
 use Rattle.bytecode.specs.Targets.{target_of}
 use Rattle.verifier.specs.Flow.{Effect, Leaves, Misses, and_then, all_popped, effect, goes_on, pushed, slot_kind}
@@ -28,7 +28,7 @@ pub right_kind : (b : Bool) (kinds after : List Kind) (more : List Kind → Effe
 right_kind true kinds after more e = (refl, e)
 right_kind false kinds after more e = absurd (let no : Misses OperandKind ≡ Leaves after = e in cc)
 
-module _ (m : ModuleContents) (free : HasNoFault m) (p : ProcedureContents) (i : Instruction) where
+module _ (m : ModuleContents) (free : HasNoDefect m) (p : ProcedureContents) (i : Instruction) where
   -- ---- scalars
 
   pub loads_good : (s : State) (kinds after : List Kind) (o : Option Slot) (cells : List Cell) → Stands m p s i kinds → kinds ≡ map kind_of s.frame.operands → effect m p i kinds ≡ Leaves after → goes_on i ≡ true → is_scalar o ≡ true → AllOf (slot_kind o) cells → after ≡ slot_kind o ∷ kinds → Good m (machine.loads (machine_code m) s o cells)

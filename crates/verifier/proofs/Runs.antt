@@ -1,4 +1,4 @@
--- No run of a module without a fault is stuck: each state of a run has the kinds of operands that the flow has for its offset,
+-- No run of a module without a defect is stuck: each state of a run has the kinds of operands that the flow has for its offset,
 -- in the running frame and in each frame that waits at a call.
 use Rattle.std.proofs.Common.{◌≡◌, ℕ, suc, ◌+◌, ◌<◌, ◌≤◌, ◌==◌, Bool, true, false, if◌then◌else◌, List, [], ◌∷◌, map, slice_get, Option, Some, None, refl, sym, ap, ◌∙◌, subst, arith}
 use Rattle.std.specs.Prelude.{◌&&◌, not, nat_lt}
@@ -15,16 +15,16 @@ use Rattle.bytecode.specs.declared.instruction.Instruction.TheVariants.{Call}
 use Rattle.bytecode.specs.declared.value.Kind.{Kind}
 use Rattle.bytecode.specs.declared.value.Cell.{Cell}
 use Rattle.bytecode.specs.declared.declaration.Handler.{Handler}
-use Rattle.verifier.specs.Faults.{HasNoFault}
+use Rattle.verifier.specs.Refusals.{HasNoDefect}
 use Rattle.bytecode.specs.Targets.{target_of}
 use Rattle.verifier.specs.Flow.{next, jumps, caught, Leaves, effect, goes_on, pushed, FlowsWell}
 use Rattle.verifier.proofs.Holds.{Holds}
 use Rattle.verifier.proofs.Laws.{IsInFlow, along_in_flow}
 
 -- the procedure of a number flows well
-pub flows : (m : ModuleContents) → HasNoFault m → (k : ℕ) (p : ProcedureContents) → slice_get m.procedures k ≡ Some p → FlowsWell m p
-flows m free k p there offset defect fault =
-    free.flow (record { defect = defect; procedure = k; offset = offset }) (record { procedure = p; there = there; defect = fault })
+pub flows : (m : ModuleContents) → HasNoDefect m → (k : ℕ) (p : ProcedureContents) → slice_get m.procedures k ≡ Some p → FlowsWell m p
+flows m free k p there offset defect wrong =
+    free.flow (record { defect = defect; procedure = k; offset = offset }) (record { procedure = p; there = there; defect = wrong })
 
 -- a frame of a procedure that waits at its call of another one
 pub record Waits (m : ModuleContents) (p callee : ProcedureContents) (c : Caller) : Type 0 where
@@ -67,7 +67,7 @@ pub data Good (m : ModuleContents) : Machine → Type 0 where
 pub leaves_same : (a b : List Kind) → Leaves a ≡ Leaves b → a ≡ b
 leaves_same a b e = cc
 
-module _ (m : ModuleContents) (free : HasNoFault m) where
+module _ (m : ModuleContents) (free : HasNoDefect m) where
   -- on to the next instruction
   pub next_good : (p : ProcedureContents) (s : State) (i : Instruction) (kinds after : List Kind) (operands : List Cell) → Stands m p s i kinds → effect m p i kinds ≡ Leaves after → goes_on i ≡ true → map kind_of operands ≡ after → Good m (machine.goes_on (machine_code m) s operands)
   next_good p s i kinds after operands st e goes is =

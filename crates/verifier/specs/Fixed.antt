@@ -1,4 +1,5 @@
--- The faults that an instruction or a handler of a module has by itself, in the order in which the first is reported.
+-- The defects that an instruction or a handler of a module has by itself, and the refusals for them, in the order in which the
+-- first is reported: the fixed refusals of the module.
 -- Source: our own; the rules are those of a bytecode verifier, as that of the Java virtual machine.
 use Rattle.std.specs.Prelude.{ℕ, ◌+◌, ◌==◌, nat_lt, Bool, true, false, ◌&&◌, ◌||◌, if◌then◌else◌, List, [], ◌∷◌, ◌++◌, slice_get, Option, Some, None, is_some}
 use Rattle.bytecode.specs.Contents.{ProcedureContents, ModuleContents}
@@ -92,31 +93,31 @@ handler_defect m procedure handler =
     then unless (nat_lt handler.exception (machine_code m).exceptions) defect.SlotOrIndex
     else Some defect.Jump
 
--- the fault of a procedure at an offset, if there is one
-abbrev pub fault_list : ℕ → ℕ → Option CodeDefect → List CodeRefusal
-fault_list number offset None = []
-fault_list number offset (Some wrong) = record { defect = wrong; procedure = number; offset = offset } ∷ []
+-- the refusal of a procedure at an offset, if there is a defect
+abbrev pub refusals_at : ℕ → ℕ → Option CodeDefect → List CodeRefusal
+refusals_at number offset None = []
+refusals_at number offset (Some wrong) = record { defect = wrong; procedure = number; offset = offset } ∷ []
 
--- the faults of instructions that stand from an offset on
-abbrev pub instruction_faults : ModuleContents → ℕ → ProcedureContents → ℕ → List Instruction → List CodeRefusal
-instruction_faults m number procedure offset [] = []
-instruction_faults m number procedure offset (instruction ∷ code) =
-    fault_list number offset (instruction_defect m procedure instruction)
-    ++ instruction_faults m number procedure (offset + width_of instruction) code
+-- the refusals of instructions that stand from an offset on
+abbrev pub instruction_refusals : ModuleContents → ℕ → ProcedureContents → ℕ → List Instruction → List CodeRefusal
+instruction_refusals m number procedure offset [] = []
+instruction_refusals m number procedure offset (instruction ∷ code) =
+    refusals_at number offset (instruction_defect m procedure instruction)
+    ++ instruction_refusals m number procedure (offset + width_of instruction) code
 
--- the faults of handlers, each at its start
-abbrev pub handler_faults : ModuleContents → ℕ → ProcedureContents → List Handler → List CodeRefusal
-handler_faults m number procedure [] = []
-handler_faults m number procedure (handler ∷ handlers) =
-    fault_list number handler.start (handler_defect m procedure handler) ++ handler_faults m number procedure handlers
+-- the refusals of handlers, each at its start
+abbrev pub handler_refusals : ModuleContents → ℕ → ProcedureContents → List Handler → List CodeRefusal
+handler_refusals m number procedure [] = []
+handler_refusals m number procedure (handler ∷ handlers) =
+    refusals_at number handler.start (handler_defect m procedure handler) ++ handler_refusals m number procedure handlers
 
--- the fixed faults of procedures that are numbered from a number on
-abbrev pub procedure_faults : ModuleContents → ℕ → List ProcedureContents → List CodeRefusal
-procedure_faults m number [] = []
-procedure_faults m number (procedure ∷ procedures) =
-    instruction_faults m number procedure 0 procedure.code ++ handler_faults m number procedure procedure.handlers
-    ++ procedure_faults m (number + 1) procedures
+-- the fixed refusals of procedures that are numbered from a number on
+abbrev pub procedure_refusals : ModuleContents → ℕ → List ProcedureContents → List CodeRefusal
+procedure_refusals m number [] = []
+procedure_refusals m number (procedure ∷ procedures) =
+    instruction_refusals m number procedure 0 procedure.code ++ handler_refusals m number procedure procedure.handlers
+    ++ procedure_refusals m (number + 1) procedures
 
--- the fixed faults of a module: procedures in order, instructions by offset, then handlers in order
-abbrev pub fixed_faults : ModuleContents → List CodeRefusal
-fixed_faults m = procedure_faults m 0 m.procedures
+-- the fixed refusals of a module: procedures in order, instructions by offset, then handlers in order
+abbrev pub fixed_refusals : ModuleContents → List CodeRefusal
+fixed_refusals m = procedure_refusals m 0 m.procedures

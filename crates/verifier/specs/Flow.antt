@@ -1,5 +1,5 @@
 -- The flow of operands through a procedure: what each instruction pops and pushes, where control goes from it, the kinds of
--- the operands with which control reaches an offset, and the faults of that flow.
+-- the operands with which control reaches an offset, and the defects of that flow.
 -- Source: our own; the rules are those of a bytecode verifier, as that of the Java virtual machine.
 use Rattle.std.specs.Prelude.{◌≡◌, ◌≢◌, ℕ, ◌+◌, ◌≤◌, ◌<◌, ◌==◌, Bool, true, false, if◌then◌else◌, List, [], ◌∷◌, length, map, reverse, slice_get, Option, Some, None, is_none, is_some}
 use Rattle.std.specs.List.{Contains}
@@ -196,13 +196,13 @@ pub data Flow (m : ModuleContents) (procedure : ProcedureContents) : (ℕ → Op
 abbrev pub between : List Kind → List Kind → CodeDefect
 between kinds others = if length kinds == length others then OperandKind else OperandDepth
 
--- a fault of the flow at an offset: an instruction that control reaches misses an operand or finds one of another kind; an edge
+-- a defect of the flow at an offset: an instruction that control reaches misses an operand or finds one of another kind; an edge
 -- brings another list to an instruction than it has; control comes to the end of the code
 pub data IsOperandDefect (m : ModuleContents) (procedure : ProcedureContents) : ℕ → CodeDefect → Type 0 where
   misses : (table : ℕ → Option (List Kind)) (at : ℕ) (kinds : List Kind) (i : Instruction) (wrong : CodeDefect) → Flow m procedure table → table at ≡ Some kinds → instruction_at procedure.code at ≡ Some i → effect m procedure i kinds ≡ Misses wrong → IsOperandDefect m procedure at wrong
   meets : (table : ℕ → Option (List Kind)) (at : ℕ) (kinds : List Kind) (to : ℕ) (after others : List Kind) → Flow m procedure table → table at ≡ Some kinds → Edge m procedure at kinds to after → to ≢ code_length procedure.code → table to ≡ Some others → after ≢ others → IsOperandDefect m procedure to (between after others)
   falls : (table : ℕ → Option (List Kind)) (kinds : List Kind) → Flow m procedure table → table (code_length procedure.code) ≡ Some kinds → IsOperandDefect m procedure (code_length procedure.code) FallsOffEnd
 
--- no fault of the flow
+-- no defect of the flow
 abbrev pub FlowsWell : ModuleContents → ProcedureContents → Type 0
 FlowsWell m procedure = (offset : ℕ) (defect : CodeDefect) → IsOperandDefect m procedure offset defect → ⊥

@@ -1,7 +1,7 @@
 pub mod Boundaries
 pub mod Coverage
 pub mod Depth
-pub mod Faults
+pub mod Refusals
 pub mod Fixed
 pub mod Flow
 pub mod Loaded

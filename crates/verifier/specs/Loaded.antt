@@ -1,21 +1,21 @@
--- Which bytes are loaded: they spell a module without a fault; and why others are not.
+-- Which bytes are loaded: they spell a module whose code has no defect; and why others are not.
 -- Source: our own.
 use Rattle.std.specs.Prelude.{◌≡◌, ℕ, List, Some}
 use Rattle.bytecode.specs.Contents.{ModuleContents}
 use Rattle.bytecode.specs.Form.{Spells}
 use Rattle.bytecode.specs.Format.{module_file}
 use Rattle.module_file.specs.Decoded.{first_refusal}
-use Rattle.verifier.specs.Faults.{HasNoFault, IsReported}
+use Rattle.verifier.specs.Refusals.{HasNoDefect, IsCodeRefusal}
 use Rattle.verifier.specs.declared.loading.LoadRefusal.{LoadRefusal}
 use Rattle.verifier.specs.declared.loading.LoadRefusal.TheVariants.{Bytes, Code}
 
--- the bytes spell this module and no other, and its code has no fault
+-- the bytes spell this module and no other, and its code has no defect
 pub record IsLoaded (bytes : List ℕ) (m : ModuleContents) : Type 0 where
   pub spelled : Spells module_file m bytes
   pub only : (other : ModuleContents) → Spells module_file other bytes → m ≡ other
-  pub faultless : HasNoFault m
+  pub no_defect : HasNoDefect m
 
--- the first refusal of the bytes; or else, of the one module that they spell, a fault of its code
+-- the first refusal of the bytes; or else, of the one module that they spell, a refusal of its code
 abbrev pub CannotLoad : (bytes : List ℕ) → LoadRefusal → Type 0
 CannotLoad bytes (Bytes refusal) = first_refusal bytes ≡ Some refusal
-CannotLoad bytes (Code refusal) = (m : ModuleContents) × Spells module_file m bytes × IsReported m refusal
+CannotLoad bytes (Code refusal) = (m : ModuleContents) × Spells module_file m bytes × IsCodeRefusal m refusal

@@ -1,4 +1,4 @@
--- What the search for a fault of the flow keeps.
+-- What the search for a defect of the flow keeps.
 -- Source: our own; a work list over the offsets that control reaches.
 use Rattle.std.specs.Prelude.{◌≡◌, ℕ, suc, ◌+◌, ◌-◌, ◌≤◌, ◌<◌, ◌^◌, true, List, [], ◌∷◌, ◌++◌, length, replicate, slice_get, slice_index_or, Option, Some, None, ◌⊎◌}
 use Rattle.std.specs.List.{Contains}
@@ -153,6 +153,6 @@ pub record IsWaiting (p : ProcedureContents) (c : Coverage) (s : Search) : Type 
   pub real : (h : Handler) → Waits c h → Contains p.handlers h
   pub gone : (h : Handler) (at : ℕ) → Contains p.handlers h → h.start ≤ at → at < h.end → Waits c h ⊎ (table s h.target ≡ Some [])
 
--- a fault of the flow of a procedure
-abbrev pub IsOperandRefusal : ModuleContents → ProcedureContents → FlowRefusal → Type 0
-IsOperandRefusal m p refusal = IsOperandDefect m p refusal.offset refusal.defect
+-- a refusal of a procedure for a defect of its flow
+abbrev pub IsFlowRefusal : ModuleContents → ProcedureContents → FlowRefusal → Type 0
+IsFlowRefusal m p refusal = IsOperandDefect m p refusal.offset refusal.defect

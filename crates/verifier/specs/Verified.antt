@@ -3,15 +3,15 @@
 use Rattle.std.specs.Prelude.{◌≡◌, ℕ, List, [], ◌∷◌, ◌++◌, map, slice_get, slice_index_or, Option, Some, None}
 use Rattle.bytecode.specs.Contents.{ProcedureContents, ModuleContents}
 use Rattle.verifier.specs.Depth.{IsGreatestDepth}
-use Rattle.verifier.specs.Faults.{HasNoFault}
-use Rattle.verifier.specs.Fixed.{instruction_faults, handler_faults}
+use Rattle.verifier.specs.Refusals.{HasNoDefect}
+use Rattle.verifier.specs.Fixed.{instruction_refusals, handler_refusals}
 use Rattle.verifier.specs.Flow.{FlowsWell, IsOperandDefect}
 use Rattle.verifier.specs.Safety.{IsNeverStuck}
 use Rattle.verifier.specs.Positions.{VerifiedCode, positioned, positioned_codes}
 use Rattle.verifier.specs.declared.fault.CodeRefusal.{CodeRefusal}
 
 pub record IsVerified (m : ModuleContents) : Type 0 where
-  pub no_fault : HasNoFault m
+  pub no_defect : HasNoDefect m
   pub never_stuck : IsNeverStuck m
 
 -- the same beside the code of each procedure, with positions as targets, and the greatest number of its operands
@@ -20,17 +20,17 @@ pub record HasCodes (m : ModuleContents) (codes : List VerifiedCode) : Type 0 wh
   pub codes_are : map (λ code. code.instructions) codes ≡ positioned_codes m
   pub depths : (k : ℕ) (p : ProcedureContents) (d : VerifiedCode) → slice_get m.procedures k ≡ Some p → IsGreatestDepth m p (slice_index_or codes k d).greatest_depth
 
--- the fixed faults of a procedure with a number: instructions by offset, then handlers in order
-abbrev pub own_faults : ModuleContents → ℕ → ProcedureContents → List CodeRefusal
-own_faults m number procedure =
-    instruction_faults m number procedure 0 procedure.code ++ handler_faults m number procedure procedure.handlers
+-- the fixed refusals of a procedure with a number: instructions by offset, then handlers in order
+abbrev pub own_refusals : ModuleContents → ℕ → ProcedureContents → List CodeRefusal
+own_refusals m number procedure =
+    instruction_refusals m number procedure 0 procedure.code ++ handler_refusals m number procedure procedure.handlers
 
--- a fault of the flow of a procedure with a number
-pub record IsFaultOf (m : ModuleContents) (number : ℕ) (p : ProcedureContents) (fault : CodeRefusal) : Type 0 where
-  pub procedure : fault.procedure ≡ number
-  pub defect : IsOperandDefect m p fault.offset fault.defect
+-- a refusal of a procedure with a number for a defect of its flow
+pub record IsRefusalOf (m : ModuleContents) (number : ℕ) (p : ProcedureContents) (refusal : CodeRefusal) : Type 0 where
+  pub procedure : refusal.procedure ≡ number
+  pub defect : IsOperandDefect m p refusal.offset refusal.defect
 
--- no fault of the flow was found before or in this procedure, and its code was added
+-- no defect of the flow was found before or in this procedure, and its code was added
 pub record AddsVerifiedCode (m : ModuleContents) (p : ProcedureContents) (found : Option CodeRefusal) (old new : List VerifiedCode) : Type 0 where
   pub none_before : found ≡ None
   pub flow : FlowsWell m p

@@ -1,4 +1,4 @@
-//! A procedure as the search for faults looks at it.
+//! A procedure as the search for defects looks at it.
 
 ghost use Rattle.bytecode.specs.Code.{code_length, instruction_at};
 ghost use Rattle.std.specs.Prelude.{IfOk, slice_get, ◌<◌, ◌^◌, ◌≡◌};

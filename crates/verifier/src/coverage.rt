@@ -27,7 +27,7 @@ impl Coverage {
         ensures all { IfOk result (λ c. (h : TheHandler) (at : ℕ) →
             Contains handlers.now h → at < h.end → Waits c h) }
     {
-        let handlers = in_order(alloc, handlers)?;
+        let handlers = sort_by_start(alloc, handlers)?;
         let mut ends = Ends::new(alloc, handlers.len())?;
         for index in 0..handlers.len() {
             ends.set(index, handlers[index].end);
@@ -62,8 +62,8 @@ impl Coverage {
     }
 }
 
-// Handlers in the order of their starts.
-fn in_order(alloc: Global, handlers: &[Handler]) -> Result<Vec<Handler>, AllocError>
+// The handlers in the order of their starts.
+fn sort_by_start(alloc: Global, handlers: &[Handler]) -> Result<Vec<Handler>, AllocError>
     ensures { IfOk result (λ sorted. IsSortedByStart handlers.now sorted.items) }
 {
     let mut sorted = Vec::new(alloc);

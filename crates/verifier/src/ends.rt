@@ -67,12 +67,12 @@ impl Ends {
         self.nodes[node] = number;
         while node > 1 {
             node /= 2;
-            self.nodes[node] = greater(self.nodes[node + node], self.nodes[node + node + 1]);
+            self.nodes[node] = greater_of(self.nodes[node + node], self.nodes[node + node + 1]);
         }
     }
 }
 
-fn greater(one: u32, other: u32) -> u32
+fn greater_of(one: u32, other: u32) -> u32
     ensures { IsGreater result one other }
 {
     if one < other { other } else { one }

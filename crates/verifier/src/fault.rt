@@ -47,9 +47,9 @@ impl CodeDefect {
     }
 }
 
-/// A fault of a module's code: what is wrong, and the procedure and the byte offset where.
+/// What a module's code is refused for: what is wrong, and the procedure and the byte offset where.
 #[derive(Clone, Copy, Debug, PartialEq, Eq, Error)]
-#[error("a fault in the code")]
+#[error("a defect in the code")]
 pub struct CodeRefusal {
     pub defect: CodeDefect,
     pub procedure: u32,

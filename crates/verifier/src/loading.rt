@@ -4,7 +4,7 @@ ghost use Rattle.bytecode.specs.Form.{Spells};
 ghost use Rattle.bytecode.specs.Format.{module_file};
 ghost use Rattle.common.specs.Answers.{Answers, IfRefused};
 ghost use Rattle.std.specs.Prelude.{◌≡◌, IfErr, IfOk};
-ghost use Rattle.verifier.specs.Faults.{HasNoFault};
+ghost use Rattle.verifier.specs.Refusals.{HasNoDefect};
 ghost use Rattle.verifier.specs.Loaded.{CannotLoad, IsLoaded};
 ghost use Rattle.verifier.specs.declared.loading.LoadRefusal.TheVariants.{Bytes, Code};
 
@@ -19,7 +19,7 @@ use std::alloc::Global;
 pub enum LoadRefusal {
     /// 801 to 806: the bytes spell no module.
     Bytes(ModuleRefusal),
-    /// 811 to 815: the module has this fault in its code.
+    /// 811 to 815: the module is refused for this in its code.
     Code(CodeRefusal),
 }
 
@@ -44,11 +44,11 @@ impl From<CodeRefusal> for LoadRefusal {
 
 /// The verified module that the bytes of a file spell.
 ///
-/// The bytes are refused for their first refusal in reading order, and a module that they spell for a fault in
+/// The bytes are refused for what is wrong first in reading order, and a module that they spell for a defect in
 /// its code, as `decode` and `verify` have it.
 pub fn load(alloc: Global, bytes: &[u8]) -> Result<Verified, LoadFault>
     ensures accepted { IfOk result (IsLoaded bytes.now) }
-    ensures exact { (m : ModuleContents) → Spells module_file m bytes.now → HasNoFault m →
+    ensures complete { (m : ModuleContents) → Spells module_file m bytes.now → HasNoDefect m →
         Answers (λ found. found ≡ m) (λ _. ⊥) result }
     ensures rejected { IfErr result (IfRefused (CannotLoad bytes.now)) }
 {

@@ -1,32 +1,32 @@
-//! Looks for a fault of a module.
+//! Looks for a defect of a module's code.
 
 ghost use Rattle.common.specs.Answers.{IfRefused};
 ghost use Rattle.common.specs.declared.fault.OrNoMemory.TheVariants.{NoMemory};
 ghost use Rattle.std.specs.Prelude.{IfErr, IfNone, IfOk, IfSome, Some, length, ◌<◌, ◌^◌, ◌≡◌, ◌⊎◌};
 ghost use Rattle.verifier.specs.Boundaries.{KeepsBoundaries};
-ghost use Rattle.verifier.specs.Faults.{IsReported};
+ghost use Rattle.verifier.specs.Refusals.{IsCodeRefusal};
 ghost use Rattle.verifier.specs.Search.{IsSearchableBody};
-ghost use Rattle.verifier.specs.Verified.{HasCodes, AddsVerifiedCode, IsFaultOf};
+ghost use Rattle.verifier.specs.Verified.{HasCodes, AddsVerifiedCode, IsRefusalOf};
 
 use crate::body::Body;
 use crate::fault::{CodeRefusal, VerifyFault};
-use crate::fixed::find_body_fault;
+use crate::fixed::find_body_refusal;
 use crate::parameters::PackedModule;
 use crate::positions::Code;
 use crate::search::{FlowRefusal, find_defect};
 use common::OrNoMemory;
 use std::alloc::Global;
 
-/// Looks for a fault of a module, and answers the code of each procedure where there is none.
+/// Looks for a defect of a module's code, and answers the code of each procedure where there is none.
 ///
-/// A fault that an instruction or a handler has by itself is reported before each fault of the flow. So past one of
+/// A defect that an instruction or a handler has by itself is reported before each one of the flow. So past one of
 /// the flow the search goes on, for those alone.
-pub(crate) fn look_for_faults(
+pub(crate) fn look_for_defects(
     alloc: Global,
     program: &PackedModule,
 ) -> Result<Vec<Code>, VerifyFault>
     ensures accepted { IfOk result (λ codes. HasCodes program.now codes.items) }
-    ensures rejected { IfErr result (IfRefused (IsReported program.now)) }
+    ensures rejected { IfErr result (IfRefused (IsCodeRefusal program.now)) }
 {
     let procedures = program.procedures();
     let mut codes = Vec::new(alloc);
@@ -34,21 +34,21 @@ pub(crate) fn look_for_faults(
     let mut number = 0;
     for procedure in procedures {
         let body = Body::new(alloc, program, procedure)?;
-        if let Some(fault) = find_body_fault(&body, number) {
-            return Err(OrNoMemory::Refused(fault));
+        if let Some(refusal) = find_body_refusal(&body, number) {
+            return Err(OrNoMemory::Refused(refusal));
         }
-        found = look_for_flow_fault(alloc, &body, number, found, &mut codes)?;
+        found = look_for_flow_refusal(alloc, &body, number, found, &mut codes)?;
         number += 1;
     }
     match found {
         None => Ok(codes),
-        Some(fault) => Err(OrNoMemory::Refused(fault)),
+        Some(refusal) => Err(OrNoMemory::Refused(refusal)),
     }
 }
 
-// Looks for a fault of the flow of a procedure whose targets are right, unless one was found before. Where there is
+// Looks for a defect of the flow of a procedure whose targets are right, unless one was found before. Where there is
 // none, the procedure's code is added.
-fn look_for_flow_fault(
+fn look_for_flow_refusal(
     alloc: Global,
     body: &Body,
     number: u32,
@@ -58,10 +58,12 @@ fn look_for_flow_fault(
     requires boundaries { KeepsBoundaries body.now.procedure.now }
     requires body { IsSearchableBody body.now }
     requires few { length body.now.procedure.now.handlers < 2 ^ 32 }
-    ensures none { IfOk result (λ fault. IfNone fault (
-        AddsVerifiedCode body.now.program.now body.now.procedure.now found codes.old.items codes.new.items)) }
-    ensures some { IfOk result (λ fault. IfSome fault (λ fault.
-        (found ≡ Some fault) ⊎ IsFaultOf body.now.program.now number body.now.procedure.now fault)) }
+    ensures none { IfOk result (λ found_now. IfNone found_now (
+        AddsVerifiedCode body.now.program.now body.now.procedure.now found
+        codes.old.items codes.new.items)) }
+    ensures some { IfOk result (λ found_now. IfSome found_now (λ refusal.
+        (found ≡ Some refusal)
+        ⊎ IsRefusalOf body.now.program.now number body.now.procedure.now refusal)) }
     ensures no_memory { IfErr result (λ fault. fault ≡ NoMemory) }
 {
     if found.is_some() {

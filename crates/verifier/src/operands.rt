@@ -113,14 +113,14 @@ impl Operands {
         ensures alone { OnOk result ((k : ℕ) → length self.old ≤ k → k < length self.new →
             list_of self.new k ≡ kind ∷ list_of self.old list) }
     {
-        match self.above(list, kind) {
+        match self.find_longer(list, kind) {
             Some(above) => Ok(above),
             None => self.add(list, kind),
         }
     }
 
     // Where the list with one more operand on it is, if it is there.
-    fn above(&self, list: u32, kind: Kind) -> Option<u32>
+    fn find_longer(&self, list: u32, kind: Kind) -> Option<u32>
         requires { list < length self.now }
         ensures there { IfSome result (λ r. r < length self.now) }
         ensures some { IfSome result (λ r. list_of self.now r ≡ kind ∷ list_of self.now list) }
@@ -198,7 +198,7 @@ impl Operands {
         if link.depth < 64 {
             return 0;
         }
-        match self.above(link.skip, last_kind(link.bits)) {
+        match self.find_longer(link.skip, last_kind(link.bits)) {
             Some(skip) => skip,
             None => unreachable!(),
         }

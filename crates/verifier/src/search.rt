@@ -1,4 +1,4 @@
-//! The search for a fault of the flow of operands: from the start along each edge, one list of kinds for each offset.
+//! The search for a defect of the flow of operands: from the start along each edge, one list of kinds for each offset.
 
 ghost use Rattle.bytecode.specs.Code.{code_length, instruction_at, width_of};
 ghost use Rattle.bytecode.specs.Contents.{ModuleContents, ProcedureContents};
@@ -14,7 +14,7 @@ ghost use Rattle.verifier.specs.Flow.{FlowsWell};
 ghost use Rattle.verifier.specs.Depth.{IsGreatestDepth};
 ghost use Rattle.verifier.specs.Operands.{list_of};
 ghost use Rattle.verifier.specs.Boundaries.{IsBoundary, KeepsBoundaries};
-ghost use Rattle.verifier.specs.Search.{Flowed, HasEffect, HaveLongest, HasInstruction, IsApplied, IsAtEdge, IsSearchableBody, IsSearchingNext, IsSearching, IsOperandRefusal, IsWaiting, KeepsSearching, count, left, table, waiting};
+ghost use Rattle.verifier.specs.Search.{Flowed, HasEffect, HaveLongest, HasInstruction, IsApplied, IsAtEdge, IsSearchableBody, IsSearchingNext, IsSearching, IsFlowRefusal, IsWaiting, KeepsSearching, count, left, table, waiting};
 
 use crate::body::Body;
 use crate::coverage::Coverage;
@@ -27,7 +27,7 @@ use bytecode::Instruction;
 use common::OrNoMemory;
 use std::alloc::Global;
 
-/// A fault of the flow of a procedure: what is wrong, and the offset where.
+/// A refusal for a defect of the flow of a procedure: what is wrong, and the offset where.
 #[derive(Clone, Copy, Debug, PartialEq, Eq)]
 pub(crate) struct FlowRefusal {
     pub defect: CodeDefect,
@@ -64,7 +64,8 @@ impl Search {
         requires room { length self.old.operands + left self.old ≤ 2 ^ 32 }
         ensures first { IfOk result (λ first. first ≡ true → Flowed body.now.program.now body.now.procedure.now self.old (waiting self.new to) at to list) }
         ensures other { IfOk result (λ first. first ≡ false → Flowed body.now.program.now body.now.procedure.now self.old self.new at to list) }
-        ensures rejected { IfErr result (IfRefused (IsOperandRefusal body.now.program.now body.now.procedure.now)) }
+        ensures rejected { IfErr result (IfRefused
+            (IsFlowRefusal body.now.program.now body.now.procedure.now)) }
     {
         if to as usize == self.shapes.len() {
             return Err(refuse(CodeDefect::FallsOffEnd, to));
@@ -89,7 +90,8 @@ impl Search {
         requires boundary { IsBoundary body.now.procedure.now to }
         requires room { length self.old.operands + left self.old ≤ 2 ^ 32 }
         ensures accepted { OnOk result (Flowed body.now.program.now body.now.procedure.now self.old self.new at to list) }
-        ensures rejected { IfErr result (IfRefused (IsOperandRefusal body.now.program.now body.now.procedure.now)) }
+        ensures rejected { IfErr result (IfRefused
+            (IsFlowRefusal body.now.program.now body.now.procedure.now)) }
     {
         if !self.arrive(body, at, to, list)? {
             return Ok(());
@@ -114,7 +116,8 @@ impl Search {
         ensures accepted { OnOk result (IsApplied body.now.program.now body.now.procedure.now self.old self.new at) }
         ensures there { IfOk result (λ r. r < length self.new.operands) }
         ensures effect { IfOk result (λ r. HasEffect body.now.program.now body.now.procedure.now self.new at instruction (list_of self.new.operands r)) }
-        ensures rejected { IfErr result (IfRefused (IsOperandRefusal body.now.program.now body.now.procedure.now)) }
+        ensures rejected { IfErr result (IfRefused
+            (IsFlowRefusal body.now.program.now body.now.procedure.now)) }
     {
         if is_own(body.procedure, instruction) {
             match pops(&self.operands, body, instruction, list) {
@@ -145,7 +148,8 @@ impl Search {
         ensures accepted { OnOk result (KeepsSearching body.now.program.now body.now.procedure.now
             self.old self.new at) }
         ensures there { OnOk result ((to : ℕ) → targets.target_of instruction ≡ Some to → table self.new to ≡ Some (list_of self.old.operands list)) }
-        ensures rejected { IfErr result (IfRefused (IsOperandRefusal body.now.program.now body.now.procedure.now)) }
+        ensures rejected { IfErr result (IfRefused
+            (IsFlowRefusal body.now.program.now body.now.procedure.now)) }
     {
         match target_of(instruction) {
             Some(to) => self.reach(body, at, to, list),
@@ -164,7 +168,8 @@ impl Search {
             self.old self.new at) }
         ensures waiting { OnOk result (IsWaiting body.now.procedure.now coverage.new self.new) }
         ensures there { OnOk result ((h : Handler) → Contains body.now.procedure.now.handlers h → h.start ≤ at → at < h.end → table self.new h.target ≡ Some []) }
-        ensures rejected { IfErr result (IfRefused (IsOperandRefusal body.now.program.now body.now.procedure.now)) }
+        ensures rejected { IfErr result (IfRefused
+            (IsFlowRefusal body.now.program.now body.now.procedure.now)) }
     {
         while let Some(handler) = coverage.take(at) {
             self.reach(body, at, handler.target, 0)?;
@@ -194,7 +199,8 @@ impl Search {
         ensures keeps { OnOk result ((offset : ℕ) (kinds : List Kind) → table self.old offset ≡ Some kinds → table self.new offset ≡ Some kinds) }
         ensures same { OnOk result (self.new.operands ≡ self.old.operands) }
         ensures left { IfOk result (λ next. left self.new + count next ≤ left self.old) }
-        ensures rejected { IfErr result (IfRefused (IsOperandRefusal body.now.program.now body.now.procedure.now)) }
+        ensures rejected { IfErr result (IfRefused
+            (IsFlowRefusal body.now.program.now body.now.procedure.now)) }
     {
         if !goes_on(instruction) {
             return Ok(None);
@@ -229,7 +235,8 @@ impl Search {
         ensures waiting { OnOk result (IsWaiting body.now.procedure.now coverage.new self.new) }
         ensures left { IfOk result (λ next. left self.new + count next ≤ left self.old) }
         ensures few { OnOk result (length self.new.operands ≤ length self.old.operands + 1) }
-        ensures rejected { IfErr result (IfRefused (IsOperandRefusal body.now.program.now body.now.procedure.now)) }
+        ensures rejected { IfErr result (IfRefused
+            (IsFlowRefusal body.now.program.now body.now.procedure.now)) }
     {
         let after = self.apply(body, at, instruction, list)?;
         self.jump(body, at, instruction, after)?;
@@ -256,7 +263,8 @@ impl Search {
         ensures waiting { OnOk result (IsWaiting body.now.procedure.now coverage.new self.new) }
         ensures left { IfOk result (λ next. left self.new + count next ≤ left self.old) }
         ensures few { OnOk result (length self.new.operands ≤ length self.old.operands + 1) }
-        ensures rejected { IfErr result (IfRefused (IsOperandRefusal body.now.program.now body.now.procedure.now)) }
+        ensures rejected { IfErr result (IfRefused
+            (IsFlowRefusal body.now.program.now body.now.procedure.now)) }
     {
         let Some(list) = self.shapes.at(at) else {
             unreachable!()
@@ -279,7 +287,8 @@ impl Search {
         ensures waiting { OnOk result (IsWaiting body.now.procedure.now coverage.new self.new) }
         ensures left { OnOk result (left self.new ≤ left self.old) }
         ensures few { OnOk result (length self.new.operands + left self.new ≤ length self.old.operands + left self.old + 1) }
-        ensures rejected { IfErr result (IfRefused (IsOperandRefusal body.now.program.now body.now.procedure.now)) }
+        ensures rejected { IfErr result (IfRefused
+            (IsFlowRefusal body.now.program.now body.now.procedure.now)) }
     {
         let mut next = Some(at);
         while let Some(at) = next {
@@ -297,7 +306,8 @@ impl Search {
         requires room { length self.old.operands + left self.old ≤ 2 ^ 32 }
         ensures accepted { OnOk result (FlowsWell body.now.program.now body.now.procedure.now) }
         ensures longest { OnOk result (HaveLongest body.now.program.now body.now.procedure.now self.new.operands) }
-        ensures rejected { IfErr result (IfRefused (IsOperandRefusal body.now.program.now body.now.procedure.now)) }
+        ensures rejected { IfErr result (IfRefused
+            (IsFlowRefusal body.now.program.now body.now.procedure.now)) }
     {
         while let Some(at) = self.work.pop() {
             self.follow(body, coverage, at)?;
@@ -306,7 +316,7 @@ impl Search {
     }
 }
 
-/// Looks for a fault of the flow of a procedure whose targets are right, and answers the greatest number of operands where there
+/// Looks for a defect of the flow of a procedure whose targets are right, and answers the greatest number of operands where there
 /// is none.
 pub(crate) fn find_defect(alloc: Global, body: &Body) -> Result<u32, FlowFault>
     requires boundaries { KeepsBoundaries body.now.procedure.now }
@@ -314,7 +324,8 @@ pub(crate) fn find_defect(alloc: Global, body: &Body) -> Result<u32, FlowFault>
     requires few { length body.now.procedure.now.handlers < 2 ^ 32 }
     ensures accepted { OnOk result (FlowsWell body.now.program.now body.now.procedure.now) }
     ensures depth { IfOk result (λ depth. IsGreatestDepth body.now.program.now body.now.procedure.now depth) }
-    ensures rejected { IfErr result (IfRefused (IsOperandRefusal body.now.program.now body.now.procedure.now)) }
+    ensures rejected { IfErr result (IfRefused
+        (IsFlowRefusal body.now.program.now body.now.procedure.now)) }
 {
     let size = body.indices.len();
     if size == 0 {

@@ -3,12 +3,12 @@ ghost use Rattle.std.specs.Prelude.{IfErr, IfOk, OnOk, Some, length, slice_get, 
 ghost use Rattle.bytecode.specs.Contents.{ProcedureContents};
 ghost use Rattle.common.specs.Answers.{IfRefused};
 ghost use Rattle.verifier.specs.Depth.{IsGreatestDepth};
-ghost use Rattle.verifier.specs.Faults.{HasNoFault, IsReported};
+ghost use Rattle.verifier.specs.Refusals.{HasNoDefect, IsCodeRefusal};
 ghost use Rattle.verifier.specs.Safety.{IsNeverStuck};
 ghost use Rattle.verifier.specs.Positions.{positioned};
 
 use crate::fault::VerifyFault;
-use crate::looking::look_for_faults;
+use crate::looking::look_for_defects;
 use crate::parameters::PackedModule;
 use crate::positions::Code;
 use bytecode::{Instruction, Module};
@@ -39,7 +39,7 @@ impl Verified {
     /// The module.
     pub fn module(&self) -> &Module
         ensures value { result.now ≡ self.now }
-        ensures no_fault { HasNoFault self.now }
+        ensures no_defect { HasNoDefect self.now }
         ensures never_stuck { IsNeverStuck self.now }
     {
         &self.inner
@@ -67,17 +67,17 @@ impl Verified {
 
 /// Verifies a module.
 ///
-/// A module is refused where its code has a fault, and the fault that is reported is there: the first one
+/// A module is refused where its code has a defect, and the one that is reported is there: the first one
 /// that an instruction or a handler has by itself, or else one of the flow of operands.
 /// Memory grows with the size of the module.
 pub fn verify(alloc: Global, program: Module) -> Result<Verified, VerifyFault>
     ensures accepted { IfOk result (λ verified. verified ≡ program) }
     ensures safe { OnOk result (IsNeverStuck program) }
-    ensures faultless { OnOk result (HasNoFault program) }
-    ensures rejected { IfErr result (IfRefused (IsReported program)) }
+    ensures no_defect { OnOk result (HasNoDefect program) }
+    ensures rejected { IfErr result (IfRefused (IsCodeRefusal program)) }
 {
     let packed = PackedModule::new(alloc, program)?;
-    let codes = look_for_faults(alloc, &packed)?;
+    let codes = look_for_defects(alloc, &packed)?;
     Ok(Verified {
         inner: packed.into_module(),
         codes,

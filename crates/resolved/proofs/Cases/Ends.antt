@@ -9,11 +9,11 @@ use Rattle.resolved.specs.declared.expression.Prefix.TheVariants.{Negate}
 use Rattle.resolved.specs.declared.statement.Exit.TheVariants.{Normal, Return, Break, Continue, Throw}
 use Rattle.resolved.specs.Tree.{Logical, Element, Unary, Binary, Store, Receive, Send, Call, Leave, ReturnWith, Empty, NoMore, Catch}
 use Rattle.resolved.specs.Ends.{raises, statement_ends}
-use Rattle.resolved.specs.EndFaults.{EndFault, EndRefusal, OutsideLoop, Unreachable, NeverRaised, NoValueReturned, Undeclared, end_faults}
+use Rattle.resolved.specs.EndFaults.{EndDefect, EndRefusal, OutsideLoop, Unreachable, NeverRaised, NoValueReturned, Undeclared, end_faults}
 use Rattle.resolved.proofs.Cases.Kit.{arith, bounds, end, oops, s_channel, pub_channel, int_slot, array_slot, int, minus, var, set_to, send_public, positive, block, on, try_to, if_then, while_loop, procedure, thrown, program, main_program}
 
-abbrev fault : EndRefusal → ℕ → List EndFault
-fault refusal at = record { refusal = refusal; at = at } ∷ []
+abbrev fault : EndDefect → ℕ → List EndRefusal
+fault defect at = record { defect = defect; at = at } ∷ []
 
 -- a nonzero literal divisor, or a minus sign before one, cannot raise; 0 and two signs can
 divisors : map raises (

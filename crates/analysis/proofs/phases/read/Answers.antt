@@ -17,7 +17,7 @@ returns-in_err-tokens-clause-first_fault c = λ h.
     let source = c.args.source.now in
     rw (p.1, p.2) (IfErr-at_err (IfRefused (IsSourceRefusal h source)) c.in_err-tokens.was
     (cast-answer (IsTextRefused source) (IsSourceRefusal h source) (λ r s is refused. rw is (lexed h source r c.requires.text refused))
-    c.lex.result c.map_err.result c.map_err.ensures.cases c.lex.ensures.rejected))
+    c.lex.result c.map_err.result c.map_err.ensures.cases c.lex.ensures.first_fault))
 
 pub returns-in_err-tree-clause-first_fault : goal.returns-in_err-tree-clause-first_fault
 returns-in_err-tree-clause-first_fault c = λ h.
@@ -29,7 +29,7 @@ returns-in_err-tree-clause-first_fault c = λ h.
     rw (p.1, p.2) (IfErr-at_err (IfRefused (IsSourceRefusal h source)) c.in_err-tree.was
     (cast-answer (AreTokensRefused (terminals_of c.as_slice.result.now)) (IsSourceRefusal h source)
     (λ r s is refused. rw is (parsed h source (terminals_of c.as_slice.result.now) r c.requires.text (rw c.as_slice.ensures.value cut) refused))
-    c.parse.result c.map_err-2.result c.map_err-2.ensures.cases c.parse.ensures.rejected))
+    c.parse.result c.map_err-2.result c.map_err-2.ensures.cases c.parse.ensures.first_fault))
 
 pub parse-requires-clause-of_text : goal.parse-requires-clause-of_text
 parse-requires-clause-of_text c =

@@ -42,8 +42,8 @@ returns-in-Err-clause-rejected c =
     refused_without _ c.words_fault.result (λ none. c.words_fault.ensures.memory
     (memory_only _ c.in-Err.error (c.in-Err.ensures.kinds (ap is_simple_and_free is ∙ is_simple_here)) (ap (λ a. fault_of a words) is ∙ none)))
 
-pub returns-in_ok-read_matches-in-Ok-clause-exact : goal.returns-in_ok-read_matches-in-Ok-clause-exact
-returns-in_ok-read_matches-in-Ok-clause-exact c =
+pub returns-in_ok-read_matches-in-Ok-clause-complete : goal.returns-in_ok-read_matches-in-Ok-clause-complete
+returns-in_ok-read_matches-in-Ok-clause-complete c =
     let words = texts c.args.words.now in
     let met = met_here c.in_ok-command.command words c.in-Ok.matches c.in_ok-command.ensures.shape c.in-Ok.ensures.matches in
     request_granted (Ok c.in_ok-read_matches-in-Ok.field-0) words (subst (λ m. IsTaskOf m c.in_ok-read_matches-in-Ok.field-0) met c.in_ok-read_matches-in-Ok.ensures.matched) tt
@@ -55,5 +55,5 @@ returns-in_ok-read_matches-in-Ok-clause-spelled c =
     only_granted (Ok c.in_ok-read_matches-in-Ok.field-0) words (subst (λ m. IsTaskOf m c.in_ok-read_matches-in-Ok.field-0) met c.in_ok-read_matches-in-Ok.ensures.matched)
     (returns-in_ok-read_matches-in-Ok-clause-accepted c)
 
-pub returns-in-Err-clause-exact : goal.returns-in-Err-clause-exact
-returns-in-Err-clause-exact c = request_granted (Err c.words_fault.result) (texts c.args.words.now) tt (returns-in-Err-clause-rejected c)
+pub returns-in-Err-clause-complete : goal.returns-in-Err-clause-complete
+returns-in-Err-clause-complete c = request_granted (Err c.words_fault.result) (texts c.args.words.now) tt (returns-in-Err-clause-rejected c)

@@ -42,7 +42,7 @@ returns-clause-first_fault c =
     let principals = c.in_ok-principals.principals in
     let has = mapped-ok c.principals_of.result (Ok principals) principals (HasHierarchy c.args.hierarchy.now) refl
     c.in_ok-principals.ensures.cases (λ fault no. no) c.principals_of.ensures.has in
-    rw c.not_accepted.ensures
+    rw c.refuse_source.ensures
     (first_of_check c.args.hierarchy.now c.args.source.now principals has c.in-Err-Refused.refusal
     (subst (IfRefused (IsCheckRefusal principals c.args.source.now)) c.in-Err-Refused.field-0-is c.in-Err-Refused.ensures.first_fault))
 
@@ -61,6 +61,6 @@ returns-clause-asked c =
     let principals = c.in_ok-principals.principals in
     let has = mapped-ok c.principals_of.result (Ok principals) principals (HasHierarchy c.args.hierarchy.now) refl
     c.in_ok-principals.ensures.cases (λ fault no. no) c.principals_of.ensures.has in
-    rw c.not_accepted.ensures
+    rw c.refuse_source.ensures
     (asked_of_check c.args.hierarchy.now c.args.source.now principals has c.in-Err-Refused.refusal
     (subst (IfRefused (IsCheckRefusal principals c.args.source.now)) c.in-Err-Refused.field-0-is c.in-Err-Refused.ensures.first_fault))

@@ -13,7 +13,7 @@ pub returns-in-Err-Refused-clause-first_fault : goal.returns-in-Err-Refused-clau
 returns-in-Err-Refused-clause-first_fault c = λ source.
     let bytes = c.args.bytes.now in
     let refusal = c.in-Err-Refused.refusal in
-    let told = subst (IfRefused (IsRefusedText c.in-Ok.text.now)) c.in-Err-Refused.field-0-is c.in-Err-Refused.ensures.rejected in
+    let told = subst (IfRefused (IsRefusedText c.in-Ok.text.now)) c.in-Err-Refused.field-0-is c.in-Err-Refused.ensures.first_fault in
     let refused = refused_reading bytes refusal c.in-Ok.ensures.text (subst (λ t. IsRefusedText t refusal) c.in-Ok.ensures.same told) in
     let pair = c.hierarchy_cause-cause.result in
     rw c.refusal_at-in-Err-Refused.ensures

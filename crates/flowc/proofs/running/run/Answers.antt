@@ -8,7 +8,7 @@ use Rattle.flowc.proofs.running.run.Goals as goal
 pub returns-in_err-write_view-clause-prefix : goal.returns-in_err-write_view-clause-prefix
 returns-in_err-write_view-clause-prefix g c =
     let m = c.in_ok-machine.machine.program in
-    let can = can_run _ _ _ m c.in_ok-principal.principal c.hierarchy.result.now c.in_ok-machine.ensures.accepted.spelled c.in_ok-machine.ensures.accepted.faultless c.in_ok-machine.ensures.encoded c.in_ok-machine.ensures.right c.in_ok-principal.ensures.found
+    let can = can_run _ _ _ m c.in_ok-principal.principal c.hierarchy.result.now c.in_ok-machine.ensures.accepted.spelled c.in_ok-machine.ensures.accepted.no_defect c.in_ok-machine.ensures.encoded c.in_ok-machine.ensures.right c.in_ok-principal.ensures.found
     (c.hierarchy.ensures.hierarchy ∙ ap (λ (w : ModuleContents). w.hierarchy) c.module.ensures) in
     on_err _ _ (cut_off _ _ _ c.args.steps _ _ m c.module-program.result.now c.in_ok-principal.principal c.run-status.result.0 c.sent.result.now _ _ can c.run-status.ensures.within
     (c.module-program.ensures ∙ c.run-status.ensures.kept) c.in_ok-machine.ensures.first c.run-status.ensures.after c.sent.ensures c.in_err-write_view.ensures.prefix)
@@ -16,7 +16,7 @@ returns-in_err-write_view-clause-prefix g c =
 pub returns-clause-prefix : goal.returns-clause-prefix
 returns-clause-prefix g c =
     let m = c.in_ok-machine.machine.program in
-    let can = can_run _ _ _ m c.in_ok-principal.principal c.hierarchy.result.now c.in_ok-machine.ensures.accepted.spelled c.in_ok-machine.ensures.accepted.faultless c.in_ok-machine.ensures.encoded c.in_ok-machine.ensures.right c.in_ok-principal.ensures.found
+    let can = can_run _ _ _ m c.in_ok-principal.principal c.hierarchy.result.now c.in_ok-machine.ensures.accepted.spelled c.in_ok-machine.ensures.accepted.no_defect c.in_ok-machine.ensures.encoded c.in_ok-machine.ensures.right c.in_ok-principal.ensures.found
     (c.hierarchy.ensures.hierarchy ∙ ap (λ (w : ModuleContents). w.hierarchy) c.module.ensures) in
     on_err c.report_end.result _ (cut_off _ _ _ c.args.steps _ _ m c.module-program.result.now c.in_ok-principal.principal c.run-status.result.0 c.sent.result.now _ _ can c.run-status.ensures.within
     (c.module-program.ensures ∙ c.run-status.ensures.kept) c.in_ok-machine.ensures.first c.run-status.ensures.after c.sent.ensures (appended_all _ _ _ c.in_ok-write_view.ensures.accepted))
@@ -28,7 +28,7 @@ returns-in_err-machine-clause-message g c =
 pub returns-in_err-principal-clause-message : goal.returns-in_err-principal-clause-message
 returns-in_err-principal-clause-message g c =
     observer_message c.from_residual-in_err-principal.result c.in_ok-machine.machine.program c.hierarchy.result.now _ _ _ _ _ _ _
-    c.in_ok-machine.ensures.accepted.spelled c.in_ok-machine.ensures.accepted.faultless c.in_ok-machine.ensures.encoded c.in_ok-machine.ensures.right
+    c.in_ok-machine.ensures.accepted.spelled c.in_ok-machine.ensures.accepted.no_defect c.in_ok-machine.ensures.encoded c.in_ok-machine.ensures.right
     (c.hierarchy.ensures.hierarchy ∙ ap (λ (w : ModuleContents). w.hierarchy) c.module.ensures)
     c.from_residual-in_err-principal.ensures.1 c.in_err-principal.ensures.message
 
@@ -45,7 +45,7 @@ returns-in_err-write_view-clause-message g c =
 pub returns-clause-stdout : goal.returns-clause-stdout
 returns-clause-stdout g c =
     let m = c.in_ok-machine.machine.program in
-    let can = can_run _ _ _ m c.in_ok-principal.principal c.hierarchy.result.now c.in_ok-machine.ensures.accepted.spelled c.in_ok-machine.ensures.accepted.faultless c.in_ok-machine.ensures.encoded c.in_ok-machine.ensures.right c.in_ok-principal.ensures.found
+    let can = can_run _ _ _ m c.in_ok-principal.principal c.hierarchy.result.now c.in_ok-machine.ensures.accepted.spelled c.in_ok-machine.ensures.accepted.no_defect c.in_ok-machine.ensures.encoded c.in_ok-machine.ensures.right c.in_ok-principal.ensures.found
     (c.hierarchy.ensures.hierarchy ∙ ap (λ (w : ModuleContents). w.hierarchy) c.module.ensures) in
     shows_run _ _ _ c.args.steps m c.module-program.result.now c.in_ok-principal.principal c.run-status.result.0 _ _ c.run-status.result.1 can c.run-status.ensures.within
     (c.module-program.ensures ∙ c.run-status.ensures.kept) c.in_ok-machine.ensures.first c.run-status.ensures.after c.run-status.ensures.reported _ _ c.sent.result.now
@@ -54,7 +54,7 @@ returns-clause-stdout g c =
 pub returns-clause-end : goal.returns-clause-end
 returns-clause-end g c =
     let m = c.in_ok-machine.machine.program in
-    let can = can_run _ _ _ m c.in_ok-principal.principal c.hierarchy.result.now c.in_ok-machine.ensures.accepted.spelled c.in_ok-machine.ensures.accepted.faultless c.in_ok-machine.ensures.encoded c.in_ok-machine.ensures.right c.in_ok-principal.ensures.found
+    let can = can_run _ _ _ m c.in_ok-principal.principal c.hierarchy.result.now c.in_ok-machine.ensures.accepted.spelled c.in_ok-machine.ensures.accepted.no_defect c.in_ok-machine.ensures.encoded c.in_ok-machine.ensures.right c.in_ok-principal.ensures.found
     (c.hierarchy.ensures.hierarchy ∙ ap (λ (w : ModuleContents). w.hierarchy) c.module.ensures) in
     ends_so _ _ _ c.args.steps m c.module-program.result.now c.in_ok-principal.principal c.run-status.result.0 _ _ c.run-status.result.1 can c.run-status.ensures.within
     (c.module-program.ensures ∙ c.run-status.ensures.kept) c.in_ok-machine.ensures.first c.run-status.ensures.after c.run-status.ensures.reported

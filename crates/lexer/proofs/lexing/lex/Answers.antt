@@ -70,13 +70,13 @@ told c =
     (refuse-answer (λ p. Reads (chars c.loop-first.rest.now) p.kind (chars p.rest.now)) (IsStuck _ (chars c.loop-first.rest.now))
     c.cut_piece.result (Err c.in_err-kind.field-0.0) c.in_err-kind.ensures.cases c.cut_piece.ensures)
 
-pub returns-in_err-kind-clause-exact : goal.returns-in_err-kind-clause-exact
-returns-in_err-kind-clause-exact c = λ tokens cut.
+pub returns-in_err-kind-clause-complete : goal.returns-in_err-kind-clause-complete
+returns-in_err-kind-clause-complete c = λ tokens cut.
     let e : c.from_residual.result ≡ Err c.in_err-kind.field-0.0 = search rules in
     rw e (refused-weaker (IsTextRefused c.args.src.now) (λ _. ⊥) (λ r h. not_cut_and_refused c.args.src.now tokens r cut h) c.in_err-kind.field-0.0 (told c))
 
-pub returns-in_err-kind-clause-first_fault : goal.returns-in_err-kind-clause-first_fault
-returns-in_err-kind-clause-first_fault c = λ refusal first.
+pub returns-in_err-kind-clause-refuses : goal.returns-in_err-kind-clause-refuses
+returns-in_err-kind-clause-refuses c = λ refusal first.
     let e : c.from_residual.result ≡ Err c.in_err-kind.field-0.0 = search rules in
     rw e (refused-weaker (IsTextRefused c.args.src.now) (λ r. r ≡ refusal) (λ r h. has_one_refusal c.args.src.now r refusal h first) c.in_err-kind.field-0.0 (told c))
 
@@ -98,11 +98,11 @@ all c = listed c.args.src.now (terminals_of c.push-2.new.self.items) c.utf8.src 
 pub returns-clause-accepted : goal.returns-clause-accepted
 returns-clause-accepted c = ended c
 
-pub returns-clause-exact : goal.returns-clause-exact
-returns-clause-exact c = λ tokens cut. has_one_cut c.args.src.now (terminals_of c.push-2.new.self.items) tokens (ended c) cut
+pub returns-clause-complete : goal.returns-clause-complete
+returns-clause-complete c = λ tokens cut. has_one_cut c.args.src.now (terminals_of c.push-2.new.self.items) tokens (ended c) cut
 
-pub returns-clause-first_fault : goal.returns-clause-first_fault
-returns-clause-first_fault c = λ fault refusal. not_cut_and_refused c.args.src.now (terminals_of c.push-2.new.self.items) fault (ended c) refusal
+pub returns-clause-refuses : goal.returns-clause-refuses
+returns-clause-refuses c = λ fault refusal. not_cut_and_refused c.args.src.now (terminals_of c.push-2.new.self.items) fault (ended c) refusal
 
 pub returns-clause-terminated : goal.returns-clause-terminated
 returns-clause-terminated c = (all c).terminated

@@ -12,5 +12,5 @@ both a r o e h = grind (arith, nat_tests)
 pub returns-then-is_identifier : goal.returns-then-is_identifier
 returns-then-is_identifier c =
     let text = c.args.text.now in
-    let same = c.keyword.ensures ∙ same_lookup keywords refl text c.utf8.text in
+    let same = c.find_keyword.ensures ∙ same_lookup keywords refl text c.utf8.text in
     both (is_identifier (chars text)) _ (keyword_of (chars text)) (sym c.is_identifier.ensures ∙ c.if-is_identifier.true) (ap is_some (sym same) ∙ c.is_none.ensures)

@@ -14,5 +14,5 @@ pub returns : goal.returns
 returns c =
     let front = c.take_front.result.now in
     let read = word_read _ _ (chars c.args.after.now) _ (chars front) c.requires.split c.skip_run-rest.ensures c.requires.begins c.take_front.ensures in
-    let found = c.keyword.ensures ∙ same_lookup keywords refl front c.take_front.utf8 in
+    let found = c.find_keyword.ensures ∙ same_lookup keywords refl front c.take_front.utf8 in
     (chars front, moved _ _ _ _ _ _ _ _ refl (ap (λ o. Word (unwrap_or o Name)) (sym found) ∙ ap Word (sym c.unwrap_or-kind.ensures)) refl refl read)

@@ -15,12 +15,12 @@ pub returns-in-Ok-clause-accepted : goal.returns-in-Ok-clause-accepted
 returns-in-Ok-clause-accepted c =
     rw c.module_of.ensures (module_taken c.args.bytes.now (contents_of c.in-Ok.fields) (record { below = λ i. omega (arith, c.type_inv.bytes i) }) c.in-Ok.ensures)
 
-pub returns-in-Ok-clause-exact : goal.returns-in-Ok-clause-exact
-returns-in-Ok-clause-exact c = λ m spells.
+pub returns-in-Ok-clause-complete : goal.returns-in-Ok-clause-complete
+returns-in-Ok-clause-complete c = λ m spells.
     c.module_of.ensures ∙ same_value (contents_of c.in-Ok.fields) m (sym c.in-Ok.ensures ∙ module_again c.args.bytes.now m spells)
 
-pub returns-in-Err-Refused-clause-exact : goal.returns-in-Err-Refused-clause-exact
-returns-in-Err-Refused-clause-exact c = λ m spells.
+pub returns-in-Err-Refused-clause-complete : goal.returns-in-Err-Refused-clause-complete
+returns-in-Err-Refused-clause-complete c = λ m spells.
     let stopped : read_all module_file c.args.bytes.now ≡ Err c.in-Err-Refused.stop = rw c.in-Err-Refused.field-0-is at c.in-Err-Refused.ensures in
     absurd (cc (stopped, module_again c.args.bytes.now m spells))
 

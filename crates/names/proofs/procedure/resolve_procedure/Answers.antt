@@ -5,9 +5,11 @@ use Rattle.std.proofs.lemmas.Result.{err_from_is_err_and}
 use Rattle.syntax.specs.Tree.{parameter_tree, thrown_tree, block_tree, procedure_tree}
 use Rattle.resolved.specs.ProgramOf.{result_entry, thrown_entry}
 use Rattle.resolved.specs.TreeOf.{block_of}
+use Rattle.common.specs.Answers.{IfRefused}
+use Rattle.names.specs.Finding.{IsRefusalOf}
 use Rattle.names.specs.Resolution.{end_label_of, parameters_finding, throws_finding}
 use Rattle.names.specs.Statements.{Setting, block_finding}
-use Rattle.names.specs.Views.{ResolvingFails, found_in, point_of, throws_view, top_view}
+use Rattle.names.specs.Views.{found_in, point_of, throws_view, top_view}
 use Rattle.names.proofs.Later.{setting_same}
 use Rattle.names.proofs.Procedures.{parameters_are, parameters_few, parameters_wrong, end_wrong, throws_wrong, block_wrong, procedure_found}
 use Rattle.names.proofs.procedure.resolve_procedure.Goals as goal
@@ -26,7 +28,7 @@ returns-in_err-declare_parameters c =
     let p = err_from_is_err_and c.from_residual-in_err-declare_parameters.result c.from_residual-in_err-declare_parameters.ensures.1 in
     let are = parameters_are h first.hierarchy.now (found_in c.args.top.now.names) (point_of first) (map parameter_tree c.deref.result.now) (ap (λ (setting : Setting). setting.hierarchy) c.new-body.ensures.setting) c.new-body.ensures.point
     ∙ ap (λ list. parameters_finding h (found_in c.args.top.now.names) (map parameter_tree list)) c.deref.ensures.value in
-    let wrong = subst (ResolvingFails c.in_err-declare_parameters.field-0.0) are c.in_err-declare_parameters.ensures.made in
+    let wrong = subst (λ found. IfRefused (IsRefusalOf found) c.in_err-declare_parameters.field-0.0) are c.in_err-declare_parameters.ensures.made in
     rw (p.1, p.2) (parameters_wrong h (top_view c.args.top.now) (procedure_tree c.args.written.now) (result_entry c.in_ok-value.value) c.in_ok-begin.begin c.in_ok-value.ensures c.in_ok-begin.ensures
     c.in_err-declare_parameters.field-0.0 wrong)
 
@@ -47,7 +49,7 @@ returns-in_err-throws c =
     let p = err_from_is_err_and c.from_residual-in_err-throws.result c.from_residual-in_err-throws.ensures.1 in
     let are = parameters_are h first.hierarchy.now (found_in c.args.top.now.names) (point_of first) (map parameter_tree c.deref.result.now) (ap (λ (setting : Setting). setting.hierarchy) c.new-body.ensures.setting) c.new-body.ensures.point
     ∙ ap (λ list. parameters_finding h (found_in c.args.top.now.names) (map parameter_tree list)) c.deref.ensures.value in
-    let wrong = subst (λ list. ResolvingFails c.in_err-throws.field-0.0 (throws_finding h (found_in c.args.top.now.names) (map thrown_tree list))) c.deref-2.ensures.value c.in_err-throws.ensures in
+    let wrong = subst (λ list. IfRefused (IsRefusalOf (throws_finding h (found_in c.args.top.now.names) (map thrown_tree list))) c.in_err-throws.field-0.0) c.deref-2.ensures.value c.in_err-throws.ensures in
     rw (p.1, p.2) (throws_wrong h (top_view c.args.top.now) (procedure_tree c.args.written.now) (result_entry c.in_ok-value.value) c.in_ok-begin.begin c.in_ok-value.ensures c.in_ok-begin.ensures
     (point_of c.declare_parameters.new.self) (sym are ∙ c.in_ok-declare_parameters.ensures.made) c.in_ok-end.end c.in_ok-end.ensures c.in_err-throws.field-0.0 wrong)
 
@@ -68,7 +70,7 @@ returns-in_err-statements c =
     ∙ ap (λ list. parameters_finding h (found_in c.args.top.now.names) (map parameter_tree list)) c.deref.ensures.value in
     let thrown = sym (ap (λ list. throws_finding h (found_in c.args.top.now.names) (map thrown_tree list)) c.deref-2.ensures.value) ∙ c.in_ok-throws.ensures in
     let setting = setting_same first inside c.in_ok-declare_parameters.ensures.later ∙ c.new-body.ensures.setting ∙ ap (λ value. record { hierarchy = h; signatures = (top_view c.args.top.now).signatures; result = value }) c.result_of.ensures in
-    let wrong = subst (λ one. ResolvingFails c.in_err-statements.field-0.0 (block_finding one (point_of inside) (block_tree c.args.written.now.body))) setting c.in_err-statements.ensures.made in
+    let wrong = subst (λ one. IfRefused (IsRefusalOf (block_finding one (point_of inside) (block_tree c.args.written.now.body))) c.in_err-statements.field-0.0) setting c.in_err-statements.ensures.made in
     rw (p.1, p.2) (block_wrong h (top_view c.args.top.now) (procedure_tree c.args.written.now) (result_entry c.in_ok-value.value) c.in_ok-begin.begin c.in_ok-value.ensures c.in_ok-begin.ensures
     (point_of inside) (sym are ∙ c.in_ok-declare_parameters.ensures.made) c.in_ok-end.end c.in_ok-end.ensures (throws_view c.in_ok-throws.throws) thrown c.in_err-statements.field-0.0 wrong)
 

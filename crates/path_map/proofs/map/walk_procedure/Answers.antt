@@ -28,7 +28,7 @@ pub returns-then-lacks_value-clause-first_fault : goal.returns-then-lacks_value-
 returns-then-lacks_value-clause-first_fault c =
     let piece = walked (program_of c.args.walk.now.core.now) c.args.procedure.now c.deref.result.now c.args.entries.now.items c.walk_block.new.entries.items
     c.new-raised.result.words.items c.walk_block.new.raised.words.items c.in_ok-exits.exits c.deref.ensures.value c.new-raised.ensures c.in_ok-exits.ensures.found c.in_ok-exits.ensures.accepted in
-    subst (λ fault. IfRefused (IsFirstEndFault (procedure_faults (program_of c.args.walk.now.core.now) (procedure_entry c.args.procedure.now))) fault) (sym c.refused.ensures)
+    subst (λ fault. IfRefused (IsFirstEndFault (procedure_faults (program_of c.args.walk.now.core.now) (procedure_entry c.args.procedure.now))) fault) (sym c.refuse.ensures)
     (no-value-first (program_of c.args.walk.now.core.now) (procedure_entry c.args.procedure.now) piece.clean
     (piece.value ∙ (sym c.lacks_value.ensures ∙ c.if-lacks_value.true)))
 
@@ -36,7 +36,7 @@ pub returns-then-lets_out-clause-first_fault : goal.returns-then-lets_out-clause
 returns-then-lets_out-clause-first_fault c =
     let piece = walked (program_of c.args.walk.now.core.now) c.args.procedure.now c.deref.result.now c.args.entries.now.items c.walk_block.new.entries.items
     c.new-raised.result.words.items c.walk_block.new.raised.words.items c.in_ok-exits.exits c.deref.ensures.value c.new-raised.ensures c.in_ok-exits.ensures.found c.in_ok-exits.ensures.accepted in
-    subst (λ fault. IfRefused (IsFirstEndFault (procedure_faults (program_of c.args.walk.now.core.now) (procedure_entry c.args.procedure.now))) fault) (sym c.refused-then-lets_out.ensures)
+    subst (λ fault. IfRefused (IsFirstEndFault (procedure_faults (program_of c.args.walk.now.core.now) (procedure_entry c.args.procedure.now))) fault) (sym c.refuse-then-lets_out.ensures)
     (undeclared-first (program_of c.args.walk.now.core.now) (procedure_entry c.args.procedure.now) piece.clean
     (piece.value ∙ (sym c.lacks_value.ensures ∙ c.if-lacks_value.false))
     (all-may-end (program_of c.args.walk.now.core.now) c.args.procedure.now c.deref-2.result.now c.walk_block.new.raised.words.items c.in_ok-exits.exits c.are_declared-declared.result

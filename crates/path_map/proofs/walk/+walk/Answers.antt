@@ -279,7 +279,7 @@ walk_statements-returns-then-not-may_stand-clause-first_fault t c =
     subst (λ rest. Along program c.args.in_loop block rest c.args.entries.now.items c.loop-statement.entries.items c.args.raised.now.words.items c.loop-statement.raised.words.items c.loop-statement.exits)
     (next-statement c.args.block.now c.loop-statement.statement-index c.statement-item.result c.loop-statement-test.true c.statement-item.is) c.loop-statement.invariant in
     subst (λ fault. IfRefused (IsFirstEndFault (block_faults program c.args.in_loop true block)) fault)
-    (sym (c.refused.ensures ∙ ap (λ at. Refused (record { defect = defect.OutsideLoop; at = at })) c.at.ensures))
+    (sym (c.refuse.ensures ∙ ap (λ at. Refused (record { defect = defect.OutsideLoop; at = at })) c.at.ensures))
     (outside program c.args.in_loop block c.args.entries.now.items c.args.raised.now.words.items statement tail c.loop-statement.entries.items c.loop-statement.raised.words.items c.loop-statement.exits along
     (sym c.may_stand.ensures ∙ c.if-not-may_stand.true))
 
@@ -309,7 +309,7 @@ walk_handlers-returns-then-not-remove-clause-first_fault t c =
     subst (λ rest. Handling program c.args.in_loop handlers rest c.args.entries.now.items c.loop-handler.entries.items c.args.raised.now.words.items c.loop-handler.raised.words.items c.args.inner.now.words.items c.loop-handler.inner.words.items c.loop-handler.exits)
     (next-handler c.args.handlers.now c.loop-handler.handler-index handler handler.body.items c.loop-handler-test.true c.handler-item.is refl) c.loop-handler.invariant in
     λ ends are.
-    subst (λ fault. IfRefused (IsFirstEndFault (handlers_faults program c.args.in_loop ends handlers)) fault) (sym c.refused.ensures)
+    subst (λ fault. IfRefused (IsFirstEndFault (handlers_faults program c.args.in_loop ends handlers)) fault) (sym c.refuse.ensures)
     (never-raised program c.args.in_loop handlers c.args.entries.now.items c.args.raised.now.words.items c.args.inner.now.words.items handler.at handler.exception body tail c.loop-handler.entries.items c.loop-handler.raised.words.items c.loop-handler.inner.words.items c.remove.new.self.words.items c.loop-handler.exits along
     c.remove.ensures.left (sym c.remove.ensures.there ∙ c.if-not-remove.true) ends are)
 

@@ -11,4 +11,4 @@ returns c = λ exceptions same entries.
     call-found (raised_list c.args.arguments.arith c.args.arguments.bounds) exceptions (declared_by (procedure_at (program_of c.args.walk.now.core.now) c.args.callee).throws) same
     c.in_ok-own.own c.in_ok-declared.declared c.in_ok-own.ensures.summary c.in_ok-declared.ensures.summary
     c.args.raised.now.words.items c.add_to.new.set.words.items c.add_declared.new.set.words.items c.in_ok-own.ensures.added c.in_ok-declared.ensures.added
-    c.going_on.result entries (c.going_on.ensures ∙ ap (λ r. record (only_raised r) { normal = true }) c.join.ensures)
+    c.go_on_or_raise.result entries (c.go_on_or_raise.ensures ∙ ap (λ r. record (only_raised r) { normal = true }) c.join.ensures)

@@ -13,8 +13,8 @@ use Rattle.principals.proofs.Building.{built_name, built_pair, built_said, built
 use Rattle.principals.proofs.declaring.hierarchy_of.Goals as goal
 use Rattle.principals.proofs.declaring.hierarchy_of.Goals.{in-Declares+in_ok-declare-in-Declares, in-Relates+in_ok-pair-in-Relates+in_ok-push-in-Relates}
 
-pub returns-in_err-declare-in-Declares-clause-rejected : goal.returns-in_err-declare-in-Declares-clause-rejected
-returns-in_err-declare-in-Declares-clause-rejected c =
+pub returns-in_err-declare-in-Declares-clause-first_fault : goal.returns-in_err-declare-in-Declares-clause-first_fault
+returns-in_err-declare-in-Declares-clause-first_fault c =
     let p = err_from_is_err_and c.from_residual.result c.from_residual.ensures.1 in
     let statements = c.args.statements.now in
     let i = c.loop-statement.statement-index in
@@ -27,8 +27,8 @@ returns-in_err-declare-in-Declares-clause-rejected c =
     (λ r h. built_refused (entries_of (take i statements)) (entries_of (drop (i + 1) statements)) (names_of c.loop-statement.names) c.loop-statement.pairs.items
     (Declares (terminal_of c.in-Declares.name)) r c.loop-statement.invariant h) fault c.in_err-declare-in-Declares.ensures.rejected))
 
-pub returns-in_err-pair-in-Relates-clause-rejected : goal.returns-in_err-pair-in-Relates-clause-rejected
-returns-in_err-pair-in-Relates-clause-rejected c =
+pub returns-in_err-pair-in-Relates-clause-first_fault : goal.returns-in_err-pair-in-Relates-clause-first_fault
+returns-in_err-pair-in-Relates-clause-first_fault c =
     let p = err_from_is_err_and c.from_residual-in_err-pair-in-Relates.result c.from_residual-in_err-pair-in-Relates.ensures.1 in
     let statements = c.args.statements.now in
     let i = c.loop-statement.statement-index in
@@ -40,7 +40,7 @@ returns-in_err-pair-in-Relates-clause-rejected c =
     let refused = map-answer (IsEntryRefusal (names_of c.loop-statement.names) entry) (IfRefused (IsFirstRefusal (entries_of statements)))
     (λ r f (is : f ≡ Refused r) h. rw is (subst (λ x. IsFirstRefusal x r) (sym whole)
     (built_refused (entries_of (take i statements)) (entries_of (drop (i + 1) statements)) (names_of c.loop-statement.names) c.loop-statement.pairs.items
-    entry r c.loop-statement.invariant h))) c.relate.result (Err fault) c.in_err-pair-in-Relates.ensures.cases c.relate.ensures.rejected in
+    entry r c.loop-statement.invariant h))) c.find_pair.result (Err fault) c.in_err-pair-in-Relates.ensures.cases c.find_pair.ensures.rejected in
     rw (p.1, p.2) refused
 
 pub loop-statement-preserved : goal.loop-statement-preserved
@@ -71,8 +71,8 @@ loop-statement-preserved c =
           ap (λ x. x.items) w.pairs-is ∙ w.in_ok-push-in-Relates.ensures.items in
           built_same more same_names same_pairs
           (built_pair es names pairs left right pair.0 pair.1 c.loop-statement.invariant
-          (mapped-ok w.relate.result (Ok pair) pair (λ p. slice_get names p.0 ≡ Some left.text) refl w.in_ok-pair-in-Relates.ensures.cases (λ fault no. no) w.relate.ensures.left)
-          (mapped-ok w.relate.result (Ok pair) pair (λ p. slice_get names p.1 ≡ Some right.text) refl w.in_ok-pair-in-Relates.ensures.cases (λ fault no. no) w.relate.ensures.right))
+          (mapped-ok w.find_pair.result (Ok pair) pair (λ p. slice_get names p.0 ≡ Some left.text) refl w.in_ok-pair-in-Relates.ensures.cases (λ fault no. no) w.find_pair.ensures.left)
+          (mapped-ok w.find_pair.result (Ok pair) pair (λ p. slice_get names p.1 ≡ Some right.text) refl w.in_ok-pair-in-Relates.ensures.cases (λ fault no. no) w.find_pair.ensures.right))
     ]
 
 pub returns-clause-said : goal.returns-clause-said

@@ -10,16 +10,16 @@ use Rattle.principals.specs.Reading.{entries_of}
 use Rattle.principals.proofs.Uniqueness.{entries_refused, tokens_refused}
 use Rattle.principals.proofs.read.read_text.Goals as goal
 
-pub returns-in_err-tokens-clause-rejected : goal.returns-in_err-tokens-clause-rejected
-returns-in_err-tokens-clause-rejected c =
+pub returns-in_err-tokens-clause-first_fault : goal.returns-in_err-tokens-clause-first_fault
+returns-in_err-tokens-clause-first_fault c =
     let p = err_from_is_err_and c.from_residual.result c.from_residual.ensures.1 in
     let text = c.args.text.now in
     rw (p.1, p.2) (IfErr-at_err (IfRefused (IsRefusedText text)) c.in_err-tokens.was
     (cast-answer (IsTextRefused text) (IsRefusedText text) (λ r f is h. tokens_refused text r f c.if-text-gt-MAX_TEXT.false is h)
-    c.lex.result c.map_err.result c.map_err.ensures.cases c.lex.ensures.rejected))
+    c.lex.result c.map_err.result c.map_err.ensures.cases c.lex.ensures.first_fault))
 
-pub returns-clause-rejected : goal.returns-clause-rejected
-returns-clause-rejected c =
+pub returns-clause-first_fault : goal.returns-clause-first_fault
+returns-clause-first_fault c =
     let text = c.args.text.now in
     let entries = entries_of c.as_slice-2.result.now in
     let tokens = mapped-ok c.lex.result (Ok c.in_ok-tokens.tokens) c.in_ok-tokens.tokens (λ found. IsCut text (terminals_of found.items)) refl
@@ -32,4 +32,4 @@ returns-clause-rejected c =
           (subst (λ x. IsHierarchyForm (terminals_of c.as_slice.result.now) (entries_of x)) (sym c.as_slice-2.ensures.value) c.in_ok-statements.ensures.form);
     } in
     IfErr-weaker c.hierarchy_of.result (IfRefused (IsFirstRefusal entries)) (IfRefused (IsRefusedText text))
-    (λ f h. refused-weaker (IsFirstRefusal entries) (IsRefusedText text) (λ r refused. entries_refused text entries r says refused) f h) c.hierarchy_of.ensures.rejected
+    (λ f h. refused-weaker (IsFirstRefusal entries) (IsRefusedText text) (λ r refused. entries_refused text entries r says refused) f h) c.hierarchy_of.ensures.first_fault

@@ -18,7 +18,7 @@ returns c = λ n named stands.
     let takers = takers_of c.args.takers c.args.thrown.now in
     let p : List NamedAtom = named ∷ [] in
     added-then core table (rule_constraint scope c.args.at 2 p (ToVariable procedure (Local c.args.slot))) (flow p (takers Normal)) _ _ _
-    (c.in_ok-add_rule.ensures procedure p (alone-left core table named c.args.pc c.in_ok-alone.field-0.items c.in_ok-alone.ensures stands))
+    (c.in_ok-add_rule.ensures procedure p (alone-left core table named c.args.pc c.in_ok-left_of_pc.field-0.items c.in_ok-left_of_pc.ensures stands))
     (flow-added core table p c.at-taker.result (takers Normal) _ _ c.at-taker.ensures
     (c.in_ok-add_flow.ensures p (left-same core table p c.in_ok-left.left.items c.deref.result.now c.deref.ensures.value
     (alone-left core table named c.args.pc c.in_ok-left.left.items c.in_ok-left.ensures stands))))

@@ -20,7 +20,7 @@ returns c = λ n named stands.
     let p : List NamedAtom = named ∷ [] in
     let q : List NamedAtom = named ∷ named_atoms (one (label_of (program_of core) (ToChannel c.args.channel))) in
     added-then core table (rule_constraint scope c.args.at 4 p (ToChannel c.args.channel)) (target_constraint scope c.args.at 4 q c.args.target ++ (flow q (takers Normal) ++ flow q (takers (Throw 2)))) _ _ _
-    (c.in_ok-add_rule.ensures procedure p (alone-left core table named c.args.pc c.in_ok-alone.field-0.items c.in_ok-alone.ensures stands))
+    (c.in_ok-add_rule.ensures procedure p (alone-left core table named c.args.pc c.in_ok-left_of_pc.field-0.items c.in_ok-left_of_pc.ensures stands))
     (added-then core table (target_constraint scope c.args.at 4 q c.args.target) (flow q (takers Normal) ++ flow q (takers (Throw 2))) _ _ _
     (c.in_ok-add_target.ensures q (c.in_ok-received.ensures named stands))
     (added-then core table (flow q (takers Normal)) (flow q (takers (Throw 2))) _ _ _

@@ -6,9 +6,11 @@ use Rattle.syntax.specs.Tree.{TryTree, block_tree, catch_tree, catches_of, expre
 use Rattle.resolved.proofs.Views.{statement_of_if, statement_of_while, statement_of_try, statement_of_nested}
 use Rattle.resolved.specs.Tree.{If}
 use Rattle.resolved.specs.TreeOf.{expression_of, block_of, handlers_of, statement_of}
+use Rattle.common.specs.Answers.{IfRefused}
+use Rattle.names.specs.Finding.{IsRefusalOf}
 use Rattle.names.specs.Environment.{exception_finding}
 use Rattle.names.specs.Statements.{statement_finding, block_finding, catches_finding}
-use Rattle.names.specs.Views.{ResolvingFails, Resolves, at_point, point_of, setting_of, taken}
+use Rattle.names.specs.Views.{Resolves, at_point, point_of, setting_of, taken}
 use Rattle.names.proofs.Along.{statement_fits, statement_part, statement_wrong, statement_right, statements_done, exception_wrong, body_wrong, catch_fits, catch_part, catch_right, catches_done}
 use Rattle.names.proofs.Holding.{condition_wrong, if_done, if_else_done, if_wrong, else_wrong, while_done, while_wrong, try_done, try_wrong, handlers_wrong, nested_done, nested_wrong, if_nodes}
 use Rattle.names.proofs.Later.{setting_same}
@@ -114,11 +116,11 @@ resolve_if-returns-in_err-otherwise-in-Some-clause-made t c =
     let before = c.args.self.now in
     let p = err_from_is_err_and c.from_residual-in_err-otherwise-in-Some.result c.from_residual-in_err-otherwise-in-Some.ensures.1 in
     let tree = ap (λ otherwise. if_tree c.args.at (expression_tree c.args.condition.now) (block_tree c.args.accepted.now) (optional_block_tree otherwise)) c.in-Some.is in
-    let second = subst (λ setting. ResolvingFails c.in_err-otherwise-in-Some.field-0.0 (block_finding setting (point_of c.resolve_block.new.self) (block_tree c.in-Some.otherwise)))
+    let second = subst (λ setting. IfRefused (IsRefusalOf (block_finding setting (point_of c.resolve_block.new.self) (block_tree c.in-Some.otherwise))) c.in_err-otherwise-in-Some.field-0.0)
     (setting_same before c.resolve_block.new.self c.in_ok-accepted.ensures.later) c.in_err-otherwise-in-Some.ensures.made in
     let wrong = else_wrong (setting_of before) (point_of before) c.args.at (expression_tree c.args.condition.now) (expression_of c.in_ok-condition.condition) c.in_ok-condition.ensures
     (block_tree c.args.accepted.now) (block_tree c.in-Some.otherwise) (point_of c.resolve_block.new.self) (block_of c.in_ok-accepted.accepted.items) c.in_err-otherwise-in-Some.field-0.0 c.in_ok-accepted.ensures.made second in
-    rw (p.1, p.2) (subst (λ one. ResolvingFails c.in_err-otherwise-in-Some.field-0.0 (statement_finding (setting_of before) (point_of before) one)) (sym tree) wrong)
+    rw (p.1, p.2) (subst (λ one. IfRefused (IsRefusalOf (statement_finding (setting_of before) (point_of before) one)) c.in_err-otherwise-in-Some.field-0.0) (sym tree) wrong)
 
 pub resolve_if-returns-in_ok-otherwise-in-Some-clause-made : goal.resolve_if-returns-in_ok-otherwise-in-Some-clause-made
 resolve_if-returns-in_ok-otherwise-in-Some-clause-made t c =
@@ -186,7 +188,7 @@ resolve_try-returns-in_err-handlers-clause-made t c =
     let inside = c.resolve_block.new.self in
     let catches = catches_of (map catch_tree c.args.catches.now) in
     let p = err_from_is_err_and c.from_residual-in_err-handlers.result c.from_residual-in_err-handlers.ensures.1 in
-    let second = subst (λ setting. ResolvingFails c.in_err-handlers.field-0.0 (catches_finding setting (point_of inside) catches))
+    let second = subst (λ setting. IfRefused (IsRefusalOf (catches_finding setting (point_of inside) catches)) c.in_err-handlers.field-0.0)
     (setting_same before inside c.in_ok-body.ensures.later) c.in_err-handlers.ensures.made in
     rw (p.1, p.2) (handlers_wrong (setting_of before) (point_of before) c.args.at (block_tree c.args.body.now) catches (point_of inside) (block_of c.in_ok-body.body.items)
     c.in_err-handlers.field-0.0 c.in_ok-body.ensures.made second)
@@ -253,7 +255,7 @@ pub resolve_catches-returns-in_err-number-clause-made : goal.resolve_catches-ret
 resolve_catches-returns-in_err-number-clause-made t c =
     let p = err_from_is_err_and c.from_residual.result c.from_residual.ensures.1 in
     rw (p.1, p.2) (exception_wrong c.loop-one.invariant c.one-item.result c.one-item.is c.loop-one-test.true c.in_err-number.field-0.0
-    (subst (λ found. ResolvingFails c.in_err-number.field-0.0 (exception_finding found c.one-item.result.exception.at)) c.look_up.ensures c.in_err-number.ensures))
+    (subst (λ found. IfRefused (IsRefusalOf (exception_finding found c.one-item.result.exception.at)) c.in_err-number.field-0.0) c.look_up.ensures c.in_err-number.ensures))
 
 pub resolve_catches-returns-in_err-body-clause-made : goal.resolve_catches-returns-in_err-body-clause-made
 resolve_catches-returns-in_err-body-clause-made t c =

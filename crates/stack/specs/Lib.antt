@@ -1,0 +1,4 @@
+pub mod Slab
+pub mod Points
+pub mod Frames
+pub mod Globals

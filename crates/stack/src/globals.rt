@@ -1,0 +1,88 @@
+ghost use Rattle.bytecode.specs.Machine.{first_global, slot_of};
+ghost use Rattle.stack.specs.Globals.{HasPut};
+ghost use Rattle.stack.specs.Slab.{cell_in};
+ghost use Rattle.std.specs.List.{flat_map};
+ghost use Rattle.std.specs.Prelude.{IfOk, OnOk, is_some, length, map, ◌++◌, ◌≡◌};
+
+use crate::shape::{Shape, repeat};
+use bytecode::{Cell, Global as Variable, Kind, Slot};
+use std::alloc::{AllocError, Global};
+use std::marker::Model;
+
+/// The globals of a run.
+#[derive(Debug, Drop)]
+pub struct Globals {
+    shape: Shape,
+    cells: Vec<Cell>,
+}
+
+impl Model for Globals {
+    ghost use Rattle.bytecode.specs.declared.value.Cell.{Cell};
+    ghost use Rattle.stack.specs.Slab.{cut, total};
+    ghost use Rattle.std.specs.Prelude.{List, length, ◌≤◌};
+
+    ghost Value = { List (List Cell) };
+
+    ghost view = { λ g. cut g.shape g.cells.items };
+
+    ghost invariant = { λ g. total g.shape ≤ length g.cells.items };
+}
+
+impl Globals {
+    /// Globals with their first values.
+    pub fn new(alloc: Global, globals: &[Variable]) -> Result<Globals, AllocError>
+        ensures { IfOk result (λ made. made ≡ map first_global globals.now) }
+    {
+        let mut slots = Vec::new(alloc);
+        let mut cells = Vec::new(alloc);
+        for global in globals {
+            slots.push(slot_of(*global))?;
+            add_first(&mut cells, *global)?;
+        }
+        let shape = Shape::of(alloc, &slots)?;
+        Ok(Globals { shape, cells })
+    }
+
+    /// An element of a global, if it is there.
+    pub fn element(&self, global: u32, index: usize) -> Option<Cell>
+        ensures { result ≡ cell_in self.now global index }
+    {
+        let Some(place) = self.shape.place(global, index) else {
+            return None;
+        };
+        Some(self.cells[place])
+    }
+
+    /// Changes an element of a global, and answers whether it is there.
+    pub fn set_element(&mut self, global: u32, index: usize, cell: Cell) -> bool
+        ensures there { result ≡ is_some (cell_in self.old global index) }
+        ensures after { HasPut result self.old global index cell self.new }
+    {
+        let Some(place) = self.shape.place(global, index) else {
+            return false;
+        };
+        self.cells[place] = cell;
+        true
+    }
+}
+
+fn slot_of(global: Variable) -> Slot
+    ensures { result ≡ slot_of global }
+{
+    match global {
+        Variable::Int(_) => Slot::Scalar(Kind::Int),
+        Variable::Boolean(_) => Slot::Scalar(Kind::Boolean),
+        Variable::Array(kind, count) => Slot::Array(kind, count),
+    }
+}
+
+// Adds the first cells of a global.
+fn add_first(cells: &mut Vec<Cell>, global: Variable) -> Result<(), AllocError>
+    ensures { OnOk result (cells.new.items ≡ cells.old.items ++ first_global global) }
+{
+    match global {
+        Variable::Int(number) => repeat(cells, Cell::Int(number), 1),
+        Variable::Boolean(truth) => repeat(cells, Cell::Bool(truth), 1),
+        Variable::Array(kind, count) => repeat(cells, kind.zero(), count as usize),
+    }
+}

@@ -1,0 +1,16 @@
+//! The call stack of a run: how the slots and the operands of its open frames lie on one slab of cells, and its globals beside
+//! them.
+#![tactic(auto)]
+
+pub mod globals;
+pub mod point;
+pub mod shape;
+pub mod slab;
+
+pub use globals::Globals;
+pub use point::Point;
+pub use shape::{Shape, Span, cells_of, count_of, kind_of, repeat};
+pub use slab::{
+    Back, Place, Site, Stand, Waiting, before, call_on, give_back_on, leave_on, operand_on,
+    point_of, site_of,
+};

@@ -1,0 +1,8 @@
+//! Where instructions stand.
+
+/// Where an instruction stands: in the code of which procedure, and at which byte offset there.
+#[derive(Clone, Copy, Debug)]
+pub struct Point {
+    pub procedure: u32,
+    pub offset: usize,
+}

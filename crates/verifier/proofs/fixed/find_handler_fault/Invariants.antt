@@ -1,8 +1,0 @@
-use Rattle.std.proofs.Common.{◌≡◌, drop}
-use Rattle.verifier.specs.Fixed.{handler_faults}
-use Rattle.verifier.proofs.fixed.find_handler_fault.Given as goal
-
--- what is left to look at
-abbrev pub invariant-loop-handler : goal.invariant-loop-handler
-invariant-loop-handler l =
-    handler_faults l.body.program.now l.procedure l.body.procedure.now (drop l.handler-index l.handlers) ≡ handler_faults l.body.program.now l.procedure l.body.procedure.now l.handlers
