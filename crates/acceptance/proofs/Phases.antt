@@ -18,7 +18,7 @@ use Rattle.parser.specs.declared.fault.ParseRefusal.TheVariants as syntactic
 use Rattle.parser.proofs.Programs.{one_tree}
 use Rattle.parser.proofs.Refusals.{spelled_or_refused, spelled_not_refused, one_refusal}
 use Rattle.principals.specs.ActsFor.{PrincipalHierarchy}
-use Rattle.principals.specs.HierarchyText.{greatest_text, IsRefusedText}
+use Rattle.principals.specs.HierarchyText.{IsRefusedText}
 use Rattle.principals.specs.declared.fault.HierarchyRefusal.{HierarchyRefusal}
 use Rattle.principals.specs.declared.fault.HierarchyRefusal.TheVariants as hierarchies
 use Rattle.principals.specs.Laws.{HasOneHierarchy, IsReadOrRefused, IsNotReadAndRefused, HasOneRefusal}
@@ -41,6 +41,7 @@ use Rattle.acceptance.specs.declared.cause.Cause.TheVariants as causes
 use Rattle.acceptance.specs.declared.cause.Text.{Text}
 use Rattle.acceptance.specs.declared.cause.Text.TheVariants as texts
 use Rattle.acceptance.proofs.Demands.{one_last}
+use Rattle.common.specs.declared.limits.TheConstants.{MAX_TEXT}
 
 -- two causes at two bytes are the same
 abbrev pub Same : Cause → ℕ → Cause → ℕ → Type 0
@@ -65,9 +66,9 @@ text_or_none bytes _ _ (NotUtf8 short not_utf8) text = not_utf8 text.characters
 
 readable : (bytes : List ℕ) → IsText bytes ⊎ ((cause : Cause) × (at : ℕ) × IsNoText bytes cause at)
 readable bytes =
-    ⊎_elim (λ fits. by_characters (is_utf8 bytes) refl fits.1) (λ long. inr (causes.TextTooLong, 0, TooLong long.1)) (leb_tells (length bytes) greatest_text)
+    ⊎_elim (λ fits. by_characters (is_utf8 bytes) refl fits.1) (λ long. inr (causes.TextTooLong, 0, TooLong long.1)) (leb_tells (length bytes) MAX_TEXT)
   where
-    by_characters : (b : Bool) → is_utf8 bytes ≡ b → length bytes ≤ greatest_text → IsText bytes ⊎ ((cause : Cause) × (at : ℕ) × IsNoText bytes cause at)
+    by_characters : (b : Bool) → is_utf8 bytes ≡ b → length bytes ≤ MAX_TEXT → IsText bytes ⊎ ((cause : Cause) × (at : ℕ) × IsNoText bytes cause at)
     by_characters true e short = inl (record { short = short; characters = e })
     by_characters false e short = inr (causes.NotUtf8, 0, NotUtf8 short (λ f. let i : false ≡ true = sym e ∙ f in cc))
 

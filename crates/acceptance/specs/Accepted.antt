@@ -6,17 +6,18 @@ use Rattle.std.specs.Str.{is_utf8}
 use Rattle.lexer.specs.Cut.{IsCut}
 use Rattle.lexer.specs.Terminal.{Terminal}
 use Rattle.principals.specs.ActsFor.{PrincipalHierarchy}
-use Rattle.principals.specs.HierarchyText.{greatest_text, IsHierarchyOf}
+use Rattle.principals.specs.HierarchyText.{IsHierarchyOf}
 use Rattle.syntax.specs.Grammar.{SpellsProgram}
 use Rattle.syntax.specs.Tree.{ProgramTree}
 use Rattle.resolved.specs.Program.{Program}
 use Rattle.resolved.specs.EndFaults.{end_faults}
 use Rattle.resolved.specs.Labelled.{Labelled}
 use Rattle.names.specs.Resolution.{resolution}
+use Rattle.common.specs.declared.limits.TheConstants.{MAX_TEXT}
 
 -- bytes that can be a text of either kind: UTF-8, and not too long
 pub record IsText (bytes : List ℕ) : Type 0 where
-  pub short : length bytes ≤ greatest_text
+  pub short : length bytes ≤ MAX_TEXT
   pub characters : IsTrue (is_utf8 bytes)
 
 -- the tree that a source spells

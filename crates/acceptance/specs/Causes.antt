@@ -3,6 +3,7 @@
 use Rattle.std.specs.Prelude.{ℕ, List, codes}
 use Rattle.acceptance.specs.declared.cause.Cause.{Cause}
 use Rattle.acceptance.specs.declared.cause.Cause.TheVariants as cause
+use Rattle.principals.specs.declared.fault.TheConstants.{UNKNOWN_PRINCIPAL, UNKNOWN_PRINCIPAL_WORDS}
 
 -- the number of a cause
 abbrev pub cause_number : Cause → ℕ
@@ -12,7 +13,7 @@ cause_number cause.LiteralTooLarge = 102
 cause_number cause.OpenComment = 103
 cause_number cause.Syntax = 151
 cause_number cause.PrincipalTwice = 152
-cause_number cause.UnknownPrincipal = 153
+cause_number cause.UnknownPrincipal = UNKNOWN_PRINCIPAL
 cause_number cause.TooManyPrincipals = 154
 cause_number cause.UnexpectedToken = 201
 cause_number cause.TooDeep = 202
@@ -41,13 +42,13 @@ cause_words cause.LiteralTooLarge = codes "literal too large"
 cause_words cause.OpenComment = codes "open comment"
 cause_words cause.Syntax = codes "syntax"
 cause_words cause.PrincipalTwice = codes "declared twice"
-cause_words cause.UnknownPrincipal = codes "unknown principal"
+cause_words cause.UnknownPrincipal = UNKNOWN_PRINCIPAL_WORDS.now
 cause_words cause.TooManyPrincipals = codes "too many principals"
 cause_words cause.UnexpectedToken = codes "unexpected token"
 cause_words cause.TooDeep = codes "nested too deep"
 cause_words cause.UnknownName = codes "unknown name"
 cause_words cause.DeclaredTwice = codes "declared twice"
-cause_words cause.UnknownPrincipalInLabel = codes "unknown principal"
+cause_words cause.UnknownPrincipalInLabel = UNKNOWN_PRINCIPAL_WORDS.now
 cause_words cause.NoProperMain = codes "no proper main"
 cause_words cause.WrongType = codes "wrong type"
 cause_words cause.WrongArgumentCount = codes "wrong argument count"

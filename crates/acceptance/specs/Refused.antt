@@ -12,7 +12,7 @@ use Rattle.parser.specs.Refusal as parser
 use Rattle.parser.specs.declared.fault.ParseRefusal.{ParseRefusal}
 use Rattle.parser.specs.declared.fault.ParseRefusal.TheVariants as syntactic
 use Rattle.principals.specs.ActsFor.{PrincipalHierarchy}
-use Rattle.principals.specs.HierarchyText.{greatest_text, IsRefusedText}
+use Rattle.principals.specs.HierarchyText.{IsRefusedText}
 use Rattle.principals.specs.declared.fault.HierarchyRefusal.{HierarchyRefusal}
 use Rattle.principals.specs.declared.fault.HierarchyRefusal.TheVariants as hierarchies
 use Rattle.syntax.specs.Tree.{ProgramTree}
@@ -31,6 +31,7 @@ use Rattle.acceptance.specs.declared.cause.Cause.{Cause}
 use Rattle.acceptance.specs.declared.cause.Cause.TheVariants as causes
 use Rattle.acceptance.specs.declared.cause.Text.{Text}
 use Rattle.acceptance.specs.declared.cause.Text.TheVariants as texts
+use Rattle.common.specs.declared.limits.TheConstants.{MAX_TEXT}
 
 -- the causes of refused names, types and sizes
 abbrev pub cause_of_name : NameDefect → Cause
@@ -71,8 +72,8 @@ parse_cause (syntactic.TooDeep at) = (causes.TooDeep, at)
 
 -- bytes that are no text are refused at their begin: that they are too long comes before that they are not UTF-8
 pub data IsNoText (bytes : List ℕ) : Cause → (at : ℕ) → Type 0 where
-  TooLong : greatest_text < length bytes → IsNoText bytes causes.TextTooLong 0
-  NotUtf8 : length bytes ≤ greatest_text → ¬ IsTrue (is_utf8 bytes) → IsNoText bytes causes.NotUtf8 0
+  TooLong : MAX_TEXT < length bytes → IsNoText bytes causes.TextTooLong 0
+  NotUtf8 : length bytes ≤ MAX_TEXT → ¬ IsTrue (is_utf8 bytes) → IsNoText bytes causes.NotUtf8 0
 
 -- why the text of a hierarchy is refused
 pub data IsHierarchyRefused (text : List ℕ) : Cause → (at : ℕ) → Type 0 where

@@ -1,5 +1,7 @@
 //! What can be wrong with two texts, and the numbers and the words by which it is reported.
 
+use principals::{UNKNOWN_PRINCIPAL, UNKNOWN_PRINCIPAL_WORDS};
+
 /// One of the two texts.
 #[derive(Clone, Copy, Debug, PartialEq, Eq, Drop)]
 pub enum Text {
@@ -81,7 +83,7 @@ impl Cause {
             Cause::OpenComment => 103,
             Cause::Syntax => 151,
             Cause::PrincipalTwice => 152,
-            Cause::UnknownPrincipal => 153,
+            Cause::UnknownPrincipal => UNKNOWN_PRINCIPAL,
             Cause::TooManyPrincipals => 154,
             Cause::UnexpectedToken => 201,
             Cause::TooDeep => 202,
@@ -115,13 +117,13 @@ impl Cause {
             Cause::OpenComment => "open comment",
             Cause::Syntax => "syntax",
             Cause::PrincipalTwice => "declared twice",
-            Cause::UnknownPrincipal => "unknown principal",
+            Cause::UnknownPrincipal => UNKNOWN_PRINCIPAL_WORDS,
             Cause::TooManyPrincipals => "too many principals",
             Cause::UnexpectedToken => "unexpected token",
             Cause::TooDeep => "nested too deep",
             Cause::UnknownName => "unknown name",
             Cause::DeclaredTwice => "declared twice",
-            Cause::UnknownPrincipalInLabel => "unknown principal",
+            Cause::UnknownPrincipalInLabel => UNKNOWN_PRINCIPAL_WORDS,
             Cause::NoProperMain => "no proper main",
             Cause::WrongType => "wrong type",
             Cause::WrongArgumentCount => "wrong argument count",

@@ -5,7 +5,7 @@ use Rattle.std.specs.Prelude.{◌≡◌, ℕ, zero, suc, ◌-◌, ◌^◌, ◌<�
 use Rattle.std.specs.Int.{w32, to_be_bytes, from_be_bytes}
 use Rattle.std.specs.List.{flat_map, AllByRecursion}
 use Rattle.bytecode.specs.declared.fault.ModuleDefect.{ModuleDefect}
-use Rattle.bytecode.specs.declared.fault.ReadStop.{ReadStop}
+use Rattle.bytecode.specs.declared.fault.ReadRefusal.{ReadRefusal}
 use Rattle.bytecode.specs.declared.fault.ModuleDefect.TheVariants.{Short, BadValue, Trailing}
 
 -- how instructions are spelled: an opcode, which says how many bytes of operand follow (none where there is no such opcode),
@@ -98,21 +98,21 @@ Spells form x bytes = Fits form x × (bytes ≡ spelled form x)
 -- ---- reading, and the first refusal
 
 -- a defect at the offset where these bytes are left
-abbrev pub stop_at : ModuleDefect → List ℕ → ReadStop
+abbrev pub stop_at : ModuleDefect → List ℕ → ReadRefusal
 stop_at defect bytes = record { defect = defect; left = length bytes }
 
 -- the bytes end inside a field or before it: nothing is left at the end
-abbrev pub short : ReadStop
+abbrev pub short : ReadRefusal
 short = record { defect = Short; left = 0 }
 
 infixl 10 ◌>>=◌
-abbrev pub ◌>>=◌ : {A B : Type 0} → Result A ReadStop → (A → Result B ReadStop) → Result B ReadStop
+abbrev pub ◌>>=◌ : {A B : Type 0} → Result A ReadRefusal → (A → Result B ReadRefusal) → Result B ReadRefusal
 (Ok x) >>= f = f x
 (Err stop) >>= f = Err stop
 
 -- a field gives a value and the bytes after it
 abbrev pub Read : Type 0 → Type 0
-Read A = Result (A × List ℕ) ReadStop
+Read A = Result (A × List ℕ) ReadRefusal
 
 abbrev pub byte_at : List ℕ → Read ℕ
 byte_at [] = Err short
@@ -187,7 +187,7 @@ read (Named make fields form) bytes = do
   Ok (make found.0, found.1)
 
 -- all of the bytes
-abbrev pub read_all : {A : Type 0} → Form A → List ℕ → Result A ReadStop
+abbrev pub read_all : {A : Type 0} → Form A → List ℕ → Result A ReadRefusal
 read_all form bytes = do
   found ← read form bytes
   if length found.1 == 0 then Ok found.0 else Err (stop_at Trailing found.1)

@@ -29,16 +29,6 @@ use Rattle.bytecode.specs.Opcodes.{instructions}
 
 -- ---- limits and tests
 
-abbrev pub max_principals : ℕ
-max_principals = MAX_PRINCIPALS
-
--- elements of an array, and cells of a frame or of all globals
-abbrev pub max_elements : ℕ
-max_elements = MAX_ELEMENTS
-
-abbrev pub max_cells : ℕ
-max_cells = MAX_CELLS
-
 -- any count will do
 abbrev pub any : ℕ → Bool
 any n = true
@@ -70,7 +60,7 @@ cells_of_size size = if size == 0 then 1 else size
 
 -- a size is not too large, nor are the cells with it
 abbrev pub is_size : ℕ → ℕ → Bool
-is_size cells size = nat_le size max_elements && nat_le (cells + cells_of_size size) max_cells
+is_size cells size = nat_le size MAX_ELEMENTS && nat_le (cells + cells_of_size size) MAX_CELLS
 
 -- ---- names and numbers
 
@@ -84,7 +74,7 @@ number_below count = Checked BadValue (λ n. nat_lt n count) Number
 -- ---- the hierarchy
 
 unfoldable pub principals : Form (List (List ℕ))
-principals = Counted (λ count. nat_le count max_principals) (name_after (λ _. false))
+principals = Counted (λ count. nat_le count MAX_PRINCIPALS) (name_after (λ _. false))
 
 -- pairs ascend by their first number, then by their second
 abbrev pub pair_cmp : ℕ × ℕ → ℕ × ℕ → Ordering

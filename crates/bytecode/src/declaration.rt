@@ -1,3 +1,6 @@
+ghost use Rattle.bytecode.specs.Values.{kind_of_slot};
+ghost use Rattle.std.specs.Prelude.{◌≡◌};
+
 use crate::value::Kind;
 
 /// A slot of a frame: a value, or an array of the given number of elements, at least one.
@@ -5,6 +8,17 @@ use crate::value::Kind;
 pub enum Slot {
     Scalar(Kind),
     Array(Kind, u32),
+}
+
+impl Slot {
+    /// The kind of the slot's values.
+    pub fn kind(self) -> Kind
+        ensures { result ≡ kind_of_slot self }
+    {
+        match self {
+            Slot::Scalar(kind) | Slot::Array(kind, _) => kind,
+        }
+    }
 }
 
 /// A global: a value with the one that it starts with, or an array of the given number of elements, at least one, which

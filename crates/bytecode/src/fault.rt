@@ -52,7 +52,7 @@ impl ModuleDefect {
 
 /// A defect, and where it stands, as how many bytes are left from there to the end.
 #[derive(Clone, Copy, Debug)]
-pub struct ReadStop {
+pub struct ReadRefusal {
     pub defect: ModuleDefect,
     pub left: usize,
 }

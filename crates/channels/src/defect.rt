@@ -1,8 +1,9 @@
 ghost use Rattle.channels.specs.Words.{world_number, world_words};
-ghost use Rattle.std.specs.Prelude.{◌≡◌};
+ghost use Rattle.std.specs.Prelude.{◌≡◌, Some};
 
 use common::OrNoMemory;
-use thiserror::Error;
+use std::error::Error;
+use std::fmt;
 
 /// What is wrong with a line of a world's text.
 #[derive(Clone, Copy, Debug, PartialEq, Eq)]
@@ -44,12 +45,21 @@ impl WorldDefect {
 }
 
 /// What is wrong with the text of a world: this line, counted from 1, is the first wrong one.
-#[derive(Clone, Copy, Debug, PartialEq, Eq, Error)]
-#[error("a wrong line in the text of a world")]
+#[derive(Clone, Copy, Debug, PartialEq, Eq)]
 pub struct WorldRefusal {
     pub line: usize,
     pub defect: WorldDefect,
 }
+
+impl fmt::Display for WorldRefusal {
+    ghost output = { λ refusal. Some (world_words refusal.defect) };
+
+    fn fmt<W: fmt::Write>(&self, f: &mut fmt::Formatter<W>) -> fmt::Result {
+        write!(f, "{}", self.defect.words())
+    }
+}
+
+impl Error for WorldRefusal {}
 
 /// Why a world was not read.
 pub type WorldFault = OrNoMemory<WorldRefusal>;

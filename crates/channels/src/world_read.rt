@@ -5,9 +5,9 @@ ghost use Rattle.channels.specs.WorldText.{IsWorldRefusal, IsWorldText, input_of
 ghost use Rattle.common.specs.Answers.{IfRefused, IsCast};
 ghost use Rattle.std.specs.Prelude.{[], ◌≡◌, ℕ, List, IfErr, IfOk, OnOk, filter, map};
 
-use crate::defect::{WorldFault, WorldRefusal};
+use crate::defect::{WorldDefect, WorldFault, WorldRefusal};
 use crate::world::InputList;
-use crate::world_table::{Inputs, LineFault, entry_of, read_line};
+use crate::world_table::{Inputs, entry_of, read_line};
 use crate::world_text::{lines_of, words_of};
 use bytecode::Channel;
 use common::{Direction, OrNoMemory};
@@ -67,7 +67,7 @@ pub fn read_lines<'a>(
 }
 
 // A fault of a line as that of the text.
-fn at_line(fault: LineFault, line: usize) -> WorldFault
+fn at_line(fault: OrNoMemory<WorldDefect>, line: usize) -> WorldFault
     ensures { IsCast (λ defect refusal. refusal ≡ record { line = line; defect = defect })
         fault result }
 {

@@ -16,14 +16,13 @@ use std::collections::BTreeMap;
 /// the table is ordered: no choice of names makes looking them up slow, as colliding hashes would.
 pub type Inputs<'a> = BTreeMap<&'a str, Option<Vec<i32>>>;
 
-/// Why a line was not read.
-pub type LineFault = OrNoMemory<WorldDefect>;
-
 // The numbers that words write, where each has 32 bits.
 fn numbers_of(alloc: Global, words: &[&str]) -> Result<Option<Vec<i32>>, AllocError>
     requires { IsTrue (list_all spec.is_number (texts_of words.now)) }
     ensures { IfOk result (λ numbers. option_map (λ n. n.items) numbers
-        ≡ (if list_all spec.is_int (map spec.number_of (texts_of words.now)) then Some (map spec.number_of (texts_of words.now)) else None)) }
+        ≡ (if list_all spec.is_int (map spec.number_of (texts_of words.now))
+        then Some (map spec.number_of (texts_of words.now))
+        else None)) }
 {
     let mut numbers = Vec::new(alloc);
     for word in words {
@@ -48,7 +47,7 @@ pub fn read_line<'a>(
     alloc: Global,
     inputs: &mut Inputs<'a>,
     words: &[&'a str],
-) -> Result<(), LineFault>
+) -> Result<(), OrNoMemory<WorldDefect>>
     ensures accepted { OnOk result
         (table_defect (table_of inputs.old) (texts_of words.now) ≡ None) }
     ensures table { OnOk result ((name : List ℕ) → table_of inputs.new name

@@ -24,9 +24,10 @@ use Rattle.solver.specs.declared.system.Atom.{Atom}
 use Rattle.solver.specs.declared.system.Atom.TheVariants.{Unknown, Written}
 use Rattle.solver.specs.declared.system.Constraint.{Constraint}
 use Rattle.solver.specs.declared.system.System.{System}
-use Rattle.solver.proofs.Meaning.{at-contains, at-map_only, some-same}
+use Rattle.solver.proofs.Meaning.{at-contains, at-map_only}
 use Rattle.checker.specs.declared.fault.Step.{Step}
 use Rattle.checker.specs.Reported.{ReportsFlow, report_at, report_of, reported_by, reported_of}
+use Rattle.common.proofs.Cases.{same_some}
 
 -- the last of some indices
 abbrev pub last_of : List ℕ → ℕ
@@ -140,7 +141,7 @@ module _ {T V : Type 0} (l : Lattice V) (system : System V T) (refusal : SolveRe
 
   module _ (c : Constraint T) (at : slice_get system.constraints.items (last_of refusal.chain.items) ≡ Some c) where
     read-is : (ends-at l system refusal is).last ≡ c
-    read-is = some-same (ends-at l system refusal is).last c (sym (ends-at l system refusal is).at ∙ at)
+    read-is = same_some (ends-at l system refusal is).last c (sym (ends-at l system refusal is).at ∙ at)
 
     pub right-written : c.right ≡ Written (ends-at l system refusal is).to
     right-written = ap (λ (d : Constraint T). d.right) (sym read-is) ∙ (ends-at l system refusal is).right
@@ -172,7 +173,7 @@ flow-reported core system refusal gathered is c at to right policy contained unc
     let from = written_at l system.written.items refusal.from in
     let picked = last-picked cs (formal.Written from) is.chain is.last is.refused.chained.linked refusal.chain.items is.picked in
     let found = at-map_only (constraint_of l system.written.items) system.constraints.items (last_of refusal.chain.items) is.last picked.1 in
-    let same : found.0 ≡ c = some-same found.0 c (sym found.1 ∙ at) in
+    let same : found.0 ≡ c = same_some found.0 c (sym found.1 ∙ at) in
     let last_is : constraint_of l system.written.items c ≡ is.last = ap (constraint_of l system.written.items) (sym same) ∙ found.2 in
     let right_is : atom_of l system.written.items (Written to) ≡ is.last.right =
     ap (atom_of l system.written.items) (sym right) ∙ ap (λ (d : formal.Constraint (Option Target) ℕ Label). d.right) last_is in

@@ -1,11 +1,12 @@
 -- A command line with no option that is taken is the spelling of a request.
-use Rattle.std.proofs.Common.{◌≡◌, ◌∙◌, ◌⊎◌, ◌||◌, ℕ, Bool, false, true, refl, sym, ap, ap₂, subst, List, [], ◌∷◌, None, codes, inl, inr, true≢false}
+use Rattle.std.proofs.Common.{◌≡◌, ◌∙◌, ◌⊎◌, ℕ, Bool, false, true, refl, sym, ap, ap₂, subst, List, [], ◌∷◌, None, codes, inl, inr}
 use Rattle.std.specs.Prelude.{option_map}
 use Rattle.std.specs.List.{find, list_any}
 use Rattle.std.specs.Option.{is_some}
 use Rattle.std.specs.Str.{bytes_eq}
 use Rattle.std.specs.Str.Parse.{starts_with_minus}
 use Rattle.std.proofs.lemmas.Slice.Eq.{bytes_eq-Decides}
+use Rattle.std.proofs.lemmas.Bool.{or_parts}
 use Rattle.clap.specs.Walk.{Held, Step, Text, Waiting, Walk, answers_to, finished, idle, nothing_held, plain_word, rows_after, subcommand_or_other, walk, walk_from, walked}
 use Rattle.clap.specs.Simple.{Shape, built, entered}
 use Rattle.clap.specs.Kinds.{or_else}
@@ -33,10 +34,6 @@ module _ (s : Shape) (held : Held) (waiting : Waiting) (position : ℕ) (word : 
   pub passed : walk_fault s [] here (word ∷ rest) ≡ [] → walk_fault s [] (stepped s.rules here word) rest ≡ []
   unfolding walk_fault
   passed e = sym (ap (λ w. walk_fault s [] w rest) (plain_walked s.rules held waiting position word plain)) ∙ (both_none _ _ e).1
-
-or_parts : (a b : Bool) → (a || b) ≡ false → (a ≡ false) × (b ≡ false)
-or_parts true b e = absurd (true≢false e)
-or_parts false b e = (refl, e)
 
 abbrev AllPlain : List Text → Type 0
 AllPlain words = list_any starts_with_minus words ≡ false

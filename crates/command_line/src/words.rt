@@ -287,7 +287,8 @@ fn read_word(alloc: Global, matches: &ArgMatches<'_>, id: &str) -> Result<String
 
 // The word of `--observer`, where it was given.
 fn read_observer(alloc: Global, matches: &ArgMatches<'_>) -> Result<Option<String>, AllocError>
-    ensures { IfOk result (λ observer. option_map string_bytes observer ≡ first_of (codes "observer") (rows_in matches.now)) }
+    ensures { IfOk result (λ observer. option_map string_bytes observer
+        ≡ first_of (codes "observer") (rows_in matches.now)) }
 {
     match matches.get_str("observer") {
         Some(name) => Ok(Some(String::from_str(alloc, name)?)),

@@ -9,6 +9,9 @@ pub const BOUNDS: u32 = 1;
 /// Raised where an input has no further number.
 pub const END: u32 = 2;
 
+/// How many there are.
+pub const BUILT_IN: u32 = 3;
+
 /// The name of `ARITH`.
 pub const ARITH_NAME: &str = "Arith";
 

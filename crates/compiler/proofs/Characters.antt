@@ -1,10 +1,10 @@
 -- Lines and columns, character by character.
-use Rattle.std.proofs.Common.{◌≡◌, ℕ, ◌+◌, ◌/◌, ◌%◌, ◌<◌, ◌≤◌, Bool, true, false, not, cond, nat_lt, List, [], ◌∷◌, ◌++◌, take, refl, ap, sym, ◌∙◌, ◌⊎◌, inl, inr, arith, append-nil, append_assoc}
+use Rattle.std.proofs.Common.{◌≡◌, ℕ, ◌+◌, ◌/◌, ◌%◌, ◌<◌, ◌≤◌, Bool, true, false, not, cond, List, [], ◌∷◌, ◌++◌, take, refl, ap, sym, ◌∙◌, ◌⊎◌, inl, inr, arith, append-nil, append_assoc}
 use Rattle.std.specs.List.{count_by, prefix_len, take_while}
 use Rattle.std.specs.Prelude.{reverse}
 use Rattle.std.specs.Char.{encode_utf8}
 use Rattle.std.specs.Str.{chars, encode_utf8_all}
-use Rattle.std.proofs.lemmas.Bool.{lt-ltb, le-ltb, ltb-true, ltb-false}
+use Rattle.std.proofs.lemmas.Bool.{lt-ltb, le-ltb, cases_lt}
 use Rattle.std.proofs.lemmas.Bool.Decides.{nat_tests}
 use Rattle.std.proofs.lemmas.List.{reverse-append}
 use Rattle.std.proofs.lemmas.List.Sums.{sum_by-append, sum_by-cons, take_while-cons}
@@ -57,15 +57,8 @@ data Shape (c : ℕ) : Type 0 where
   single : c < 128 → encode_utf8 c ≡ c ∷ [] → Shape c
   several : (first : ℕ) (others : List ℕ) → 128 ≤ c → 192 ≤ first → Inner others → encode_utf8 c ≡ first ∷ others → Shape c
 
-less : (m n : ℕ) → (m < n) ⊎ (n ≤ m)
-less m n = by_test (nat_lt m n) refl
-  where
-    by_test : (test : Bool) → nat_lt m n ≡ test → (m < n) ⊎ (n ≤ m)
-    by_test true e = inl (ltb-true m n e)
-    by_test false e = inr (ltb-false m n e)
-
 shape : (c : ℕ) → Shape c
-shape c = by (less c 128) (less c 2048) (less c 65536)
+shape c = by (cases_lt c 128) (cases_lt c 2048) (cases_lt c 65536)
   where
     by : (c < 128) ⊎ (128 ≤ c) → (c < 2048) ⊎ (2048 ≤ c) → (c < 65536) ⊎ (65536 ≤ c) → Shape c
     by (inl h) _ _ = single h (one c h)

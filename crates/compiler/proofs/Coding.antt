@@ -38,11 +38,11 @@ same-interface program = record {
 pub code_of_module : (program : Program) (m : ModuleContents) (code : List ℕ) → m ≡ laid_out (graph_of program) → Spells module_file m code →
     HasNoDefect (laid_out (graph_of program)) → IsNeverStuck (laid_out (graph_of program)) → MeaningKept program (after_steps (laid_out (graph_of program))) →
     Isolated program → IsCodeOf program code
-code_of_module program m code is spelled faultless never_stuck kept isolated = record {
+code_of_module program m code is spelled no_defect never_stuck kept isolated = record {
   not_refused = ap (refusal_of code) (module_again code m spelled);
   contents = laid_out (graph_of program);
   spelled = subst (λ (x : ModuleContents). Spells module_file x code) is spelled;
-  faultless = faultless;
+  no_defect = no_defect;
   never_stuck = never_stuck;
   interface = same-interface program;
   kept = kept;

@@ -15,7 +15,7 @@ use Rattle.checker.specs.Reported.{HasFlow, IsCheckRefusal, RefusesFlow}
 use Rattle.checker.specs.declared.fault.CheckRefusal.{CheckRefusal}
 use Rattle.checker.specs.declared.fault.CheckRefusal.TheVariants.{BeforeLabels, FlowNotAllowed}
 use Rattle.checker.specs.declared.fault.RefusedFlow.{RefusedFlow}
-use Rattle.compiler.specs.Reported.{AsksForFlow, IsFirstFault, IsFlowRefusal, StandForNone, not_accepted, refusal_at}
+use Rattle.compiler.specs.Reported.{AsksForFlow, IsFirstFault, IsFlowRefusal, StandForNone, texts_refusal, refusal_at}
 use Rattle.compiler.specs.declared.fault.CompileRefusal.{CompileRefusal}
 
 pub in_hierarchy : (hierarchy source : List ℕ) (cause : Cause) (at : ℕ) → IsHierarchyRefused hierarchy cause at →
@@ -56,18 +56,18 @@ stand_for_none one hierarchy source refusal first program stand =
 
 -- why the check of a source refuses it is the first fault of two texts
 pub first_of_check : (hierarchy source : List ℕ) (h : PrincipalHierarchy) → HasHierarchy hierarchy h → (refusal : CheckRefusal) → IsCheckRefusal h source refusal →
-    IsFirstFault hierarchy source (not_accepted source refusal).refusal
+    IsFirstFault hierarchy source (texts_refusal source refusal).refusal
 first_of_check hierarchy source h has (BeforeLabels refusal) reported = in_source hierarchy source h refusal.cause refusal.at has reported
 first_of_check hierarchy source h has (FlowNotAllowed flow) reported =
     in_source hierarchy source h causes.FlowNotAllowed flow.at has (refused_flow h source flow reported)
 
 -- and there is a flow where one is not allowed
 pub flow_of_check : (source : List ℕ) (refusal : CheckRefusal) → HasFlow refusal →
-    IsFlowRefusal (not_accepted source refusal).refusal ↔ IsSome (not_accepted source refusal).flow
+    IsFlowRefusal (texts_refusal source refusal).refusal ↔ IsSome (texts_refusal source refusal).flow
 flow_of_check source (BeforeLabels refusal) flow = ((λ is. absurd (flow is)), (λ no. absurd (cc)))
 flow_of_check source (FlowNotAllowed asked) flow = ((λ is. refl), (λ some. refl))
 
 pub asked_of_check : (hierarchy source : List ℕ) (h : PrincipalHierarchy) → HasHierarchy hierarchy h → (refusal : CheckRefusal) → IsCheckRefusal h source refusal →
-    IfSome (not_accepted source refusal).flow (AsksForFlow hierarchy source (not_accepted source refusal).refusal)
+    IfSome (texts_refusal source refusal).flow (AsksForFlow hierarchy source (texts_refusal source refusal).refusal)
 asked_of_check hierarchy source h has (BeforeLabels refusal) reported = tt
 asked_of_check hierarchy source h has (FlowNotAllowed flow) reported = record { principals = h; has = has; refuses = reported; refusal_is = refl }

@@ -31,7 +31,7 @@ pub record IsCodeOf (program : Program) (code : List ℕ) : Type 0 where
   pub not_refused : first_refusal code ≡ None
   pub contents : ModuleContents
   pub spelled : Spells module_file contents code
-  pub faultless : HasNoDefect contents
+  pub no_defect : HasNoDefect contents
   pub never_stuck : IsNeverStuck contents
   pub interface : HasInterfaceOf program contents
   pub kept : MeaningKept program (after_steps contents)

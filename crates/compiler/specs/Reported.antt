@@ -15,7 +15,7 @@ use Rattle.checker.specs.declared.fault.CheckRefusal.{CheckRefusal}
 use Rattle.checker.specs.declared.fault.CheckRefusal.TheVariants.{BeforeLabels, FlowNotAllowed}
 use Rattle.checker.specs.declared.fault.RefusedFlow.{RefusedFlow}
 use Rattle.compiler.specs.declared.fault.CompileRefusal.{CompileRefusal}
-use Rattle.compiler.specs.declared.fault.NotAccepted.{NotAccepted}
+use Rattle.compiler.specs.declared.fault.TextsRefusal.{TextsRefusal}
 
 -- the bytes of one of the two texts
 abbrev pub bytes_of : (hierarchy source : List ℕ) → Text → List ℕ
@@ -49,8 +49,8 @@ pub record AsksForFlow (hierarchy source : List ℕ) (refusal : CompileRefusal) 
   pub refusal_is : refusal ≡ refusal_at texts.Source source causes.FlowNotAllowed flow.at
 
 -- what is answered of two texts where the check of the source refuses it
-abbrev pub not_accepted : (source : List ℕ) → CheckRefusal → NotAccepted
-not_accepted source (BeforeLabels refusal) =
+abbrev pub texts_refusal : (source : List ℕ) → CheckRefusal → TextsRefusal
+texts_refusal source (BeforeLabels refusal) =
     record { refusal = refusal_at texts.Source source refusal.cause refusal.at; flow = None }
-not_accepted source (FlowNotAllowed flow) =
+texts_refusal source (FlowNotAllowed flow) =
     record { refusal = refusal_at texts.Source source causes.FlowNotAllowed flow.at; flow = Some flow }

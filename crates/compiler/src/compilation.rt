@@ -5,7 +5,7 @@ ghost use Rattle.acceptance.specs.Refused.{hierarchy_cause};
 ghost use Rattle.common.specs.Answers.{IfRefused};
 ghost use Rattle.compiler.specs.Compiled.{IsCodeOf, IsCompiled};
 ghost use Rattle.checker.specs.Least.{least_label};
-ghost use Rattle.compiler.specs.Reported.{AsksForFlow, IsFirstFault, IsFlowRefusal, StandForNone, not_accepted, refusal_at};
+ghost use Rattle.compiler.specs.Reported.{AsksForFlow, IsFirstFault, IsFlowRefusal, StandForNone, texts_refusal, refusal_at};
 ghost use Rattle.resolved.specs.CoreOf.{program_of};
 ghost use Rattle.resolved.specs.EndFaults.{end_faults};
 ghost use Rattle.resolved.specs.Flow.{AreLeast};
@@ -13,7 +13,7 @@ ghost use Rattle.resolved.specs.Isolated.{Isolated};
 ghost use Rattle.resolved.specs.Names.{HasNames};
 ghost use Rattle.std.specs.Prelude.{IfErr, IfOk, IfSome, IsSome, List, [], ℕ, ◌↔◌, ◌≡◌};
 
-use crate::fault::{CompileFault, CompileRefusal, NotAccepted};
+use crate::fault::{CompileFault, CompileRefusal, TextsFault, TextsRefusal};
 use crate::position::place_of;
 use acceptance::laws::{one_verdict, resolved_programs_have_names};
 use acceptance::{Cause, Text};
@@ -21,7 +21,7 @@ use analysis::{SourceRefusal, text_of};
 use checker::{CheckRefusal, Checked, check};
 use common::OrNoMemory;
 use layout::emit;
-use lowering::laws::{modules_are_never_stuck, modules_have_no_fault, modules_keep_meaning};
+use lowering::laws::{modules_are_never_stuck, modules_have_no_defect, modules_keep_meaning};
 use lowering::lower;
 use module_file::encode;
 use principals::{Hierarchy, HierarchyRefusal};
@@ -58,11 +58,7 @@ pub fn compile(alloc: Global, hierarchy: &[u8], source: &[u8]) -> Result<Vec<u8>
 /// # Errors
 ///
 /// The first fault of the two texts, at its line and column, with the flow where one is not allowed; or out of memory.
-pub fn check_texts(
-    alloc: Global,
-    hierarchy: &[u8],
-    source: &[u8],
-) -> Result<Checked, OrNoMemory<NotAccepted>>
+pub fn check_texts(alloc: Global, hierarchy: &[u8], source: &[u8]) -> Result<Checked, TextsFault>
     // The two texts stand for the program, which is isolated; the labels of its locals and loops are the least.
     ensures accepted { IfOk result (λ checked.
         StandFor hierarchy.now source.now (program_of checked.core)) }
@@ -114,14 +110,14 @@ fn principals_of(alloc: Global, bytes: &[u8]) -> Result<Hierarchy, CompileFault>
 }
 
 // Why a source is not accepted, by the refusal of its check.
-fn refuse_source(source: &[u8], refusal: CheckRefusal) -> NotAccepted
-    ensures { result ≡ not_accepted source.now refusal }
+fn refuse_source(source: &[u8], refusal: CheckRefusal) -> TextsRefusal
+    ensures { result ≡ texts_refusal source.now refusal }
 {
     match refusal {
         CheckRefusal::BeforeLabels(SourceRefusal { cause, at }) => {
-            NotAccepted::from(refusal_at(Text::Source, source, cause, at))
+            TextsRefusal::from(refusal_at(Text::Source, source, cause, at))
         }
-        CheckRefusal::FlowNotAllowed(flow) => NotAccepted {
+        CheckRefusal::FlowNotAllowed(flow) => TextsRefusal {
             refusal: refusal_at(Text::Source, source, Cause::FlowNotAllowed, flow.at),
             flow: Some(flow),
         },
@@ -136,7 +132,7 @@ fn code_of(alloc: Global, core: &Core) -> Result<Vec<u8>, AllocError>
     ensures { IfOk result (λ code. IsCodeOf (program_of core.now) code.items) }
 {
     modules_keep_meaning();
-    modules_have_no_fault();
+    modules_have_no_defect();
     modules_are_never_stuck();
     let graph = lower(alloc, core)?;
     // It brings that the graph fits the module file, so that no run of the module is stuck.

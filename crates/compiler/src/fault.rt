@@ -31,30 +31,33 @@ impl fmt::Display for CompileRefusal {
 
 impl Error for CompileRefusal {}
 
-/// Two texts that are not accepted.
+/// Why two texts are not accepted.
 #[derive(Drop)]
-pub struct NotAccepted {
+pub struct TextsRefusal {
     /// Their first fault.
     pub refusal: CompileRefusal,
     /// The flow that is not allowed, where that is the fault.
     pub flow: Option<RefusedFlow>,
 }
 
-impl From<CompileRefusal> for NotAccepted {
+/// Why two texts were not checked to their end.
+pub type TextsFault = OrNoMemory<TextsRefusal>;
+
+impl From<CompileRefusal> for TextsRefusal {
     ghost from_gives = { λ refusal refused. (refused.refusal ≡ refusal) × (refused.flow ≡ None) };
 
-    fn from(refusal: CompileRefusal) -> NotAccepted {
-        NotAccepted {
+    fn from(refusal: CompileRefusal) -> TextsRefusal {
+        TextsRefusal {
             refusal,
             flow: None,
         }
     }
 }
 
-impl From<NotAccepted> for CompileRefusal {
+impl From<TextsRefusal> for CompileRefusal {
     ghost from_gives = { λ refused refusal. refusal ≡ refused.refusal };
 
-    fn from(refused: NotAccepted) -> CompileRefusal {
+    fn from(refused: TextsRefusal) -> CompileRefusal {
         refused.refusal
     }
 }

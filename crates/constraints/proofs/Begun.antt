@@ -1,7 +1,5 @@
 -- The pieces of a walk that go into no block.
-use Rattle.std.proofs.Common.{◌≡◌, refl, sym, ap, ◌∙◌, subst, ℕ, suc, ◌+◌, ◌<◌, List, [], ◌∷◌, map, drop, get_or, length, arith, Bool, true, false}
-use Rattle.std.proofs.Math.Seq.{drop-cons}
-use Rattle.std.proofs.Math.Numerals.{add-one}
+use Rattle.std.proofs.Common.{◌≡◌, refl, sym, ap, ◌∙◌, subst, ℕ, suc, ◌+◌, List, [], ◌∷◌, map, drop, get_or, length, arith, Bool, true, false}
 use Rattle.labels.specs.Label.{Label}
 use Rattle.resolved.specs.declared.program.Core.{Core}
 use Rattle.resolved.specs.declared.statement.Exit.{Exit}
@@ -25,10 +23,6 @@ use Rattle.constraints.specs.declared.takers.Takers.{Takers}
 use Rattle.constraints.proofs.Added.{added-none, added-same}
 use Rattle.constraints.proofs.Passed.{alone-passed, alone-walked, passed-same}
 use Rattle.constraints.proofs.Taken.{numbers-same, try-levels, try-takers}
-
--- the next entry of a list
-pub entry-next : {A : Type 0} (xs : List A) (i : ℕ) (x : A) → i < length xs → x ≡ get_or xs i x → drop i xs ≡ x ∷ drop (i + 1) xs
-entry-next xs i x inside is = drop-cons xs i x inside ∙ (ap (λ y. y ∷ drop (suc i) xs) (sym is) ∙ ap (λ n. x ∷ drop n xs) (sym (add-one i)))
 
 pub heads : {A : Type 0} (x y : A) (xs ys : List A) → x ∷ xs ≡ y ∷ ys → x ≡ y
 heads x y xs ys same = ap (λ list. get_or list 0 x) same

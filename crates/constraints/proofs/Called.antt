@@ -26,6 +26,7 @@ use Rattle.constraints.specs.declared.rows.ThrownLabel.{ThrownLabel}
 use Rattle.constraints.proofs.Added.{added-then, added-same, raised-once}
 use Rattle.constraints.proofs.Joined.{joined-append}
 use Rattle.constraints.proofs.Tables.{next-of}
+use Rattle.resolved.proofs.Exits.{thrown-append}
 
 -- a left side to which a join was added
 pub left-then : (core : Core) (table : List Label) (pc : Atom) (a b : Join) (first left : List Atom)
@@ -72,10 +73,6 @@ flows-append program callee own takers [] ys = refl
 flows-append program callee own takers (x ∷ xs) ys =
     ap (λ cs. flow (inner_atom own ∷ named_atoms (call_atoms program callee x)) (takers x) ++ cs) (flows-append program callee own takers xs ys)
     ∙ sym (append_assoc (flow (inner_atom own ∷ named_atoms (call_atoms program callee x)) (takers x)) (call_flows program callee own takers xs) (call_flows program callee own takers ys))
-
-pub thrown-append : (xs ys : List ℕ) → thrown_ends (xs ++ ys) ≡ thrown_ends xs ++ thrown_ends ys
-thrown-append [] ys = refl
-thrown-append (x ∷ xs) ys = ap (λ es. Throw x ∷ es) (thrown-append xs ys)
 
 abbrev pub exception_of : ThrownLabel → ℕ
 exception_of thrown = thrown.exception

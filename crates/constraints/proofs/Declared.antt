@@ -1,7 +1,7 @@
 -- The takers of declared exceptions, and the demands on them.
 use Rattle.std.proofs.Common.{◌≡◌, refl, sym, ap, ◌∙◌, subst, ℕ, suc, ◌+◌, ◌<◌, ◌≤◌, List, [], ◌∷◌, ◌++◌, map, take, length, get_or, Bool, true, false, arith, eq-eqb, eqb-true}
 use Rattle.std.specs.Prelude.{Some, None, if◌then◌else◌, ◌==◌, ◌||◌}
-use Rattle.std.proofs.lemmas.Bool.{lt-ltb, le-ltb}
+use Rattle.std.proofs.lemmas.Bool.{lt-ltb, le-ltb, or_right}
 use Rattle.std.proofs.lemmas.List.{length-map, length-take-le}
 use Rattle.labels.specs.Label.{Label}
 use Rattle.resolved.specs.Labelled.{Scope, here}
@@ -149,11 +149,7 @@ thrown-same scope f g (x ∷ xs) same =
     let first : declares (x ∷ xs) x.exception ≡ true = ap (λ b. b || declares xs x.exception) (eq-eqb x.exception x.exception refl) in
     ap (λ k. rule_constraint scope (here scope).at 13 (inner_atom k ∷ []) (ToThrown scope.number x.exception) ++ thrown_constraints scope f xs) (same x.exception first)
     ∙ ap (λ cs. rule_constraint scope (here scope).at 13 (inner_atom (g x.exception) ∷ []) (ToThrown scope.number x.exception) ++ cs)
-    (thrown-same scope f g xs (λ e has. same e (more (e == x.exception) (declares xs e) has)))
-  where
-    more : (a b : Bool) → b ≡ true → (a || b) ≡ true
-    more true b is = refl
-    more false b is = is
+    (thrown-same scope f g xs (λ e has. same e (or_right (e == x.exception) (declares xs e) has)))
 
 pub thrown-numbers : (scope : Scope) (throws : List ThrownEntry) (n level : ℕ) (old new : List Entry) → AreDeclaredTakers throws n level old new
     → thrown_constraints scope (number_in new) throws ≡ thrown_constraints scope (λ x. thrown_number throws n x) throws

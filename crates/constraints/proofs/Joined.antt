@@ -1,5 +1,6 @@
 -- Left sides to which joins were added.
 use Rattle.std.proofs.Common.{map, ◌≡◌, refl, sym, ap, ◌∙◌, List, [], ◌∷◌, ◌++◌, Bool, true, false, ◌||◌, ◌&&◌, ℕ, append_assoc, append-nil, take, length, get_or, ◌+◌, ◌<◌}
+use Rattle.std.proofs.Math.Bool.{or-true, or-false, or_assoc}
 use Rattle.std.specs.Prelude.{if◌then◌else◌}
 use Rattle.labels.specs.Label.{Label}
 use Rattle.resolved.specs.declared.program.Core.{Core}
@@ -64,24 +65,12 @@ divides true true x = refl
 divides true false x = refl
 divides false c x = refl
 
-or-assoc : (a b c : Bool) → ((a || b) || c) ≡ (a || (b || c))
-or-assoc true b c = refl
-or-assoc false b c = refl
-
-or-true : (a : Bool) → (a || true) ≡ true
-or-true true = refl
-or-true false = refl
-
-or-false : (a : Bool) → (a || false) ≡ a
-or-false true = refl
-or-false false = refl
-
 pub binary-raises : (operator : Operator) (d e : Expression)
     → any_of (raises (Binary operator d e)) ≡ (any_of (raises d) || (any_of (raises e) || (is_division operator && divisor_can_raise e)))
 binary-raises operator d e =
     any-append (raises d ++ raises e) (operator_raises operator e)
     ∙ (ap (λ b. b || any_of (operator_raises operator e)) (any-append (raises d) (raises e))
-    ∙ (or-assoc (any_of (raises d)) (any_of (raises e)) (any_of (operator_raises operator e))
+    ∙ (or_assoc (any_of (raises d)) (any_of (raises e)) (any_of (operator_raises operator e))
     ∙ ap (λ b. any_of (raises d) || (any_of (raises e) || b)) (divides (is_division operator) (divisor_can_raise e) arith_exception)))
 
 pub binary-true : (operator : Operator) (d e : Expression) → (is_division operator && divisor_can_raise e) ≡ true → true ≡ any_of (raises (Binary operator d e))

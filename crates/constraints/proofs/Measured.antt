@@ -4,7 +4,7 @@ use Rattle.resolved.specs.declared.statement.Statement as S
 use Rattle.resolved.specs.declared.statement.Handler.{Handler}
 use Rattle.resolved.specs.TreeOf.{statement_of, block_of, handlers_of}
 use Rattle.resolved.specs.WellFormed.{statement_nodes, block_nodes, handlers_nodes}
-use Rattle.path_map.proofs.Forms.{next-statement, next-handler}
+use Rattle.resolved.proofs.Views.{next-statement, next-handler}
 
 dropped-nodes : (block : List S.Statement) (i : ℕ) → block_nodes (block_of (drop i block)) ≤ block_nodes (block_of block)
 dropped-nodes block zero = omega arith

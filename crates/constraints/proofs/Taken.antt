@@ -4,7 +4,7 @@ use Rattle.std.specs.Prelude.{◌==◌, if◌then◌else◌, Some, None}
 use Rattle.std.proofs.Math.Path.{fun_ext}
 use Rattle.std.proofs.lemmas.Bool.{lt-ltb, ne_eqb, eq-eqb}
 use Rattle.std.proofs.lemmas.List.{get_or-map}
-use Rattle.path_map.proofs.Forms.{next-handler}
+use Rattle.std.proofs.Math.Bool.{or-true}
 use Rattle.resolved.specs.Ends.{handles}
 use Rattle.resolved.specs.Tree.{Handlers, NoMore, Catch}
 use Rattle.resolved.specs.TreeOf.{handlers_of}
@@ -15,6 +15,7 @@ use Rattle.gathering.specs.Walk.{handler_number, in_try}
 use Rattle.constraints.specs.declared.takers.Entry.{Entry}
 use Rattle.constraints.specs.declared.takers.Takers.{Takers}
 use Rattle.constraints.specs.Takers.{AreLevelled, entry_after, entry_in_try, no_entry, taker_of, takers_of}
+use Rattle.resolved.proofs.Views.{next-handler}
 
 -- an entry that has the level stays
 after-same : (handled : ℕ) (entry old : Entry) (x : ℕ) → (old.level == entry.level) ≡ true → entry_after handled entry x old ≡ old
@@ -83,10 +84,6 @@ module _ (takers : Takers) (handlers : Handlers) (n : ℕ) (old new : List Entry
       within : (x : ℕ) (b : Bool) → (if b then record { number = handler_number handlers n x; level = takers.level + 1 } else get_or old x no_entry).level ≤ takers.level + 1
       within x true = omega arith
       within x false = omega (arith, levelled.entries_are_within x)
-
-or-true : (b : Bool) → (b || true) ≡ true
-or-true true = refl
-or-true false = refl
 
 -- the numbers of handlers, which are those of their exceptions' entries
 pub numbers-same : (takers : Takers) (all : List Handler) (n : ℕ) (old new : List Entry) → AreLevelled takers old

@@ -14,6 +14,7 @@ use resolved::target::Target;
 use solver::Atom;
 use std::alloc::AllocError;
 
+// A function of its own, so that a proof about its caller need not follow both ways of `||`.
 fn either(first: bool, second: bool) -> bool
     ensures { result ≡ (first || second) }
 {

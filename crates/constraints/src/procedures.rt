@@ -18,6 +18,7 @@ use crate::statements::Walk;
 use crate::table::Table;
 use crate::takers::{Entry, Takers, entry_in, take};
 use crate::walking::walk_block;
+use common::exceptions::BUILT_IN;
 use gathering::unknowns::number_after;
 use path_map::PathMap;
 use resolved::tables::{Procedure, Thrown};
@@ -34,7 +35,8 @@ fn take_declared(
     thrown: &mut Vec<Entry>,
 ) -> Result<(), AllocError>
     ensures { OnOk result ((barrier : ℕ) → barrier < level → AreWithin barrier thrown.old.items →
-        AreDeclaredTakers (map thrown_entry throws.now) number level thrown.old.items thrown.new.items) }
+        AreDeclaredTakers (map thrown_entry throws.now) number level thrown.old.items
+        thrown.new.items) }
 {
     // What was there is not put back: its level is not above the barrier of this procedure.
     let mut saved = Vec::new(alloc);
@@ -86,8 +88,8 @@ impl<'a> Walk<'a> {
         ensures added { OnOk result ((level : ℕ) (had : List Entry) →
             IsOf self.now.table.now.core.now self.now.procedure procedure.now →
             only ≡ ends_one_way (scope_of self.now.table.now.core.now self.now.procedure) →
-            AreDeclaredTakers (here (scope_of self.now.table.now.core.now self.now.procedure)).throws
-            (suc number) level had progress.old.thrown.items →
+            AreDeclaredTakers (here (scope_of self.now.table.now.core.now
+            self.now.procedure)).throws (suc number) level had progress.old.thrown.items →
             AreAdded self.now.table.now.core.now self.now.table.now.written.items
             (end_constraints (scope_of self.now.table.now.core.now self.now.procedure) number)
             progress.old.constraints.items progress.new.constraints.items) }
@@ -177,12 +179,12 @@ pub(crate) fn walk_procedures(
     ensures number { IfOk result (λ progress. progress.number
         ≡ made_from (program_of table.now.core.now) 0 (program_of table.now.core.now).procedures) }
 {
-    // The exceptions that are declared come after three others.
+    // The exceptions that are declared come after those that are built in.
     let none = Entry {
         number: 0,
         level: 0,
     };
-    let Some(exceptions) = table.core.exceptions.len().checked_add(3) else {
+    let Some(exceptions) = table.core.exceptions.len().checked_add(BUILT_IN as usize) else {
         return Err(AllocError);
     };
     let mut progress = Progress {

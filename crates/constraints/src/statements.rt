@@ -46,8 +46,8 @@ impl<'a> Walk<'a> {
         thrown: &[Entry],
         constraints: &mut Vec<Constraint<Option<Target>>>,
     ) -> Result<(), AllocError>
-        ensures { OnOk result (IsGatheredAt self.now.table.now.core.now self.now.table.now.written.items pc
-            (λ (named : NamedAtom). valued_constraints
+        ensures { OnOk result (IsGatheredAt self.now.table.now.core.now
+            self.now.table.now.written.items pc (λ (named : NamedAtom). valued_constraints
             (scope_of self.now.table.now.core.now self.now.procedure) named
             (takers_of takers thrown.now) at rule (expression_of value.now) target exit)
             constraints.old.items constraints.new.items) }

@@ -32,7 +32,8 @@ pub struct Table<'a> {
     globals: Vec<Atom>,
     rows: Vec<Row>,
     outside: Row,
-    ghost are: { IsTable core.now written.items nothing channels.items globals.items rows.items outside },
+    ghost are: { IsTable core.now written.items nothing channels.items globals.items rows.items
+        outside },
     ghost count: { unknowns ≡ real_unknowns (program_of core.now) },
 }
 

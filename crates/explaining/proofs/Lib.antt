@@ -1,3 +1,3 @@
-mod Texts
+pub mod Texts
 mod Kept
 mod Lists

@@ -6,10 +6,6 @@ use Rattle.std.specs.Io.KnownBytes.{Appends}
 use Rattle.std.specs.Prelude.{flat_map}
 use Rattle.channels.specs.Sink.{AppendsPrefix}
 
-pub on_err : {X Y : Type 0} (result : Result X Y) (P : Type 0) → P → OnErr result P
-on_err (Ok x) P holds = tt
-on_err (Err y) P holds = holds
-
 -- what was written is a prefix of what was to be written, where nothing or a part of the rest was
 module _ (old mid new : Option (List ℕ)) (front back : List ℕ) where
   pub cut_before : Appends old mid front → AppendsPrefix old mid (front ++ back)

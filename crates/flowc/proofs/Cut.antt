@@ -1,6 +1,5 @@
 -- What a run has shown where a stream failed or memory ran out.
-use Rattle.std.proofs.Common.{◌≡◌, ℕ, ◌≤◌, List, [], ap, ◌∙◌, refl, subst, inr, Option, Result, Ok, Err, IfOk, OnErr}
-use Rattle.std.proofs.KnownBytes.{Appends-nil}
+use Rattle.std.proofs.Common.{◌≡◌, ℕ, ◌≤◌, List, ap, ◌∙◌, subst, inr, Option, Result, Ok, Err, IfOk}
 use Rattle.std.specs.Str.{IsUtf8}
 use Rattle.std.specs.Io.KnownBytes.{Appends}
 use Rattle.std.specs.String.{string_bytes}
@@ -24,17 +23,9 @@ use Rattle.flowc.specs.declared.fault.PerformFault.{PerformFault}
 use Rattle.flowc.specs.declared.ended.Ended.{Ended}
 use Rattle.flowc.specs.View.{IsObserver, view_for, view_text}
 
-pub on_err : {X Y : Type 0} (result : Result X Y) (P : Type 0) → P → OnErr result P
-on_err (Ok x) P holds = tt
-on_err (Err y) P holds = holds
-
 -- what was written to its end was written as a prefix
 pub appended_all : (old new : Option (List ℕ)) (text : List ℕ) → Appends old new text → AppendsPrefix old new text
 appended_all old new text program = (text, prefix-itself text, program)
-
--- where nothing was written, nothing is a prefix
-pub nothing_written : (old : Option (List ℕ)) (text : List ℕ) → AppendsPrefix old old text
-nothing_written old text = ([], (text, refl), Appends-nil old)
 
 -- what can be run
 pub can_run : (code text : List ℕ) (name : Option (List ℕ)) (m : ModuleContents) (principal : Option ℕ) (h : PrincipalHierarchy)

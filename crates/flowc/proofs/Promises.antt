@@ -43,8 +43,9 @@ use Rattle.flowc.specs.Messages.IsRefusedLine.{of_module, of_observer, of_world}
 use Rattle.flowc.specs.Messages.IsWorldLine.{no_text, wrong}
 use Rattle.flowc.specs.View.{IsObserver, view_text}
 use Rattle.flowc.proofs.Sessions.{opened_for}
-use Rattle.flowc.proofs.Refusals.{refused_has_defect, wrong_is_no_world}
+use Rattle.flowc.proofs.Refusals.{wrong_is_no_world}
 use Rattle.channels.proofs.Views.{view_text-append}
+use Rattle.verifier.proofs.Reported.{excluded}
 
 -- ---- sessions
 
@@ -130,7 +131,7 @@ prefix_of_nothing (x ∷ xs) b = cc b.1
 pub some_show_all : sessions.SessionsAreFreshRuns → sessions.SessionsEndAsReported → SomeSessionsShowAll
 some_show_all fresh ends said source code compiled world p turns named there =
     let m = module_in compiled in
-    let can : CanOpen code world m = record { spelled = compiled.code_of.spelled; no_defect = compiled.code_of.faultless; named = named } in
+    let can : CanOpen code world m = record { spelled = compiled.code_of.spelled; no_defect = compiled.code_of.no_defect; named = named } in
     let law = no_less fresh ends said source code compiled world p turns in
     let session = opened_for code world m can compiled.code_of.never_stuck p there law.0 in
     (session.pairs, session.shows, law.1 session.pairs session.shows session.has_run)
@@ -245,7 +246,7 @@ module _ (one : (m n : ModuleContents) (bytes : List ℕ) → Spells module_file
         let none = not_refused m code spelled in
         cc
     right_module code m spelled no_defect (Code refusal) of_code =
-        refused_has_defect of_code.0 refusal of_code.2 (subst (λ (w : ModuleContents). HasNoDefect w) (one m of_code.0 code spelled of_code.1) no_defect)
+        excluded of_code.0 refusal of_code.2 (subst (λ (w : ModuleContents). HasNoDefect w) (one m of_code.0 code spelled of_code.1) no_defect)
 
     right_world : (path text line : List ℕ) (m other : ModuleContents) → m ≡ other → IsUtf8 text → IsWorldText (input_names m) (lines_of text)
         → IsWorldLine other path text line → ⊥

@@ -9,8 +9,7 @@ use Rattle.common.specs.declared.fault.OrNoMemory.TheVariants as or
 use Rattle.machine.specs.Run.{names_of}
 use Rattle.machine.specs.declared.fault.NewRefusal.{NewRefusal}
 use Rattle.machine.specs.declared.fault.NewRefusal.TheVariants.{UnknownChannel}
-use Rattle.verifier.specs.Refusals.{HasNoDefect, IsCodeRefusal, IsCodeRefusalAfter}
-use Rattle.verifier.specs.Fixed.{fixed_refusals}
+use Rattle.verifier.specs.Refusals.{IsCodeRefusalAfter}
 use Rattle.verifier.specs.declared.fault.CodeRefusal.{CodeRefusal}
 use Rattle.flowc.specs.Stdout.{CannotRun, ShowsRun, ShowsSome}
 use Rattle.flowc.specs.Task.{status_of_fault}
@@ -21,10 +20,6 @@ use Rattle.flowc.specs.declared.fault.PerformFault.TheVariants.{Refused, CannotW
 reported_after : (m : ModuleContents) (refusals : List CodeRefusal) (refusal : CodeRefusal) → IsCodeRefusalAfter m refusals refusal → refusals ≡ [] → ((other : CodeRefusal) → IsCodeRefusalAfter m [] other → ⊥) → ⊥
 reported_after m [] refusal reported fixed flow = flow refusal reported
 reported_after m (first ∷ more) refusal reported fixed flow = cc
-
--- a module for which there is a refusal is not without a defect
-pub refused_has_defect : (m : ModuleContents) (refusal : CodeRefusal) → IsCodeRefusal m refusal → HasNoDefect m → ⊥
-refused_has_defect m refusal reported none = reported_after m (fixed_refusals m) refusal reported none.fixed none.flow
 
 -- a text with a wrong line is no world
 pub wrong_is_no_world : (inputs : List (List ℕ)) (lines : List (List (List ℕ))) (refusal : WorldRefusal)

@@ -16,6 +16,7 @@ use Rattle.verifier.specs.declared.loading.LoadRefusal.{LoadRefusal}
 use Rattle.verifier.specs.declared.loading.LoadRefusal.TheVariants.{Bytes, Code}
 use Rattle.flowc.specs.declared.fault.PerformFault.{PerformFault}
 use Rattle.flowc.specs.declared.fault.PerformFault.TheVariants.{Refused, CannotWrite, NoMemory}
+use Rattle.principals.specs.declared.fault.TheConstants.{UNKNOWN_PRINCIPAL, UNKNOWN_PRINCIPAL_WORDS}
 
 -- ---- lines of refusals
 
@@ -52,7 +53,7 @@ text_line path refusal =
 
 -- no principal of a module has the name of an observer
 abbrev pub observer_line : (name : List ℕ) → List ℕ
-observer_line name = name ++ saying 153 (codes "unknown principal")
+observer_line name = name ++ saying UNKNOWN_PRINCIPAL UNKNOWN_PRINCIPAL_WORDS.now
 
 -- ---- failures
 

@@ -15,7 +15,7 @@ use crate::reading::File;
 use crate::texts::texts_line;
 use channels::Sink;
 use common::OrNoMemory;
-use compiler::{NotAccepted, check_texts};
+use compiler::{TextsRefusal, check_texts};
 use explaining::{write_flow, write_labels};
 use std::alloc::Global;
 
@@ -61,7 +61,7 @@ fn explain_refusal<O: Sink>(
     alloc: Global,
     hierarchy: File<'_>,
     source: File<'_>,
-    refused: NotAccepted,
+    refused: TextsRefusal,
     out: &mut O,
 ) -> Result<String, PerformFault>
     requires first_fault { IsFirstFault hierarchy.bytes.now source.bytes.now refused.refusal }

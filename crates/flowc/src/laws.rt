@@ -3,9 +3,9 @@
 
 ghost use Rattle.flowc.specs.Promises.{RunsAreIsolated, RunsEndAsTheSource, RunsShowThemselves, SessionsAreIsolated, SessionsEndAsTheSource, SessionsShowNoLess, SessionsShowNoMore, SilentModulesShowLess, SomeSessionsShowAll, StandardErrorIsFixed};
 
-/// Sessions of compiled bytes show what the source means: never more than a principal sees of the source, and all of it where
-/// they have taken enough steps or have answered that their run has ended. Some sessions do, and where one has ended the source
-/// ends so too.
+/// Sessions of compiled bytes show what the source means: never more than a principal sees of the source, and all that it sees of it
+/// with any given number of turns where they have taken enough steps or have answered that their run has ended. There are such
+/// sessions, and where one has ended the source ends so too.
 pub fn sessions_mean_the_source()
     ensures no_more { SessionsShowNoMore }
     ensures no_less { SessionsShowNoLess }
@@ -15,8 +15,8 @@ pub fn sessions_mean_the_source()
     host::laws::sessions_are_fresh_runs();
 }
 
-/// A module that sends nothing does not show what a source means, if the source sends anything: it does not meet what
-/// [`sessions_mean_the_source`] says with `no_less` of compiled bytes.
+/// A module that sends nothing does not show what a source means, if some principal sees anything of the source on a world on which
+/// the bytes can be opened: it does not meet what [`sessions_mean_the_source`] says with `no_less` of compiled bytes.
 pub fn silent_modules_show_less()
     ensures { SilentModulesShowLess }
 {}

@@ -20,7 +20,7 @@ pub use channels::{
 pub use checker::{CheckFault, CheckRefusal};
 pub use command_line::{MAX_STEPS, Task, TaskFault, TaskRefusal, USUAL_STEPS, read_task};
 pub use common::OrNoMemory;
-pub use compiler::{CompileFault, CompileRefusal, NotAccepted, check_texts, compile};
+pub use compiler::{CompileFault, CompileRefusal, TextsFault, TextsRefusal, check_texts, compile};
 pub use host::{Answer, Event, Host, HostFault, HostRefusal, Id, MAX_SESSIONS};
 pub use machine::{NewFault, NewRefusal, Status};
 pub use module_file::{ModuleFault, ModuleRefusal, decode};

@@ -69,10 +69,18 @@ pub fn run<O: Sink>(
 fn start(alloc: Global, code: File<'_>, world: File<'_>) -> Result<Machine, PerformFault>
     ensures accepted { IfOk result (λ machine. IsLoaded code.entry.bytes.now machine.program) }
     ensures encoded { OnOk result (IsUtf8 world.entry.bytes.now) }
-    ensures rejected { IfErr result (λ fault. status_of_fault fault ≡ 1 → (program : ModuleContents) → Spells module_file program code.entry.bytes.now → HasNoDefect program → IsUtf8 world.entry.bytes.now → ¬ IsWorldText (input_names program) (lines_of world.entry.bytes.now)) }
-    ensures message { IfErr result (IsPerformFault (λ line. (observer : Option (List ℕ)) → IsRefusedLine code.entry.path.now world.entry.path.now code.entry.bytes.now world.entry.bytes.now observer line) false) }
-    ensures right { IfOk result (λ machine. IsWorldText (input_names machine.program) (lines_of world.entry.bytes.now)) }
-    ensures first { IfOk result (λ machine. machine_of machine ≡ Running (first_state machine.program (numbers_in machine.program world.entry.bytes.now))) }
+    ensures rejected { IfErr result (λ fault. status_of_fault fault ≡ 1 →
+        (program : ModuleContents) → Spells module_file program code.entry.bytes.now →
+        HasNoDefect program → IsUtf8 world.entry.bytes.now → ¬ IsWorldText (input_names program)
+        (lines_of world.entry.bytes.now)) }
+    ensures message { IfErr result (IsPerformFault (λ line. (observer : Option (List ℕ)) →
+        IsRefusedLine code.entry.path.now world.entry.path.now code.entry.bytes.now
+        world.entry.bytes.now observer line) false) }
+    ensures right { IfOk result (λ machine. IsWorldText (input_names machine.program)
+        (lines_of world.entry.bytes.now)) }
+    ensures first { IfOk result (λ machine. machine_of machine
+        ≡ Running (first_state machine.program (numbers_in machine.program
+        world.entry.bytes.now))) }
 {
     let verified = read_module(alloc, code)?;
     let numbers = read_world(alloc, verified.module(), world)?;
@@ -95,9 +103,12 @@ fn principal_of(
     hierarchy: &Hierarchy,
     observer: Option<&str>,
 ) -> Result<Option<u32>, PerformFault>
-    ensures found { IfOk result (λ principal. IsObserver hierarchy.now (option_map (λ name. name.now) observer.entry) principal) }
-    ensures rejected { IfErr result (λ fault. status_of_fault fault ≡ 1 → (principal : Option ℕ) → ¬ IsObserver hierarchy.now (option_map (λ name. name.now) observer.entry) principal) }
-    ensures message { IfErr result (IsPerformFault (IsObserverLine hierarchy.now (option_map (λ name. name.now) observer.entry)) false) }
+    ensures found { IfOk result (λ principal. IsObserver hierarchy.now
+        (option_map (λ name. name.now) observer.entry) principal) }
+    ensures rejected { IfErr result (λ fault. status_of_fault fault ≡ 1 → (principal : Option ℕ) →
+        ¬ IsObserver hierarchy.now (option_map (λ name. name.now) observer.entry) principal) }
+    ensures message { IfErr result (IsPerformFault
+        (IsObserverLine hierarchy.now (option_map (λ name. name.now) observer.entry)) false) }
 {
     let Some(name) = observer else {
         return Ok(None);
@@ -116,7 +127,8 @@ fn report_end(
     status: Status,
 ) -> Result<Ended, PerformFault>
     ensures message { IfOk result (λ ended. ended.status ≡ reported_status observer status) }
-    ensures line { IfOk result (λ ended. string_bytes ended.line ≡ reported_line program.now observer status) }
+    ensures line { IfOk result (λ ended. string_bytes ended.line ≡ reported_line program.now
+        observer status) }
     ensures memory { IfErr result (λ fault. fault ≡ NoMemory) }
 {
     if observer.is_some() {

@@ -27,7 +27,8 @@ pub struct TaskResult {
 /// Does a task: all of the program but for its files. What goes to standard output and to standard error is written to the
 /// two sinks. The caller hands over the bytes of each file that the task reads, in the order in which the task names them.
 ///
-/// On standard error stands one line that says how the task ended, or none where all is well or an observer looks on.
+/// On standard error stands one line: the fault that the task ended with, or, of a run without an observer, the end that it came to.
+/// Any other task that ends with status 0 has no line.
 ///
 /// There are bytes for the output file exactly where a task builds a module and ends with status 0.
 pub fn perform<O: Sink, E: Sink>(

@@ -18,9 +18,11 @@ use Rattle.resolved.specs.Ends.{same_exit, has_end, one_end, index_raises, raise
 use Rattle.resolved.specs.Labelled.{Scope, Join, LabelAtom, one, label_of, value_label, raise_label, raise_labels, label_if, call_exits, ExitLabels, at_ends, raised_exits, loop_exits, statement_rule, block_rule, handlers_rule, statement_exits, block_exits}
 use Rattle.gathering.specs.Names.{Real, Inner, NamedAtom, NamedConstraint, named_atoms}
 use Rattle.gathering.specs.Walk.{inner_atom, rule_constraint, target_constraint, inner_constraint, Takers, with_normal, in_loop, handler_count, handler_number, in_try, flow, flows, raised_once, raised_flows, single, within_single, by_ends, onward_pc, raise_atoms, raise_atoms_all, store_atoms, call_atoms, made_by_statement, made_by_block, argument_constraints, call_flows, call_ends, call_constraints, statement_constraints, block_constraints, handlers_constraints}
-use Rattle.gathering.proofs.Ends.{same_exit-itself, by_test, has-left, has-right, has-filter, then-other, then-rest, normal_or_other, exits-single, exits-many, taken_or_passed, in_try-taken, AmongTwo, same-thrown, raises-two, store-two, once-same, call-same}
+use Rattle.gathering.proofs.Ends.{has-left, has-right, has-filter, then-other, then-rest, normal_or_other, exits-single, exits-many, taken_or_passed, in_try-taken, AmongTwo, same-thrown, raises-two, store-two, once-same, call-same}
 use Rattle.gathering.proofs.Atoms.{Sub, sub-same, sub-left, sub-right, alike-raise, alike-value, alike-arguments, store_label, alike-store, alike-call}
 use Rattle.gathering.proofs.Reached.{Goes, Part, PartIn, PartBy, Agrees, AgreesIn, AgreesBy}
+use Rattle.common.proofs.Cases.{by_test}
+use Rattle.resolved.proofs.Exits.{same_exit-itself}
 
 pub then-exits : (scope : Scope) (pc : Join) (s : Statement) (rest : Block) (e : Exit) → same_exit Normal e ≡ false →
     Sub (statement_exits scope pc s e) (block_rule scope pc (Then s rest) e)

@@ -2,7 +2,7 @@
 use Rattle.std.proofs.Common.{◌≡◌, refl, sym, ap, ◌∙◌, ℕ, Bool, true, false, not, List, [], ◌∷◌, ◌++◌, ◌||◌, ◌&&◌, ◌⊎◌, inl, inr, ⊎_elim, arith}
 use Rattle.std.specs.Prelude.{Option, Some, if◌then◌else◌, ◌==◌, filter}
 use Rattle.std.specs.List.{list_all, list_any}
-use Rattle.std.proofs.lemmas.Bool.{and_parts, or_left, or_right, or_cases, eq-eqb}
+use Rattle.std.proofs.lemmas.Bool.{and_parts, or_left, or_right, or_cases}
 use Rattle.std.proofs.lemmas.List.Folds.{list_any-append}
 use Rattle.std.proofs.lemmas.Map.Views.{any-filter_same}
 use Rattle.resolved.specs.declared.expression.Operator.{Operator}
@@ -14,25 +14,8 @@ use Rattle.resolved.specs.Value.{arith_exception, bounds_exception}
 use Rattle.resolved.specs.Ends.{same_exit, has_end, one_end, is_division, divisor_can_raise, index_can_raise, index_raises, operator_raises, raises, raises_all, thrown_ends, declared_by, then_ends, handles, passes}
 use Rattle.resolved.specs.Labelled.{Join, ExitLabels, at_ends}
 use Rattle.gathering.specs.Walk.{Takers, with_normal, in_try, raised_once, call_ends}
-
-pub same-exit : (a b : Exit) → same_exit a b ≡ true → a ≡ b
-same-exit Normal Normal h = refl
-same-exit Return Return h = refl
-same-exit Break Break h = refl
-same-exit Continue Continue h = refl
-same-exit (Throw a) (Throw b) h = ap (λ x. Throw x) (grind (arith, h))
-same-exit a b h = let e : true ≡ false = sym h in absurd (cc)
-
-pub same_exit-itself : (a : Exit) → same_exit a a ≡ true
-same_exit-itself Normal = refl
-same_exit-itself Return = refl
-same_exit-itself Break = refl
-same_exit-itself Continue = refl
-same_exit-itself (Throw a) = eq-eqb a a refl
-
-pub by_test : {P : Type 0} (b : Bool) → (b ≡ true → P) → (b ≡ false → P) → P
-by_test true held fails = held refl
-by_test false held fails = fails refl
+use Rattle.common.proofs.Cases.{by_test}
+use Rattle.resolved.proofs.Exits.{same-exit, thrown-normal, thrown-break, thrown-continue}
 
 pub has-left : (xs ys : List Exit) (e : Exit) → has_end xs e ≡ true → has_end (xs ++ ys) e ≡ true
 has-left [] ys e h = let i : false ≡ true = h in absurd (cc)
@@ -114,18 +97,6 @@ thrown-has (y ∷ ys) x = ap (λ b. (x == y) || b) (thrown-has ys x)
 thrown-return : (xs : List ℕ) → has_end (thrown_ends xs) Return ≡ false
 thrown-return [] = refl
 thrown-return (y ∷ ys) = thrown-return ys
-
-thrown-normal : (xs : List ℕ) → has_end (thrown_ends xs) Normal ≡ false
-thrown-normal [] = refl
-thrown-normal (y ∷ ys) = thrown-normal ys
-
-thrown-break : (xs : List ℕ) → has_end (thrown_ends xs) Break ≡ false
-thrown-break [] = refl
-thrown-break (y ∷ ys) = thrown-break ys
-
-thrown-continue : (xs : List ℕ) → has_end (thrown_ends xs) Continue ≡ false
-thrown-continue [] = refl
-thrown-continue (y ∷ ys) = thrown-continue ys
 
 pub same-thrown : (xs ys : List ℕ) → SameIn xs ys → (e : Exit) → has_end (thrown_ends xs) e ≡ has_end (thrown_ends ys) e
 same-thrown xs ys same Normal = thrown-normal xs ∙ sym (thrown-normal ys)

@@ -8,11 +8,12 @@ use Rattle.resolved.specs.declared.statement.Exit.TheVariants.{Normal, Throw}
 use Rattle.resolved.specs.Tree.{Statement, Assign, Clear, Store, Receive, Send, Call, If, While, Leave, ReturnWith, Try, Nested, Block, Empty, Then, Handlers, NoMore, Catch, place_of}
 use Rattle.resolved.specs.Program.{Program, ProcedureEntry}
 use Rattle.resolved.specs.Ends.{same_exit, has_end, statement_ends, block_ends}
-use Rattle.resolved.specs.EndFaults.{EndDefect, EndRefusal, OutsideLoop, Unreachable, NeverRaised, NoValueReturned, Undeclared, fault_unless, may_stand, may_end, inner_faults, block_faults, handlers_faults, procedure_faults, end_faults}
+use Rattle.resolved.specs.EndFaults.{EndRefusal, OutsideLoop, Unreachable, NeverRaised, NoValueReturned, Undeclared, fault_unless, may_stand, may_end, inner_faults, block_faults, handlers_faults, procedure_faults, end_faults}
 use Rattle.resolved.specs.Labelled.{program_demands}
 use Rattle.gathering.specs.Walk.{program_constraints}
 use Rattle.gathering.proofs.Reached.{Goes, Part, PartIn, PartBy}
 use Rattle.gathering.proofs.Programs.{PartsFrom, Gathers, gathered_by, all-gathers}
+use Rattle.resolved.proofs.Exits.{no_fault-test}
 
 none-left : (xs ys : List EndRefusal) → (xs ++ ys) ≡ [] → xs ≡ []
 none-left [] ys e = refl
@@ -22,16 +23,12 @@ none-right : (xs ys : List EndRefusal) → (xs ++ ys) ≡ [] → ys ≡ []
 none-right [] ys e = e
 none-right (x ∷ xs) ys e = absurd (cc)
 
-passed : (test : Bool) (defect : EndDefect) (at : ℕ) → fault_unless test defect at ≡ [] → test ≡ true
-passed true defect at e = refl
-passed false defect at e = absurd (cc)
-
 module _ (program : Program) where
   reached-first : (loop b : Bool) (s : Statement) (rest : Block) → block_faults program loop b (Then s rest) ≡ [] → b ≡ true
   reached-first loop b s rest none =
       let a : List EndRefusal = fault_unless (may_stand loop s) OutsideLoop (place_of s) in
       let r : List EndRefusal = fault_unless b Unreachable (place_of s) in
-      passed b Unreachable (place_of s) (none-right a r (none-left (a ++ r) (inner_faults program loop s)
+      no_fault-test b Unreachable (place_of s) (none-right a r (none-left (a ++ r) (inner_faults program loop s)
       (none-left ((a ++ r) ++ inner_faults program loop s) (block_faults program loop (has_end (statement_ends program s) Normal) rest) none)))
 
   goes-on : (loop : Bool) (s : Statement) (rest : Block) → block_faults program loop (has_end (statement_ends program s) Normal) rest ≡ [] → Goes program s rest

@@ -1,18 +1,20 @@
 -- The numbers of unknowns: different ones for different unknowns, first those of locals and loops, then the inner ones.
-use Rattle.std.proofs.Common.{◌≡◌, refl, sym, ap, ◌∙◌, subst, ℕ, zero, suc, ◌+◌, ◌-◌, ◌<◌, ◌≤◌, length, true, false, nat_lt, List, [], ◌∷◌, inl, inr, arith}
+use Rattle.std.proofs.Common.{◌≡◌, ◌==◌, ◌↔◌, refl, sym, ap, ◌∙◌, subst, ℕ, zero, suc, ◌+◌, ◌-◌, ◌<◌, ◌≤◌, length, true, false, nat_lt, List, [], ◌∷◌, inl, inr, arith}
 use Rattle.std.specs.Prelude.{IsTrue, Contains, if◌then◌else◌, nat_le, sum_by, take, slice_index_or}
 use Rattle.std.proofs.lemmas.Bool.{lt-ltb, le-ltb, le-leb, lt-leb}
 use Rattle.std.proofs.lemmas.List.Sums.{sum_by_more_le}
 use Rattle.std.proofs.lemmas.List.Recursion.{is_sum_by}
 use Rattle.labels.specs.Label.{Label}
-use Rattle.labels.specs.Constraints.{Atom, Written, Unknown, renamed, is_inner}
+use Rattle.labels.specs.Constraints.{Atom, Written, Unknown, renamed, is_inner, label_lattice}
+use Rattle.labels.proofs.FlowTests.{IsLattice-flows}
+use Rattle.labels.proofs.Gathered.{fits-alike, fits-down, fits-up}
 use Rattle.resolved.specs.Program.{Program, ProcedureEntry, procedure_at}
 use Rattle.resolved.specs.EndFaults.{end_faults}
 use Rattle.resolved.specs.Flow.{Gathered, AreGathered}
-use Rattle.resolved.specs.Labelled.{Unwritten, OfLocal, OfLoop, program_demands}
+use Rattle.resolved.specs.Labelled.{FitsDemands, Labelling, Unwritten, OfLocal, OfLoop, chosen, program_demands}
 use Rattle.resolved.specs.WellFormed.{well_formed}
 use Rattle.gathering.specs.Names.{Name, Real, Inner, is_inner_name, NamedAtom, NamedConstraint, own_unknowns, unknowns_before, real_unknowns, unwritten_number, unknown_number, IsUnwrittenOf, numbered, numbered_atom}
-use Rattle.gathering.specs.Walk.{program_constraints, made_from, gathered_constraints, unknown_count, IsUnknownBelow, AreUnknownsBelow}
+use Rattle.gathering.specs.Walk.{program_constraints, made_from, gathered_constraints, unknown_count, FitsGathered, IsUnknownBelow, AreUnknownsBelow}
 use Rattle.gathering.proofs.Programs.{gathered_by}
 use Rattle.gathering.proofs.Faultless.{faultless-gathers}
 use Rattle.gathering.proofs.Ranged.{InRange, Ranged}
@@ -135,6 +137,23 @@ numbered-numbers program formed none u =
     renamed-number (program_demands program) (program_constraints program) (gathered_by program (faultless-gathers program none)) (unknown_number program) (name_of program) (λ k. nat_le (real_unknowns program) k)
     (λ a there. kept program bound a (in-range program bound (program_constraints program) ranged a there))
     (λ a there. returns program bound a (in-range program bound (program_constraints program) ranged a there)) u
+
+-- so each labelling meets the demands exactly where it fits what is gathered
+pub labellings-fit : (program : Program) → IsTrue (well_formed program) → end_faults program ≡ [] → (labelling : Labelling) →
+    FitsDemands program.hierarchy labelling (program_demands program) ↔ FitsGathered program labelling
+labellings-fit program formed none labelling =
+    let gathered = numbered-gathered program formed none in
+    let numbers = numbered-numbers program formed none in
+    let lattice = label_lattice program.hierarchy in
+    let laws = IsLattice-flows program.hierarchy in (
+      λ fits.
+          let up = fits-up (program_demands program) (gathered_constraints program) gathered lattice laws
+          (λ (a b : ℕ). a == b) (λ a b e. grind (arith, e)) (λ a. grind arith) (chosen labelling) fits in
+          (up.0, up.1, λ u there. up.2 u there ∙ ap up.0 (numbers u)),
+      λ found. fits-alike lattice (program_demands program) (λ u. found.0 (gathered.number u)) (chosen labelling)
+          (λ u there. ap found.0 (numbers u) ∙ sym (found.2 u there))
+          (fits-down (program_demands program) (gathered_constraints program) gathered lattice laws found.0 found.1),
+    )
 
 -- and its unknowns have numbers below their count
 number-below : (program : Program) (a : NamedAtom) → InRange program (made_from program 0 program.procedures) a → IsUnknownBelow (unknown_count program) (numbered_atom program a)

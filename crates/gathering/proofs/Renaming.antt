@@ -4,13 +4,7 @@ use Rattle.std.specs.Prelude.{IsTrue, Contains, Option, None, if◌then◌else�
 use Rattle.principals.proofs.Closure.{none_in_nil, Contains-cons_cases, Contains-later, Contains-first}
 use Rattle.labels.specs.Constraints.{Atom, Written, Unknown, Constraint, Occurs, renamed, is_inner, outer, Feeds, itself, through, StandsFor, OneByOne, IsGathered}
 use Rattle.labels.proofs.Gathered.{occurs-there, outer-only}
-
-map-has : {A B : Type 0} (f : A → B) (xs : List A) (x : A) → Contains xs x → Contains (map f xs) (f x)
-map-has f [] x h = absurd (none_in_nil x h)
-map-has f (y ∷ ys) x h = ⊎_elim
-    (λ same. subst (λ z. Contains (f y ∷ map f ys) (f z)) same (Contains-first (f y) (map f ys)))
-    (λ t. Contains-later (f y) (map f ys) (f x) (map-has f ys x t))
-    (Contains-cons_cases y ys x h)
+use Rattle.common.proofs.Cases.{contained_map}
 
 pub map-only : {A B : Type 0} (f : A → B) (xs : List A) (b : B) → Contains (map f xs) b → (x : A) × Contains xs x × (f x ≡ b)
 map-only f [] b h = absurd (none_in_nil b h)
@@ -44,7 +38,7 @@ module _ {N U W X V : Type 0} (ds : List (Constraint N U V)) (cs : List (Constra
     feeds-up from to there (itself _ e same) =
         itself (renamed f to) (kept from (subst (Stands cs) (sym same) there) ∙ e) (ap (renamed f) same)
     feeds-up from to there (through c part _ fed h left is e) =
-        through (other c) (renamed f part) (renamed f to) (feeds-up from part (c, h, inl left) fed) (map-has other cs c h) (map-has (renamed f) c.left part left)
+        through (other c) (renamed f part) (renamed f to) (feeds-up from part (c, h, inl left) fed) (contained_map other cs c h) (contained_map (renamed f) c.left part left)
         (ap (renamed f) is) (kept to there ∙ e)
 
     feeds-down : (from : Atom X V) (to' : Atom X V) → Feeds inner (map other cs) from to' → (to : Atom W V) → Stands cs to → renamed f to ≡ to' →
@@ -70,7 +64,7 @@ module _ {N U W X V : Type 0} (ds : List (Constraint N U V)) (cs : List (Constra
       left = record {
         has = λ a there. let found = stands.left.has a there in (
           renamed f found.0,
-          map-has (renamed f) c.left found.0 found.1,
+          contained_map (renamed f) c.left found.0 found.1,
           subst (λ z. Feeds inner (map other cs) z (renamed f found.0)) (renamed-twice f gathered.number a) (feeds-up (renamed gathered.number a) found.0 (c, h, inl found.1) found.2),
         );
         only = λ part' from there feeds.

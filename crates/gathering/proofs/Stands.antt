@@ -18,11 +18,12 @@ use Rattle.resolved.specs.Ends.{has_end, one_end, index_raises, raises, thrown_e
 use Rattle.resolved.specs.Labelled.{Scope, Join, LabelAtom, one, label_of, value_label, raise_label, raise_labels, call_exits, ExitLabels, statement_rule, block_rule, statement_exits, block_exits, argument_demands, Demand, demand, target_demand, statement_demands, block_demands, handlers_demands}
 use Rattle.gathering.specs.Names.{Real, Inner, is_inner_name, NamedAtom, NamedConstraint, named_atoms}
 use Rattle.gathering.specs.Walk.{inner_atom, rule_constraint, target_constraint, inner_constraint, Takers, with_normal, in_loop, handler_count, handler_number, in_try, flow, flows, raised_once, raised_flows, single, within_single, onward_pc, raise_atoms, raise_atoms_all, store_atoms, call_atoms, made_by_statement, made_by_block, argument_constraints, call_flows, call_ends, call_constraints, statement_constraints, block_constraints, handlers_constraints}
-use Rattle.gathering.proofs.Ends.{by_test, in_try-taken}
+use Rattle.gathering.proofs.Ends.{in_try-taken}
 use Rattle.gathering.proofs.Atoms.{Alike, alike-itself, alike-value, store_label, alike-stored, alike-three}
 use Rattle.gathering.proofs.Reached.{Goes, Part, PartIn, PartBy, Agrees, AgreesIn, AgreesBy}
 use Rattle.gathering.proofs.Closed.{atoms_of, Below, closed_by, Closed, pc-below, below-inner, onward-below}
 use Rattle.gathering.proofs.Fed.{outer_atom, Within, Fed, FedTo, GivesAll, within-left, within-right, pc-fed, fed-named, fed-inner_atom, fed-inner_constraint, fed-block, fed-onward, fed-call, fed-statement, fed-statements}
+use Rattle.common.proofs.Cases.{by_test}
 
 outer-append : (xs ys : List NamedConstraint) → outer is_inner_name (xs ++ ys) ≡ (outer is_inner_name xs ++ outer is_inner_name ys)
 outer-append [] ys = refl

@@ -1,13 +1,13 @@
 //! Laws of the gathering, each the contract of a function that does nothing.
 ghost use Rattle.gathering.specs.Size.{declared_at_calls, size_of};
-ghost use Rattle.gathering.specs.Walk.{AreUnknownsBelow, gathered_constraints, program_constraints, unknown_count};
+ghost use Rattle.gathering.specs.Walk.{AreUnknownsBelow, FitsGathered, gathered_constraints, program_constraints, unknown_count};
 ghost use Rattle.labels.specs.Constraints.{IsGathered};
 ghost use Rattle.resolved.specs.EndFaults.{end_faults};
 ghost use Rattle.resolved.specs.Flow.{AreGathered};
-ghost use Rattle.resolved.specs.Labelled.{program_demands};
+ghost use Rattle.resolved.specs.Labelled.{FitsDemands, Labelling, program_demands};
 ghost use Rattle.resolved.specs.Program.{Program};
 ghost use Rattle.resolved.specs.WellFormed.{program_nodes, well_formed};
-ghost use Rattle.std.specs.Prelude.{IsTrue, [], ◌*◌, ◌+◌, ◌≡◌, ◌≤◌};
+ghost use Rattle.std.specs.Prelude.{IsTrue, [], ◌*◌, ◌+◌, ◌↔◌, ◌≡◌, ◌≤◌};
 
 /// What the walk along a well-formed program without a fault of its ends gives is gathered from the program's demands: constraints
 /// with numbers for the unknowns, which stand for the demands one by one and in order. By their names they are where the program
@@ -17,6 +17,14 @@ pub fn programs_are_gathered()
         end_faults program ≡ [] → AreGathered program (gathered_constraints program) }
     ensures named { (program : Program) → end_faults program ≡ [] →
         IsGathered (program_demands program) (program_constraints program) }
+{}
+
+/// Each labelling of a well-formed program without a fault of its ends meets the program's demands exactly where it fits what the walk
+/// gives, with some labels for the inner unknowns: the label of a local or a loop has the number that `unwritten_number` says.
+pub fn labellings_fit_what_is_gathered()
+    ensures { (program : Program) → IsTrue (well_formed program) → end_faults program ≡ [] →
+        (labelling : Labelling) → FitsDemands program.hierarchy labelling (program_demands program)
+        ↔ FitsGathered program labelling }
 {}
 
 /// The unknowns of what the walk gives for a well-formed program have numbers below their count, which is at most four times the

@@ -1,18 +1,12 @@
 -- A machine that has ended, and what a status reports of one.
-use Rattle.std.proofs.Common.{◌≡◌, ℕ, zero, suc, ◌+◌, ◌-◌, ◌≤◌, List, Some, refl, sym, ap, ◌∙◌, subst, arith}
+use Rattle.std.proofs.Common.{◌≡◌, ℕ, ◌+◌, ◌-◌, ◌≤◌, Some, sym, ap, ◌∙◌, subst, arith}
 use Rattle.std.proofs.lemmas.Option.{none-some, same_Some}
-use Rattle.labels.specs.declared.sent.Pair.{Pair}
-use Rattle.bytecode.specs.Machine.{Machine, Ended, Ending, MachineCode, exec, sent_of}
+use Rattle.bytecode.specs.Machine.{Machine, Ending, MachineCode, exec, sent_of}
 use Rattle.machine.specs.Run.{HasEnded, ReportsStatus}
 use Rattle.machine.specs.declared.status.Status.{Status}
 use Rattle.machine.specs.declared.status.Status.TheVariants as status
-use Rattle.bytecode.proofs.Executing.{exec_more}
+use Rattle.bytecode.proofs.Executing.{exec_more, ended_stays}
 use Rattle.host.specs.Laws.{ending_of}
-
--- a machine that has ended stays so
-ended_stays : (p : MachineCode) (n : ℕ) (ending : Ending) (sent : List Pair) → exec p n (Ended ending sent) ≡ Ended ending sent
-ended_stays p zero ending sent = refl
-ended_stays p (suc n) ending sent = ended_stays p n ending sent
 
 pub same_at : (p : MachineCode) (i j : ℕ) (ending : Ending) (machine : Machine) → i ≤ j → HasEnded ending (exec p i machine)
     → exec p j machine ≡ exec p i machine

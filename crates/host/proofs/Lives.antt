@@ -15,6 +15,7 @@ use Rattle.machine.specs.Run.{HasEnded}
 use Rattle.machine.specs.declared.status.Status.{Status}
 use Rattle.host.specs.Laws.{ending_of, moved_by, reported_of, steps_reported}
 use Rattle.host.proofs.Ends.{still_ended_at, end_of_status}
+use Rattle.common.proofs.Cases.{same_some}
 
 -- the steps that a session takes, and then more
 steps_join : (s : SessionContents) (taken more : ℕ) → exec (machine_code s.program) more (exec (machine_code s.program) taken s.machine) ≡ exec (machine_code s.program) (taken + more) s.machine
@@ -176,14 +177,11 @@ closed_event limit id old new event answer by closed = absurd by
 
 -- ---- lists of events
 
-some_is : {X : Type 0} (x y : X) → Some x ≡ Some y → x ≡ y
-some_is x y e = cc
-
 -- what an event and its answer are, where the first ones of the lists are known
 known : (limit : ℕ) (old new : HostContents) (event event' : HostEvent) (answer answer' : HostAnswer) → Some event ≡ Some event' → Some answer ≡ Some answer'
     → MayAnswer limit old event answer new → MayAnswer limit old event' answer' new
 known limit old new event event' answer answer' e a by =
-    subst (λ y. MayAnswer limit old event' y new) (some_is answer answer' a) (subst (λ x. MayAnswer limit old x answer new) (some_is event event' e) by)
+    subst (λ y. MayAnswer limit old event' y new) (same_some answer answer' a) (subst (λ x. MayAnswer limit old x answer new) (same_some event event' e) by)
 
 module _ (limit id p : ℕ) (pairs : List Pair) where
   -- a session that is closed is not shown
@@ -252,7 +250,7 @@ module _ (limit id steps taken : ℕ) (reported : Status) (ending : Ending) (end
       let turned = known limit old by.0 event (Turn id steps) answer (Turned taken reported) asked said by.1 in
       let same = one_session old id id turned.0 s refl turned.1 live.is_open in
       let here : reported_of id event answer ≡ taken =
-      ap (λ e. reported_of id e answer) (some_is event (Turn id steps) asked) ∙ ap (reported_of id (Turn id steps)) (some_is answer (Turned taken reported) said)
+      ap (λ e. reported_of id e answer) (same_some event (Turn id steps) asked) ∙ ap (reported_of id (Turn id steps)) (same_some answer (Turned taken reported) said)
       ∙ ap (λ b. cond b taken 0) (eq-eqb id id refl) in
       let all : reported_of id event answer + 0 ≡ taken = omega (arith, here) in
       let after : HasEnded ending turned.2.0 = end_of_status (machine_code turned.0.program) steps taken reported turned.2.0 ending ends turned.2.1.reported in
@@ -293,7 +291,7 @@ module _ (limit id p : ℕ) (pairs : List Pair) (bytes : List ℕ) (world : List
       let at = known limit old by.0 event (Open bytes world) answer (Opened id) opens opened by.1 in
       let n : ModuleContents = at.2.0 in
       let live = subst (λ h. IsLive id (record { id = old.next; program = n; machine = first_machine n world }) h) (sym at.2.2) (opened_live id old n world at.1) in
-      let first : reported_of id event answer ≡ 0 = ap (λ e. reported_of id e answer) (some_is event (Open bytes world) opens) ∙ ap (reported_of id (Open bytes world)) (some_is answer (Opened id) opened) in
+      let first : reported_of id event answer ≡ 0 = ap (λ e. reported_of id e answer) (same_some event (Open bytes world) opens) ∙ ap (reported_of id (Open bytes world)) (same_some answer (Opened id) opened) in
       let steps : steps_reported id (take j events) (take j answers) ≡ reported_of id event answer + steps_reported id (take j events) (take j answers) = omega (arith, first) in
       shown_moved limit id p pairs events answers by.0 new (record { id = old.next; program = n; machine = first_machine n world }) by.2 live j views viewed
       ∙ ap (λ (x : ModuleContents). seen_of x p (sent_of (exec (machine_code x) (steps_reported id (take j events) (take j answers)) (first_machine x world)))) (unique n at.2.1.spelled)
@@ -316,7 +314,7 @@ module _ (limit id steps taken : ℕ) (reported : Status) (ending : Ending) (end
       let at = known limit old by.0 event (Open bytes world) answer (Opened id) opens opened by.1 in
       let n : ModuleContents = at.2.0 in
       let live = subst (λ h. IsLive id (record { id = old.next; program = n; machine = first_machine n world }) h) (sym at.2.2) (opened_live id old n world at.1) in
-      let first : reported_of id event answer ≡ 0 = ap (λ e. reported_of id e answer) (some_is event (Open bytes world) opens) ∙ ap (reported_of id (Open bytes world)) (some_is answer (Opened id) opened) in
+      let first : reported_of id event answer ≡ 0 = ap (λ e. reported_of id e answer) (same_some event (Open bytes world) opens) ∙ ap (reported_of id (Open bytes world)) (same_some answer (Opened id) opened) in
       let total : steps_reported id (take j events) (take j answers) ≡ reported_of id event answer + steps_reported id (take j events) (take j answers) = omega (arith, first) in
       let ended = ended_moved limit id steps taken reported ending ends events answers by.0 new (record { id = old.next; program = n; machine = first_machine n world }) by.2 live k asked said in
       let grown = still_ended_at (machine_code n) (steps_reported id (take (suc k) events) (take (suc k) answers)) (steps_reported id (take j events) (take j answers)) ending
@@ -364,7 +362,7 @@ module _ (limit id : ℕ) (bytes : List ℕ) (world : List InputNumbers) (m : Mo
       let at = known limit old by.0 event (Open bytes world) answer (Opened id) opens opened by.1 in
       let n : ModuleContents = at.2.0 in
       let live = subst (λ h. IsLive id (record { id = old.next; program = n; machine = first_machine n world }) h) (sym at.2.2) (opened_live id old n world at.1) in
-      let first : reported_of id event answer ≡ 0 = ap (λ e. reported_of id e answer) (some_is event (Open bytes world) opens) ∙ ap (reported_of id (Open bytes world)) (some_is answer (Opened id) opened) in
+      let first : reported_of id event answer ≡ 0 = ap (λ e. reported_of id e answer) (same_some event (Open bytes world) opens) ∙ ap (reported_of id (Open bytes world)) (same_some answer (Opened id) opened) in
       let steps : steps_reported id events answers ≡ reported_of id event answer + steps_reported id events answers = omega (arith, first) in
       let same = unique n at.2.1.spelled in
       ⊎_elim
@@ -445,7 +443,7 @@ next_grows limit old new event answer by = absurd by
 opened_by : (limit : ℕ) (old new : HostContents) (event : HostEvent) (answer : HostAnswer) (n : ℕ) → Some answer ≡ Some (Opened n)
     → MayAnswer limit old event answer new → (n ≡ old.next) × (new.next ≡ old.next + 1)
 opened_by limit old new event answer n e by =
-    opened_next limit old new event n (subst (λ y. MayAnswer limit old event y new) (some_is answer (Opened n) e) by)
+    opened_next limit old new event n (subst (λ y. MayAnswer limit old event y new) (same_some answer (Opened n) e) by)
 
 ids_from : (limit : ℕ) (events : List HostEvent) (answers : List HostAnswer) (old new : HostContents) → Answered limit old events answers new
     → (j n : ℕ) → slice_get answers j ≡ Some (Opened n) → old.next ≤ n

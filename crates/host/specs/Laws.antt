@@ -13,12 +13,15 @@ use Rattle.bytecode.specs.Isolated.{seen_of, AgreeOnInputs, OneIsPrefix, IsIsola
 use Rattle.machine.specs.Run.{HasEnded}
 use Rattle.machine.specs.declared.status.Status.{Status}
 use Rattle.machine.specs.declared.status.Status.TheVariants as status
-use Rattle.host.specs.Meaning.{SessionContents, HostContents, HostEvent, Open, Turn, View, HostAnswer, Opened, Turned, Viewed, Answered, IsOpen, view_of}
+use Rattle.host.specs.Meaning.{SessionContents, HostContents, HostEvent, Open, Turn, View, Close, HostAnswer, Opened, Turned, Viewed, Answered, IsOpen, view_of}
 
 -- the steps that an event's answer reports of the session of an id
 abbrev pub reported_of : ℕ → HostEvent → HostAnswer → ℕ
 reported_of id (Turn other n) (Turned taken status) = if other == id then taken else 0
-reported_of id event answer = 0
+reported_of id (Turn other n) answer = 0
+reported_of id (Open bytes world) answer = 0
+reported_of id (View other p) answer = 0
+reported_of id (Close other) answer = 0
 
 -- the steps that the turns of an id report in sum
 abbrev pub steps_reported : ℕ → List HostEvent → List HostAnswer → ℕ

@@ -29,6 +29,6 @@ pub enum Answer {
     Viewed(Vec<Pair>),
     /// The session was closed.
     Closed,
-    /// The event was refused, and nothing has changed.
+    /// The event was refused, or memory ran out for it; nothing has changed.
     Refused(HostFault),
 }

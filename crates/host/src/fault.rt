@@ -4,6 +4,7 @@ ghost use Rattle.std.specs.Prelude.{◌≡◌, Some};
 
 use common::OrNoMemory;
 use machine::NewRefusal;
+use principals::{UNKNOWN_PRINCIPAL, UNKNOWN_PRINCIPAL_WORDS};
 use std::error::Error;
 use std::fmt;
 use verifier::LoadRefusal;
@@ -50,9 +51,8 @@ impl HostRefusal {
         match self {
             HostRefusal::Full => 901,
             HostRefusal::UnknownId => 902,
-            HostRefusal::UnknownPrincipal => 153,
-            HostRefusal::Load(LoadRefusal::Bytes(refusal)) => refusal.defect.number(),
-            HostRefusal::Load(LoadRefusal::Code(refusal)) => refusal.defect.number(),
+            HostRefusal::UnknownPrincipal => UNKNOWN_PRINCIPAL,
+            HostRefusal::Load(refusal) => refusal.number(),
             HostRefusal::New(refusal) => refusal.number(),
         }
     }
@@ -64,9 +64,8 @@ impl HostRefusal {
         match self {
             HostRefusal::Full => "full",
             HostRefusal::UnknownId => "unknown id",
-            HostRefusal::UnknownPrincipal => "unknown principal",
-            HostRefusal::Load(LoadRefusal::Bytes(refusal)) => refusal.defect.words(),
-            HostRefusal::Load(LoadRefusal::Code(refusal)) => refusal.defect.words(),
+            HostRefusal::UnknownPrincipal => UNKNOWN_PRINCIPAL_WORDS,
+            HostRefusal::Load(refusal) => refusal.words(),
             HostRefusal::New(refusal) => refusal.words(),
         }
     }

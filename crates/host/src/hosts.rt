@@ -141,9 +141,7 @@ impl Host {
         let mut answers = Vec::with_capacity(self.alloc, events.len())?;
         for event in events {
             let answer = self.answer(event);
-            let Ok(()) = answers.push(answer) else {
-                unreachable!();
-            };
+            answers.push_reserved(answer);
         }
         Ok(answers)
     }

@@ -4,7 +4,7 @@ use Rattle.std.specs.Prelude.{Option, Some, None, if◌then◌else◌, ◌==◌,
 use Rattle.std.specs.List.{list_any, list_all}
 use Rattle.std.proofs.lemmas.List.Folds.{list_any-append}
 use Rattle.std.proofs.lemmas.List.{append-nil}
-use Rattle.std.proofs.lemmas.Bool.{or_left, or_right, or_cases, and_parts, eq-eqb}
+use Rattle.std.proofs.lemmas.Bool.{or_left, or_right, or_cases, and_parts}
 use Rattle.std.proofs.lemmas.Map.Views.{any-filter_same}
 use Rattle.std.proofs.lemmas.Int.{int_wrap-add_right, int_wrap_fits, SFits-int_wrap}
 use Rattle.std.proofs.Math.IntN.{+ℤ_invr, +ℤ_idr}
@@ -20,12 +20,14 @@ use Rattle.resolved.specs.declared.statement.Exit.{Exit}
 use Rattle.resolved.specs.declared.statement.Exit.TheVariants.{Normal, Return, Break, Continue, Throw}
 use Rattle.resolved.specs.Tree.{Expression, Integer, Logical, Read, Element, Unary, Binary, Short, Statement, Assign, Clear, Store, Receive, Send, Call, If, While, Leave, ReturnWith, Try, Nested, Block, Empty, Then, Handlers, NoMore, Catch}
 use Rattle.resolved.specs.Program.{Program, procedure_at}
-use Rattle.resolved.specs.Value.{Evaluated, Yields, Raises, then_with, truth_in, number_in, wrapped, literal_number, is_zero, unless_zero, operator_value, decides, in_range, position_of, checked_index, arith_exception, bounds_exception, end_exception}
+use Rattle.resolved.specs.Value.{Evaluated, Yields, Raises, then_with, truth_in, number_in, wrapped, literal_number, unless_zero, operator_value, decides, in_range, position_of, checked_index, arith_exception, bounds_exception, end_exception}
 use Rattle.resolved.specs.SourceState.{SourceState, value_of, values_of, cells, cell_at, assigned, stored, cleared}
 use Rattle.resolved.specs.Meaning.{OutOfTurns, Outcome, Ended, Stopped, normally, thrown, after, evaluated, looped, turns, caught, leaving, returned_to, received, sending, Calls, statement_meaning, block_meaning, handlers_meaning, frame_of, calls_with}
 use Rattle.resolved.specs.Ends.{same_exit, has_end, index_can_raise, divisor_can_raise, index_raises, operator_raises, raises, raises_all, thrown_ends, declared_by, leaves_loop, handles, passes, then_ends, statement_ends, block_ends, handlers_ends}
 use Rattle.resolved.specs.EndFaults.{may_end}
 use Rattle.isolation.specs.Runs.{EndsAmong}
+use Rattle.resolved.proofs.Exits.{same-exit, same_exit-itself, thrown-append}
+use Rattle.common.specs.Integers.{is_zero}
 
 -- whether an exception is in a list
 abbrev pub raised_in : List ℕ → ℕ → Bool
@@ -44,22 +46,6 @@ thrown-is (y ∷ xs) x = ap (λ b. (x == y) || b) (thrown-is xs x)
 
 pub thrown-among : (xs : List ℕ) (x : ℕ) → raised_in xs x ≡ true → has_end (thrown_ends xs) (Throw x) ≡ true
 thrown-among xs x h = thrown-is xs x ∙ h
-
--- ways out that the test takes for the same are the same
-pub same-exit : (a b : Exit) → same_exit a b ≡ true → a ≡ b
-same-exit Normal Normal h = refl
-same-exit Return Return h = refl
-same-exit Break Break h = refl
-same-exit Continue Continue h = refl
-same-exit (Throw a) (Throw b) h = ap (λ x. Throw x) (grind (arith, h))
-same-exit a b h = let e : true ≡ false = sym h in absurd (cc)
-
-pub same_exit-itself : (a : Exit) → same_exit a a ≡ true
-same_exit-itself Normal = refl
-same_exit-itself Return = refl
-same_exit-itself Break = refl
-same_exit-itself Continue = refl
-same_exit-itself (Throw a) = eq-eqb a a refl
 
 -- the ends of a list that pass a test
 pub end-filter : (p : Exit → Bool) (ends : List Exit) (exit : Exit) → has_end (filter p ends) exit ≡ (p exit && has_end ends exit)
@@ -310,17 +296,13 @@ call_ends program f = Normal ∷ thrown_ends (declared_by (procedure_at program 
 abbrev pub CallsAmong : Program → Calls → Type 0
 CallsAmong program calls = (f : ℕ) (vs : List Value) (s : SourceState) → Among (call_ends program f) (calls f vs s)
 
-thrown-both : (xs ys : List ℕ) → thrown_ends (xs ++ ys) ≡ thrown_ends xs ++ thrown_ends ys
-thrown-both [] ys = refl
-thrown-both (x ∷ xs) ys = ap (λ l. Throw x ∷ l) (thrown-both xs ys)
-
 pub thrown-left : (xs ys : List ℕ) (exit : Exit) → has_end (thrown_ends xs) exit ≡ true →
     has_end (thrown_ends (xs ++ ys)) exit ≡ true
-thrown-left xs ys exit h = rw (thrown-both xs ys) (any-left (same_exit exit) (thrown_ends xs) (thrown_ends ys) h)
+thrown-left xs ys exit h = rw (thrown-append xs ys) (any-left (same_exit exit) (thrown_ends xs) (thrown_ends ys) h)
 
 pub thrown-right : (xs ys : List ℕ) (exit : Exit) → has_end (thrown_ends ys) exit ≡ true →
     has_end (thrown_ends (xs ++ ys)) exit ≡ true
-thrown-right xs ys exit h = rw (thrown-both xs ys) (any-right (same_exit exit) (thrown_ends xs) (thrown_ends ys) h)
+thrown-right xs ys exit h = rw (thrown-append xs ys) (any-right (same_exit exit) (thrown_ends xs) (thrown_ends ys) h)
 
 pub behind : (first : Exit) (rest : List Exit) (exit : Exit) → has_end rest exit ≡ true → has_end (first ∷ rest) exit ≡ true
 behind first rest exit h = or_right (same_exit exit first) (has_end rest exit) h

@@ -19,12 +19,13 @@ use Rattle.resolved.specs.EndFaults.{may_end}
 use Rattle.resolved.specs.declared.target.Target.TheVariants.{ToEnd, ToThrown}
 use Rattle.resolved.specs.Labelled.{Labelling, ExitLabels, Demand, demand, FitsDemands, label_if, any_of, one, label_of, join_under, Scope, here, as_one_end, end_demands, one}
 use Rattle.isolation.proofs.Grows.{Grows, grows-itself, grows-returned_to}
-use Rattle.isolation.proofs.Among.{Among, same-exit, same_exit-itself, all-has, raised_in, thrown-is}
+use Rattle.isolation.proofs.Among.{Among, all-has, raised_in, thrown-is}
 use Rattle.isolation.proofs.Observer.{LabelReader, under, Reader, View, view_of, shown, AgreeFor, agree-back, agree-through, agree-unread, agree-with_cells, unread-left, unread-right}
 use Rattle.isolation.proofs.Kept.{Hidden, hidden_end, hidden_return, hidden_stop, Kept}
 use Rattle.isolation.proofs.Related.{Related, same_end, same_return, apart, first_stops, second_stops, both-kept, stopped-prefix, agree-prefix}
 use Rattle.isolation.proofs.Closed.{read_exits, one-same}
 use Rattle.isolation.proofs.Confined.{KeptCall, HiddenCall, call_end, call_thrown, call_stop, unread_exits, kept-returned_to, unread-label_if, fits-left, fits-right, unread-demand}
+use Rattle.resolved.proofs.Exits.{same-exit, same_exit-itself}
 
 -- two calls: they end in the same way, or the observer reads the label of neither end; and what is seen of a stopped one is a prefix
 pub data RelatedCall (view : View) (value : Bool) (exits : Exit → Bool) : Outcome → Outcome → Type 0 where

@@ -9,10 +9,11 @@ use Rattle.resolved.specs.SourceState.{SourceState}
 use Rattle.resolved.specs.Meaning.{Outcome, state_after}
 use Rattle.resolved.specs.Ends.{same_exit, has_end, one_end}
 use Rattle.resolved.specs.Labelled.{ExitLabels, at_ends, Labelling, Join, one}
-use Rattle.isolation.proofs.Among.{Among, same-exit, all-has}
+use Rattle.isolation.proofs.Among.{Among, all-has}
 use Rattle.isolation.proofs.Observer.{Reader, View, AgreeFor, agree-back}
 use Rattle.isolation.proofs.Kept.{Hidden, hidden_end, hidden_return, hidden_stop, Kept}
 use Rattle.isolation.proofs.Related.{Related, same_end, same_return, apart, first_stops, second_stops, agree-prefix}
+use Rattle.resolved.proofs.Exits.{same-exit}
 
 -- which labels an observer reads
 abbrev pub read_exits : {h : PrincipalHierarchy} {labelling : Labelling} → Reader h labelling → ExitLabels → Exit → Bool

@@ -1,28 +1,21 @@
 -- Where a program's ends have no fault, each procedure ends only normally, by a return or by an exception that it declares.
-use Rattle.std.proofs.Common.{◌≡◌, refl, ℕ, zero, suc, Bool, true, false, not, ◌&&◌, List, [], ◌∷◌, ◌++◌, flat_map, is_some}
+use Rattle.std.proofs.Common.{◌≡◌, refl, ℕ, zero, suc, true, false, not, ◌&&◌, List, [], ◌∷◌, ◌++◌, flat_map, is_some}
 use Rattle.std.specs.Prelude.{slice_index_or, None}
 use Rattle.std.specs.List.{list_all}
 use Rattle.resolved.specs.declared.statement.Exit.TheVariants.{Normal}
 use Rattle.resolved.specs.Tree.{Empty}
 use Rattle.resolved.specs.Program.{Program, ProcedureEntry}
 use Rattle.resolved.specs.Ends.{has_end, block_ends}
-use Rattle.resolved.specs.EndFaults.{EndDefect, NoValueReturned, Undeclared, fault_unless, may_end, block_faults, procedure_faults, end_faults}
+use Rattle.resolved.specs.EndFaults.{NoValueReturned, Undeclared, fault_unless, may_end, block_faults, procedure_faults, end_faults}
 use Rattle.isolation.proofs.Among.{EndsAsDeclared}
-
--- of an empty list both parts are empty
-pub append-empty : {A : Type 0} (xs ys : List A) → xs ++ ys ≡ [] → (xs ≡ []) × (ys ≡ [])
-append-empty [] ys h = (refl, h)
-append-empty (x ∷ xs) ys h = absurd (cc)
-
-pub no_fault-test : (test : Bool) (defect : EndDefect) (at : ℕ) → fault_unless test defect at ≡ [] → test ≡ true
-no_fault-test true defect at h = refl
-no_fault-test false defect at h = absurd (cc)
+use Rattle.common.proofs.Cases.{append_empty}
+use Rattle.resolved.proofs.Exits.{no_fault-test}
 
 procedure-ends : (program : Program) (procedure : ProcedureEntry) → procedure_faults program procedure ≡ [] →
     list_all (may_end procedure) (block_ends program procedure.body) ≡ true
 procedure-ends program procedure h =
     let ends = block_ends program procedure.body in
-    let parts = append-empty
+    let parts = append_empty
     (block_faults program false true procedure.body ++ fault_unless
     (not (is_some procedure.result && has_end ends Normal)) NoValueReturned procedure.at)
     (fault_unless (list_all (may_end procedure) ends) Undeclared procedure.at) h in
@@ -33,9 +26,9 @@ each-ends : (program : Program) (none : ProcedureEntry) → list_all (may_end no
     list_all (may_end (slice_index_or procedures f none)) (block_ends program (slice_index_or procedures f none).body) ≡ true
 each-ends program none h [] faults f = h
 each-ends program none h (procedure ∷ rest) faults zero =
-    procedure-ends program procedure (append-empty (procedure_faults program procedure) (flat_map (procedure_faults program) rest) faults).0
+    procedure-ends program procedure (append_empty (procedure_faults program procedure) (flat_map (procedure_faults program) rest) faults).0
 each-ends program none h (procedure ∷ rest) faults (suc f) =
-    each-ends program none h rest (append-empty (procedure_faults program procedure) (flat_map (procedure_faults program) rest) faults).1 f
+    each-ends program none h rest (append_empty (procedure_faults program procedure) (flat_map (procedure_faults program) rest) faults).1 f
 
 pub ends-as-declared : (program : Program) → end_faults program ≡ [] → EndsAsDeclared program
 ends-as-declared program h f = each-ends program (record {

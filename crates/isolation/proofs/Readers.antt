@@ -1,7 +1,7 @@
 -- The readers of labels that the laws are about: a principal under a hierarchy, also one to which the labels are carried over.
-use Rattle.std.proofs.Common.{◌≡◌, refl, ap, ◌∙◌, ℕ, ◌<◌, List, [], map, length, get_or, inl, inr, ⊎_elim}
-use Rattle.std.specs.Prelude.{Any, Contains}
-use Rattle.std.proofs.lemmas.List.{length-map, get_or-map, map-append}
+use Rattle.std.proofs.Common.{◌≡◌, refl, ℕ, ◌<◌, List, [], map, length, get_or, inl, inr, ⊎_elim}
+use Rattle.std.specs.Prelude.{Any}
+use Rattle.std.proofs.lemmas.List.{map-append}
 use Rattle.std.proofs.lemmas.List.Elements.{All-map}
 use Rattle.std.proofs.lemmas.Option.{slice_get-get_or}
 use Rattle.principals.specs.ActsFor.{PrincipalHierarchy, IsHierarchy, ActsFor, itself, written, through, HasName}
@@ -13,6 +13,7 @@ use Rattle.labels.proofs.Tests.{flows-decides}
 use Rattle.labels.proofs.FlowTests.{may_read-flowing, may_read-join, may_read-least}
 use Rattle.isolation.specs.Larger.{KeepsActsFor, carried_policy, carried_label, number_by_name, FlowsAreKept, NamesKeepActsFor}
 use Rattle.isolation.proofs.Observer.{LabelReader}
+use Rattle.common.proofs.Cases.{contained_map}
 
 -- a principal
 abbrev pub principal-reader : (h : PrincipalHierarchy) (p : ℕ) → LabelReader h
@@ -23,11 +24,6 @@ principal-reader h p = record {
   flowing = λ a b flow reads. may_read-flowing h a b p flow reads;
 }
 
--- what is in a list is, changed, in the changed list
-contained-map : {X Y : Type 0} (f : X → Y) (xs : List X) (x : X) → Contains xs x → Contains (map f xs) (f x)
-contained-map f xs x h =
-    (h.0, rw length-map h.1, get_or-map f xs h.0 x (f x) h.1 ∙ ap f h.2)
-
 carried-allows : (part whole : PrincipalHierarchy) (carry : ℕ → ℕ) → KeepsActsFor part whole carry →
     (policy : ReaderPolicy) (p : ℕ) → PolicyAllows part p policy → PolicyAllows whole (carry p) (carried_policy carry policy)
 carried-allows part whole carry keeps policy p allowed =
@@ -35,7 +31,7 @@ carried-allows part whole carry keeps policy p allowed =
     (λ owner. inl (keeps p policy.owner owner))
     (λ some. Any-elim (λ reader. ActsFor part.pairs p reader) policy.readers (PolicyAllows whole (carry p) (carried_policy carry policy)) some
     (λ reader contained acts. inr (Any-from_some (λ r. ActsFor whole.pairs (carry p) r) (map carry policy.readers) (carry reader)
-    (contained-map carry policy.readers reader contained) (keeps p reader acts))))
+    (contained_map carry policy.readers reader contained) (keeps p reader acts))))
     allowed
 
 carried-policy_flow : (part whole : PrincipalHierarchy) (carry : ℕ → ℕ) → KeepsActsFor part whole carry → (from to : ReaderPolicy) →
@@ -55,7 +51,7 @@ carried-flow part whole carry keeps from to flow =
     (λ policy contained.
     let found = FlowsTo-elim part from to flow policy contained in
     Any-from_some (λ other. PolicyFlowsTo whole (carried_policy carry policy) other) (carried_label carry to) (carried_policy carry found.0)
-    (contained-map (carried_policy carry) to found.0 found.1) (carried-policy_flow part whole carry keeps policy found.0 found.2)))
+    (contained_map (carried_policy carry) to found.0 found.1) (carried-policy_flow part whole carry keeps policy found.0 found.2)))
 
 -- a principal of another hierarchy, to which labels are carried over
 abbrev pub carried-reader : (part whole : PrincipalHierarchy) (carry : ℕ → ℕ) → KeepsActsFor part whole carry → (p : ℕ) →

@@ -12,11 +12,12 @@ use Rattle.resolved.specs.Ends.{same_exit, has_end, raises, thrown_ends, leaves_
 use Rattle.resolved.specs.EndFaults.{OutsideLoop, Unreachable, NeverRaised, fault_unless, may_stand, inner_faults, block_faults, handlers_faults}
 use Rattle.resolved.specs.declared.target.Target.TheVariants.{ToLoop}
 use Rattle.resolved.specs.Labelled.{Scope, ExitLabels, demand, FitsDemands, value_label, label_if, at_ends, own_label, raised_exits, loop_exits, statement_rule, block_rule, handlers_rule, statement_demands, block_demands, handlers_demands, Labelling, Join, one, label_of}
-use Rattle.isolation.proofs.Among.{same-exit, end-filter}
-use Rattle.isolation.proofs.Declared.{append-empty, no_fault-test}
+use Rattle.isolation.proofs.Among.{end-filter}
 use Rattle.isolation.proofs.Observer.{Reader, unread-left, unread-right}
 use Rattle.isolation.proofs.Closed.{closed-unread}
 use Rattle.isolation.proofs.Confined.{fits-left, fits-right, unread-label_if, unread-call, own-unread}
+use Rattle.common.proofs.Cases.{append_empty}
+use Rattle.resolved.proofs.Exits.{same-exit, no_fault-test}
 
 either-end : (xs ys : List Exit) (exit : Exit) → has_end (xs ++ ys) exit ≡ true →
     (has_end xs exit ≡ true) ⊎ (has_end ys exit ≡ true)
@@ -78,7 +79,7 @@ module _ (h : PrincipalHierarchy) (labelling : Labelling) (reader : Reader h lab
         let no_ends = block_ends scope.program no_block in
         let yes_exits : ExitLabels = at_ends yes_ends b (block_rule scope b yes_block) in
         let no_exits : ExitLabels = at_ends no_ends b (block_rule scope b no_block) in
-        let parts = append-empty (block_faults scope.program in_loop true yes_block) (block_faults scope.program in_loop true no_block) faults in
+        let parts = append_empty (block_faults scope.program in_loop true yes_block) (block_faults scope.program in_loop true no_block) faults in
         ⊎_elim
         (λ front. ⊎_elim
         (λ raised. unread-left reader (raised_exits e q exit ++ yes_exits exit) (no_exits exit)
@@ -118,7 +119,7 @@ module _ (h : PrincipalHierarchy) (labelling : Labelling) (reader : Reader h lab
     statement-ends-unread (Try at block handlers) pc in_loop faults fits unread exit among =
         let ends = block_ends scope.program block in
         let x : ExitLabels = at_ends ends pc (block_rule scope pc block) in
-        let parts = append-empty (block_faults scope.program in_loop true block) (handlers_faults scope.program in_loop ends handlers) faults in
+        let parts = append_empty (block_faults scope.program in_loop true block) (handlers_faults scope.program in_loop ends handlers) faults in
         let block_fits = fits-left h labelling (block_demands scope pc block) (handlers_demands scope x handlers) fits in
         let inner : (e : Exit) → has_end ends e ≡ true → reader.reads (x e) ≡ false = λ e found. closed-unread reader ends pc
         (block_rule scope pc block) e (λ one. unread) found
@@ -153,8 +154,8 @@ module _ (h : PrincipalHierarchy) (labelling : Labelling) (reader : Reader h lab
         let first = fault_unless (may_stand in_loop statement) OutsideLoop (place_of statement) ++ fault_unless reached Unreachable
         (place_of statement) in
         let later = block_faults scope.program in_loop (has_end ends Normal) rest in
-        let both = append-empty (first ++ inner_faults scope.program in_loop statement) later faults in
-        let here = append-empty first (inner_faults scope.program in_loop statement) both.0 in
+        let both = append_empty (first ++ inner_faults scope.program in_loop statement) later faults in
+        let here = append_empty first (inner_faults scope.program in_loop statement) both.0 in
         let statement_fits = fits-left h labelling (statement_demands scope pc statement) (block_demands scope (x Normal) rest) fits in
         let inner : (e : Exit) → has_end ends e ≡ true → reader.reads (x e) ≡ false = λ e found. closed-unread reader ends pc
         (statement_rule scope pc statement) e (λ one. unread) found
@@ -179,8 +180,8 @@ module _ (h : PrincipalHierarchy) (labelling : Labelling) (reader : Reader h lab
         let exits : ExitLabels = at_ends body_ends pc (block_rule scope pc body) in
         let others = filter (λ e. not (same_exit (Throw handled) e)) ends in
         let raised = fault_unless (has_end ends (Throw handled)) NeverRaised at in
-        let both = append-empty (raised ++ block_faults scope.program in_loop true body) (handlers_faults scope.program in_loop others rest) faults in
-        let here = append-empty raised (block_faults scope.program in_loop true body) both.0 in
+        let both = append_empty (raised ++ block_faults scope.program in_loop true body) (handlers_faults scope.program in_loop others rest) faults in
+        let here = append_empty raised (block_faults scope.program in_loop true body) both.0 in
         let unread_pc : reader.reads pc ≡ false = unread handled (no_fault-test (has_end ends (Throw handled)) NeverRaised at here.0) in
         ⊎_elim
         (λ found. unread-left reader (exits exit) (handlers_rule scope x rest exit)

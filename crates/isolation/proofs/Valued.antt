@@ -19,17 +19,19 @@ use Rattle.resolved.proofs.Sound.Meanings.{meaning_keeps_types}
 use Rattle.resolved.proofs.Sound.Returning.{ReturnsSome, block_some}
 use Rattle.isolation.specs.Runs.{GivesValue, CallsGiveTheirValue}
 use Rattle.isolation.proofs.Among.{Among, block-among, calls-among}
-use Rattle.isolation.proofs.Declared.{append-empty, no_fault-test, ends-as-declared}
+use Rattle.isolation.proofs.Declared.{ends-as-declared}
+use Rattle.common.proofs.Cases.{append_empty}
+use Rattle.resolved.proofs.Exits.{no_fault-test}
 
 -- a procedure with a value does not end normally
 no-normal : (program : Program) (procedure : ProcedureEntry) (value : ResultEntry) → procedure_faults program procedure ≡ [] → procedure.result ≡ Some value →
     has_end (block_ends program procedure.body) Normal ≡ false
 no-normal program procedure value h is =
     let ends : List Exit = block_ends program procedure.body in
-    let before = (append-empty
+    let before = (append_empty
     (block_faults program false true procedure.body ++ fault_unless (not (is_some procedure.result && has_end ends Normal)) NoValueReturned procedure.at)
     (fault_unless (list_all (may_end procedure) ends) Undeclared procedure.at) h).0 in
-    let own = (append-empty (block_faults program false true procedure.body)
+    let own = (append_empty (block_faults program false true procedure.body)
     (fault_unless (not (is_some procedure.result && has_end ends Normal)) NoValueReturned procedure.at) before).1 in
     turned (has_end ends Normal) (sym (ap (λ (r : Option ResultEntry). not (is_some r && has_end ends Normal)) is)
     ∙ no_fault-test (not (is_some procedure.result && has_end ends Normal)) NoValueReturned procedure.at own)
@@ -43,9 +45,9 @@ faultless-there : (program : Program) (procedures : List ProcedureEntry) → fla
 faultless-there program [] none f callee there = absurd (let no : None ≡ Some callee = there in cc)
 faultless-there program (first ∷ rest) none zero callee there =
     let is : Some first ≡ Some callee = there in let same : first ≡ callee = cc in
-    subst (λ p. procedure_faults program p ≡ []) same (append-empty (procedure_faults program first) (flat_map (procedure_faults program) rest) none).0
+    subst (λ p. procedure_faults program p ≡ []) same (append_empty (procedure_faults program first) (flat_map (procedure_faults program) rest) none).0
 faultless-there program (first ∷ rest) none (suc f) callee there =
-    faultless-there program rest (append-empty (procedure_faults program first) (flat_map (procedure_faults program) rest) none).1 f callee there
+    faultless-there program rest (append_empty (procedure_faults program first) (flat_map (procedure_faults program) rest) none).1 f callee there
 
 leaving-gives : (program : Program) (callee : ProcedureEntry) (value : ResultEntry) (back : SourceState → SourceState) (o : Outcome) → callee.result ≡ Some value →
     has_end (block_ends program callee.body) Normal ≡ false → Among (block_ends program callee.body) o → ReturnsSome o →

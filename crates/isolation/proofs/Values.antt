@@ -9,12 +9,13 @@ use Rattle.resolved.specs.declared.expression.Operator.{Operator}
 use Rattle.resolved.specs.declared.expression.Operator.TheVariants.{Add, Subtract, Multiply, Divide, Remainder, LessThan, AtMost, GreaterThan, AtLeast, Equal, Unequal, Same, Different}
 use Rattle.resolved.specs.declared.expression.Connective.{Connective}
 use Rattle.resolved.specs.Tree.{Expression, Integer, Logical, Read, Element, Unary, Binary, Short}
-use Rattle.resolved.specs.Value.{Evaluated, Yields, Raises, then_with, number_in, literal_number, is_zero, unless_zero, prefix_value, operator_value, decides, in_range, position_of, checked_index, arith_exception, bounds_exception}
+use Rattle.resolved.specs.Value.{Evaluated, Yields, Raises, then_with, number_in, literal_number, unless_zero, prefix_value, operator_value, decides, in_range, position_of, checked_index, arith_exception, bounds_exception}
 use Rattle.resolved.specs.SourceState.{SourceState, cells, cell_at, value_of, values_of}
 use Rattle.resolved.specs.Ends.{index_can_raise, divisor_can_raise, is_division, raises}
 use Rattle.resolved.specs.Labelled.{Scope, variable_label, value_label, raise_label, raise_labels, label_if, any_of, Labelling, Join}
 use Rattle.isolation.proofs.Among.{RaisesAmong, expression-raises, index-in_range, divisor-not_zero}
 use Rattle.isolation.proofs.Observer.{Reader, view_of, AgreeFor, read-left, read-right}
+use Rattle.common.specs.Integers.{is_zero}
 
 -- two evaluations: both give values that are related, or both raise the same exception
 pub data Alike {A B : Type 0} (P : A → B → Type 0) : Evaluated A → Evaluated B → Type 0 where

@@ -3,7 +3,7 @@
 use Rattle.std.proofs.Common.{append_assoc, ◌≡◌, refl, sym, ap, ◌∙◌, subst, Bool, true, false, not, List, [], ◌∷◌, ◌++◌, ◌||◌, ◌&&◌, ◌⊎◌, inl, inr, ⊎_elim}
 use Rattle.std.specs.Prelude.{IsTrue, IsFalse, Contains, Some, None, find, if◌then◌else◌}
 use Rattle.std.specs.List.{list_all}
-use Rattle.std.proofs.lemmas.Bool.{and_parts, and_from, or_left, or_right, or_cases}
+use Rattle.std.proofs.lemmas.Bool.{and_parts, and_from, or_left, or_right, or_cases, not-false, not-true}
 use Rattle.std.proofs.lemmas.List.Elements.{Contains-append_cases, Contains-append_left, Contains-append_right}
 use Rattle.principals.proofs.Closure.{none_in_nil, Contains-cons_cases, Contains-later, Contains-first}
 use Rattle.labels.specs.Constraints.{Lattice, LatticeLaws, Atom, Written, Unknown, Constraint, is_written, value, join_of, holds, FitsAll, FitsUnknowns, IsLeast, first_unmet, Reaches, directly, onward, Linked, ends, goes_on, IsChain, IsRefusedAt, Occurs}
@@ -441,10 +441,6 @@ module _ {U : Type 0} (eq : U → U → Bool) (eq-same : (a b : U) → eq a b �
           ⊎_elim (λ found. inr (refused found.0 found.1 found.2 found.3)) (λ none. inl (least_values, all-from (λ c. holds l least_values c) cs (λ c h. held c h (none c h))))
           (found-or (λ c. is_written c.right && not (holds l least_values c)) cs)
         where
-          false_from : (b : Bool) → not b ≡ true → b ≡ false
-          false_from false e = refl
-          false_from true e = let i : false ≡ true = e in absurd (cc)
-
           refused : (last : Constraint N U V) → first_unmet l cs least_values ≡ Some last → Contains cs last →
               (is_written last.right && not (holds l least_values last)) ≡ true →
               (from : V) × (chain : List (Constraint N U V)) × (c : Constraint N U V) × IsRefusedAt l cs from chain c
@@ -454,16 +450,12 @@ module _ {U : Type 0} (eq : U → U → Bool) (eq-same : (a b : U) → eq a b �
                   (from : V) × (chain : List (Constraint N U V)) × (c : Constraint N U V) × IsRefusedAt l cs from chain c
               by_right (Unknown u) is parts = let i : false ≡ true = sym (ap is_written is) ∙ parts.0 in absurd (cc)
               by_right (Written to) is parts =
-                  let found = unmet-chain last to there is (false_from (holds l least_values last) parts.1) in
+                  let found = unmet-chain last to there is (not-true (holds l least_values last) parts.1) in
                   (found.0, found.1, last, record { values = least_values; least = least_values-least; first = first; chained = found.2 })
 
           held : (c : Constraint N U V) → Contains cs c → IsFalse (is_written c.right && not (holds l least_values c)) → IsTrue (holds l least_values c)
           held c h e = by_right c.right refl
             where
-              passes : (b : Bool) → not b ≡ false → b ≡ true
-              passes true f = refl
-              passes false f = let i : true ≡ false = f in absurd (cc)
-
               by_right : (r : Atom U V) → c.right ≡ r → IsTrue (holds l least_values c)
               by_right (Unknown u) is = unknown-holds l laws cs least_values least_values-fit c u h is
-              by_right (Written to) is = passes (holds l least_values c) (sym (ap (λ r. is_written r && not (holds l least_values c)) is) ∙ e)
+              by_right (Written to) is = not-false (holds l least_values c) (sym (ap (λ r. is_written r && not (holds l least_values c)) is) ∙ e)

@@ -6,10 +6,7 @@ use Rattle.std.proofs.lemmas.Bool.{or_left, or_right}
 use Rattle.principals.proofs.Closure.{none_in_nil, Contains-cons_cases, Contains-later, Contains-first}
 use Rattle.labels.specs.Constraints.{Lattice, LatticeLaws, Atom, Written, Unknown, Constraint, is_written, value, join_of, holds, FitsAll, FitsUnknowns, IsLeast, first_unmet, Reaches, directly, onward, Linked, ends, goes_on, IsRefusedAt, Occurs, renamed, is_inner, outer, Feeds, itself, through, StandsFor, OneByOne, IsGathered, reported_steps, reported_gathered}
 use Rattle.labels.proofs.Constraints.{each-of, all-from, join_of-above, join_of-least, part-below, unknown-holds, reaching, reaching-only, least_values, least_values-least, join_all-least}
-
-by_test : {P : Type 0} (b : Bool) → (b ≡ true → P) → (b ≡ false → P) → P
-by_test true held fails = held refl
-by_test false held fails = fails refl
+use Rattle.common.proofs.Cases.{by_test}
 
 -- ---- feeding
 pub inner-unknown : {U V : Type 0} (inner : U → Bool) (a : Atom U V) → IsTrue (is_inner inner a) → (u : U) × (a ≡ Unknown u)
@@ -262,6 +259,9 @@ module _ {N U V : Type 0} (l : Lattice V) (ds : List (Constraint N U V)) (u u' :
       right : (r : Atom U V) → d.right ≡ r → value u r ≡ value u' r
       right (Written v) e = refl
       right (Unknown x) e = same x (d, h, inr e)
+
+  pub fits-alike : FitsAll l ds u → FitsAll l ds u'
+  fits-alike fits = all-from (λ d. holds l u' d) ds (λ d h. subst IsTrue (holds-alike d h) (each-of (λ x. holds l u x) ds fits d h))
 
 module _ {N U W V : Type 0} (l : Lattice V) (laws : LatticeLaws l) (number : U → W) (inner : W → Bool) (cs : List (Constraint (Option N) W V)) where
   module _ (w : W → V) (d : Constraint N U V) (c : Constraint (Option N) W V) (is : StandsFor number inner cs d c) where

@@ -1,5 +1,6 @@
 -- What a policy keeps inside. Our own.
 use Rattle.std.specs.Prelude.{ℕ, ◌<◌, ◌↔◌, List, Contains, IsTrue}
+use Rattle.common.specs.declared.limits.TheConstants.{MAX_PRINCIPALS}
 use Rattle.principals.specs.Table.{has}
 use Rattle.principals.specs.declared.row.Row.{Row}
 use Rattle.labels.specs.Canonical.{IsCanonicalPolicy}
@@ -10,9 +11,9 @@ use Rattle.labels.specs.declared.policies.Policy.TheInside.{Inside}
 abbrev pub policy_of : Inside → ReaderPolicy
 policy_of inside = record { owner = inside.owner; readers = inside.readers.items }
 
--- a row of bits has of these numbers those below 256, and no others
+-- a row of bits has of these numbers those that a principal can have, and no others
 abbrev pub IsRowOf : List ℕ → Row → Type 0
-IsRowOf numbers row = (number : ℕ) → IsTrue (has row number) ↔ ((number < 256) × Contains numbers number)
+IsRowOf numbers row = (number : ℕ) → IsTrue (has row number) ↔ ((number < MAX_PRINCIPALS) × Contains numbers number)
 
 -- the policy is canonical, and the row is that of its readers
 pub record IsKeptPolicy (inside : Inside) : Type 0 where

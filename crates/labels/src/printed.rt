@@ -50,7 +50,8 @@ fn write_later_policies<W: fmt::Write>(
     policies: &[Policy],
 ) -> fmt::Result
     ensures { WritesOnOk W.write_str_gives f.old result
-        (flat_map (λ policy. codes "; " ++ printed_policy hierarchy.now policy) policies.now) f.new }
+        (flat_map (λ policy. codes "; " ++ printed_policy hierarchy.now policy) policies.now)
+        f.new }
 {
     for policy in policies {
         write!(f, "; ")?;
@@ -64,7 +65,8 @@ fn write_policy<W: fmt::Write>(
     hierarchy: &Hierarchy,
     policy: &Policy,
 ) -> fmt::Result
-    ensures { WritesOnOk W.write_str_gives f.old result (printed_policy hierarchy.now policy.now) f.new }
+    ensures { WritesOnOk W.write_str_gives f.old result (printed_policy hierarchy.now policy.now)
+        f.new }
 {
     write_principal(f, hierarchy, policy.owner())?;
     write!(f, ":")?;
@@ -76,7 +78,8 @@ fn write_readers<W: fmt::Write>(
     hierarchy: &Hierarchy,
     readers: &[u32],
 ) -> fmt::Result
-    ensures { WritesOnOk W.write_str_gives f.old result (printed_readers hierarchy.now readers.now) f.new }
+    ensures { WritesOnOk W.write_str_gives f.old result (printed_readers hierarchy.now readers.now)
+        f.new }
 {
     match readers.split_first() {
         Some((first, others)) => {
@@ -94,7 +97,8 @@ fn write_later_readers<W: fmt::Write>(
     readers: &[u32],
 ) -> fmt::Result
     ensures { WritesOnOk W.write_str_gives f.old result
-        (flat_map (λ reader. codes ", " ++ printed_principal hierarchy.now reader) readers.now) f.new }
+        (flat_map (λ reader. codes ", " ++ printed_principal hierarchy.now reader) readers.now)
+        f.new }
 {
     for reader in readers {
         write!(f, ", ")?;
@@ -108,7 +112,8 @@ fn write_principal<W: fmt::Write>(
     hierarchy: &Hierarchy,
     number: u32,
 ) -> fmt::Result
-    ensures { WritesOnOk W.write_str_gives f.old result (printed_principal hierarchy.now number) f.new }
+    ensures { WritesOnOk W.write_str_gives f.old result (printed_principal hierarchy.now number)
+        f.new }
 {
     match hierarchy.name(number) {
         Some(name) => write!(f, "{name}"),

@@ -10,7 +10,8 @@ use principals::Hierarchy;
 
 // Whether a number acts for some of the readers, tried one after another.
 fn acts_for_some(hierarchy: &Hierarchy, principal: u32, readers: &[u32]) -> bool
-    ensures { result ≡ list_any (λ reader. acts_for hierarchy.now.pairs principal reader) readers.now }
+    ensures { result ≡ list_any (λ reader. acts_for hierarchy.now.pairs principal reader)
+        readers.now }
 {
     readers
         .iter()
@@ -19,7 +20,8 @@ fn acts_for_some(hierarchy: &Hierarchy, principal: u32, readers: &[u32]) -> bool
 
 // Whether the policy allows each of the readers.
 fn allows_each(hierarchy: &Hierarchy, policy: &Policy, readers: &[u32]) -> bool
-    ensures { result ≡ list_all (λ reader. policy_allows hierarchy.now reader policy.now) readers.now }
+    ensures { result ≡ list_all (λ reader. policy_allows hierarchy.now reader policy.now)
+        readers.now }
 {
     readers
         .iter()
@@ -38,7 +40,8 @@ fn covers_each(hierarchy: &Hierarchy, label: &Label, policies: &[Policy]) -> boo
 impl Policy {
     // Whether a number acts for some of the readers: of a principal in a few steps, however many the readers are.
     fn is_read_by(&self, hierarchy: &Hierarchy, number: u32) -> bool
-        ensures { result ≡ list_any (λ reader. acts_for hierarchy.now.pairs number reader) self.now.readers }
+        ensures { result ≡ list_any (λ reader. acts_for hierarchy.now.pairs number reader)
+            self.now.readers }
     {
         if number < hierarchy.count() {
             hierarchy.acts_for_some(number, self.row())

@@ -4,7 +4,7 @@ use Rattle.std.specs.Prelude.{slice_get}
 use Rattle.std.specs.List.{AllByRecursion}
 use Rattle.std.specs.Option.{option_map}
 use Rattle.std.proofs.lemmas.List.{length-map}
-use Rattle.std.proofs.lemmas.List.Elements.{All-nil, All-cons, All-head, All-tail}
+use Rattle.std.proofs.lemmas.List.Elements.{All-head, All-tail}
 use Rattle.std.proofs.lemmas.Option.{slice_get-map}
 use Rattle.bytecode.specs.declared.instruction.Instruction.{Instruction}
 use Rattle.bytecode.specs.declared.instruction.Instruction.TheVariants.{Jump, JumpIfFalse}
@@ -20,6 +20,7 @@ use Rattle.layout.specs.Offsets.{offset, laid_out_procedure, laid_out}
 use Rattle.layout.specs.Graph.{HasTargetIn, IsHandlerIn, HasPositions, IsGraph}
 use Rattle.layout.proofs.Offsets.{width-renamed}
 use Rattle.layout.proofs.Tables.{offset-within}
+use Rattle.bytecode.proofs.Widths.{procedures_short}
 
 -- ---- code
 
@@ -76,10 +77,6 @@ handlers_fit code hs short within h =
 
 -- ---- procedures
 
-procedure_short : (p : ProcedureContents) → Fits procedure p → code_length p.code < 2 ^ 32
-unfolding procedure
-procedure_short p h = code_short p.code h.0.1.1.1.0
-
 procedure_fits : (p : ProcedureContents) → HasPositions p → Fits procedure p → Fits procedure (laid_out_procedure p)
 unfolding procedure
 procedure_fits p positions h =
@@ -94,20 +91,9 @@ each_procedure before other (p ∷ rest) positions h = (
   each_procedure (before ++ p ∷ []) (other ++ laid_out_procedure p ∷ []) rest (All-tail HasPositions p rest positions) h.1,
 )
 
-abbrev IsShort : ProcedureContents → Type 0
-IsShort p = code_length p.code < 2 ^ 32
-
-each_short : (before rest : List ProcedureContents) → FitEach (λ _ p. Fits procedure p) before rest → All IsShort rest
-each_short before [] h = All-nil IsShort
-each_short before (p ∷ rest) h = All-cons IsShort p rest (procedure_short p h.0) (each_short (before ++ p ∷ []) rest h.1)
-
 procedures_fit : (ps : List ProcedureContents) → All HasPositions ps → Fits procedures ps → Fits procedures (map laid_out_procedure ps)
 unfolding procedures
 procedures_fit ps positions h = (omega (arith, h.0, length-map ps laid_out_procedure), refl, each_procedure [] [] ps positions h.2)
-
-all_short : (ps : List ProcedureContents) → Fits procedures ps → All IsShort ps
-unfolding procedures
-all_short ps h = each_short [] ps h.2
 
 start-same : (p : Option ProcedureContents) → may_start (option_map laid_out_procedure p) ≡ may_start p
 start-same None = refl
@@ -121,7 +107,7 @@ main_fits ps number h = (h.0, ap may_start (slice_get-map laid_out_procedure ps 
 
 pub codes-short : (graph : ModuleContents) → IsGraph graph → All (λ (p : ProcedureContents). code_length p.code < 2 ^ 32) graph.procedures
 unfolding module_file contents program
-codes-short graph h = all_short graph.procedures h.limits.0.1.1.1.0
+codes-short graph h = procedures_short graph.procedures h.limits.0.1.1.1.0
 
 pub Fits-laid_out : (graph : ModuleContents) → IsGraph graph → Fits module_file (laid_out graph)
 unfolding module_file contents program

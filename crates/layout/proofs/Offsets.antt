@@ -18,6 +18,7 @@ use Rattle.layout.specs.Offsets.{offset, laid_out_procedure, laid_out, offset_in
 use Rattle.layout.specs.Runs.{graph_program, graph_after_steps}
 use Rattle.layout.specs.Kept.{renamed, SameRuns, SameInterface}
 use Rattle.layout.proofs.Renaming.{Relaid, relaid, exec-same}
+use Rattle.bytecode.proofs.Widths.{width_of-pos, past}
 
 -- ---- widths
 
@@ -25,9 +26,6 @@ pub width-renamed : (f : ℕ → ℕ) (x : Instruction) → width_of (renamed_in
 width-renamed f (Jump target) = refl
 width-renamed f (JumpIfFalse target) = refl
 width-renamed f x = refl
-
-pub some_width : (x : Instruction) → 0 < width_of x
-some_width x = omega arith
 
 -- ---- offsets ascend
 
@@ -38,7 +36,7 @@ offset-start (x ∷ code) = refl
 pub offset-less : (code : List Instruction) (a b : ℕ) → a < b → offset code a < offset code b
 offset-less [] a b h = h
 offset-less (x ∷ code) a zero h = absurd (omega arith)
-offset-less (x ∷ code) zero (suc b) h = omega (arith, some_width x)
+offset-less (x ∷ code) zero (suc b) h = omega (arith, width_of-pos x)
 offset-less (x ∷ code) (suc a) (suc b) h = omega (arith, offset-less code a b (omega arith))
 
 pub offset-most : (code : List Instruction) (a b : ℕ) → a ≤ b → offset code a ≤ offset code b
@@ -62,27 +60,22 @@ behind x rest n w some most =
     let not_inside : ltb n w ≡ false = le-ltb n w most in
     rw (not_first, not_inside) refl
 
-skipped : (x : Instruction) (rest : List Instruction) (n : ℕ) → instruction_at (x ∷ rest) (width_of x + n) ≡ instruction_at rest n
-skipped x rest n =
-    behind x rest (width_of x + n) (width_of x) (omega arith) (omega arith)
-    ∙ ap (λ (at : ℕ). instruction_at rest at) (omega arith)
-
 pub fetched : (f : ℕ → ℕ) (code : List Instruction) (k : ℕ) → instruction_at (map (renamed_instruction f) code) (offset code k) ≡ option_map (renamed_instruction f) (slice_get code k)
 fetched f [] k = refl
 fetched f (x ∷ code) zero = refl
 fetched f (x ∷ code) (suc k) =
     ap (λ (w : ℕ). instruction_at (map (renamed_instruction f) (x ∷ code)) (w + offset code k)) (sym (width-renamed f x))
-    ∙ skipped (renamed_instruction f x) (map (renamed_instruction f) code) (offset code k)
+    ∙ past (renamed_instruction f x) (map (renamed_instruction f) code) (offset code k)
     ∙ fetched f code k
 
 -- ---- the next offset
 
-pub past : (code : List Instruction) (k : ℕ) (x : Instruction) → slice_get code k ≡ Some x → offset code k + width_of x ≡ offset code (suc k)
-past [] k x e = absurd (cc)
-past (y ∷ code) zero x e =
+pub next_at : (code : List Instruction) (k : ℕ) (x : Instruction) → slice_get code k ≡ Some x → offset code k + width_of x ≡ offset code (suc k)
+next_at [] k x e = absurd (cc)
+next_at (y ∷ code) zero x e =
     let same : y ≡ x = cc in
     omega (arith, ap width_of same, offset-start code)
-past (y ∷ code) (suc k) x e = omega (arith, past code k x e)
+next_at (y ∷ code) (suc k) x e = omega (arith, next_at code k x e)
 
 pub next_offset : (code : List Instruction) (k : ℕ) (x : Instruction) → slice_get code k ≡ Some x → position_after (instruction_at (map (renamed_instruction (offset code)) code) (offset code k)) (offset code k) ≡ offset code (k + 1)
 next_offset code k x e =
@@ -90,7 +83,7 @@ next_offset code k x e =
     fetched (offset code) code k ∙ ap (option_map (renamed_instruction (offset code))) e in
     ap (λ (found : Option Instruction). position_after found (offset code k)) here
     ∙ ap (λ (w : ℕ). offset code k + w) (width-renamed (offset code) x)
-    ∙ past code k x e ∙ ap (offset code) (sym (add-one k))
+    ∙ next_at code k x e ∙ ap (offset code) (sym (add-one k))
 
 -- ---- handlers
 

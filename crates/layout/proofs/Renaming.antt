@@ -16,9 +16,10 @@ use Rattle.bytecode.specs.declared.declaration.Slot.{Slot}
 use Rattle.bytecode.specs.declared.declaration.Slot.TheVariants as slot
 use Rattle.common.specs.declared.direction.Direction.{Direction}
 use Rattle.common.specs.declared.direction.Direction.TheVariants.{Input, Output}
-use Rattle.bytecode.specs.Machine.{Frame, Caller, State, Machine, Running, Ended, Stuck, Deep, Header, MachineCode, frame_limit, changed, goes_on, goes_to, handled, unwound, raised, slot_at, with_slot, with_global, loads, stores, found, loads_element, changes, stores_element, clears, with_element, element_at, computed, pushes_number, computes, compares, same_truth, matches, drops, negates, inverts, branches, popped, new_frame, enters, calls, leaves, leaves_without, returns_nothing, leaves_value, gives_back, returns_value, takes, receives, sends, throws, act, acts, step, exec}
+use Rattle.bytecode.specs.Machine.{Frame, Caller, State, Machine, Running, Ended, Stuck, Deep, Header, MachineCode, changed, goes_on, goes_to, handled, unwound, raised, slot_at, with_slot, with_global, loads, stores, found, loads_element, changes, stores_element, clears, with_element, element_at, computed, pushes_number, computes, compares, same_truth, matches, drops, negates, inverts, branches, popped, new_frame, enters, calls, leaves, leaves_without, returns_nothing, leaves_value, gives_back, returns_value, takes, receives, sends, throws, act, acts, step, exec}
 use Rattle.bytecode.specs.Targets.{renamed_instruction}
 use Rattle.layout.specs.Kept.{renamed_frame, renamed_caller, renamed_state, renamed}
+use Rattle.common.specs.declared.limits.TheConstants.{MAX_FRAMES}
 
 -- a program; other functions that fetch, go on and find a handler; and a renaming of the program's positions that fits to them
 pub record Relaid : Type 0 where
@@ -172,8 +173,8 @@ enters-same l s h procedure slots (Some (arguments, operands)) =
       callers = record { frame = record (renamed_frame l.rename s.frame) { operands = operands }; resume = resume } ∷ all l s.callers;
     }) in
     let resume : ℕ = l.next s.frame.procedure (l.rename s.frame.procedure s.frame.position) in
-    ap (λ (count : ℕ). cond (ltb (count + 1) frame_limit) (entered 0 resume) (Ended Deep s.sent)) (length-map s.callers (renamed_caller l.rename))
-    ∙ either l (ltb (length s.callers + 1) frame_limit) _ _ _ _ (λ i. entered (sym (l.start procedure) i) (h i)) refl
+    ap (λ (count : ℕ). cond (ltb (count + 1) MAX_FRAMES) (entered 0 resume) (Ended Deep s.sent)) (length-map s.callers (renamed_caller l.rename))
+    ∙ either l (ltb (length s.callers + 1) MAX_FRAMES) _ _ _ _ (λ i. entered (sym (l.start procedure) i) (h i)) refl
 
 calls-same : (l : Relaid) (s : State) → GoesOn l s → (procedure : ℕ) (header : Option Header) → Same l (calls (relaid l) (moved l s) procedure header) (calls l.program s procedure header)
 calls-same l s h procedure None = refl

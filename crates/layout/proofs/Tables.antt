@@ -4,24 +4,12 @@ use Rattle.std.proofs.lemmas.List.{get_or_append_left, get_or_push, map_more}
 use Rattle.std.proofs.lemmas.Option.{slice_get-get_or}
 use Rattle.bytecode.specs.declared.instruction.Instruction.{Instruction}
 use Rattle.bytecode.specs.declared.instruction.Instruction.TheVariants.{Jump, JumpIfFalse}
-use Rattle.bytecode.specs.declared.opcode.Operand.{Operand}
-use Rattle.bytecode.specs.declared.opcode.Operand.TheVariants.{Absent, Int, Boolean, Number}
 use Rattle.bytecode.specs.Code.{width_of, code_length}
-use Rattle.bytecode.specs.Opcodes.{row_of, operand_width}
 use Rattle.bytecode.specs.Targets.{renamed_instruction}
 use Rattle.layout.specs.Offsets.{offset}
 use Rattle.layout.specs.Graph.{HasTargetIn}
 use Rattle.layout.specs.Tables.{IsTableOf}
-use Rattle.layout.proofs.Offsets.{past, offset-most}
-
-few_bytes : (operand : Operand) → operand_width operand ≤ 4
-few_bytes Absent = omega arith
-few_bytes (Int n) = omega arith
-few_bytes (Boolean b) = omega arith
-few_bytes (Number n) = omega arith
-
-pub width-few : (x : Instruction) → width_of x ≤ 5
-width-few x = omega (arith, few_bytes (row_of x).operand)
+use Rattle.layout.proofs.Offsets.{next_at, offset-most}
 
 pub offset-end : (code : List Instruction) → offset code (length code) ≡ code_length code
 offset-end [] = refl
@@ -33,7 +21,7 @@ offset-within code k h = omega (arith, offset-most code k (length code) h, offse
 
 -- the offset behind an instruction
 pub next-offset : (code : List Instruction) (i : ℕ) (d : Instruction) → i < length code → offset code i + width_of (get_or code i d) ≡ offset code (i + 1)
-next-offset code i d below = past code i (get_or code i d) (slice_get-get_or code i d below) ∙ ap (offset code) (sym (add-one i))
+next-offset code i d below = next_at code i (get_or code i d) (slice_get-get_or code i d below) ∙ ap (offset code) (sym (add-one i))
 
 -- a table with one more entry behind the others
 pub length_more : (table new : List ℕ) (i n : ℕ) → length table ≡ i → new ≡ table ++ n ∷ [] → length new ≡ i + 1

@@ -60,7 +60,8 @@ fn lay_out_code(
 ) -> Result<Vec<Instruction>, AllocError>
     requires table { IsTableOf code.now table.now }
     requires targets { All (HasTargetIn code.now) code.now }
-    ensures { IfOk result (λ made. made.items ≡ map (renamed_instruction (offset code.now)) code.now) }
+    ensures { IfOk result (λ made. made.items ≡ map (renamed_instruction (offset code.now))
+        code.now) }
 {
     let mut made = Vec::new(alloc);
     for instruction in code {
@@ -78,7 +79,8 @@ fn lay_out_handlers(
 ) -> Result<Vec<Handler>, AllocError>
     requires table { IsTableOf code.now table.now }
     requires handlers { All (IsHandlerIn (length code.now)) handlers.now }
-    ensures { IfOk result (λ made. made.items ≡ map (renamed_handler (offset code.now)) handlers.now) }
+    ensures { IfOk result (λ made. made.items ≡ map (renamed_handler (offset code.now))
+        handlers.now) }
 {
     let mut made = Vec::new(alloc);
     for handler in handlers {

@@ -47,7 +47,8 @@ pub(crate) fn cut_piece<'a>(
     at: usize,
 ) -> Result<Piece<'a>, LexRefusal>
     requires { chars text.now ≡ first ∷ chars after.now }
-    ensures { MatchResult result (λ piece. Reads (chars text.now) piece.kind (chars piece.rest.now)) (IsStuck at (chars text.now)) }
+    ensures { MatchResult result (λ piece. Reads (chars text.now) piece.kind (chars piece.rest.now))
+        (IsStuck at (chars text.now)) }
 {
     if is_white_space(first) {
         Ok(Piece {
@@ -80,7 +81,8 @@ fn cut_literal<'a>(
 ) -> Result<Piece<'a>, LexRefusal>
     requires split { chars text.now ≡ first ∷ chars after.now }
     requires digit { IsTrue (is_ascii_digit first) }
-    ensures { MatchResult result (λ piece. Reads (chars text.now) piece.kind (chars piece.rest.now)) (IsStuck at (chars text.now)) }
+    ensures { MatchResult result (λ piece. Reads (chars text.now) piece.kind (chars piece.rest.now))
+        (IsStuck at (chars text.now)) }
 {
     let rest = skip_run(after, Class::Digit);
     match take_front(text, rest).parse::<u32>() {
@@ -109,7 +111,8 @@ fn cut_word<'a>(text: &'a str, first: char, after: &'a str) -> Piece<'a>
 /// A comment, or the sign `/`.
 fn cut_solidus<'a>(text: &'a str, after: &'a str, at: usize) -> Result<Piece<'a>, LexRefusal>
     requires { chars text.now ≡ 47 ∷ chars after.now }
-    ensures { MatchResult result (λ piece. Reads (chars text.now) piece.kind (chars piece.rest.now)) (IsStuck at (chars text.now)) }
+    ensures { MatchResult result (λ piece. Reads (chars text.now) piece.kind (chars piece.rest.now))
+        (IsStuck at (chars text.now)) }
 {
     let mut characters = after.chars();
     match characters.next() {
@@ -132,7 +135,8 @@ fn cut_solidus<'a>(text: &'a str, after: &'a str, at: usize) -> Result<Piece<'a>
 fn cut_sign<'a>(text: &'a str, first: char, after: &'a str) -> Option<Piece<'a>>
     requires split { chars text.now ≡ first ∷ chars after.now }
     requires begins { IsTrue (begins_sign first) }
-    ensures { MatchOption result (HasNoLexeme (chars text.now)) (λ piece. Reads (chars text.now) piece.kind (chars piece.rest.now)) }
+    ensures { MatchOption result (HasNoLexeme (chars text.now)) (λ piece. Reads (chars text.now)
+        piece.kind (chars piece.rest.now)) }
 {
     if let Some((kind, rest)) = cut_double_sign(first, after) {
         return Some(Piece {
@@ -150,7 +154,8 @@ fn cut_sign<'a>(text: &'a str, first: char, after: &'a str) -> Option<Piece<'a>>
 /// The sign of two characters that begins with `first` and goes on in `after`, if there is one, and
 /// what follows it.
 fn cut_double_sign(first: char, after: &str) -> Option<(Kind, &str)>
-    ensures { MatchOption result (IsNoDouble first (chars after.now)) (λ sign. IsDouble first (chars after.now) sign.0 (chars sign.1.now)) }
+    ensures { MatchOption result (IsNoDouble first (chars after.now)) (λ sign. IsDouble first
+        (chars after.now) sign.0 (chars sign.1.now)) }
 {
     let (second, rest) = split_first(after)?;
     let kind = kind_of_pair(first, second)?;
@@ -199,7 +204,8 @@ fn kind_of_sign(character: char) -> Option<Kind>
 
 /// The first character of `text`, and what follows it.
 pub(crate) fn split_first(text: &str) -> Option<(char, &str)>
-    ensures { MatchOption result (text.now ≡ []) (λ split. chars text.now ≡ split.0 ∷ chars split.1.now) }
+    ensures { MatchOption result (text.now ≡ []) (λ split. chars text.now ≡ split.0 ∷ chars
+        split.1.now) }
 {
     let mut characters = text.chars();
     let first = characters.next()?;
@@ -233,7 +239,8 @@ fn skip_run(text: &str, class: Class) -> &str
 
 /// What follows the first `*/` of `text`.
 fn skip_comment(text: &str) -> Option<&str>
-    ensures { MatchOption result (after_close false (chars text.now) ≡ None) (λ rest. after_close false (chars text.now) ≡ Some (chars rest.now)) }
+    ensures { MatchOption result (after_close false (chars text.now) ≡ None)
+        (λ rest. after_close false (chars text.now) ≡ Some (chars rest.now)) }
 {
     let mut characters = text.chars();
     let mut starred = false;

@@ -1,3 +1,2 @@
-mod Fitting
 mod Formatted
 pub mod Listed

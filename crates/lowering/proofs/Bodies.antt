@@ -1,5 +1,6 @@
 -- Code of every statement does what the statement does, by recursion on the tree.
 use Rattle.std.proofs.Common.{◌≡◌, ℕ, ◌+◌, ◌≤◌, ◌⊎◌, inl, inr, Bool, true, false, not, ◌&&◌, [], ◌∷◌, ◌++◌, refl, ap, ◌∙◌, arith, slice_get}
+use Rattle.std.proofs.lemmas.Bool.{and_parts}
 use Rattle.std.specs.Prelude.{Option, Some, None, if◌then◌else◌, ◌==◌}
 use Rattle.resolved.specs.declared.expression.Base.TheVariants as base
 use Rattle.resolved.specs.declared.statement.Exit.TheVariants.{Return}
@@ -11,7 +12,6 @@ use Rattle.resolved.specs.SourceState.{value_of, values_of, assigned}
 use Rattle.resolved.specs.Meaning.{Outcome, Calls, turns, statement_meaning, block_meaning, handlers_meaning}
 use Rattle.resolved.specs.WellFormed.{variable_type, has_base, same_base, array_by, target_by, channel_is, statement_fits, block_fits, handlers_fit, is_exception}
 use Rattle.resolved.specs.Kinds.{StateFits, OutcomeFits}
-use Rattle.resolved.proofs.Sound.Values.{both}
 use Rattle.resolved.proofs.Sound.Meanings.{CallsKeep, statement_keeps, block_keeps}
 use Rattle.bytecode.specs.declared.instruction.Instruction.TheVariants as instruction
 use Rattle.bytecode.specs.Machine as machine
@@ -67,20 +67,20 @@ module _ (g : Setting) (calls : Calls) (k : ℕ) (keep : CallsKeep g.program cal
     statement-runs (Assign start x e) loop h at s fits stands under fit = assign-runs g loop h k s fit x e at fits stands (plain g at (value_size e + 1) h under)
     statement-runs (Clear start slot) loop h at s fits stands under fit = clear-runs g loop h k s fit slot at [] fits stands
     statement-runs (Store start array count index e) loop h at s fits stands under fit =
-        let parts = both (array_by (variable_type g.program g.procedure array) count (λ b. has_base g.program g.procedure b e)) (has_base g.program g.procedure base.Int index) fits in
+        let parts = and_parts (array_by (variable_type g.program g.procedure array) count (λ b. has_base g.program g.procedure b e)) (has_base g.program g.procedure base.Int index) fits in
         store-runs g loop h k s fit array count index e at parts.0 parts.1 stands (plain g at (value_size index + (value_size e + 1)) h under)
     statement-runs (Receive start channel target) loop h at s fits stands under fit =
-        let parts = both (channel_is (slice_get g.program.channels channel) Input) (target_by g.program g.procedure target (same_base base.Int)) fits in
+        let parts = and_parts (channel_is (slice_get g.program.channels channel) Input) (target_by g.program g.procedure target (same_base base.Int)) fits in
         receive-runs g loop h k s fit channel at target parts.0 parts.1 stands (plain g at 2 h under)
     statement-runs (Send start channel e) loop h at s fits stands under fit =
-        let parts = both (channel_is (slice_get g.program.channels channel) Output) (has_base g.program g.procedure base.Int e) fits in
+        let parts = and_parts (channel_is (slice_get g.program.channels channel) Output) (has_base g.program g.procedure base.Int e) fits in
         send-runs g loop h k s fit channel e at parts.0 parts.1 stands (plain g at (value_size e + 1) h under)
     statement-runs (Call start f arguments target) loop h at s fits stands under fit =
         call-runs g loop h k calls run f at (slice_get g.program.procedures f) arguments target s fit refl fits stands
         (plain g at (arguments_size arguments + (1 + result_size (procedure_at g.program f).result)) h under)
     statement-runs (If start e yes_block no_block) loop h at s fits stands under fit =
-        let outer = both (has_base g.program g.procedure base.Boolean e && block_fits g.program g.procedure yes_block) (block_fits g.program g.procedure no_block) fits in
-        let inner = both (has_base g.program g.procedure base.Boolean e) (block_fits g.program g.procedure yes_block) outer.0 in
+        let outer = and_parts (has_base g.program g.procedure base.Boolean e && block_fits g.program g.procedure yes_block) (block_fits g.program g.procedure no_block) fits in
+        let inner = and_parts (has_base g.program g.procedure base.Boolean e) (block_fits g.program g.procedure yes_block) outer.0 in
         let n = branch_size false e in
         let yes_at = at + n in
         let y = block_size g.program yes_block in
@@ -119,7 +119,7 @@ module _ (g : Setting) (calls : Calls) (k : ℕ) (keep : CallsKeep g.program cal
         either_runs yes_at no_at end true one other a b = a
         either_runs yes_at no_at end false one other a b = b
     statement-runs (While start number e body) loop h at s fits stands under fit =
-        let parts = both (has_base g.program g.procedure base.Boolean e) (block_fits g.program g.procedure body) fits in
+        let parts = and_parts (has_base g.program g.procedure base.Boolean e) (block_fits g.program g.procedure body) fits in
         let m = block_size g.program body in
         let b = branch_size true e in
         let test = test_place g.program at body in
@@ -146,7 +146,7 @@ module _ (g : Setting) (calls : Calls) (k : ℕ) (keep : CallsKeep g.program cal
     statement-runs (ReturnWith start (Some e)) loop h at s fits stands under fit =
         return-runs g loop h k s fit e at (at + (value_size e + 1)) fits stands (plain g at (value_size e + 1) h under)
     statement-runs (Try start block handlers) loop h at s fits stands under fit =
-        let parts = both (block_fits g.program g.procedure block) (handlers_fit g.program g.procedure handlers) fits in
+        let parts = and_parts (block_fits g.program g.procedure block) (handlers_fit g.program g.procedure handlers) fits in
         let m = block_size g.program block in
         let over = jumps_behind block handlers in
         let next = handlers_place g.program at block handlers in
@@ -187,7 +187,7 @@ module _ (g : Setting) (calls : Calls) (k : ℕ) (keep : CallsKeep g.program cal
         → Runs g loop h k (place g at [] s) (at + block_size g.program block) (block_meaning calls k block s)
     block-runs Empty loop h at s fits stands under fit = record { steps = 0; reached = ap (λ (q : ℕ). place g q [] s) (omega arith) }
     block-runs (Then statement rest) loop h at s fits stands under fit =
-        let parts = both (statement_fits g.program g.procedure statement) (block_fits g.program g.procedure rest) fits in
+        let parts = and_parts (statement_fits g.program g.procedure statement) (block_fits g.program g.procedure rest) fits in
         let n = statement_size g.program statement in
         let m = block_size g.program rest in
         let mid = at + n in
@@ -211,8 +211,8 @@ module _ (g : Setting) (calls : Calls) (k : ℕ) (keep : CallsKeep g.program cal
         → Runs g loop h k (thrown_to g (first_found (catch_place g.program at handlers exception) (h exception)) exception t) end (handlers_meaning calls k handlers exception t)
     handlers-run NoMore loop h start stop at end exception t fits stands under most last fit = leads-itself g.p (thrown_to g (h exception) exception t)
     handlers-run (Catch begins handled body rest) loop h start stop at end exception t fits stands under most last fit =
-        let outer = both (is_exception g.program handled && block_fits g.program g.procedure body) (handlers_fit g.program g.procedure rest) fits in
-        let inner = both (is_exception g.program handled) (block_fits g.program g.procedure body) outer.0 in
+        let outer = and_parts (is_exception g.program handled && block_fits g.program g.procedure body) (handlers_fit g.program g.procedure rest) fits in
+        let inner = and_parts (is_exception g.program handled) (block_fits g.program g.procedure body) outer.0 in
         let m = block_size g.program body in
         let over = jumps_behind body rest in
         let next = handlers_place g.program at body rest in

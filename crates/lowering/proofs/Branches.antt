@@ -2,6 +2,7 @@
 use Rattle.std.proofs.Common.{◌≡◌, ℕ, ◌+◌, Bool, true, false, not, ℤ, pos, negsuc, List, [], ◌∷◌, refl, sym, ap, subst, arith}
 use Rattle.std.specs.Prelude.{Option, if◌then◌else◌, int_le, int_lt}
 use Rattle.std.proofs.lemmas.Bool.Decides.{nat_tests}
+use Rattle.std.proofs.lemmas.Bool.{and_parts}
 use Rattle.resolved.specs.declared.expression.Value.{Value}
 use Rattle.resolved.specs.declared.expression.Value.TheVariants.{Number, Truth}
 use Rattle.resolved.specs.declared.expression.Base.TheVariants as base
@@ -16,7 +17,7 @@ use Rattle.resolved.specs.SourceState.{value_of}
 use Rattle.resolved.specs.Value.{Evaluated, Yields, Raises, then_with, prefix_value, operator_value, decides, bool_eq, truth_in, number_in}
 use Rattle.resolved.specs.WellFormed.{has_base, result_base}
 use Rattle.resolved.specs.Kinds.{StateFits, GivesBase}
-use Rattle.resolved.proofs.Sound.Values.{both, value_fits}
+use Rattle.resolved.proofs.Sound.Values.{value_fits}
 use Rattle.bytecode.specs.declared.value.Cell.TheVariants as cell
 use Rattle.bytecode.specs.declared.instruction.Instruction.{Instruction}
 use Rattle.bytecode.specs.declared.instruction.Instruction.TheVariants.{JumpIfFalse}
@@ -174,7 +175,7 @@ module _ (g : Setting) (h : ℕ → Option ℕ) (s : source.SourceState) (fit : 
   branch-runs (Binary op d e) wanted at target typed stands finds = test-runs wanted (Binary op d e) at target typed stands finds
   branch-runs (Short connective d e) wanted at target typed stands finds =
       let parts : (has_base g.program g.procedure base.Boolean d ≡ true) × (has_base g.program g.procedure base.Boolean e ≡ true) =
-      both (has_base g.program g.procedure base.Boolean d) _ typed in
+      and_parts (has_base g.program g.procedure base.Boolean d) _ typed in
       let n = branch_size (deciding connective) d in
       let m = branch_size wanted e in
       let mid = at + n in

@@ -8,7 +8,7 @@ use Rattle.resolved.specs.declared.statement.Exit.TheVariants.{Normal, Return, B
 use Rattle.resolved.specs.Program.{Program, ProcedureEntry, ResultEntry, procedure_at}
 use Rattle.resolved.specs.SourceState as source
 use Rattle.resolved.specs.Value.{base_of}
-use Rattle.resolved.specs.Ends.{has_end, thrown_ends, declared_by}
+use Rattle.resolved.specs.Ends.{thrown_ends, declared_by}
 use Rattle.resolved.specs.EndFaults.{end_faults}
 use Rattle.resolved.specs.Meaning.{Outcome, Ended, Stopped, Deep, OutOfTurns, leaving, entering, calls_with, block_meaning}
 use Rattle.resolved.specs.WellFormed.{well_formed, parameters_of, has_result, same_base}
@@ -40,20 +40,13 @@ use Rattle.lowering.proofs.Falls.{block-stays}
 use Rattle.lowering.proofs.Statements.{pushed, Called, CallsRun, called-from}
 use Rattle.lowering.proofs.Bodies.{block-runs}
 use Rattle.lowering.proofs.Frames.{setting_of, found-there, popped-all, slots-begin}
+use Rattle.resolved.proofs.Exits.{thrown-break, thrown-continue}
 
 abbrev pub nowhere : ℕ → Option ℕ
 nowhere exception = None
 
 pub never_true : ◌≡◌ {A = Bool} false true → ⊥
 never_true h = cc
-
-pub no_break : (xs : List ℕ) → has_end (thrown_ends xs) Break ≡ false
-no_break [] = refl
-no_break (x ∷ xs) = no_break xs
-
-pub no_continue : (xs : List ℕ) → has_end (thrown_ends xs) Continue ≡ false
-no_continue [] = refl
-no_continue (x ∷ xs) = no_continue xs
 
 module _ (program : Program) (formed : well_formed program ≡ true) (none : end_faults program ≡ []) (world : source.World) (k : ℕ) where
   -- the body of a procedure from its begin on
@@ -148,8 +141,8 @@ module _ (program : Program) (formed : well_formed program ≡ true) (none : end
         absurd (never_true (sym (ap (λ (r : Option ResultEntry). has_result r (same_base (base_of v))) is) ∙ fit.returned))
     body-called q callee found d inner (Some value) (Ended Return None t) is ended fit among gives run = absurd (gives value refl)
     body-called q callee found d inner (Some value) (Ended Return (Some v) t) is ended fit among gives run = (gives value refl, run)
-    body-called q callee found d inner result (Ended Break returned t) is ended fit among gives run = absurd (never_true (sym (no_break (declared_by callee.throws)) ∙ among))
-    body-called q callee found d inner result (Ended Continue returned t) is ended fit among gives run = absurd (never_true (sym (no_continue (declared_by callee.throws)) ∙ among))
+    body-called q callee found d inner result (Ended Break returned t) is ended fit among gives run = absurd (never_true (sym (thrown-break (declared_by callee.throws)) ∙ among))
+    body-called q callee found d inner result (Ended Continue returned t) is ended fit among gives run = absurd (never_true (sym (thrown-continue (declared_by callee.throws)) ∙ among))
     body-called q callee found d inner result (Ended (Throw e) returned t) is ended fit among gives run =
         subst (λ (m : Machine). Leads (setting_of program formed world f entry there callers).p (place (setting_of program formed world q callee found (waiting ∷ callers)) 0 [] inner) m)
         (thrown_back q callee found t e) run

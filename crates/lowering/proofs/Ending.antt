@@ -3,6 +3,8 @@
 use Rattle.std.proofs.Common.{◌≡◌, refl, sym, ap, ◌∙◌, subst, ℕ, zero, suc, ◌+◌, ◌<◌, ◌⊎◌, inl, inr, Bool, true, false, not, ◌&&◌, ◌||◌, List, [], ◌∷◌, ◌++◌, length, Option, Some, None, slice_get, arith, append-nil}
 use Rattle.std.specs.Prelude.{filter, if◌then◌else◌}
 use Rattle.std.proofs.lemmas.List.Folds.{list_any-append}
+use Rattle.std.proofs.lemmas.Bool.{or_parts, and_parts}
+use Rattle.std.proofs.Math.Bool.{or-true}
 use Rattle.resolved.specs.declared.statement.Exit.{Exit}
 use Rattle.resolved.specs.declared.statement.Exit.TheVariants.{Normal, Return, Break, Continue, Throw}
 use Rattle.resolved.specs.declared.expression.Base.TheVariants.{Boolean}
@@ -11,15 +13,15 @@ use Rattle.resolved.specs.Program.{Program, ProcedureEntry}
 use Rattle.resolved.specs.Ends.{same_exit, has_end, raises, thrown_ends, passes, then_ends, statement_ends, block_ends, handlers_ends}
 use Rattle.resolved.specs.EndFaults.{OutsideLoop, Unreachable, NeverRaised, fault_unless, may_stand, inner_faults, block_faults, handlers_faults}
 use Rattle.resolved.specs.WellFormed.{has_base, is_exception, statement_fits, block_fits, handlers_fit}
-use Rattle.resolved.proofs.Sound.Values.{both}
 use Rattle.isolation.proofs.Among.{end-filter}
-use Rattle.isolation.proofs.Declared.{append-empty, no_fault-test}
 use Rattle.bytecode.specs.declared.instruction.Instruction.{Instruction}
 use Rattle.bytecode.specs.declared.instruction.Instruction.TheVariants as instruction
 use Rattle.verifier.specs.Flow.{goes_on}
 use Rattle.lowering.specs.Expressions.{value_code, branch_size, branch_code}
 use Rattle.lowering.specs.Code.{Loop, statement_falls, block_falls, handlers_fall, jump_size, jump_code, jumps_over, jumps_behind, leave_code, return_code, statement_size, block_size, handlers_size, statement_code, block_code, handlers_code}
-use Rattle.lowering.proofs.Unreached.{neither, statement-none}
+use Rattle.lowering.proofs.Unreached.{statement-none}
+use Rattle.common.proofs.Cases.{by_test, append_empty}
+use Rattle.resolved.proofs.Exits.{no_fault-test}
 
 -- code that is not empty, and whose last instruction does not go on
 pub record Stops (code : List Instruction) : Type 0 where
@@ -60,10 +62,6 @@ return-stops : (place : ℕ) (e : Option Expression) → Stops (return_code plac
 return-stops place None = stops-one instruction.Return refl
 return-stops place (Some e) = stops-behind (value_code place e) (instruction.ReturnValue ∷ []) (stops-one instruction.ReturnValue refl)
 
-by-truth : {A : Type 0} (b : Bool) → (b ≡ true → A) → (b ≡ false → A) → A
-by-truth true h k = h refl
-by-truth false h k = k refl
-
 module _ (program : Program) (procedure : ProcedureEntry) where
   -- a block that does not end normally, and the handlers behind it, if there are any
   behind-stops : (loop : Loop) (end place : ℕ) (block : Block) (code : List Instruction) (handlers : Handlers) → block_falls block ≡ false → Stops code
@@ -83,9 +81,9 @@ module _ (program : Program) (procedure : ProcedureEntry) where
   rest-stops in_loop loop place goes code (Then statement rest) none faults stops =
       let first = fault_unless (may_stand in_loop statement) OutsideLoop (place_of statement) in
       let second = fault_unless goes Unreachable (place_of statement) in
-      let later = append-empty (first ++ second ++ inner_faults program in_loop statement) _ faults in
-      let here = append-empty (first ++ second) (inner_faults program in_loop statement) later.0 in
-      let reached : goes ≡ true = no_fault-test goes Unreachable (place_of statement) (append-empty first second here.0).1 in
+      let later = append_empty (first ++ second ++ inner_faults program in_loop statement) _ faults in
+      let here = append_empty (first ++ second) (inner_faults program in_loop statement) later.0 in
+      let reached : goes ≡ true = no_fault-test goes Unreachable (place_of statement) (append_empty first second here.0).1 in
       absurd (let no : true ≡ false = sym reached ∙ none in cc)
 
   mutual
@@ -97,19 +95,19 @@ module _ (program : Program) (procedure : ProcedureEntry) where
         let other = place + b + block_size program yes_block + jump_size j in
         let jump = jump_code j (other + block_size program no_block) in
         let last = block_code program loop other no_block in
-        let parts = both (has_base program procedure Boolean e && block_fits program procedure yes_block) (block_fits program procedure no_block) fits in
-        let none = append-empty (block_faults program in_loop true yes_block) (block_faults program in_loop true no_block) faults in
+        let parts = and_parts (has_base program procedure Boolean e && block_fits program procedure yes_block) (block_fits program procedure no_block) fits in
+        let none = append_empty (block_faults program in_loop true yes_block) (block_faults program in_loop true no_block) faults in
         stops-behind (branch_code false place other e) (block_code program loop (place + b) yes_block ++ (jump ++ last))
         (stops-behind (block_code program loop (place + b) yes_block) (jump ++ last)
-        (stops-behind jump last (block-stops loop in_loop true other no_block parts.1 none.1 (neither (block_falls yes_block) (block_falls no_block) falls).1)))
+        (stops-behind jump last (block-stops loop in_loop true other no_block parts.1 none.1 (or_parts (block_falls yes_block) (block_falls no_block) falls).1)))
     statement-stops loop in_loop place (Leave mark exit) fits faults falls = leave-stops loop exit
     statement-stops loop in_loop place (ReturnWith mark e) fits faults falls = return-stops place e
     statement-stops loop in_loop place (Try mark block handlers) fits faults falls =
         let behind = place + block_size program block + jump_size (jumps_behind block handlers) in
         let end = behind + handlers_size program handlers in
-        let parts = both (block_fits program procedure block) (handlers_fit program procedure handlers) fits in
-        let none = append-empty (block_faults program in_loop true block) (handlers_faults program in_loop (block_ends program block) handlers) faults in
-        let ends = neither (block_falls block) (handlers_fall handlers) falls in
+        let parts = and_parts (block_fits program procedure block) (handlers_fit program procedure handlers) fits in
+        let none = append_empty (block_faults program in_loop true block) (handlers_faults program in_loop (block_ends program block) handlers) faults in
+        let ends = or_parts (block_falls block) (handlers_fall handlers) falls in
         behind-stops loop end behind block (block_code program loop place block) handlers ends.0 (block-stops loop in_loop true place block parts.0 none.0 ends.0)
         (handlers-stop loop in_loop end behind (block_ends program block) handlers parts.1 none.1 ends.1)
     statement-stops loop in_loop place (Nested mark block) fits faults falls = block-stops loop in_loop true place block fits faults falls
@@ -124,10 +122,10 @@ module _ (program : Program) (procedure : ProcedureEntry) where
         let first = fault_unless (may_stand in_loop statement) OutsideLoop (place_of statement) in
         let second = fault_unless reached Unreachable (place_of statement) in
         let goes = has_end (statement_ends program statement) Normal in
-        let later = append-empty (first ++ second ++ inner_faults program in_loop statement) (block_faults program in_loop goes rest) faults in
-        let here = append-empty (first ++ second) (inner_faults program in_loop statement) later.0 in
-        let parts = both (statement_fits program procedure statement) (block_fits program procedure rest) fits in
-        by-truth (statement_falls statement)
+        let later = append_empty (first ++ second ++ inner_faults program in_loop statement) (block_faults program in_loop goes rest) faults in
+        let here = append_empty (first ++ second) (inner_faults program in_loop statement) later.0 in
+        let parts = and_parts (statement_fits program procedure statement) (block_fits program procedure rest) fits in
+        by_test (statement_falls statement)
         (λ h.
         let last : block_falls rest ≡ false = sym (ap (λ (b : Bool). b && block_falls rest) h) ∙ falls in
         stops-behind code (block_code program loop behind rest) (block-stops loop in_loop goes behind rest parts.1 later.1 last))
@@ -139,13 +137,13 @@ module _ (program : Program) (procedure : ProcedureEntry) where
     handlers-stop loop in_loop end place ends NoMore fits faults falls = inr refl
     handlers-stop loop in_loop end place ends (Catch mark exception body rest) fits faults falls =
         let behind = place + block_size program body + jump_size (jumps_behind body rest) in
-        let parts = both (is_exception program exception && block_fits program procedure body) (handlers_fit program procedure rest) fits in
-        let body_fits : block_fits program procedure body ≡ true = (both (is_exception program exception) (block_fits program procedure body) parts.0).1 in
+        let parts = and_parts (is_exception program exception && block_fits program procedure body) (handlers_fit program procedure rest) fits in
+        let body_fits : block_fits program procedure body ≡ true = (and_parts (is_exception program exception) (block_fits program procedure body) parts.0).1 in
         let raised = fault_unless (has_end ends (Throw exception)) NeverRaised mark in
         let others = filter (λ exit. not (same_exit (Throw exception) exit)) ends in
-        let later = append-empty (raised ++ block_faults program in_loop true body) (handlers_faults program in_loop others rest) faults in
-        let here = append-empty raised (block_faults program in_loop true body) later.0 in
-        let both_end = neither (block_falls body) (handlers_fall rest) falls in
+        let later = append_empty (raised ++ block_faults program in_loop true body) (handlers_faults program in_loop others rest) faults in
+        let here = append_empty raised (block_faults program in_loop true body) later.0 in
+        let both_end = or_parts (block_falls body) (handlers_fall rest) falls in
         inl (behind-stops loop end behind body (block_code program loop place body) rest both_end.0
         (block-stops loop in_loop true place body body_fits here.1 both_end.0)
         (handlers-stop loop in_loop end behind others rest parts.1 later.1 both_end.1))
@@ -155,11 +153,7 @@ some-left : (xs ys : List Exit) → has_end xs Normal ≡ true → has_end (xs +
 some-left xs ys h = list_any-append (same_exit Normal) xs ys ∙ ap (λ b. b || has_end ys Normal) h
 
 some-right : (xs ys : List Exit) → has_end ys Normal ≡ true → has_end (xs ++ ys) Normal ≡ true
-some-right xs ys h = list_any-append (same_exit Normal) xs ys ∙ (ap (λ b. has_end xs Normal || b) h ∙ or (has_end xs Normal))
-  where
-    or : (b : Bool) → (b || true) ≡ true
-    or true = refl
-    or false = refl
+some-right xs ys h = list_any-append (same_exit Normal) xs ys ∙ (ap (λ b. has_end xs Normal || b) h ∙ or-true (has_end xs Normal))
 
 then-normal : (first rest : List Exit) → has_end first Normal ≡ true → has_end rest Normal ≡ true → has_end (then_ends first rest) Normal ≡ true
 then-normal first rest h k =
@@ -199,7 +193,7 @@ module _ (program : Program) where
     pub block-normal : (block : Block) → block_falls block ≡ true → has_end (block_ends program block) Normal ≡ true
     block-normal Empty falls = refl
     block-normal (Then statement rest) falls =
-        let parts = both (statement_falls statement) (block_falls rest) falls in
+        let parts = and_parts (statement_falls statement) (block_falls rest) falls in
         then-normal (statement_ends program statement) (block_ends program rest) (statement-normal statement parts.0) (block-normal rest parts.1)
 
     handlers-normal : (handlers : Handlers) → handlers_fall handlers ≡ true → has_end (handlers_ends program handlers) Normal ≡ true

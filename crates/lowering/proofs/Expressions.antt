@@ -3,6 +3,7 @@ use Rattle.std.proofs.Common.{◌≡◌, ℕ, ◌+◌, ◌≤◌, Bool, true, fa
 use Rattle.std.specs.Prelude.{Option, Some, None, if◌then◌else◌, int_le, int_lt, ◌&&◌, ◌+ℤ◌, ◌-ℤ◌, ◌*ℤ◌, int_div, int_rem, neg_ℤ}
 use Rattle.std.specs.Ordering.{int_eq}
 use Rattle.std.proofs.lemmas.Bool.Decides.{same_from_decides, Decides-int_eq, nat_tests}
+use Rattle.std.proofs.lemmas.Bool.{and_parts}
 use Rattle.resolved.specs.declared.expression.Value.{Value}
 use Rattle.resolved.specs.declared.expression.Value.TheVariants.{Number, Truth}
 use Rattle.resolved.specs.declared.expression.Base.{Base}
@@ -16,10 +17,10 @@ use Rattle.resolved.specs.declared.expression.Connective.TheVariants.{And, Or}
 use Rattle.resolved.specs.Tree.{Expression, Integer, Logical, Read, Element, Unary, Binary, Short}
 use Rattle.resolved.specs.SourceState as source
 use Rattle.resolved.specs.SourceState.{value_of, values_of, cells, cell_at}
-use Rattle.resolved.specs.Value.{Evaluated, Yields, Raises, literal_number, base_of, prefix_value, operator_value, decides, is_zero, bool_eq, wrapped}
+use Rattle.resolved.specs.Value.{Evaluated, Yields, Raises, literal_number, base_of, prefix_value, operator_value, decides, bool_eq, wrapped}
 use Rattle.resolved.specs.WellFormed.{variable_type, has_base, same_base, array_by, prefix_base, operand_base, result_base}
 use Rattle.resolved.specs.Kinds.{StateFits}
-use Rattle.resolved.proofs.Sound.Values.{both, value_fits}
+use Rattle.resolved.proofs.Sound.Values.{value_fits}
 use Rattle.bytecode.specs.declared.value.Cell.{Cell}
 use Rattle.bytecode.specs.declared.value.Cell.TheVariants as cell
 use Rattle.bytecode.specs.declared.instruction.Instruction.{Instruction}
@@ -33,12 +34,9 @@ use Rattle.lowering.proofs.Steps.{Leads, leads-through}
 use Rattle.lowering.proofs.States.{Setting, state_at, place, cell_of, thrown_to, raised-is}
 use Rattle.lowering.proofs.Rows.{does, onward}
 use Rattle.lowering.proofs.Values.{Finds, finds-part, ValueRuns, value-from, value-to, value-at, then-runs, given-base, read-runs, element-runs}
+use Rattle.common.specs.Integers.{is_zero}
 
 -- ---- single instructions
-
-same_zero : (z : ℤ) → machine.is_zero z ≡ is_zero z
-same_zero (pos n) = refl
-same_zero (negsuc n) = refl
 
 le_itself : (a : ℤ) → int_le a a ≡ true
 le_itself (pos n) = grind (arith, nat_tests)
@@ -55,7 +53,7 @@ le_both (negsuc m) (pos n) h k = cc
 same_equal : (a b : ℤ) → (int_le a b && int_le b a) ≡ int_eq a b
 same_equal a b =
     same_from_decides (int_le a b && int_le b a) (int_eq a b)
-    (λ h. le_both a b (both (int_le a b) (int_le b a) h).0 (both (int_le a b) (int_le b a) h).1, λ e. subst (λ c. (int_le a c && int_le c a) ≡ true) e (rw (le_itself a) refl))
+    (λ h. le_both a b (and_parts (int_le a b) (int_le b a) h).0 (and_parts (int_le a b) (int_le b a) h).1, λ e. subst (λ c. (int_le a c && int_le c a) ≡ true) e (rw (le_itself a) refl))
     (Decides-int_eq a b)
 
 same_truths : (a b : Bool) → same_truth a b ≡ bool_eq a b
@@ -66,17 +64,17 @@ module _ (g : Setting) (h : ℕ → Option ℕ) (s : source.SourceState) where
   division-runs : (i : Instruction) (a z result : ℤ) (test : Bool) (at : ℕ) (operands : List Cell) (more : List Instruction)
       → is_zero z ≡ test → Stands g.code (i ∷ more) at → ((exception : ℕ) → g.p.find g.number at exception ≡ h exception)
       → act g.p i (state_at g at (cell.Int z ∷ cell.Int a ∷ operands) s)
-      ≡ pushes_number g.p (state_at g at (cell.Int z ∷ cell.Int a ∷ operands) s) operands (if machine.is_zero z then None else Some result)
+      ≡ pushes_number g.p (state_at g at (cell.Int z ∷ cell.Int a ∷ operands) s) operands (if is_zero z then None else Some result)
       → ValueRuns g h operands (place g at (cell.Int z ∷ cell.Int a ∷ operands) s) (at + 1) s (if test then Raises 0 else Yields (Number result))
   division-runs i a z result true at operands more e stands finds acts =
       let before = cell.Int z ∷ cell.Int a ∷ operands in
       does g more i at before s _ stands
-      (acts ∙ ap (λ (b : Bool). pushes_number g.p (state_at g at before s) operands (if b then None else Some result)) (same_zero z ∙ e)
+      (acts ∙ ap (λ (b : Bool). pushes_number g.p (state_at g at before s) operands (if b then None else Some result)) e
       ∙ raised-is g at before s 0 ∙ ap (λ (o : Option ℕ). thrown_to g o 0 s) (finds 0))
   division-runs i a z result false at operands more e stands finds acts =
       let before = cell.Int z ∷ cell.Int a ∷ operands in
       does g more i at before s _ stands
-      (acts ∙ ap (λ (b : Bool). pushes_number g.p (state_at g at before s) operands (if b then None else Some result)) (same_zero z ∙ e)
+      (acts ∙ ap (λ (b : Bool). pushes_number g.p (state_at g at before s) operands (if b then None else Some result)) e
       ∙ onward g at before (cell.Int result ∷ operands) s)
 
   -- an instruction that pushes one value in place of some
@@ -199,7 +197,7 @@ module _ (g : Setting) (h : ℕ → Option ℕ) (s : source.SourceState) (fit : 
   value-runs (Read x) b at operands typed stands finds = read-runs g h s fit x b at operands [] typed stands
   value-runs (Element array count index) b at operands typed stands finds =
       let parts : (array_by (variable_type g.program g.procedure array) count (same_base b) ≡ true) × (has_base g.program g.procedure base.Int index ≡ true) =
-      both (array_by (variable_type g.program g.procedure array) count (same_base b)) _ typed in
+      and_parts (array_by (variable_type g.program g.procedure array) count (same_base b)) _ typed in
       let mid = at + value_size index in
       let back = stands-back g.code (value_code at index) (load_element_of array ∷ []) at (value_size index) (value-sized index at) stands in
       value-at g h operands _ (mid + 1) (at + (value_size index + 1)) s _ (omega arith)
@@ -211,7 +209,7 @@ module _ (g : Setting) (h : ℕ → Option ℕ) (s : source.SourceState) (fit : 
       (finds.finds mid (omega arith) (omega arith))))
   value-runs (Unary sign e) b at operands typed stands finds =
       let parts : (same_base (prefix_base sign) b ≡ true) × (has_base g.program g.procedure (prefix_base sign) e ≡ true) =
-      both (same_base (prefix_base sign) b) _ typed in
+      and_parts (same_base (prefix_base sign) b) _ typed in
       let mid = at + value_size e in
       let back = stands-back g.code (value_code at e) (prefix_instruction sign ∷ []) at (value_size e) (value-sized e at) stands in
       value-at g h operands _ (mid + 1) (at + (value_size e + 1)) s _ (omega arith)
@@ -222,8 +220,8 @@ module _ (g : Setting) (h : ℕ → Option ℕ) (s : source.SourceState) (fit : 
       (given-base (prefix_base sign) (value_of s e) v (value_fits g.program g.procedure s fit (prefix_base sign) e parts.1) f) back))
   value-runs (Binary op d e) b at operands typed stands finds =
       let outer : (same_base (result_base op) b && has_base g.program g.procedure (operand_base op) d ≡ true) × (has_base g.program g.procedure (operand_base op) e ≡ true) =
-      both (same_base (result_base op) b && has_base g.program g.procedure (operand_base op) d) _ typed in
-      let left : has_base g.program g.procedure (operand_base op) d ≡ true = (both (same_base (result_base op) b) _ outer.0).1 in
+      and_parts (same_base (result_base op) b && has_base g.program g.procedure (operand_base op) d) _ typed in
+      let left : has_base g.program g.procedure (operand_base op) d ≡ true = (and_parts (same_base (result_base op) b) _ outer.0).1 in
       let n = value_size d in
       let m = value_size e in
       let mid = at + n in
@@ -243,8 +241,8 @@ module _ (g : Setting) (h : ℕ → Option ℕ) (s : source.SourceState) (fit : 
       (finds.finds last (omega arith) (omega arith)))))
   value-runs (Short connective d e) b at operands typed stands finds =
       let outer : (same_base base.Boolean b && has_base g.program g.procedure base.Boolean d ≡ true) × (has_base g.program g.procedure base.Boolean e ≡ true) =
-      both (same_base base.Boolean b && has_base g.program g.procedure base.Boolean d) _ typed in
-      let left : has_base g.program g.procedure base.Boolean d ≡ true = (both (same_base base.Boolean b) _ outer.0).1 in
+      and_parts (same_base base.Boolean b && has_base g.program g.procedure base.Boolean d) _ typed in
+      let left : has_base g.program g.procedure base.Boolean d ≡ true = (and_parts (same_base base.Boolean b) _ outer.0).1 in
       let n = value_size d in
       let m = value_size e in
       let mid = at + n in

@@ -1,5 +1,6 @@
 -- A statement that does not end normally by its form does not do so in any run.
-use Rattle.std.proofs.Common.{◌≡◌, ℕ, ◌⊎◌, inl, inr, Bool, true, false, ◌&&◌, ◌||◌, refl}
+use Rattle.std.proofs.Common.{◌≡◌, ℕ, ◌⊎◌, inl, inr, Bool, true, false, ◌&&◌}
+use Rattle.std.proofs.lemmas.Bool.{or_parts, and_cases, and_parts}
 use Rattle.std.specs.Prelude.{Some, None, if◌then◌else◌, ◌==◌}
 use Rattle.resolved.specs.declared.expression.Base.TheVariants.{Boolean}
 use Rattle.resolved.specs.declared.statement.Exit.{Exit}
@@ -10,17 +11,8 @@ use Rattle.resolved.specs.SourceState.{SourceState, value_of}
 use Rattle.resolved.specs.Value.{Evaluated, Yields, Raises, truth_in}
 use Rattle.resolved.specs.Meaning.{Outcome, Ended, Stopped, Calls, after, evaluated, caught, statement_meaning, block_meaning, handlers_meaning}
 use Rattle.resolved.specs.WellFormed.{has_base, statement_fits, block_fits, handlers_fit, is_exception, may_leave_by}
-use Rattle.resolved.proofs.Sound.Values.{both}
 use Rattle.lowering.specs.Code.{statement_falls, block_falls, handlers_fall}
 use Rattle.lowering.proofs.Outcomes.{NotNormal}
-
-neither : (a b : Bool) → (a || b) ≡ false → (a ≡ false) × (b ≡ false)
-neither true b h = absurd (let no : true ≡ false = h in cc)
-neither false b h = (refl, h)
-
-not_both : (a b : Bool) → (a && b) ≡ false → (a ≡ false) ⊎ (b ≡ false)
-not_both true b h = inr h
-not_both false b h = inl refl
 
 not-first : (o : Outcome) (next : SourceState → Outcome) → NotNormal o → NotNormal (after o next)
 not-first (Ended Normal returned t) next h = absurd h
@@ -65,16 +57,16 @@ module _ (program : Program) (procedure : ProcedureEntry) (calls : Calls) (k : �
   mutual
     pub statement-stays : (statement : Statement) → statement_fits program procedure statement ≡ true → statement_falls statement ≡ false → (s : SourceState) → NotNormal (statement_meaning calls k statement s)
     statement-stays (If at e yes_block no_block) fits falls s =
-        let parts = both (has_base program procedure Boolean e && block_fits program procedure yes_block) (block_fits program procedure no_block) fits in
-        let yes_fits : block_fits program procedure yes_block ≡ true = (both (has_base program procedure Boolean e) (block_fits program procedure yes_block) parts.0).1 in
-        let ends = neither (block_falls yes_block) (block_falls no_block) falls in
+        let parts = and_parts (has_base program procedure Boolean e && block_fits program procedure yes_block) (block_fits program procedure no_block) fits in
+        let yes_fits : block_fits program procedure yes_block ≡ true = (and_parts (has_base program procedure Boolean e) (block_fits program procedure yes_block) parts.0).1 in
+        let ends = or_parts (block_falls yes_block) (block_falls no_block) falls in
         not-evaluated (value_of s e) s _ (λ v. not-either (truth_in v) _ _ (block-stays yes_block yes_fits ends.0 s) (block-stays no_block parts.1 ends.1 s))
     statement-stays (Leave at exit) fits falls s = not-left program exit s fits
     statement-stays (ReturnWith at None) fits falls s = tt
     statement-stays (ReturnWith at (Some e)) fits falls s = not-evaluated (value_of s e) s _ (λ v. tt)
     statement-stays (Try at block handlers) fits falls s =
-        let parts = both (block_fits program procedure block) (handlers_fit program procedure handlers) fits in
-        let ends = neither (block_falls block) (handlers_fall handlers) falls in
+        let parts = and_parts (block_fits program procedure block) (handlers_fit program procedure handlers) fits in
+        let ends = or_parts (block_falls block) (handlers_fall handlers) falls in
         not-caught (block_meaning calls k block s) _ (block-stays block parts.0 ends.0 s) (λ exception t. handlers-stay handlers parts.1 ends.1 exception t)
     statement-stays (Nested at block) fits falls s = block-stays block fits falls s
     statement-stays _ fits falls s = absurd (let no : true ≡ false = falls in cc)
@@ -82,8 +74,8 @@ module _ (program : Program) (procedure : ProcedureEntry) (calls : Calls) (k : �
     pub block-stays : (block : Block) → block_fits program procedure block ≡ true → block_falls block ≡ false → (s : SourceState) → NotNormal (block_meaning calls k block s)
     block-stays Empty fits falls s = absurd (let no : true ≡ false = falls in cc)
     block-stays (Then statement rest) fits falls s =
-        let parts = both (statement_fits program procedure statement) (block_fits program procedure rest) fits in
-        either_stays (not_both (statement_falls statement) (block_falls rest) falls) s (λ h. statement-stays statement parts.0 h s) (λ h t. block-stays rest parts.1 h t)
+        let parts = and_parts (statement_fits program procedure statement) (block_fits program procedure rest) fits in
+        either_stays (and_cases (statement_falls statement) (block_falls rest) falls) s (λ h. statement-stays statement parts.0 h s) (λ h t. block-stays rest parts.1 h t)
       where
         either_stays : (statement_falls statement ≡ false) ⊎ (block_falls rest ≡ false) → (s : SourceState)
             → (statement_falls statement ≡ false → NotNormal (statement_meaning calls k statement s))
@@ -94,7 +86,7 @@ module _ (program : Program) (procedure : ProcedureEntry) (calls : Calls) (k : �
     pub handlers-stay : (handlers : Handlers) → handlers_fit program procedure handlers ≡ true → handlers_fall handlers ≡ false → (exception : ℕ) (s : SourceState) → NotNormal (handlers_meaning calls k handlers exception s)
     handlers-stay NoMore fits falls exception s = tt
     handlers-stay (Catch at handled body rest) fits falls exception s =
-        let parts = both (is_exception program handled && block_fits program procedure body) (handlers_fit program procedure rest) fits in
-        let body_fits : block_fits program procedure body ≡ true = (both (is_exception program handled) (block_fits program procedure body) parts.0).1 in
-        let ends = neither (block_falls body) (handlers_fall rest) falls in
+        let parts = and_parts (is_exception program handled && block_fits program procedure body) (handlers_fit program procedure rest) fits in
+        let body_fits : block_fits program procedure body ≡ true = (and_parts (is_exception program handled) (block_fits program procedure body) parts.0).1 in
+        let ends = or_parts (block_falls body) (handlers_fall rest) falls in
         not-either (exception == handled) _ _ (block-stays body body_fits ends.0 s) (handlers-stay rest parts.1 ends.1 exception s)

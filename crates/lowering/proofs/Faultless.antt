@@ -12,7 +12,6 @@ use Rattle.resolved.specs.Ends.{has_end, block_ends}
 use Rattle.resolved.specs.EndFaults.{NoValueReturned, Undeclared, fault_unless, block_faults, may_end, procedure_faults, end_faults}
 use Rattle.resolved.specs.WellFormed.{variable_type, well_formed, block_fits}
 use Rattle.resolved.proofs.Parts as parts
-use Rattle.isolation.proofs.Declared.{append-empty, no_fault-test}
 use Rattle.bytecode.specs.Contents.{ChannelContents, ProcedureContents, ModuleContents}
 use Rattle.bytecode.specs.Machine.{slot_of}
 use Rattle.bytecode.specs.declared.instruction.Instruction.TheVariants as instruction
@@ -26,7 +25,7 @@ use Rattle.verifier.proofs.NeverStuck.{never_stuck}
 use Rattle.lowering.specs.Interface.{slot_contents, channel_contents, global_contents, returned_kind}
 use Rattle.lowering.specs.Code.{block_falls, block_size, block_code, block_table}
 use Rattle.lowering.specs.Graphs.{end_code, no_loop, body_code, procedure_contents, graph_of}
-use Rattle.lowering.specs.Verified.{ModulesHaveNoFault, ModulesAreNeverStuck}
+use Rattle.lowering.specs.Verified.{ModulesHaveNoDefect, ModulesAreNeverStuck}
 use Rattle.lowering.proofs.Ending.{Stops, stops-one, stops-behind, stops-alone, block-stops, block-normal}
 use Rattle.lowering.proofs.Unthreaded.{unthreaded_procedure}
 use Rattle.lowering.proofs.Finals.{all-at}
@@ -39,6 +38,8 @@ use Rattle.lowering.proofs.Settled.{Settles, LoopFlows, settles-front, block-set
 use Rattle.lowering.proofs.Sizes.{block-sized}
 use Rattle.lowering.proofs.States.{slot_of_type}
 use Rattle.lowering.proofs.Standing.{Sound, sound-flows, sound-instructions, sound-handlers}
+use Rattle.common.proofs.Cases.{append_empty}
+use Rattle.resolved.proofs.Exits.{no_fault-test}
 
 -- ---- lists
 -- an element of a list that a function made
@@ -54,9 +55,9 @@ faults-at : (program : Program) (procedures : List ProcedureEntry) (k : ℕ) (en
 faults-at program [] k entry none e = absurd (let no : None ≡ Some entry = e in cc)
 faults-at program (procedure ∷ rest) zero entry none e =
     let same : procedure ≡ entry = cc in
-    subst (λ q. procedure_faults program q ≡ []) same (append-empty (procedure_faults program procedure) (flat_map (procedure_faults program) rest) none).0
+    subst (λ q. procedure_faults program q ≡ []) same (append_empty (procedure_faults program procedure) (flat_map (procedure_faults program) rest) none).0
 faults-at program (procedure ∷ rest) (suc k) entry none e =
-    faults-at program rest k entry (append-empty (procedure_faults program procedure) (flat_map (procedure_faults program) rest) none).1 e
+    faults-at program rest k entry (append_empty (procedure_faults program procedure) (flat_map (procedure_faults program) rest) none).1 e
 
 -- ---- a procedure in its module
 stated : (program : Program) → well_formed program ≡ true → (entry : ProcedureEntry)
@@ -98,8 +99,8 @@ module _ (program : Program) (formed : well_formed program ≡ true) (entry : Pr
       let ends = block_ends program entry.body in
       let value = fault_unless (not (is_some entry.result && has_end ends Normal)) NoValueReturned entry.at in
       let declared = fault_unless (list_all (may_end entry) ends) Undeclared entry.at in
-      (append-empty (block_faults program false true entry.body) value
-      (append-empty (block_faults program false true entry.body ++ value) declared faults).0).0
+      (append_empty (block_faults program false true entry.body) value
+      (append_empty (block_faults program false true entry.body ++ value) declared faults).0).0
 
   value-test : not (is_some entry.result && has_end (block_ends program entry.body) Normal) ≡ true
   value-test =
@@ -108,8 +109,8 @@ module _ (program : Program) (formed : well_formed program ≡ true) (entry : Pr
       let value = fault_unless test NoValueReturned entry.at in
       let declared = fault_unless (list_all (may_end entry) ends) Undeclared entry.at in
       no_fault-test test NoValueReturned entry.at
-      (append-empty (block_faults program false true entry.body) value
-      (append-empty (block_faults program false true entry.body ++ value) declared faults).0).1
+      (append_empty (block_faults program false true entry.body) value
+      (append_empty (block_faults program false true entry.body ++ value) declared faults).0).1
 
   -- a body that may end normally is that of a procedure without a value
   no-value : block_falls entry.body ≡ true → returned_kind entry.result ≡ None
@@ -170,8 +171,8 @@ sound-at program formed none k g e =
     (body-sound program formed entry (parts.procedure_there program formed k entry from.1).body_fits (faults-at program program.procedures k entry none from.1)
     (subst HasPositions (sym from.2) positions))
 
-pub modules-faultless : ModulesHaveNoFault
-modules-faultless program formed none =
+pub modules-have-no-defect : ModulesHaveNoDefect
+modules-have-no-defect program formed none =
     let m = laid_out (graph_of program) in
     record {
       fixed = procedures-right m 0 (graph_of program).procedures (sound-at program formed none);
@@ -184,4 +185,4 @@ pub modules-run : ModulesAreNeverStuck
 modules-run program formed none fits =
     let m = laid_out (graph_of program) in
     let fits_there = Fits-laid_out (graph_of program) (record { positions = graphs-positioned program formed none; limits = fits }) in
-    never_stuck m (bounded m fits_there) (modules-faultless program formed none)
+    never_stuck m (bounded m fits_there) (modules-have-no-defect program formed none)

@@ -3,7 +3,7 @@ use Rattle.std.proofs.Common.{◌≡◌, ℕ, pos, ◌+◌, ◌^◌, ◌<◌, �
 use Rattle.std.specs.Prelude.{slice_get, is_none, not, nat_lt, if◌then◌else◌}
 use Rattle.std.specs.Int.{w32}
 use Rattle.std.specs.List.{AllByRecursion}
-use Rattle.std.proofs.lemmas.Bool.{ltb-true}
+use Rattle.std.proofs.lemmas.Bool.{ltb-true, and_parts}
 use Rattle.std.proofs.lemmas.Int.{SFits-int_wrap}
 use Rattle.std.proofs.lemmas.Option.{slice_get_within}
 use Rattle.resolved.specs.declared.expression.Base.{Base}
@@ -24,7 +24,6 @@ use Rattle.resolved.specs.Tree.{Expression, Integer, Logical, Read, Element, Una
 use Rattle.resolved.specs.Program.{Program, ProcedureEntry, SlotEntry, ResultEntry, ChannelEntry, GlobalEntry, procedure_at}
 use Rattle.resolved.specs.Value.{literal_number}
 use Rattle.resolved.specs.WellFormed.{VariableType, same_base, slot_type, global_type, variable_type, scalar_by, has_length, array_by, has_base, prefix_base, operand_base, result_base, has_result, target_by, channel_is, arguments_match, parameters_of, call_matches, is_exception, may_leave_by, is_array, statement_fits, block_fits, handlers_fit, statement_nodes, block_nodes, handlers_nodes}
-use Rattle.resolved.proofs.Sound.Values.{both}
 use Rattle.bytecode.specs.declared.instruction.Instruction.{Instruction}
 use Rattle.bytecode.specs.declared.instruction.Instruction.TheVariants as instruction
 use Rattle.bytecode.specs.declared.declaration.Handler.{Handler}
@@ -123,11 +122,11 @@ store_element-numbered (Local n) h = h
 
 scalar-is : (o : Option VariableType) (test : Base → Bool) → scalar_by o test ≡ true → (type : VariableType) × (o ≡ Some type) × (test type.base ≡ true)
 scalar-is None test h = absurd (cc)
-scalar-is (Some type) test h = (type, refl, (both (is_none type.size) (test type.base) h).1)
+scalar-is (Some type) test h = (type, refl, (and_parts (is_none type.size) (test type.base) h).1)
 
 array-is : (o : Option VariableType) (count : ℕ) (test : Base → Bool) → array_by o count test ≡ true → (type : VariableType) × (o ≡ Some type) × (test type.base ≡ true)
 array-is None count test h = absurd (cc)
-array-is (Some type) count test h = (type, refl, (both (has_length type.size count) (test type.base) h).1)
+array-is (Some type) count test h = (type, refl, (and_parts (has_length type.size count) (test type.base) h).1)
 
 -- ---- handlers
 
@@ -204,18 +203,18 @@ module _ (program : Program) (procedure : ProcedureEntry) (short : HasShortTable
   value-numbered (Logical b) base at h = numbered-one _ tt
   value-numbered (Read x) base at h = numbered-one _ (load-numbered x (scalar-small x (same_base base) h))
   value-numbered (Element array count index) base at h =
-      let parts = both (array_by (variable_type program procedure array) count (same_base base)) (has_base program procedure Int index) h in
+      let parts = and_parts (array_by (variable_type program procedure array) count (same_base base)) (has_base program procedure Int index) h in
       numbered-both (value_code at index) _ (value-numbered index Int at parts.1) (numbered-one _ (load_element-numbered array (array-small array count (same_base base) parts.0)))
   value-numbered (Unary sign e) base at h =
-      numbered-both (value_code at e) _ (value-numbered e (prefix_base sign) at (both (same_base (prefix_base sign) base) _ h).1) (numbered-one _ (prefix-numbered sign))
+      numbered-both (value_code at e) _ (value-numbered e (prefix_base sign) at (and_parts (same_base (prefix_base sign) base) _ h).1) (numbered-one _ (prefix-numbered sign))
   value-numbered (Binary o d e) base at h =
-      let parts = both (same_base (result_base o) base && has_base program procedure (operand_base o) d) (has_base program procedure (operand_base o) e) h in
-      let left = (both (same_base (result_base o) base) (has_base program procedure (operand_base o) d) parts.0).1 in
+      let parts = and_parts (same_base (result_base o) base && has_base program procedure (operand_base o) d) (has_base program procedure (operand_base o) e) h in
+      let left = (and_parts (same_base (result_base o) base) (has_base program procedure (operand_base o) d) parts.0).1 in
       numbered-both (value_code at d) _ (value-numbered d (operand_base o) at left)
       (numbered-both (value_code (at + value_size d) e) _ (value-numbered e (operand_base o) (at + value_size d) parts.1) (numbered-one _ (operator-numbered o)))
   value-numbered (Short connective d e) base at h =
-      let parts = both (same_base Boolean base && has_base program procedure Boolean d) (has_base program procedure Boolean e) h in
-      let left = (both (same_base Boolean base) (has_base program procedure Boolean d) parts.0).1 in
+      let parts = and_parts (same_base Boolean base && has_base program procedure Boolean d) (has_base program procedure Boolean e) h in
+      let left = (and_parts (same_base Boolean base) (has_base program procedure Boolean d) parts.0).1 in
       numbered-both (value_code at d) _ (value-numbered d Boolean at left)
       (short-numbered connective (at + value_size d) (value_size e) (λ place. value_code place e) (λ place. value-numbered e Boolean place parts.1))
 
@@ -230,8 +229,8 @@ module _ (program : Program) (procedure : ProcedureEntry) (short : HasShortTable
   turned-numbered (Element array count index) at h = not-numbered (Element array count index) at h
   turned-numbered (Unary sign e) at h = not-numbered (Unary sign e) at h
   turned-numbered (Binary o d e) at h =
-      let parts = both (same_base (result_base o) Boolean && has_base program procedure (operand_base o) d) (has_base program procedure (operand_base o) e) h in
-      let left = (both (same_base (result_base o) Boolean) (has_base program procedure (operand_base o) d) parts.0).1 in
+      let parts = and_parts (same_base (result_base o) Boolean && has_base program procedure (operand_base o) d) (has_base program procedure (operand_base o) e) h in
+      let left = (and_parts (same_base (result_base o) Boolean) (has_base program procedure (operand_base o) d) parts.0).1 in
       numbered-both (value_code at d) _ (value-numbered d (operand_base o) at left)
       (numbered-both (value_code (at + value_size d) e) _ (value-numbered e (operand_base o) (at + value_size d) parts.1) (numbered-one _ (operator-numbered (turned_operator o))))
   turned-numbered (Short connective d e) at h = not-numbered (Short connective d e) at h
@@ -247,11 +246,11 @@ module _ (program : Program) (procedure : ProcedureEntry) (short : HasShortTable
   branch-numbered (Element array count index) wanted at target h = test-numbered wanted (Element array count index) at target h
   branch-numbered (Unary prefix.Negate e) wanted at target h = test-numbered wanted (Unary prefix.Negate e) at target h
   branch-numbered (Unary prefix.Not e) wanted at target h =
-      branch-numbered e (not wanted) at target (both (same_base Boolean Boolean) (has_base program procedure Boolean e) h).1
+      branch-numbered e (not wanted) at target (and_parts (same_base Boolean Boolean) (has_base program procedure Boolean e) h).1
   branch-numbered (Binary o d e) wanted at target h = test-numbered wanted (Binary o d e) at target h
   branch-numbered (Short connective d e) wanted at target h =
-      let parts = both (same_base Boolean Boolean && has_base program procedure Boolean d) (has_base program procedure Boolean e) h in
-      let left = (both (same_base Boolean Boolean) (has_base program procedure Boolean d) parts.0).1 in
+      let parts = and_parts (same_base Boolean Boolean && has_base program procedure Boolean d) (has_base program procedure Boolean e) h in
+      let left = (and_parts (same_base Boolean Boolean) (has_base program procedure Boolean d) parts.0).1 in
       numbered-both (branch_code (deciding connective) at _ d) _ (branch-numbered d (deciding connective) at _ left)
       (branch-numbered e wanted (at + branch_size (deciding connective) d) target parts.1)
 
@@ -259,7 +258,7 @@ module _ (program : Program) (procedure : ProcedureEntry) (short : HasShortTable
   arguments-numbered [] parameters at h = numbered-none
   arguments-numbered (e ∷ rest) [] at h = absurd (cc)
   arguments-numbered (e ∷ rest) (parameter ∷ parameters) at h =
-      let parts = both (has_base program procedure parameter.base e) (arguments_match program procedure parameters rest) h in
+      let parts = and_parts (has_base program procedure parameter.base e) (arguments_match program procedure parameters rest) h in
       numbered-both (value_code at e) _ (value-numbered e parameter.base at parts.0) (arguments-numbered rest parameters (at + value_size e) parts.1)
 
   kept-numbered : (target : Option Variable) (test : Base → Bool) → target_by program procedure target test ≡ true → IsNumbered (kept_code target)
@@ -296,7 +295,7 @@ module _ (program : Program) (procedure : ProcedureEntry) (short : HasShortTable
       → (array_by (variable_type program procedure array) count (λ base. has_base program procedure base e) && has_base program procedure Int index) ≡ true
       → AreNumbered (value_code at index ++ (value_code (at + value_size index) e ++ store_element_of array ∷ []))
   element-numbered array count index e at h =
-      let parts = both (array_by (variable_type program procedure array) count (λ base. has_base program procedure base e)) (has_base program procedure Int index) h in
+      let parts = and_parts (array_by (variable_type program procedure array) count (λ base. has_base program procedure base e)) (has_base program procedure Int index) h in
       let there = array-is (variable_type program procedure array) count (λ base. has_base program procedure base e) parts.0 in
       numbered-both (value_code at index) _ (value-numbered index Int at parts.1)
       (numbered-both (value_code (at + value_size index) e) _ (value-numbered e there.0.base (at + value_size index) there.2)
@@ -308,7 +307,7 @@ module _ (program : Program) (procedure : ProcedureEntry) (short : HasShortTable
   call-numbered f arguments target at result None e h = absurd (cc)
   call-numbered f arguments target at result (Some callee) e h =
       let test : Base → Bool = λ base. has_result callee.result (same_base base) in
-      let parts = both (arguments_match program procedure (parameters_of callee) arguments) (target_by program procedure target test) h in
+      let parts = and_parts (arguments_match program procedure (parameters_of callee) arguments) (target_by program procedure target test) h in
       let small : f < 2 ^ 32 = omega (arith, slice_get_within program.procedures f callee e, short.procedures) in
       numbered-both (arguments_code at arguments) _ (arguments-numbered arguments (parameters_of callee) at parts.0)
       (numbered-more (instruction.Call f) _ small (result-numbered result target test parts.1))
@@ -326,25 +325,25 @@ module _ (program : Program) (procedure : ProcedureEntry) (short : HasShortTable
     statement-numbered loop p (Clear at slot) h = numbered-one _ (clear-numbered slot (slice_get procedure.slots slot) refl h)
     statement-numbered loop p (Store at array count index e) h = element-numbered array count index e p h
     statement-numbered loop p (Receive at channel target) h =
-        let parts = both (channel_is (slice_get program.channels channel) Input) (target_by program procedure target (same_base Int)) h in
+        let parts = and_parts (channel_is (slice_get program.channels channel) Input) (target_by program procedure target (same_base Int)) h in
         numbered-more (instruction.Receive channel) _ (channel-small channel Input (slice_get program.channels channel) refl parts.0)
         (numbered-one _ (kept-numbered target (same_base Int) parts.1))
     statement-numbered loop p (Send at channel e) h =
-        let parts = both (channel_is (slice_get program.channels channel) Output) (has_base program procedure Int e) h in
+        let parts = and_parts (channel_is (slice_get program.channels channel) Output) (has_base program procedure Int e) h in
         numbered-both (value_code p e) _ (value-numbered e Int p parts.1)
         (numbered-one (instruction.Send channel) (channel-small channel Output (slice_get program.channels channel) refl parts.0))
     statement-numbered loop p (Call at f arguments target) h =
         call-numbered f arguments target p (procedure_at program f).result (slice_get program.procedures f) refl h
     statement-numbered loop p (If at e yes_block no_block) h =
-        let parts = both (has_base program procedure Boolean e && block_fits program procedure yes_block) (block_fits program procedure no_block) h in
-        let first = both (has_base program procedure Boolean e) (block_fits program procedure yes_block) parts.0 in
+        let parts = and_parts (has_base program procedure Boolean e && block_fits program procedure yes_block) (block_fits program procedure no_block) h in
+        let first = and_parts (has_base program procedure Boolean e) (block_fits program procedure yes_block) parts.0 in
         let no = no_place program p e yes_block no_block in
         numbered-both (branch_code false p no e) _ (branch-numbered e false p no first.0)
         (numbered-both (block_code program loop (p + branch_size false e) yes_block) _ (block-numbered loop (p + branch_size false e) yes_block first.1)
         (numbered-both (jump_code (jumps_over yes_block no_block) _) _ (jump-numbered (jumps_over yes_block no_block) (no + block_size program no_block))
         (block-numbered loop no no_block parts.1)))
     statement-numbered loop p (While at number e body) h =
-        let parts = both (has_base program procedure Boolean e) (block_fits program procedure body) h in
+        let parts = and_parts (has_base program procedure Boolean e) (block_fits program procedure body) h in
         let test = test_place program p body in
         numbered-more (instruction.Jump test) _ tt
         (numbered-both (block_code program _ (p + 1) body) _
@@ -353,7 +352,7 @@ module _ (program : Program) (procedure : ProcedureEntry) (short : HasShortTable
     statement-numbered loop p (Leave at exit) h = numbered-one _ (leave-numbered loop exit h)
     statement-numbered loop p (ReturnWith at e) h = return-numbered e at p h
     statement-numbered loop p (Try at block handlers) h =
-        let parts = both (block_fits program procedure block) (handlers_fit program procedure handlers) h in
+        let parts = and_parts (block_fits program procedure block) (handlers_fit program procedure handlers) h in
         let place = handlers_place program p block handlers in
         numbered-both (block_code program loop p block) _ (block-numbered loop p block parts.0)
         (numbered-both (jump_code (jumps_behind block handlers) _) _ (jump-numbered (jumps_behind block handlers) (place + handlers_size program handlers))
@@ -363,15 +362,15 @@ module _ (program : Program) (procedure : ProcedureEntry) (short : HasShortTable
     pub block-numbered : (loop : Loop) (p : ℕ) (block : Block) → block_fits program procedure block ≡ true → AreNumbered (block_code program loop p block)
     block-numbered loop p Empty h = numbered-none
     block-numbered loop p (Then statement rest) h =
-        let parts = both (statement_fits program procedure statement) (block_fits program procedure rest) h in
+        let parts = and_parts (statement_fits program procedure statement) (block_fits program procedure rest) h in
         numbered-both (statement_code program loop p statement) _ (statement-numbered loop p statement parts.0)
         (block-numbered loop (p + statement_size program statement) rest parts.1)
 
     handlers-numbered : (loop : Loop) (end p : ℕ) (handlers : Handlers) → handlers_fit program procedure handlers ≡ true → AreNumbered (handlers_code program loop end p handlers)
     handlers-numbered loop end p NoMore h = numbered-none
     handlers-numbered loop end p (Catch at exception body rest) h =
-        let parts = both (is_exception program exception && block_fits program procedure body) (handlers_fit program procedure rest) h in
-        let first = both (is_exception program exception) (block_fits program procedure body) parts.0 in
+        let parts = and_parts (is_exception program exception && block_fits program procedure body) (handlers_fit program procedure rest) h in
+        let first = and_parts (is_exception program exception) (block_fits program procedure body) parts.0 in
         numbered-both (block_code program loop p body) _ (block-numbered loop p body first.1)
         (numbered-both (jump_code (jumps_behind body rest) end) _ (jump-numbered (jumps_behind body rest) end)
         (handlers-numbered loop end (handlers_place program p body rest) rest parts.1))
@@ -385,17 +384,17 @@ module _ (program : Program) (procedure : ProcedureEntry) (short : HasShortTable
     statement-catches p (Send at channel e) h = catches-none _
     statement-catches p (Call at f arguments target) h = catches-none _
     statement-catches p (If at e yes_block no_block) h =
-        let parts = both (has_base program procedure Boolean e && block_fits program procedure yes_block) (block_fits program procedure no_block) h in
-        let first = both (has_base program procedure Boolean e) (block_fits program procedure yes_block) parts.0 in
+        let parts = and_parts (has_base program procedure Boolean e && block_fits program procedure yes_block) (block_fits program procedure no_block) h in
+        let first = and_parts (has_base program procedure Boolean e) (block_fits program procedure yes_block) parts.0 in
         catches-both (block_nodes yes_block) (block_nodes no_block) _ _ _
         (block-catches (p + branch_size false e) yes_block first.1) (block-catches (no_place program p e yes_block no_block) no_block parts.1) (omega arith)
     statement-catches p (While at number e body) h =
-        let parts = both (has_base program procedure Boolean e) (block_fits program procedure body) h in
+        let parts = and_parts (has_base program procedure Boolean e) (block_fits program procedure body) h in
         catches-more (block_nodes body) _ _ (block-catches (p + 1) body parts.1) (omega arith)
     statement-catches p (Leave at exit) h = catches-none _
     statement-catches p (ReturnWith at e) h = catches-none _
     statement-catches p (Try at block handlers) h =
-        let parts = both (block_fits program procedure block) (handlers_fit program procedure handlers) h in
+        let parts = and_parts (block_fits program procedure block) (handlers_fit program procedure handlers) h in
         catches-both (block_nodes block) (handlers_nodes handlers) _ _ _
         (block-catches p block parts.0)
         (handlers-catches p (p + block_size program block) (handlers_place program p block handlers) handlers parts.1) (omega arith)
@@ -404,15 +403,15 @@ module _ (program : Program) (procedure : ProcedureEntry) (short : HasShortTable
     pub block-catches : (p : ℕ) (block : Block) → block_fits program procedure block ≡ true → AreCatches (block_nodes block) (block_table program p block)
     block-catches p Empty h = catches-none _
     block-catches p (Then statement rest) h =
-        let parts = both (statement_fits program procedure statement) (block_fits program procedure rest) h in
+        let parts = and_parts (statement_fits program procedure statement) (block_fits program procedure rest) h in
         catches-both (statement_nodes statement) (block_nodes rest) _ _ _
         (statement-catches p statement parts.0) (block-catches (p + statement_size program statement) rest parts.1) (omega arith)
 
     handlers-catches : (start end p : ℕ) (handlers : Handlers) → handlers_fit program procedure handlers ≡ true → AreCatches (handlers_nodes handlers) (handlers_table program start end p handlers)
     handlers-catches start end p NoMore h = catches-none _
     handlers-catches start end p (Catch at exception body rest) h =
-        let parts = both (is_exception program exception && block_fits program procedure body) (handlers_fit program procedure rest) h in
-        let first = both (is_exception program exception) (block_fits program procedure body) parts.0 in
+        let parts = and_parts (is_exception program exception && block_fits program procedure body) (handlers_fit program procedure rest) h in
+        let first = and_parts (is_exception program exception) (block_fits program procedure body) parts.0 in
         catches-both 1 (block_nodes body + handlers_nodes rest) _ _ _
         (entry-catches start end exception p (exception-small exception first.0))
         (catches-both (block_nodes body) (handlers_nodes rest) _ _ _

@@ -10,20 +10,19 @@ use Rattle.std.proofs.lemmas.List.Sums.{get_or-le-sum_by}
 use Rattle.std.proofs.lemmas.Option.{slice_get-map, slice_get_within}
 use Rattle.resolved.specs.Names.{HasNames}
 use Rattle.resolved.specs.Program.{Program, ProcedureEntry, ResultEntry, ChannelEntry, GlobalEntry, SlotEntry}
-use Rattle.resolved.specs.WellFormed.{size_fits, cell_count, cell_limit, label_fits, label_nodes, first_fits, procedure_fits, procedure_nodes, program_nodes, node_limit, main_fits, well_formed}
+use Rattle.resolved.specs.WellFormed.{size_fits, cell_count, label_fits, label_nodes, first_fits, procedure_fits, procedure_nodes, program_nodes, node_limit, main_fits, well_formed}
 use Rattle.resolved.proofs.Parts.{ProcedureParts, procedure_parts, program_parts}
 use Rattle.bytecode.specs.declared.instruction.Instruction.{Instruction}
 use Rattle.bytecode.specs.declared.instruction.Instruction.TheVariants as instruction
 use Rattle.bytecode.specs.declared.declaration.Handler.{Handler}
 use Rattle.bytecode.specs.declared.value.Kind.{Kind}
 use Rattle.bytecode.specs.declared.value.Kind.TheVariants as kind
-use Rattle.bytecode.specs.Code.{width_of, code_length}
+use Rattle.bytecode.specs.Code.{code_length}
 use Rattle.bytecode.specs.Form.{Fits, FitEach, IsCoded, Code}
 use Rattle.bytecode.specs.Format.{returned, handler, handlers, procedure, procedures, may_start, main, program as program_field, contents, module_file}
 use Rattle.bytecode.specs.Targets.{renamed_instruction}
-use Rattle.bytecode.specs.Opcodes.{row_of, operand_width, instructions}
-use Rattle.bytecode.specs.declared.opcode.Operand.{Operand}
-use Rattle.bytecode.specs.declared.opcode.Operand.TheVariants.{Absent, Int, Boolean, Number}
+use Rattle.bytecode.specs.Opcodes.{instructions}
+use Rattle.bytecode.specs.declared.opcode.Operand.TheVariants.{Int, Boolean}
 use Rattle.bytecode.proofs.Spelling.{is_spelled, spelled-length}
 use Rattle.layout.specs.Graph.{IsHandlerIn, HasTargetIn, HasPositions}
 use Rattle.lowering.specs.Interface.{returned_kind}
@@ -41,6 +40,8 @@ use Rattle.lowering.proofs.Fronts.{FitEach-made, All-at_seam}
 use Rattle.lowering.proofs.Room.{block-room}
 use Rattle.lowering.proofs.Sizes.{both_sized, block-sized}
 use Rattle.lowering.proofs.Targets.{Below}
+use Rattle.bytecode.proofs.Widths.{width_of-most}
+use Rattle.common.specs.declared.limits.TheConstants.{MAX_CELLS}
 
 -- ---- code
 
@@ -78,19 +79,10 @@ code-coded n [] room each there = tt
 code-coded n (x ∷ code) room each there =
     (numbered-coded n x room each.0 (All-head (Below n) x code there), code-coded n code room each.1 (All-tail (Below n) x code there))
 
-operand-short : (x : Instruction) → width_of x ≤ 5
-operand-short x = by (row_of x).operand
-  where
-    by : (o : Operand) → 1 + operand_width o ≤ 5
-    by Absent = omega arith
-    by (Int n) = omega arith
-    by (Boolean b) = omega arith
-    by (Number n) = omega arith
-
 -- an instruction takes at most five bytes
 code-short : (code : List Instruction) → code_length code ≤ 5 * length code
 code-short [] = omega arith
-code-short (x ∷ code) = omega (arith, operand-short x, code-short code)
+code-short (x ∷ code) = omega (arith, width_of-most x, code-short code)
 
 code-fits : (code : List Instruction) → length code ≤ 4194305 → AllByRecursion IsNumbered code → All (HasTargetIn code) code → Fits (Code instructions) code
 code-fits code few each there =
@@ -156,7 +148,7 @@ procedure-fits program entry short few parts placed =
           omega (arith, few, parameters),
           (
             slots-fit program.hierarchy entry.parameters entry.slots (omega (arith, few)) parameters parts.parameters_written parts.slots_fit
-                (leb-true (sum_by (λ (slot : SlotEntry). cell_count slot.size) entry.slots) cell_limit parts.frame_cells),
+                (leb-true (sum_by (λ (slot : SlotEntry). cell_count slot.size) entry.slots) MAX_CELLS parts.frame_cells),
             (
               code-fits code long (renamed-each (final_place (body_code program body)) (body_code program body) numbers.each) placed.targets,
               handlers-fits (length code) (block_table program 0 body) (omega (arith, long)) (omega (arith, few, catches.few)) placed.handlers catches.each,
@@ -251,7 +243,7 @@ graph-fits program formed names values placed =
         (
           declared-fits program.hierarchy program.exceptions program.channels names.hierarchy.few counts.exceptions counts.channels parts.channels_fit names.items names.different names.labels,
           (
-            globals-fit program.hierarchy program.globals counts.globals tables.0 (leb-true (sum_by (λ (entry : GlobalEntry). cell_count entry.size) program.globals) cell_limit tables.1) values,
+            globals-fit program.hierarchy program.globals counts.globals tables.0 (leb-true (sum_by (λ (entry : GlobalEntry). cell_count entry.size) program.globals) MAX_CELLS tables.1) values,
             (
               procedures-fits program program.procedures (omega (arith, few, counts.procedures)) (each-procedure program counts parts.procedures_fit placed),
               main-fits program (omega (arith, few, counts.procedures)) parts.main_is,

@@ -8,6 +8,7 @@ use Rattle.std.proofs.lemmas.Int.{to_z-of_z}
 use Rattle.std.proofs.lemmas.List.{length-map}
 use Rattle.std.proofs.lemmas.List.Sums.{sum_by-cons}
 use Rattle.std.proofs.Math.Facts.{Fits-of_z, Fits-lt-pow}
+use Rattle.std.proofs.Math.Bool.{or-true}
 use Rattle.principals.specs.ActsFor.{PrincipalHierarchy}
 use Rattle.resolved.specs.declared.expression.Value.{Value}
 use Rattle.resolved.specs.declared.expression.Value.TheVariants.{Number, Truth}
@@ -156,10 +157,6 @@ scalar_slot-fits parameters before k room =
     let any : (leb parameters (length before) || true) ≡ true = or-true (leb parameters (length before)) in
     ((kind-fits k, (omega arith, and_from _ _ (size-tested (slot_cells before) 0 (omega arith) room) any)), scalar-again k)
   where
-    or-true : (b : Bool) → (b || true) ≡ true
-    or-true true = refl
-    or-true false = refl
-
     scalar-again : (k : Kind) → slot_of (k, 0) ≡ slot.Scalar k
     scalar-again k = refl
 

@@ -12,6 +12,7 @@ use Rattle.verifier.specs.Fixed.{instruction_defect}
 use Rattle.bytecode.specs.Targets.{target_of}
 use Rattle.verifier.specs.Flow.{Effect, Leaves, Misses, effect, goes_on}
 use Rattle.lowering.proofs.Places.{Stands, stands-front, stands-back}
+use Rattle.common.proofs.Cases.{same_some}
 
 abbrev pub below_top : List Kind → List Kind
 below_top [] = []
@@ -26,9 +27,6 @@ following false (Misses wrong) = []
 taken : (whole before behind : List Instruction) (k : ℕ) → whole ≡ before ++ behind → length before ≡ k → take k whole ≡ before
 taken whole before behind k parts size =
     ap (take k) parts ∙ (ap (λ (n : ℕ). take n (before ++ behind)) (sym size) ∙ take-append_seam before behind)
-
-same_target : (a b : ℕ) → Some a ≡ Some b → a ≡ b
-same_target a b e = cc
 
 no_target-has : {A : Type 0} (o : Option ℕ) (to : ℕ) → o ≡ None → o ≡ Some to → A
 no_target-has o to none some = absurd (let no : None ≡ Some to = sym none ∙ some in cc)
@@ -140,7 +138,7 @@ module _ (m : ModuleContents) (p : ProcedureContents) (whole : List Instruction)
       record {
         after = a;
         leaves = refl;
-        jumps = λ to e. subst (λ t. kinds_at t ≡ a) (same_target target to e) (arrives g);
+        jumps = λ to e. subst (λ t. kinds_at t ≡ a) (same_some target to e) (arrives g);
         fixed = λ none. no_target-has (Some target) target none refl;
       },
       tt,
@@ -155,7 +153,7 @@ module _ (m : ModuleContents) (p : ProcedureContents) (whole : List Instruction)
       record {
         after = a;
         leaves = refl;
-        jumps = λ to e. subst (λ t. kinds_at t ≡ a) (same_target target to e) (arrives g);
+        jumps = λ to e. subst (λ t. kinds_at t ≡ a) (same_some target to e) (arrives g);
         fixed = λ none. no_target-has (Some target) target none refl;
       },
       tt,

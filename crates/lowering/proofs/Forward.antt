@@ -15,7 +15,6 @@ use Rattle.resolved.specs.Tree.{Expression, Integer, Logical, Read, Element, Una
 use Rattle.resolved.specs.Program.{Program, ResultEntry, procedure_at}
 use Rattle.resolved.specs.Ends.{same_exit, has_end, statement_ends, block_ends}
 use Rattle.resolved.specs.EndFaults.{OutsideLoop, Unreachable, NeverRaised, fault_unless, may_leave, may_stand, inner_faults, block_faults, handlers_faults}
-use Rattle.isolation.proofs.Declared.{append-empty, no_fault-test}
 use Rattle.bytecode.specs.declared.instruction.Instruction.{Instruction}
 use Rattle.bytecode.specs.declared.instruction.Instruction.TheVariants as instruction
 use Rattle.lowering.specs.Expressions.{load_of, store_of, load_element_of, store_element_of, prefix_instruction, operator_instruction, value_size, value_code, rest_of_short, arguments_size, arguments_code, tested, deciding, branch_size, branch_code, test_code}
@@ -24,6 +23,8 @@ use Rattle.lowering.specs.Graphs.{end_code, no_loop, body_code}
 use Rattle.lowering.specs.Threaded.{jump_of}
 use Rattle.lowering.proofs.Finals.{GoForward}
 use Rattle.lowering.proofs.Sizes.{value-sized, arguments-sized, branch-sized, jump-sized, block-sized, statement-sized}
+use Rattle.common.proofs.Cases.{append_empty}
+use Rattle.resolved.proofs.Exits.{no_fault-test}
 
 -- the unconditional jumps of code for a place go forward
 record Ahead (at : ℕ) (code : List Instruction) : Type 0 where
@@ -192,7 +193,7 @@ module _ (program : Program) where
         let j = jumps_over yes_block no_block in
         let k = jump_size j in
         let z = block_size program no_block in
-        let none = append-empty (block_faults program in_loop true yes_block) (block_faults program in_loop true no_block) faults in
+        let none = append_empty (block_faults program in_loop true yes_block) (block_faults program in_loop true no_block) faults in
         ahead-both p b (branch_code false p (p + b + y + k) e) _ (branch-sized e false p (p + b + y + k)) (branch-ahead e false p (p + b + y + k))
         (ahead-both (p + b) y (block_code program loop (p + b) yes_block) _ (block-sized program loop (p + b) yes_block)
         (block-ahead loop in_loop true (p + b) yes_block none.0 (sooner (p + b + y) (p + (b + (y + (k + z)))) in_loop loop (omega arith) loops))
@@ -213,7 +214,7 @@ module _ (program : Program) where
         let j = jumps_behind block handlers in
         let k = jump_size j in
         let z = handlers_size program handlers in
-        let none = append-empty (block_faults program in_loop true block) (handlers_faults program in_loop (block_ends program block) handlers) faults in
+        let none = append_empty (block_faults program in_loop true block) (handlers_faults program in_loop (block_ends program block) handlers) faults in
         ahead-both p m (block_code program loop p block) _ (block-sized program loop p block)
         (block-ahead loop in_loop true p block none.0 (sooner (p + m) (p + (m + (k + z))) in_loop loop (omega arith) loops))
         (ahead-both (p + m) k (jump_code j (p + m + k + z)) _ (jump-sized j (p + m + k + z)) (jump-ahead (p + m) j (p + m + k + z) (omega arith))
@@ -230,9 +231,9 @@ module _ (program : Program) where
         let first = fault_unless (may_stand in_loop statement) OutsideLoop (place_of statement) in
         let second = fault_unless reached Unreachable (place_of statement) in
         let goes = has_end (statement_ends program statement) Normal in
-        let later = append-empty (first ++ second ++ inner_faults program in_loop statement) (block_faults program in_loop goes rest) faults in
-        let here = append-empty (first ++ second) (inner_faults program in_loop statement) later.0 in
-        let stands = no_fault-test (may_stand in_loop statement) OutsideLoop (place_of statement) (append-empty first second here.0).0 in
+        let later = append_empty (first ++ second ++ inner_faults program in_loop statement) (block_faults program in_loop goes rest) faults in
+        let here = append_empty (first ++ second) (inner_faults program in_loop statement) later.0 in
+        let stands = no_fault-test (may_stand in_loop statement) OutsideLoop (place_of statement) (append_empty first second here.0).0 in
         ahead-both p m (statement_code program loop p statement) _ (statement-sized program loop p statement)
         (statement-ahead loop in_loop p statement stands here.1 (sooner (p + m) (p + (m + z)) in_loop loop (omega arith) loops))
         (block-ahead loop in_loop goes (p + m) rest later.1 (sooner (p + m + z) (p + (m + z)) in_loop loop (omega arith) loops))
@@ -247,8 +248,8 @@ module _ (program : Program) where
         let z = handlers_size program rest in
         let raised = fault_unless (has_end ends (Throw exception)) NeverRaised at in
         let others = filter (λ exit. not (same_exit (Throw exception) exit)) ends in
-        let later = append-empty (raised ++ block_faults program in_loop true body) (handlers_faults program in_loop others rest) faults in
-        let here = append-empty raised (block_faults program in_loop true body) later.0 in
+        let later = append_empty (raised ++ block_faults program in_loop true body) (handlers_faults program in_loop others rest) faults in
+        let here = append_empty raised (block_faults program in_loop true body) later.0 in
         let is : p + (m + (k + z)) ≡ behind = size in
         ahead-both p m (block_code program loop p body) _ (block-sized program loop p body)
         (block-ahead loop in_loop true p body here.1 (sooner (p + m) behind in_loop loop (omega (arith, is)) loops))

@@ -6,6 +6,7 @@ use Rattle.std.specs.List.{list_all}
 use Rattle.std.proofs.Math.Path.{fun_ext}
 use Rattle.std.proofs.lemmas.List.{append-nil, reverse-append}
 use Rattle.std.proofs.lemmas.Option.{slice_get-map}
+use Rattle.std.proofs.lemmas.Bool.{and_parts}
 use Rattle.resolved.specs.declared.expression.Value.{Value}
 use Rattle.resolved.specs.declared.expression.Value.TheVariants.{Number, Truth}
 use Rattle.resolved.specs.declared.expression.Base.{Base}
@@ -17,7 +18,7 @@ use Rattle.resolved.specs.Meaning.{cells_of as first_cells_of, first_cells_of_sl
 use Rattle.resolved.specs.WellFormed.{slot_type, global_type, first_fits, size_fits, label_fits, same_base, well_formed, parameters_of}
 use Rattle.resolved.specs.Kinds.{ArgumentsFit}
 use Rattle.resolved.proofs.Parts.{program_parts, passes_at}
-use Rattle.resolved.proofs.Sound.Values.{both, same_base_is}
+use Rattle.resolved.proofs.Sound.Values.{same_base_is}
 use Rattle.bytecode.specs.declared.value.Cell.{Cell}
 use Rattle.bytecode.specs.declared.value.Kind.{Kind}
 use Rattle.bytecode.specs.declared.declaration.Slot.{Slot}
@@ -55,10 +56,10 @@ pub global_there : (program : Program) → well_formed program ≡ true → (k :
 global_there program formed k None e = refl
 global_there program formed k (Some entry) e =
     let all_fit : list_all (λ (entry : GlobalEntry). size_fits entry.size && label_fits program.hierarchy entry.label && first_fits entry) program.globals ≡ true =
-    (both (list_all _ program.globals) _ (program_parts program formed).globals_are).0 in
+    (and_parts (list_all _ program.globals) _ (program_parts program formed).globals_are).0 in
     let fit : first_fits entry ≡ true =
-    (both (size_fits entry.size && label_fits program.hierarchy entry.label) _ (passes_at _ program.globals k entry all_fit e)).1 in
-    ap (λ (s : Slot). Some s) (global_same entry entry.size refl (same_base_is (base_of entry.first) entry.base (both (same_base (base_of entry.first) entry.base) _ fit).0))
+    (and_parts (size_fits entry.size && label_fits program.hierarchy entry.label) _ (passes_at _ program.globals k entry all_fit e)).1 in
+    ap (λ (s : Slot). Some s) (global_same entry entry.size refl (same_base_is (base_of entry.first) entry.base (and_parts (same_base (base_of entry.first) entry.base) _ fit).0))
 
 pub direction_same : (o : Option ChannelEntry) → option_map (λ entry. (channel_contents entry).direction) o ≡ direction_in o
 direction_same None = refl

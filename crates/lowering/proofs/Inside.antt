@@ -1,8 +1,8 @@
 -- The jumps and handlers of a procedure go to positions of its code.
-use Rattle.std.proofs.Common.{◌≡◌, refl, sym, ap, ◌∙◌, ℕ, zero, suc, ◌+◌, ◌<◌, ◌≤◌, Bool, true, false, not, ◌&&◌, ◌||◌, List, [], ◌∷◌, ◌++◌, All, length, get_or, arith}
+use Rattle.std.proofs.Common.{◌≡◌, refl, sym, ap, ◌∙◌, ℕ, zero, suc, ◌+◌, ◌<◌, ◌≤◌, Bool, true, false, not, ◌&&◌, List, [], ◌∷◌, ◌++◌, All, length, get_or, arith}
 use Rattle.std.specs.Prelude.{Option, Some, None, filter, flat_map, nat_lt, is_some, if◌then◌else◌}
 use Rattle.std.specs.List.{list_all}
-use Rattle.std.proofs.lemmas.Bool.{ltb-true}
+use Rattle.std.proofs.lemmas.Bool.{ltb-true, or_right, or_left, or_parts, and_from, and_parts}
 use Rattle.std.proofs.lemmas.List.Elements.{All-nil, All-cons, All-append, All-map}
 use Rattle.resolved.specs.declared.expression.Base.TheVariants.{Boolean}
 use Rattle.resolved.specs.declared.expression.Variable.{Variable}
@@ -13,9 +13,7 @@ use Rattle.resolved.specs.Program.{Program, ProcedureEntry, ResultEntry, procedu
 use Rattle.resolved.specs.Ends.{same_exit, has_end, statement_ends, block_ends}
 use Rattle.resolved.specs.EndFaults.{OutsideLoop, Unreachable, NeverRaised, NoValueReturned, Undeclared, fault_unless, may_leave, may_stand, inner_faults, block_faults, handlers_faults, may_end, procedure_faults, end_faults}
 use Rattle.resolved.specs.WellFormed.{has_base, is_exception, statement_fits, block_fits, handlers_fit, procedure_fits}
-use Rattle.resolved.proofs.Sound.Values.{both}
 use Rattle.resolved.proofs.Parts.{program_parts, procedure_parts}
-use Rattle.isolation.proofs.Declared.{append-empty, no_fault-test}
 use Rattle.bytecode.specs.declared.instruction.Instruction.{Instruction}
 use Rattle.bytecode.specs.declared.instruction.Instruction.TheVariants as instruction
 use Rattle.bytecode.specs.declared.declaration.Handler.{Handler}
@@ -28,22 +26,11 @@ use Rattle.lowering.proofs.Sizes.{both_sized, block-sized}
 use Rattle.lowering.proofs.Unthreaded.{unthreaded_procedure}
 use Rattle.lowering.proofs.Finals.{threaded-positioned}
 use Rattle.lowering.proofs.Targets.{Below, Stays, none-below, more-below, one-below, both-below, store-below, store_element-below, kept-below, value-below, arguments-below, branch-filled, branch-below}
-use Rattle.lowering.proofs.Unreached.{neither, statement-none}
+use Rattle.lowering.proofs.Unreached.{statement-none}
+use Rattle.common.proofs.Cases.{by_test, append_empty}
+use Rattle.resolved.proofs.Exits.{no_fault-test}
 
 -- ---- truth values
-or-left : (a b : Bool) → a ≡ true → (a || b) ≡ true
-or-left a b h = ap (λ (x : Bool). x || b) h
-
-or-right : (a b : Bool) → b ≡ true → (a || b) ≡ true
-or-right true b h = refl
-or-right false b h = h
-
-and-both : (a b : Bool) → a ≡ true → b ≡ true → (a && b) ≡ true
-and-both a b h k = ap (λ (x : Bool). x && b) h ∙ k
-
-by-truth : {A : Type 0} (b : Bool) → (b ≡ true → A) → (b ≡ false → A) → A
-by-truth true h k = h refl
-by-truth false h k = k refl
 
 -- ---- code with its handlers
 record Placed (n : ℕ) (made : List Instruction) (table : List Handler) : Type 0 where
@@ -76,20 +63,20 @@ module _ (program : Program) where
     statement-filled (ReturnWith at None) falls = omega arith
     statement-filled (ReturnWith at (Some e)) falls = omega arith
     statement-filled (Try at block handlers) falls =
-        omega (arith, block-filled block (neither (block_falls block) (handlers_fall handlers) falls).0)
+        omega (arith, block-filled block (or_parts (block_falls block) (handlers_fall handlers) falls).0)
     statement-filled (Nested at block) falls = block-filled block falls
     statement-filled _ falls = absurd (let no : true ≡ false = falls in cc)
 
     block-filled : (block : Block) → block_falls block ≡ false → 1 ≤ block_size program block
     block-filled Empty falls = absurd (let no : true ≡ false = falls in cc)
     block-filled (Then statement rest) falls =
-        by-truth (statement_falls statement)
+        by_test (statement_falls statement)
         (λ h. let k : block_falls rest ≡ false = sym (ap (λ (b : Bool). b && block_falls rest) h) ∙ falls in omega (arith, block-filled rest k))
         (λ h. omega (arith, statement-filled statement h))
 
   inside : (block : Block) (p n : ℕ) → EndsIn n (p + block_size program block) (block_falls block) → p < n
   inside block p n ends =
-      by-truth (block_falls block) (λ h. omega (arith, ends.strict h)) (λ h. omega (arith, ends.within, block-filled block h))
+      by_test (block_falls block) (λ h. omega (arith, ends.strict h)) (λ h. omega (arith, ends.within, block-filled block h))
 
 -- ---- pieces
 jump-below : (n : ℕ) (wanted : Bool) (target : ℕ) → (wanted ≡ true → target < n) → Stays n (jump_code wanted target)
@@ -134,9 +121,9 @@ module _ (program : Program) (procedure : ProcedureEntry) (n : ℕ) where
   unreached loop in_loop reached p (Then statement rest) h faults =
       let first = fault_unless (may_stand in_loop statement) OutsideLoop (place_of statement) in
       let second = fault_unless reached Unreachable (place_of statement) in
-      let later = append-empty (first ++ second ++ inner_faults program in_loop statement) _ faults in
-      let here = append-empty (first ++ second) (inner_faults program in_loop statement) later.0 in
-      let reaches : reached ≡ true = no_fault-test reached Unreachable (place_of statement) (append-empty first second here.0).1 in
+      let later = append_empty (first ++ second ++ inner_faults program in_loop statement) _ faults in
+      let here = append_empty (first ++ second) (inner_faults program in_loop statement) later.0 in
+      let reaches : reached ≡ true = no_fault-test reached Unreachable (place_of statement) (append_empty first second here.0).1 in
       absurd (let no : true ≡ false = sym reaches ∙ h in cc)
 
   mutual
@@ -163,15 +150,15 @@ module _ (program : Program) (procedure : ProcedureEntry) (n : ℕ) where
         let j = jumps_over yes_block no_block in
         let k = jump_size j in
         let z = block_size program no_block in
-        let parts = both (has_base program procedure Boolean e && block_fits program procedure yes_block) (block_fits program procedure no_block) fits in
-        let yes_fits : block_fits program procedure yes_block ≡ true = (both (has_base program procedure Boolean e) (block_fits program procedure yes_block) parts.0).1 in
-        let no_fault = append-empty (block_faults program in_loop true yes_block) (block_faults program in_loop true no_block) faults in
+        let parts = and_parts (has_base program procedure Boolean e && block_fits program procedure yes_block) (block_fits program procedure no_block) fits in
+        let yes_fits : block_fits program procedure yes_block ≡ true = (and_parts (has_base program procedure Boolean e) (block_fits program procedure yes_block) parts.0).1 in
+        let no_fault = append_empty (block_faults program in_loop true yes_block) (block_faults program in_loop true no_block) faults in
         let within : p + (b + (y + (k + z))) ≤ n = ends.within in
-        let first : block_falls yes_block ≡ true → p + (b + (y + (k + z))) < n = λ h. ends.strict (or-left (block_falls yes_block) (block_falls no_block) h) in
-        let second : block_falls no_block ≡ true → p + (b + (y + (k + z))) < n = λ h. ends.strict (or-right (block_falls yes_block) (block_falls no_block) h) in
+        let first : block_falls yes_block ≡ true → p + (b + (y + (k + z))) < n = λ h. ends.strict (or_left (block_falls yes_block) (block_falls no_block) h) in
+        let second : block_falls no_block ≡ true → p + (b + (y + (k + z))) < n = λ h. ends.strict (or_right (block_falls yes_block) (block_falls no_block) h) in
         let yes_ends : EndsIn n (p + b + y) (block_falls yes_block) = record { within = omega (arith, within); strict = λ h. omega (arith, first h) } in
         let no_ends : EndsIn n (p + b + y + k + z) (block_falls no_block) = record { within = omega (arith, within); strict = λ h. omega (arith, second h) } in
-        let over : j ≡ true → p + b + y + k + z < n = λ h. omega (arith, first (both (block_falls yes_block) (not (is_empty no_block)) h).0) in
+        let over : j ≡ true → p + b + y + k + z < n = λ h. omega (arith, first (and_parts (block_falls yes_block) (not (is_empty no_block)) h).0) in
         placed-both (plain (branch-below e false p (p + b + y + k) n (inside program yes_block (p + b) n yes_ends) (inside program no_block (p + b + y + k) n no_ends)))
         (placed-both (block-placed loop in_loop true (p + b) yes_block yes_fits no_fault.0 loops yes_ends)
         (placed-both (plain (jump-below n j (p + b + y + k + z) over))
@@ -181,7 +168,7 @@ module _ (program : Program) (procedure : ProcedureEntry) (n : ℕ) where
         let b = branch_size true e in
         let strict : p + (1 + (m + b)) < n = ends.strict refl in
         let inner : Loop = record { behind = p + 1 + m + b; test = p + 1 + m } in
-        let placed = block-placed inner true true (p + 1) body (both (has_base program procedure Boolean e) (block_fits program procedure body) fits).1 faults
+        let placed = block-placed inner true true (p + 1) body (and_parts (has_base program procedure Boolean e) (block_fits program procedure body) fits).1 faults
         (record { behind = λ h. omega (arith, strict); test = λ h. omega (arith, strict) })
         (record { within = omega (arith, strict); strict = λ h. omega (arith, strict) }) in
         record {
@@ -196,12 +183,12 @@ module _ (program : Program) (procedure : ProcedureEntry) (n : ℕ) where
         let j = jumps_behind block handlers in
         let k = jump_size j in
         let z = handlers_size program handlers in
-        let parts = both (block_fits program procedure block) (handlers_fit program procedure handlers) fits in
-        let no_fault = append-empty (block_faults program in_loop true block) (handlers_faults program in_loop (block_ends program block) handlers) faults in
+        let parts = and_parts (block_fits program procedure block) (handlers_fit program procedure handlers) fits in
+        let no_fault = append_empty (block_faults program in_loop true block) (handlers_faults program in_loop (block_ends program block) handlers) faults in
         let within : p + (m + (k + z)) ≤ n = ends.within in
-        let first : block_falls block ≡ true → p + (m + (k + z)) < n = λ h. ends.strict (or-left (block_falls block) (handlers_fall handlers) h) in
-        let second : handlers_fall handlers ≡ true → p + (m + (k + z)) < n = λ h. ends.strict (or-right (block_falls block) (handlers_fall handlers) h) in
-        let over : j ≡ true → p + m + k + z < n = λ h. omega (arith, first (both (block_falls block) (not (is_none_left handlers)) h).0) in
+        let first : block_falls block ≡ true → p + (m + (k + z)) < n = λ h. ends.strict (or_left (block_falls block) (handlers_fall handlers) h) in
+        let second : handlers_fall handlers ≡ true → p + (m + (k + z)) < n = λ h. ends.strict (or_right (block_falls block) (handlers_fall handlers) h) in
+        let over : j ≡ true → p + m + k + z < n = λ h. omega (arith, first (and_parts (block_falls block) (not (is_none_left handlers)) h).0) in
         placed-both (block-placed loop in_loop true p block parts.0 no_fault.0 loops (record { within = omega (arith, within); strict = λ h. omega (arith, first h) }))
         (placed-both (plain (jump-below n j (p + m + k + z) over))
         (handlers-placed loop in_loop p (p + m) (p + m + k + z) (p + m + k) (block_ends program block) handlers parts.1 no_fault.1 loops (omega (arith, within)) refl
@@ -218,17 +205,17 @@ module _ (program : Program) (procedure : ProcedureEntry) (n : ℕ) where
         let first = fault_unless (may_stand in_loop statement) OutsideLoop (place_of statement) in
         let second = fault_unless reached Unreachable (place_of statement) in
         let goes_on = has_end (statement_ends program statement) Normal in
-        let later = append-empty (first ++ second ++ inner_faults program in_loop statement) (block_faults program in_loop goes_on rest) faults in
-        let here = append-empty (first ++ second) (inner_faults program in_loop statement) later.0 in
-        let stands = no_fault-test (may_stand in_loop statement) OutsideLoop (place_of statement) (append-empty first second here.0).0 in
-        let parts = both (statement_fits program procedure statement) (block_fits program procedure rest) fits in
+        let later = append_empty (first ++ second ++ inner_faults program in_loop statement) (block_faults program in_loop goes_on rest) faults in
+        let here = append_empty (first ++ second) (inner_faults program in_loop statement) later.0 in
+        let stands = no_fault-test (may_stand in_loop statement) OutsideLoop (place_of statement) (append_empty first second here.0).0 in
+        let parts = and_parts (statement_fits program procedure statement) (block_fits program procedure rest) fits in
         let within : p + (m + z) ≤ n = ends.within in
         let rest_ends : statement_falls statement ≡ true → EndsIn n (p + m + z) (block_falls rest) =
-        λ h. record { within = omega (arith, within); strict = λ g. omega (arith, ends.strict (and-both (statement_falls statement) (block_falls rest) h g)) } in
+        λ h. record { within = omega (arith, within); strict = λ g. omega (arith, ends.strict (and_from (statement_falls statement) (block_falls rest) h g)) } in
         placed-both
         (statement-placed loop in_loop p statement parts.0 stands here.1 loops
         (record { within = omega (arith, within); strict = λ h. inside program rest (p + m) n (rest_ends h) }))
-        (by-truth (statement_falls statement)
+        (by_test (statement_falls statement)
         (λ h. block-placed loop in_loop goes_on (p + m) rest parts.1 later.1 loops (rest_ends h))
         (λ h. unreached loop in_loop goes_on (p + m) rest (statement-none program procedure statement parts.0 h) later.1))
 
@@ -242,19 +229,19 @@ module _ (program : Program) (procedure : ProcedureEntry) (n : ℕ) where
         let j = jumps_behind body rest in
         let k = jump_size j in
         let z = handlers_size program rest in
-        let parts = both (is_exception program exception && block_fits program procedure body) (handlers_fit program procedure rest) fits in
-        let body_fits : block_fits program procedure body ≡ true = (both (is_exception program exception) (block_fits program procedure body) parts.0).1 in
+        let parts = and_parts (is_exception program exception && block_fits program procedure body) (handlers_fit program procedure rest) fits in
+        let body_fits : block_fits program procedure body ≡ true = (and_parts (is_exception program exception) (block_fits program procedure body) parts.0).1 in
         let raised = fault_unless (has_end ends (Throw exception)) NeverRaised at in
         let others = filter (λ exit. not (same_exit (Throw exception) exit)) ends in
-        let later = append-empty (raised ++ block_faults program in_loop true body) (handlers_faults program in_loop others rest) faults in
-        let here = append-empty raised (block_faults program in_loop true body) later.0 in
+        let later = append_empty (raised ++ block_faults program in_loop true body) (handlers_faults program in_loop others rest) faults in
+        let here = append_empty raised (block_faults program in_loop true body) later.0 in
         let is : p + (m + (k + z)) ≡ behind = size in
-        let first : block_falls body ≡ true → behind < n = λ h. last.strict (or-left (block_falls body) (handlers_fall rest) h) in
+        let first : block_falls body ≡ true → behind < n = λ h. last.strict (or_left (block_falls body) (handlers_fall rest) h) in
         let body_ends : EndsIn n (p + m) (block_falls body) = record { within = omega (arith, is, last.within); strict = λ h. omega (arith, is, first h) } in
         let placed = placed-both (block-placed loop in_loop true p body body_fits here.1 loops body_ends)
-        (placed-both (plain (jump-below n j behind (λ h. first (both (block_falls body) (not (is_none_left rest)) h).0)))
+        (placed-both (plain (jump-below n j behind (λ h. first (and_parts (block_falls body) (not (is_none_left rest)) h).0)))
         (handlers-placed loop in_loop start end behind (p + m + k) others rest parts.1 later.1 loops tried (omega (arith, is))
-        (record { within = last.within; strict = λ h. last.strict (or-right (block_falls body) (handlers_fall rest) h) }))) in
+        (record { within = last.within; strict = λ h. last.strict (or_right (block_falls body) (handlers_fall rest) h) }))) in
         record {
           code = placed.code;
           entries = All-append (IsHandlerIn n) (entry_of start end exception p) _ (entry-in n start end exception p tried (inside program body p n body_ends)) placed.entries;
@@ -280,16 +267,16 @@ procedure-placed program procedure fits faults =
 fits-at : (program : Program) (procedures : List ProcedureEntry) (k : ℕ) (d : ProcedureEntry) → list_all (procedure_fits program) procedures ≡ true → k < length procedures
     → procedure_fits program (get_or procedures k d) ≡ true
 fits-at program [] k d h below = absurd (omega (arith, below))
-fits-at program (procedure ∷ rest) zero d h below = (both (procedure_fits program procedure) (list_all (procedure_fits program) rest) h).0
+fits-at program (procedure ∷ rest) zero d h below = (and_parts (procedure_fits program procedure) (list_all (procedure_fits program) rest) h).0
 fits-at program (procedure ∷ rest) (suc k) d h below =
-    fits-at program rest k d (both (procedure_fits program procedure) (list_all (procedure_fits program) rest) h).1 (omega (arith, below))
+    fits-at program rest k d (and_parts (procedure_fits program procedure) (list_all (procedure_fits program) rest) h).1 (omega (arith, below))
 
 faultless-at : (program : Program) (procedures : List ProcedureEntry) (k : ℕ) (d : ProcedureEntry) → flat_map (procedure_faults program) procedures ≡ [] → k < length procedures
     → procedure_faults program (get_or procedures k d) ≡ []
 faultless-at program [] k d h below = absurd (omega (arith, below))
-faultless-at program (procedure ∷ rest) zero d h below = (append-empty (procedure_faults program procedure) (flat_map (procedure_faults program) rest) h).0
+faultless-at program (procedure ∷ rest) zero d h below = (append_empty (procedure_faults program procedure) (flat_map (procedure_faults program) rest) h).0
 faultless-at program (procedure ∷ rest) (suc k) d h below =
-    faultless-at program rest k d (append-empty (procedure_faults program procedure) (flat_map (procedure_faults program) rest) h).1 (omega (arith, below))
+    faultless-at program rest k d (append_empty (procedure_faults program procedure) (flat_map (procedure_faults program) rest) h).1 (omega (arith, below))
 
 pub body-faultless : (program : Program) (k : ℕ) (d : ProcedureEntry) → end_faults program ≡ [] → k < length program.procedures
     → block_faults program false true (get_or program.procedures k d).body ≡ []
@@ -298,8 +285,8 @@ body-faultless program k d none below =
     let ends = block_ends program procedure.body in
     let value = fault_unless (not (is_some procedure.result && has_end ends Normal)) NoValueReturned procedure.at in
     let declared = fault_unless (list_all (may_end procedure) ends) Undeclared procedure.at in
-    let faults = append-empty (block_faults program false true procedure.body ++ value) declared (faultless-at program program.procedures k d none below) in
-    (append-empty (block_faults program false true procedure.body) value faults.0).0
+    let faults = append_empty (block_faults program false true procedure.body ++ value) declared (faultless-at program program.procedures k d none below) in
+    (append_empty (block_faults program false true procedure.body) value faults.0).0
 
 pub graphs-positioned : GraphsHavePositions
 graphs-positioned program formed none =

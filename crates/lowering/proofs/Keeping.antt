@@ -19,10 +19,11 @@ use Rattle.lowering.specs.Graphs.{graph_of}
 use Rattle.lowering.specs.Threaded.{jump_of}
 use Rattle.lowering.specs.Kept.{ending_of, MeaningKept, GraphsKeepMeaning, ModulesKeepMeaning}
 use Rattle.lowering.proofs.Sent.{exec-keeps}
-use Rattle.lowering.proofs.Steps.{counted, counts, sent-before, ends-once, ended-stays}
+use Rattle.lowering.proofs.Steps.{counted, counts, sent-before, ends-once}
 use Rattle.lowering.proofs.Unthreaded.{unthreaded_graph, graph-threaded}
 use Rattle.lowering.proofs.Following.{Follows, jump-is, runs-follow}
 use Rattle.lowering.proofs.Programs.{Comes, GoesOn, run-within-limit}
+use Rattle.bytecode.proofs.Executing.{ended_stays}
 
 -- what fewer steps have sent is a prefix of what more have
 sent-grows : (p : machine.MachineCode) (n m : ℕ) (from : Machine) → n ≤ m → IsPrefix (machine.sent_of (machine.exec p n from)) (machine.sent_of (machine.exec p m from))
@@ -33,7 +34,7 @@ sent-grows p (suc n) (suc m) from less = sent-grows p n m (machine.step p from) 
 -- a machine that has ended does not run later
 ended-later : (p : machine.MachineCode) (n m : ℕ) (from : Machine) (ending : machine.Ending) (sent : List Pair) → n ≤ m → machine.exec p n from ≡ machine.Ended ending sent
     → machine.exec p m from ≡ machine.Ended ending sent
-ended-later p zero m from ending sent less e = ap (machine.exec p m) e ∙ ended-stays p m ending sent
+ended-later p zero m from ending sent less e = ap (machine.exec p m) e ∙ ended_stays p m ending sent
 ended-later p (suc n) zero from ending sent less e = absurd (omega (arith, less))
 ended-later p (suc n) (suc m) from ending sent less e = ended-later p n m (machine.step p from) ending sent (omega (arith, less)) e
 
@@ -75,7 +76,7 @@ still p zero m from state reached few =
     subst (λ x. Still p m x state.sent) (sym reached) (idle p m state state.sent (subst (λ x. counts p m x ≤ 0) reached few) refl)
 still p (suc w) zero from state reached few = record {
   sends = subst (λ x. IsPrefix (machine.sent_of from) (machine.sent_of x)) reached (exec-keeps p (suc w) from);
-  runs = λ ending more ended. running state ending more (sym reached ∙ ap (machine.exec p (suc w)) ended ∙ ended-stays p (suc w) ending more);
+  runs = λ ending more ended. running state ending more (sym reached ∙ ap (machine.exec p (suc w)) ended ∙ ended_stays p (suc w) ending more);
 }
 still p (suc w) (suc m) from state reached few =
     let rest : Still p m (machine.step p from) state.sent = still p w m (machine.step p from) state reached (omega (arith, few)) in

@@ -1,6 +1,7 @@
 -- What single instructions make of the kinds of the operands, in a procedure whose slots, globals, channels and procedures are those of
 -- a program.
 use Rattle.std.proofs.Common.{◌≡◌, refl, ap, ◌∙◌, ℕ, zero, suc, ◌+◌, Bool, true, false, List, [], ◌∷◌, ◌++◌, length, map, take, reverse, Option, Some, None, slice_get}
+use Rattle.std.proofs.lemmas.Bool.{and_parts}
 use Rattle.std.specs.Prelude.{is_none, is_some, nat_lt, if◌then◌else◌}
 use Rattle.resolved.specs.declared.expression.Base.{Base}
 use Rattle.resolved.specs.declared.expression.Variable.{Variable}
@@ -12,7 +13,6 @@ use Rattle.resolved.specs.declared.expression.Operator.TheVariants as operator
 use Rattle.common.specs.declared.direction.Direction.TheVariants as direction
 use Rattle.resolved.specs.Program.{Program, ProcedureEntry, SlotEntry, ChannelEntry}
 use Rattle.resolved.specs.WellFormed.{VariableType, variable_type, scalar_by, array_by, has_length, channel_is, prefix_base, operand_base, result_base}
-use Rattle.resolved.proofs.Sound.Values.{both}
 use Rattle.bytecode.specs.Contents.{ProcedureContents, ModuleContents}
 use Rattle.bytecode.specs.Machine.{machine_code, header_of, kinds_of}
 use Rattle.bytecode.specs.Values.{is_same_kind}
@@ -69,7 +69,7 @@ pub record ScalarOf (o : Option VariableType) (test : Base → Bool) : Type 0 wh
 pub scalar-type : (o : Option VariableType) (test : Base → Bool) → scalar_by o test ≡ true → ScalarOf o test
 scalar-type None test h = absurd (let no : false ≡ true = h in cc)
 scalar-type (Some type) test h =
-    let parts = both (is_none type.size) (test type.base) h in
+    let parts = and_parts (is_none type.size) (test type.base) h in
     record { base = type.base; passes = parts.1; is = ap (λ (size : Option ℕ). Some (declared_slot type.base size)) (none-is type.size parts.0) }
 
 -- an array whose base type passes a test
@@ -82,7 +82,7 @@ pub record ArrayOf (o : Option VariableType) (test : Base → Bool) : Type 0 whe
 pub array-type : (o : Option VariableType) (size : ℕ) (test : Base → Bool) → array_by o size test ≡ true → ArrayOf o test
 array-type None size test h = absurd (let no : false ≡ true = h in cc)
 array-type (Some type) size test h =
-    let parts = both (has_length type.size size) (test type.base) h in
+    let parts = and_parts (has_length type.size size) (test type.base) h in
     by type.size refl parts.0 parts.1
   where
     by : (o : Option ℕ) → type.size ≡ o → has_length o size ≡ true → test type.base ≡ true → ArrayOf (Some type) test

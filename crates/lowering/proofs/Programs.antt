@@ -5,6 +5,7 @@ use Rattle.std.specs.Option.{option_map}
 use Rattle.std.specs.List.{list_all}
 use Rattle.std.proofs.Math.Path.{fun_ext}
 use Rattle.std.proofs.lemmas.Option.{slice_get-map}
+use Rattle.std.proofs.lemmas.Bool.{and_parts}
 use Rattle.resolved.specs.declared.expression.Value.{Value}
 use Rattle.resolved.specs.declared.expression.Value.TheVariants.{Number, Truth}
 use Rattle.resolved.specs.declared.expression.Base.{Base}
@@ -23,7 +24,7 @@ use Rattle.resolved.specs.WellFormed.{well_formed, parameters_of, has_result, sa
 use Rattle.resolved.specs.Kinds.{StateFits, OutcomeFits, ArgumentsFit}
 use Rattle.resolved.proofs.Parts.{ProcedureParts, procedure_at_is, program_parts, passes_at}
 use Rattle.resolved.proofs.Parts as parts
-use Rattle.resolved.proofs.Sound.Values.{both, same_base_is}
+use Rattle.resolved.proofs.Sound.Values.{same_base_is}
 use Rattle.resolved.proofs.Sound.Meanings.{meaning_keeps_types}
 use Rattle.resolved.proofs.Sound.Runs.{runs_begin_typed}
 use Rattle.isolation.specs.Runs.{EndsAmong}
@@ -44,7 +45,8 @@ use Rattle.lowering.proofs.Steps.{Leads, Waits, leads-through}
 use Rattle.lowering.proofs.States.{place, cell_of, cells_of, left_of, left_by}
 use Rattle.lowering.proofs.Outcomes.{Runs}
 use Rattle.lowering.proofs.Frames.{setting_of, procedure_there, slots-begin, cells_replicated}
-use Rattle.lowering.proofs.Calls.{nowhere, never_true, no_break, no_continue, body-run, body-returns, calls-run}
+use Rattle.lowering.proofs.Calls.{nowhere, never_true, body-run, body-returns, calls-run}
+use Rattle.resolved.proofs.Exits.{thrown-break, thrown-continue}
 
 -- ---- the first state
 
@@ -72,10 +74,10 @@ global_begins : (program : Program) → well_formed program ≡ true → (k : �
 global_begins program formed k None e = refl
 global_begins program formed k (Some entry) e =
     let all_fit : list_all (λ (entry : GlobalEntry). size_fits entry.size && label_fits program.hierarchy entry.label && first_fits entry) program.globals ≡ true =
-    (both (list_all _ program.globals) _ (program_parts program formed).globals_are).0 in
+    (and_parts (list_all _ program.globals) _ (program_parts program formed).globals_are).0 in
     let fit : first_fits entry ≡ true =
-    (both (size_fits entry.size && label_fits program.hierarchy entry.label) _ (passes_at _ program.globals k entry all_fit e)).1 in
-    let two = both (same_base (base_of entry.first) entry.base) (is_none entry.size || is_zero_value entry.first) fit in
+    (and_parts (size_fits entry.size && label_fits program.hierarchy entry.label) _ (passes_at _ program.globals k entry all_fit e)).1 in
+    let two = and_parts (same_base (base_of entry.first) entry.base) (is_none entry.size || is_zero_value entry.first) fit in
     sized_begins entry entry.size refl (same_base_is (base_of entry.first) entry.base two.0) two.1
 
 rest_begins : (o : Option ChannelEntry) (numbers : List ℤ) → numbers ≡ left_of o (channel_numbers o numbers) numbers
@@ -134,8 +136,8 @@ module _ (program : Program) (formed : well_formed program ≡ true) (none : end
     ends-by s back (Ended Return None t) is same fit among run = inl (record { ending = machine.Finished; so = refl; leads = rw (same t) run })
     ends-by s back (Ended Return (Some v) t) is same fit among run =
         absurd (never_true (sym (ap (λ (r : Option ResultEntry). has_result r (same_base (base_of v))) nothing) ∙ fit.returned))
-    ends-by s back (Ended Break returned t) is same fit among run = absurd (never_true (sym (no_break (declared_by main.throws)) ∙ among))
-    ends-by s back (Ended Continue returned t) is same fit among run = absurd (never_true (sym (no_continue (declared_by main.throws)) ∙ among))
+    ends-by s back (Ended Break returned t) is same fit among run = absurd (never_true (sym (thrown-break (declared_by main.throws)) ∙ among))
+    ends-by s back (Ended Continue returned t) is same fit among run = absurd (never_true (sym (thrown-continue (declared_by main.throws)) ∙ among))
     ends-by s back (Ended (Throw e) returned t) is same fit among run = inl (record { ending = machine.Threw e; so = refl; leads = rw (same t) run })
     ends-by s back (Stopped Deep t) is same fit among run = inl (record { ending = machine.Deep; so = refl; leads = rw (same t) run })
     ends-by s back (Stopped OutOfTurns t) is same fit among run = inr (record { no_end = refl; waits = rw (same t) run })
@@ -146,7 +148,7 @@ module _ (program : Program) (formed : well_formed program ≡ true) (none : end
 
   main-run : (main : ProcedureEntry) → slice_get program.procedures program.main ≡ Some main → main_fits (Some main) ≡ true → Done (calls_with program k 512 program.main [] (meaning.first_state program world))
   main-run main there fits =
-      let two = both (main.parameters == 0) (is_none main.result) fits in
+      let two = and_parts (main.parameters == 0) (is_none main.result) fits in
       let no_parameters : main.parameters ≡ 0 = eqb-true main.parameters 0 two.0 in
       let no_arguments : ArgumentsFit (parameters_of main) [] = subst (λ n. ArgumentsFit (take n main.slots) []) (sym no_parameters) tt in
       let is : procedure_at program program.main ≡ main = procedure_at_is program program.main main there in

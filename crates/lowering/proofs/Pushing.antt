@@ -1,5 +1,6 @@
 -- The code of an expression pushes a value of its kind, and that of a condition leaves the operands as they were.
 use Rattle.std.proofs.Common.{◌≡◌, refl, sym, ◌∙◌, subst, ℕ, ◌+◌, Bool, true, false, ◌&&◌, List, [], ◌∷◌, ◌++◌, length, map, reverse}
+use Rattle.std.proofs.lemmas.Bool.{and_parts}
 use Rattle.std.specs.Prelude.{not, if◌then◌else◌}
 use Rattle.resolved.specs.declared.expression.Base.{Base}
 use Rattle.resolved.specs.declared.expression.Base.TheVariants as base
@@ -10,7 +11,7 @@ use Rattle.resolved.specs.Tree.{Expression, Integer, Logical, Read, Element, Una
 use Rattle.resolved.specs.Program.{Program, ProcedureEntry, SlotEntry}
 use Rattle.resolved.specs.Value.{literal_number, bool_eq}
 use Rattle.resolved.specs.WellFormed.{has_base, same_base, prefix_base, operand_base, result_base, variable_type, array_by, arguments_match}
-use Rattle.resolved.proofs.Sound.Values.{both, same_base_is}
+use Rattle.resolved.proofs.Sound.Values.{same_base_is}
 use Rattle.bytecode.specs.Contents.{ProcedureContents, ModuleContents}
 use Rattle.bytecode.specs.declared.instruction.Instruction.{Instruction}
 use Rattle.bytecode.specs.declared.instruction.Instruction.TheVariants as instruction
@@ -65,7 +66,7 @@ module _ (program : Program) (procedure : ProcedureEntry) (m : ModuleContents) (
   pub value-flows : (e : Expression) (wanted : Base) (at : ℕ) (kinds : List Kind) → has_base program procedure wanted e ≡ true
       → Flows m p whole at (value_code at e) (Unit {0}) kinds (kind_of_base wanted ∷ kinds)
   value-flows (Integer n) wanted at kinds typed =
-      as-base base.Int wanted (same_base_is base.Int wanted (both (same_base base.Int wanted) _ typed).0) (flows-one m p whole (push-does m p (literal_number n) kinds))
+      as-base base.Int wanted (same_base_is base.Int wanted (and_parts (same_base base.Int wanted) _ typed).0) (flows-one m p whole (push-does m p (literal_number n) kinds))
   value-flows (Logical b) wanted at kinds typed =
       as-base base.Boolean wanted (same_base_is base.Boolean wanted typed) (flows-one m p whole (push_boolean-does m p b kinds))
   value-flows (Read x) wanted at kinds typed =
@@ -73,13 +74,13 @@ module _ (program : Program) (procedure : ProcedureEntry) (m : ModuleContents) (
       as-base found.base wanted (sym (same_base_is wanted found.base found.passes))
       (flows-one m p whole (load-does m p x (kind_of_base found.base) kinds (stated.variables_there x ∙ found.is)))
   value-flows (Element array size index) wanted at kinds typed =
-      let parts = both (array_by (variable_type program procedure array) size (same_base wanted)) (has_base program procedure base.Int index) typed in
+      let parts = and_parts (array_by (variable_type program procedure array) size (same_base wanted)) (has_base program procedure base.Int index) typed in
       let found = array-type (variable_type program procedure array) size (same_base wanted) parts.0 in
       as-base found.base wanted (sym (same_base_is wanted found.base found.passes))
       (flows-both m p whole (value_size index) (value-sized index at) (value-flows index base.Int at kinds parts.1)
       (flows-one m p whole (load_element-does m p array (kind_of_base found.base) found.count kinds (stated.variables_there array ∙ found.is))))
   value-flows (Unary sign e) wanted at kinds typed =
-      let parts = both (same_base (prefix_base sign) wanted) (has_base program procedure (prefix_base sign) e) typed in
+      let parts = and_parts (same_base (prefix_base sign) wanted) (has_base program procedure (prefix_base sign) e) typed in
       as-base (prefix_base sign) wanted (same_base_is (prefix_base sign) wanted parts.0)
       (flows-both m p whole (value_size e) (value-sized e at) (value-flows e (prefix_base sign) at kinds parts.1) (flows-one m p whole (prefix-does m p sign kinds)))
   value-flows (Binary op d e) wanted at kinds typed =
@@ -90,8 +91,8 @@ module _ (program : Program) (procedure : ProcedureEntry) (m : ModuleContents) (
       (flows-both m p whole (value_size e) (value-sized e (at + value_size d)) (value-flows e side (at + value_size d) (kind_of_base side ∷ kinds) parts.right)
       (flows-one m p whole (operator-does m p op kinds))))
   value-flows (Short connective d e) wanted at kinds typed =
-      let outer = both (same_base base.Boolean wanted && has_base program procedure base.Boolean d) (has_base program procedure base.Boolean e) typed in
-      let inner = both (same_base base.Boolean wanted) (has_base program procedure base.Boolean d) outer.0 in
+      let outer = and_parts (same_base base.Boolean wanted && has_base program procedure base.Boolean d) (has_base program procedure base.Boolean e) typed in
+      let inner = and_parts (same_base base.Boolean wanted) (has_base program procedure base.Boolean d) outer.0 in
       as-base base.Boolean wanted (same_base_is base.Boolean wanted inner.0)
       (flows-both m p whole (value_size d) (value-sized d at) (value-flows d base.Boolean at kinds inner.1)
       (short-flows m p whole connective (at + value_size d) (value_size e) (λ place. value_code place e) kinds
@@ -104,7 +105,7 @@ module _ (program : Program) (procedure : ProcedureEntry) (m : ModuleContents) (
   arguments-flow [] (e ∷ rest) at kinds typed = absurd (let no : false ≡ true = typed in cc)
   arguments-flow (parameter ∷ parameters) [] at kinds typed = absurd (let no : false ≡ true = typed in cc)
   arguments-flow (parameter ∷ parameters) (e ∷ rest) at kinds typed =
-      let parts = both (has_base program procedure parameter.base e) (arguments_match program procedure parameters rest) typed in
+      let parts = and_parts (has_base program procedure parameter.base e) (arguments_match program procedure parameters rest) typed in
       let kind = kind_of_base parameter.base in
       let others = map (λ (s : SlotEntry). kind_of_base s.base) parameters in
       subst (Flows m p whole at (arguments_code at (e ∷ rest)) (Unit {0}) kinds) (sym (reverse_more kind others kinds))
@@ -137,7 +138,7 @@ module _ (program : Program) (procedure : ProcedureEntry) (m : ModuleContents) (
       let left = branch_size (deciding connective) d in
       let behind = at + left + branch_size wanted e in
       let decided = (if bool_eq wanted (deciding connective) then target else behind) in
-      let outer = both (same_base base.Boolean base.Boolean && has_base program procedure base.Boolean d) (has_base program procedure base.Boolean e) typed in
+      let outer = and_parts (same_base base.Boolean base.Boolean && has_base program procedure base.Boolean d) (has_base program procedure base.Boolean e) typed in
       let first = branch-flows d (deciding connective) at decided kinds outer.0 in
       let second = branch-flows e wanted (at + left) target kinds outer.1 in
       let first_code = branch_code (deciding connective) at decided d in

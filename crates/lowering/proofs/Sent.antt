@@ -15,7 +15,8 @@ use Rattle.common.specs.declared.direction.Direction.TheVariants.{Input, Output}
 use Rattle.bytecode.specs.declared.value.Cell.{Cell}
 use Rattle.bytecode.specs.declared.value.Cell.TheVariants as cell
 use Rattle.bytecode.specs.Values.{has_kind}
-use Rattle.bytecode.specs.Machine.{element_at, with_element, Frame, Caller, State, Machine, Running, Ended, Stuck, sent_of, Header, MachineCode, arith, bounds, end_of_input, frame_limit, handled, unwound, raised, slot_at, with_slot, with_global, loads, stores, found, loads_element, changes, stores_element, clears, computed, pushes_number, computes, compares, same_truth, matches, drops, negates, inverts, branches, popped, enters, calls, leaves, leaves_without, returns_nothing, leaves_value, gives_back, returns_value, takes, receives, sends, throws, act, acts, step, exec}
+use Rattle.bytecode.specs.Machine.{element_at, with_element, Frame, Caller, State, Machine, Running, Ended, Stuck, sent_of, Header, MachineCode, arith, bounds, end_of_input, handled, unwound, raised, slot_at, with_slot, with_global, loads, stores, found, loads_element, changes, stores_element, clears, computed, pushes_number, computes, compares, same_truth, matches, drops, negates, inverts, branches, popped, enters, calls, leaves, leaves_without, returns_nothing, leaves_value, gives_back, returns_value, takes, receives, sends, throws, act, acts, step, exec}
+use Rattle.common.specs.declared.limits.TheConstants.{MAX_FRAMES}
 
 -- what was sent before a state is a prefix of what a machine has sent
 abbrev Kept : State → Machine → Type 0
@@ -109,7 +110,7 @@ branches-keeps p s target _ = same s
 
 enters-keeps : (p : MachineCode) (s : State) (procedure : ℕ) (slots : List Slot) (o : Option (List Cell × List Cell)) → Kept s (enters p s procedure slots o)
 enters-keeps p s procedure slots None = same s
-enters-keeps p s procedure slots (Some (arguments, operands)) = choice-keeps s (nat_lt (length s.callers + 1) frame_limit) _ _ (same s) (same s)
+enters-keeps p s procedure slots (Some (arguments, operands)) = choice-keeps s (nat_lt (length s.callers + 1) MAX_FRAMES) _ _ (same s) (same s)
 
 calls-keeps : (p : MachineCode) (s : State) (procedure : ℕ) (o : Option Header) → Kept s (calls p s procedure o)
 calls-keeps p s procedure None = same s

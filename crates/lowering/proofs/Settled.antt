@@ -2,6 +2,7 @@
 use Rattle.std.proofs.Common.{◌≡◌, refl, sym, ap, ◌∙◌, subst, ℕ, ◌+◌, Bool, true, false, not, ◌&&◌, List, [], ◌∷◌, ◌++◌, All, length, map, reverse, Option, Some, None, slice_get}
 use Rattle.std.specs.Prelude.{filter, nat_lt, is_none, if◌then◌else◌}
 use Rattle.std.proofs.lemmas.List.Elements.{All-nil, All-cons, All-append}
+use Rattle.std.proofs.lemmas.Bool.{and_parts}
 use Rattle.resolved.specs.declared.expression.Base.{Base}
 use Rattle.resolved.specs.declared.expression.Base.TheVariants as base
 use Rattle.resolved.specs.declared.expression.Variable.{Variable}
@@ -15,8 +16,7 @@ use Rattle.resolved.specs.Ends.{same_exit, has_end, statement_ends, block_ends}
 use Rattle.resolved.specs.EndFaults.{OutsideLoop, Unreachable, NeverRaised, fault_unless, may_leave, may_stand, inner_faults, block_faults, handlers_faults}
 use Rattle.resolved.specs.WellFormed.{VariableType, variable_type, has_base, same_base, scalar_by, array_by, target_by, has_result, channel_is, parameters_of, arguments_match, call_matches, is_array, is_exception, may_leave_by, statement_fits, block_fits, handlers_fit}
 use Rattle.resolved.proofs.Parts.{procedure_at_is}
-use Rattle.resolved.proofs.Sound.Values.{both, same_base_is}
-use Rattle.isolation.proofs.Declared.{append-empty, no_fault-test}
+use Rattle.resolved.proofs.Sound.Values.{same_base_is}
 use Rattle.bytecode.specs.Contents.{ProcedureContents, ModuleContents}
 use Rattle.bytecode.specs.Machine.{Header, machine_code, header_of}
 use Rattle.common.specs.declared.direction.Direction.{Direction}
@@ -36,6 +36,8 @@ use Rattle.lowering.proofs.Sizes.{value-sized, arguments-sized, branch-sized, ju
 use Rattle.lowering.proofs.Flowing.{Does, Flows, Here, kinds_at, here-front, here-back, here-end, flows-none, flows-both, flows-given, flows-free, flows-one, flows-jump}
 use Rattle.lowering.proofs.Kinded.{scalar-type, array-type, none-is, input-is, output-is, Stated, store-does, store_element-does, clear-does, pop-does, receive-does, send-does, call-does, return-does, return_value-does, throw-does, parameters-are}
 use Rattle.lowering.proofs.Pushing.{value-flows, arguments-flow, branch-flows}
+use Rattle.common.proofs.Cases.{append_empty}
+use Rattle.resolved.proofs.Exits.{no_fault-test}
 
 -- an array that may be cleared
 record Cleared (o : Option VariableType) : Type 0 where
@@ -198,7 +200,7 @@ module _ (program : Program) (procedure : ProcedureEntry) (m : ModuleContents) (
       → call_matches program procedure (Some callee) arguments target ≡ true
       → Flows m p whole at (arguments_code at arguments ++ instruction.Call f ∷ result_code callee.result target) (Unit {0}) [] []
   called-flows at f callee arguments target there fits =
-      let parts = both (arguments_match program procedure (parameters_of callee) arguments) _ fits in
+      let parts = and_parts (arguments_match program procedure (parameters_of callee) arguments) _ fits in
       let q = stated.called_there f callee there in
       let kinds = map (λ (s : SlotEntry). kind_of_base s.base) (parameters_of callee) in
       let same : (header_of q.0).parameters ≡ kinds = ap (λ (h : Header). h.parameters) q.2 ∙ parameters-are callee.parameters callee.slots in
@@ -249,7 +251,7 @@ module _ (program : Program) (procedure : ProcedureEntry) (m : ModuleContents) (
       → Flows m p whole at (value_code at index ++ (value_code (at + value_size index) e ++ store_element_of array ∷ [])) (Unit {0}) [] []
   store-flows at array size index e mark fits =
       let test : Base → Bool = λ b. has_base program procedure b e in
-      let parts = both (array_by (variable_type program procedure array) size test) (has_base program procedure base.Int index) fits in
+      let parts = and_parts (array_by (variable_type program procedure array) size test) (has_base program procedure base.Int index) fits in
       let found = array-type (variable_type program procedure array) size test parts.0 in
       flows-both m p whole (value_size index) (value-sized index at) (value-flows program procedure m p whole stated index base.Int at [] parts.1)
       (flows-both m p whole (value_size e) (value-sized e (at + value_size index))
@@ -259,7 +261,7 @@ module _ (program : Program) (procedure : ProcedureEntry) (m : ModuleContents) (
   receive-flows : (at channel : ℕ) (target : Option Variable) (mark : ℕ) → statement_fits program procedure (Receive mark channel target) ≡ true
       → Flows m p whole at (instruction.Receive channel ∷ kept_code target ∷ []) (Unit {0}) [] []
   receive-flows at channel target mark fits =
-      let parts = both (channel_is (slice_get program.channels channel) Input) (target_by program procedure target (same_base base.Int)) fits in
+      let parts = and_parts (channel_is (slice_get program.channels channel) Input) (target_by program procedure target (same_base base.Int)) fits in
       flows-both m p whole 1 refl
       (flows-one m p whole (receive-does m p channel []
       (ap (λ (o : Option Direction). fixed.is_input o) (stated.channels_there channel) ∙ input-is (slice_get program.channels channel) parts.0)))
@@ -268,7 +270,7 @@ module _ (program : Program) (procedure : ProcedureEntry) (m : ModuleContents) (
   send-flows : (at channel : ℕ) (e : Expression) (mark : ℕ) → statement_fits program procedure (Send mark channel e) ≡ true
       → Flows m p whole at (value_code at e ++ instruction.Send channel ∷ []) (Unit {0}) [] []
   send-flows at channel e mark fits =
-      let parts = both (channel_is (slice_get program.channels channel) Output) (has_base program procedure base.Int e) fits in
+      let parts = and_parts (channel_is (slice_get program.channels channel) Output) (has_base program procedure base.Int e) fits in
       flows-both m p whole (value_size e) (value-sized e at) (value-flows program procedure m p whole stated e base.Int at [] parts.1)
       (flows-one m p whole (send-does m p channel []
       (ap (λ (o : Option Direction). fixed.is_output o) (stated.channels_there channel) ∙ output-is (slice_get program.channels channel) parts.0)))
@@ -299,9 +301,9 @@ module _ (program : Program) (procedure : ProcedureEntry) (m : ModuleContents) (
         let j = jumps_over yes_block no_block in
         let k = jump_size j in
         let z = block_size program no_block in
-        let parts = both (has_base program procedure base.Boolean e && block_fits program procedure yes_block) (block_fits program procedure no_block) fits in
-        let first = both (has_base program procedure base.Boolean e) (block_fits program procedure yes_block) parts.0 in
-        let none = append-empty (block_faults program in_loop true yes_block) (block_faults program in_loop true no_block) faults in
+        let parts = and_parts (has_base program procedure base.Boolean e && block_fits program procedure yes_block) (block_fits program procedure no_block) fits in
+        let first = and_parts (has_base program procedure base.Boolean e) (block_fits program procedure yes_block) parts.0 in
+        let none = append_empty (block_faults program in_loop true yes_block) (block_faults program in_loop true no_block) faults in
         let other = place + b + y + k in
         if-settles m p whole place b y k z j (branch_code false place other e) (block_code program loop (place + b) yes_block) (block_code program loop other no_block)
         (block_table program (place + b) yes_block) (block_table program other no_block) (LoopFlows m p whole in_loop loop)
@@ -312,7 +314,7 @@ module _ (program : Program) (procedure : ProcedureEntry) (m : ModuleContents) (
         let n = block_size program body in
         let b = branch_size true e in
         let inner : Loop = record { behind = place + 1 + n + b; test = place + 1 + n } in
-        let parts = both (has_base program procedure base.Boolean e) (block_fits program procedure body) fits in
+        let parts = and_parts (has_base program procedure base.Boolean e) (block_fits program procedure body) fits in
         while-settles m p whole place n b (block_code program inner (place + 1) body) (branch_code true (place + 1 + n) (place + 1) e)
         (block_table program (place + 1) body) (LoopFlows m p whole in_loop loop)
         (block-sized program inner (place + 1) body) (branch-sized e true (place + 1 + n) (place + 1))
@@ -326,8 +328,8 @@ module _ (program : Program) (procedure : ProcedureEntry) (m : ModuleContents) (
         let k = jump_size j in
         let z = handlers_size program handlers in
         let behind = place + n + k + z in
-        let parts = both (block_fits program procedure block) (handlers_fit program procedure handlers) fits in
-        let none = append-empty (block_faults program in_loop true block) (handlers_faults program in_loop (block_ends program block) handlers) faults in
+        let parts = and_parts (block_fits program procedure block) (handlers_fit program procedure handlers) fits in
+        let none = append_empty (block_faults program in_loop true block) (handlers_faults program in_loop (block_ends program block) handlers) faults in
         try-settles m p whole place n k z j (block_code program loop place block) (handlers_code program loop behind (place + n + k) handlers)
         (block_table program place block) (handlers_table program place (place + n) (place + n + k) handlers) (LoopFlows m p whole in_loop loop)
         (block-sized program loop place block) (jump-sized j behind) (handlers-sized program loop behind (place + n + k) handlers)
@@ -343,10 +345,10 @@ module _ (program : Program) (procedure : ProcedureEntry) (m : ModuleContents) (
         let first = fault_unless (may_stand in_loop statement) OutsideLoop (place_of statement) in
         let second = fault_unless reached Unreachable (place_of statement) in
         let goes_on = has_end (statement_ends program statement) Normal in
-        let later = append-empty (first ++ second ++ inner_faults program in_loop statement) (block_faults program in_loop goes_on rest) faults in
-        let here = append-empty (first ++ second) (inner_faults program in_loop statement) later.0 in
-        let stands = no_fault-test (may_stand in_loop statement) OutsideLoop (place_of statement) (append-empty first second here.0).0 in
-        let parts = both (statement_fits program procedure statement) (block_fits program procedure rest) fits in
+        let later = append_empty (first ++ second ++ inner_faults program in_loop statement) (block_faults program in_loop goes_on rest) faults in
+        let here = append_empty (first ++ second) (inner_faults program in_loop statement) later.0 in
+        let stands = no_fault-test (may_stand in_loop statement) OutsideLoop (place_of statement) (append_empty first second here.0).0 in
+        let parts = and_parts (statement_fits program procedure statement) (block_fits program procedure rest) fits in
         settles-both m p whole (statement_size program statement) (statement-sized program loop place statement)
         (statement-settles loop in_loop place statement parts.0 stands here.1)
         (block-settles loop in_loop goes_on (place + statement_size program statement) rest parts.1 later.1)
@@ -360,12 +362,12 @@ module _ (program : Program) (procedure : ProcedureEntry) (m : ModuleContents) (
         let n = block_size program body in
         let j = jumps_behind body rest in
         let k = jump_size j in
-        let parts = both (is_exception program exception && block_fits program procedure body) (handlers_fit program procedure rest) fits in
-        let first = both (is_exception program exception) (block_fits program procedure body) parts.0 in
+        let parts = and_parts (is_exception program exception && block_fits program procedure body) (handlers_fit program procedure rest) fits in
+        let first = and_parts (is_exception program exception) (block_fits program procedure body) parts.0 in
         let raised = fault_unless (has_end ends (Throw exception)) NeverRaised mark in
         let others = filter (λ exit. not (same_exit (Throw exception) exit)) ends in
-        let later = append-empty (raised ++ block_faults program in_loop true body) (handlers_faults program in_loop others rest) faults in
-        let here = append-empty raised (block_faults program in_loop true body) later.0 in
+        let later = append_empty (raised ++ block_faults program in_loop true body) (handlers_faults program in_loop others rest) faults in
+        let here = append_empty raised (block_faults program in_loop true body) later.0 in
         catch-settles m p whole place n k start end exception behind j (block_code program loop place body) (handlers_code program loop behind (place + n + k) rest)
         (block_table program place body) (handlers_table program start end (place + n + k) rest) (LoopFlows m p whole in_loop loop)
         (block-sized program loop place body) (jump-sized j behind) (exception-there exception first.0)

@@ -3,7 +3,7 @@
 use Rattle.std.proofs.Common.{◌≡◌, refl, sym, ap, ◌∙◌, subst, ℕ, zero, suc, ◌+◌, ◌-◌, ◌<◌, ◌≤◌, Bool, true, false, cond, eqb, ltb, ◌&&◌, ◌||◌, List, [], ◌∷◌, ◌++◌, All, length, map, take, get_or, Option, Some, None, slice_get, arith}
 use Rattle.std.specs.Prelude.{IfSome, nat_lt, if◌then◌else◌}
 use Rattle.std.specs.Option.{option_map}
-use Rattle.std.proofs.lemmas.Bool.{lt-ltb, le-ltb, ltb-true, ltb-false, ne_eqb}
+use Rattle.std.proofs.lemmas.Bool.{lt-ltb, le-ltb, ltb-true, ltb-false, ne_eqb, or_right}
 use Rattle.std.proofs.lemmas.Bool.Decides.{nat_tests}
 use Rattle.std.proofs.lemmas.List.Elements.{All-head, All-tail, All-map, All-contains}
 use Rattle.std.proofs.lemmas.Option.{slice_get-get_or}
@@ -18,7 +18,7 @@ use Rattle.layout.specs.Graph.{IsHandlerIn, HasPositions}
 use Rattle.layout.specs.Offsets.{offset, laid_out_procedure}
 use Rattle.bytecode.specs.Targets.{target_of, renamed_instruction, renamed_handler}
 use Rattle.layout.proofs.Fitting.{length-renamed}
-use Rattle.layout.proofs.Offsets.{width-renamed, some_width, offset-start, offset-less, fetched, past}
+use Rattle.layout.proofs.Offsets.{width-renamed, offset-start, offset-less, fetched, next_at}
 use Rattle.layout.proofs.Starts.{start-at}
 use Rattle.layout.proofs.Tables.{offset-end}
 use Rattle.verifier.specs.declared.fault.CodeDefect.{CodeDefect}
@@ -28,6 +28,8 @@ use Rattle.verifier.specs.Flow.{Edge, next, jumps, caught, Leaves, Misses, effec
 use Rattle.verifier.proofs.Laws.{flows_well}
 use Rattle.lowering.proofs.Flowing.{Fine, EachFine, fine-at, kinds_at, along, onward, following}
 use Rattle.lowering.proofs.Settled.{Catches}
+use Rattle.common.proofs.Cases.{same_some}
+use Rattle.bytecode.proofs.Widths.{width_of-pos}
 
 -- a procedure of a graph whose code flows and stays inside
 pub record Sound (m : ModuleContents) (g : ProcedureContents) : Type 0 where
@@ -52,7 +54,7 @@ skip n w first inside other some most =
 listed-past : (i : Instruction) (code : List Instruction) (kinds : ℕ → List Kind) (n : ℕ) → listed (i ∷ code) kinds (width_of i + n) ≡ listed code (λ k. kinds (suc k)) n
 listed-past i code kinds n =
     let back : width_of i + n - width_of i ≡ n = omega arith in
-    skip (width_of i + n) (width_of i) (Some (kinds 0)) None (listed code (λ k. kinds (suc k)) (width_of i + n - width_of i)) (omega (arith, some_width i)) (omega arith)
+    skip (width_of i + n) (width_of i) (Some (kinds 0)) None (listed code (λ k. kinds (suc k)) (width_of i + n - width_of i)) (omega (arith, width_of-pos i)) (omega arith)
     ∙ ap (listed code (λ k. kinds (suc k))) back
 
 listed-at : (code : List Instruction) (kinds : ℕ → List Kind) (k : ℕ) → k < length code → listed code kinds (offset code k) ≡ Some (kinds k)
@@ -75,9 +77,6 @@ record Found (code : List Instruction) (kinds : ℕ → List Kind) (at : ℕ) (l
 zero-is : (n : ℕ) → eqb n 0 ≡ true → n ≡ 0
 zero-is n e = grind (arith, nat_tests)
 
-same_list : (a b : List Kind) → Some a ≡ Some b → a ≡ b
-same_list a b e = cc
-
 listed-found : (code : List Instruction) (kinds : ℕ → List Kind) (at : ℕ) (list : List Kind) → listed code kinds at ≡ Some list → Found code kinds at list
 listed-found [] kinds at list h = absurd (let no : None ≡ Some list = h in cc)
 listed-found (i ∷ code) kinds at list h =
@@ -88,7 +87,7 @@ listed-found (i ∷ code) kinds at list h =
 
     by : (first inside : Bool) → eqb at 0 ≡ first → ltb at (width_of i) ≡ inside → cond first (Some (kinds 0)) (cond inside None rest) ≡ Some list
         → (rest ≡ Some list → Found code (λ k. kinds (suc k)) (at - width_of i) list) → Found (i ∷ code) kinds at list
-    by true inside e f h more = record { position = 0; below = omega arith; is = zero-is at e; same = same_list (kinds 0) list h }
+    by true inside e f h more = record { position = 0; below = omega arith; is = zero-is at e; same = same_some (kinds 0) list h }
     by false true e f h more = absurd (let no : None ≡ Some list = h in cc)
     by false false e f h more =
         let r = more h in
@@ -117,9 +116,6 @@ target-inside n x h t e = subst (λ (o : Option ℕ). IfSome o (λ target. targe
 pub renamed-from : (f : ℕ → ℕ) (o : Option ℕ) (to : ℕ) → option_map f o ≡ Some to → (t : ℕ) × (o ≡ Some t) × (f t ≡ to)
 renamed-from f None to h = absurd (let no : None ≡ Some to = h in cc)
 renamed-from f (Some t) to h = (t, refl, let same : Some (f t) ≡ Some to = h in cc)
-
-same_instruction : (a b : Instruction) → Some a ≡ Some b → a ≡ b
-same_instruction a b e = cc
 
 along-next : (m : ModuleContents) (p : ProcedureContents) (code : List Instruction) (kinds : List Kind) (k : ℕ) (x : Instruction) → slice_get code k ≡ Some x
     → along m p (take (suc k) code) kinds ≡ onward m p x (along m p (take k code) kinds)
@@ -166,7 +162,7 @@ module _ (m : ModuleContents) (g : ProcedureContents) (s : Sound m g) where
   renamed-there : (at : ℕ) (list : List Kind) (h : AtInstruction at list) (i : Instruction) → instruction_at (laid_out_procedure g).code at ≡ Some i
       → renamed_instruction (offset g.code) h.instruction ≡ i
   renamed-there at list h i e =
-      same_instruction (renamed_instruction (offset g.code) h.instruction) i
+      same_some (renamed_instruction (offset g.code) h.instruction) i
       (sym (fetched (offset g.code) g.code h.position ∙ ap (option_map (renamed_instruction (offset g.code))) h.there)
       ∙ (ap (instruction_at (laid_out_procedure g).code) (sym h.is) ∙ e))
 
@@ -191,7 +187,7 @@ module _ (m : ModuleContents) (g : ProcedureContents) (s : Sound m g) where
       let x_goes : goes_on x ≡ true = sym (same-goes (offset g.code) x) ∙ (ap goes_on renamed ∙ goes) in
       let width : width_of i ≡ width_of x = ap width_of (sym renamed) ∙ width-renamed (offset g.code) x in
       let room : suc h.position < length g.code = omega (arith, s.stays h.position x h.there x_goes) in
-      let place : at + width_of i ≡ offset g.code (suc h.position) = ap (λ (n : ℕ). n + width_of i) h.is ∙ (ap (λ (n : ℕ). offset g.code h.position + n) width ∙ past g.code h.position x h.there) in
+      let place : at + width_of i ≡ offset g.code (suc h.position) = ap (λ (n : ℕ). n + width_of i) h.is ∙ (ap (λ (n : ℕ). offset g.code h.position + n) width ∙ next_at g.code h.position x h.there) in
       let p = laid_out_procedure g in
       let behind : kinds (suc h.position) ≡ h.fine.after =
       along-next m p g.code [] h.position x h.there ∙ (ap (onward m p x) h.same ∙ (ap (λ (b : Bool). following b (effect m p x list)) x_goes ∙ ap (following true) h.fine.leaves)) in
@@ -264,12 +260,8 @@ module _ (m : ModuleContents) (g : ProcedureContents) (s : Sound m g) where
   end-right k false e most =
       let last : k ≡ length g.code = omega (arith, ltb-false k (length g.code) e, most) in
       let ends : offset g.code k ≡ code_length (laid_out_procedure g).code = ap (offset g.code) last ∙ (offset-end g.code ∙ sym (length-renamed (offset g.code) g.code)) in
-      or-true (is_start (laid_out_procedure g) (offset g.code k)) (eqb (offset g.code k) (code_length (laid_out_procedure g).code)) (equal (offset g.code k) (code_length (laid_out_procedure g).code) ends)
+      or_right (is_start (laid_out_procedure g) (offset g.code k)) (eqb (offset g.code k) (code_length (laid_out_procedure g).code)) (equal (offset g.code k) (code_length (laid_out_procedure g).code) ends)
     where
-      or-true : (a b : Bool) → b ≡ true → (a || b) ≡ true
-      or-true true b h = refl
-      or-true false b h = h
-
       equal : (a b : ℕ) → a ≡ b → eqb a b ≡ true
       equal a b h = grind (arith, nat_tests)
 
@@ -310,7 +302,7 @@ module _ (m : ModuleContents) (g : ProcedureContents) (s : Sound m g) where
       targets : (k : ℕ) (x : Instruction) → slice_get g.code k ≡ Some x → IfSome (target_of x) (λ target. target < length g.code)
       targets k x e =
           let there = slice_get-get_or g.code k Return (below g.code k x e) in
-          subst (λ (y : Instruction). IfSome (target_of y) (λ target. target < length g.code)) (same_instruction (get_or g.code k Return) x (sym there ∙ e))
+          subst (λ (y : Instruction). IfSome (target_of y) (λ target. target < length g.code)) (same_some (get_or g.code k Return) x (sym there ∙ e))
           (s.positions.targets k Return (below g.code k x e))
 
   pub sound-handlers : (number : ℕ) → handler_refusals m number (laid_out_procedure g) (laid_out_procedure g).handlers ≡ []

@@ -1,5 +1,6 @@
 -- Code of every statement does what the statement does, where calls do what they do.
 use Rattle.std.proofs.Common.{◌≡◌, ℕ, ◌+◌, true, false, List, [], ◌∷◌, ◌++◌, refl, sym, ap, ◌∙◌, subst, arith, slice_get}
+use Rattle.std.proofs.lemmas.Bool.{and_parts}
 use Rattle.std.specs.Prelude.{Option, Some, None}
 use Rattle.resolved.specs.declared.expression.Value.{Value}
 use Rattle.resolved.specs.declared.expression.Variable.{Variable}
@@ -13,7 +14,7 @@ use Rattle.resolved.specs.Meaning.{Outcome, Ended, Stopped, Deep, OutOfTurns, Ca
 use Rattle.resolved.specs.WellFormed.{has_base, has_result, same_base, target_by, call_matches, arguments_match, parameters_of}
 use Rattle.resolved.specs.Kinds.{StateFits, ArgumentsFit}
 use Rattle.resolved.proofs.Parts.{procedure_at_is}
-use Rattle.resolved.proofs.Sound.Values.{both, same_base_is, values_match, GivesMatch}
+use Rattle.resolved.proofs.Sound.Values.{same_base_is, values_match, GivesMatch}
 use Rattle.bytecode.specs.declared.value.Cell.{Cell}
 use Rattle.bytecode.specs.declared.instruction.Instruction.{Instruction}
 use Rattle.bytecode.specs.declared.instruction.Instruction.TheVariants as instruction
@@ -57,7 +58,7 @@ module _ (g : Setting) (h : ℕ → Option ℕ) (s : source.SourceState) (fit : 
   arguments-run [] (e ∷ es) at operands matches stands finds = absurd (let no : false ≡ true = matches in cc)
   arguments-run (parameter ∷ parameters) [] at operands matches stands finds = absurd (let no : false ≡ true = matches in cc)
   arguments-run (parameter ∷ parameters) (e ∷ es) at operands matches stands finds =
-      let parts = both (has_base g.program g.procedure parameter.base e) (arguments_match g.program g.procedure parameters es) matches in
+      let parts = and_parts (has_base g.program g.procedure parameter.base e) (arguments_match g.program g.procedure parameters es) matches in
       let n = value_size e in
       let m = arguments_size es in
       let mid = at + n in
@@ -140,7 +141,7 @@ module _ (g : Setting) (loop : Loop) (h : ℕ → Option ℕ) (k : ℕ) where
       (evaluated (values_of s arguments) s (λ vs. returned_to target (calls f vs s)))
   call-runs calls run f at None arguments target s fit there matches stands finds = absurd (let no : false ≡ true = matches in cc)
   call-runs calls run f at (Some callee) arguments target s fit there matches stands finds =
-      let parts = both (arguments_match g.program g.procedure (parameters_of callee) arguments) (target_by g.program g.procedure target (λ b. has_result callee.result (same_base b))) matches in
+      let parts = and_parts (arguments_match g.program g.procedure (parameters_of callee) arguments) (target_by g.program g.procedure target (λ b. has_result callee.result (same_base b))) matches in
       let n = arguments_size arguments in
       let is : procedure_at g.program f ≡ callee = procedure_at_is g.program f callee there in
       let behind = instruction.Call f ∷ result_code (procedure_at g.program f).result target in

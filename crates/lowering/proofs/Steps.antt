@@ -6,6 +6,7 @@ use Rattle.bytecode.specs.Machine.{State, Machine, Running, Ended, Stuck, Ending
 use Rattle.labels.proofs.Prefixes.{prefix-itself}
 use Rattle.lowering.specs.Threaded.{jump_of}
 use Rattle.lowering.proofs.Sent.{exec-keeps}
+use Rattle.bytecode.proofs.Executing.{ended_stays}
 
 -- ---- steps that count: all but those at an unconditional jump, which threaded code may leave out
 abbrev pub counted : (jump : Option ℕ) → ℕ
@@ -111,15 +112,10 @@ pub waits-stride : (p : MachineCode) (k : ℕ) (from mid : Machine) (sent : List
 waits-stride p k from mid sent first second =
     waits-less p (suc k) (counts p first.steps from + k) from sent (omega (arith, first.enough)) (waits-more p first.steps k from mid sent first.reached second)
 
--- what has ended stays so
-pub ended-stays : (p : MachineCode) (n : ℕ) (ending : Ending) (sent : List Pair) → exec p n (Ended ending sent) ≡ Ended ending sent
-ended-stays p zero ending sent = refl
-ended-stays p (suc n) ending sent = ended-stays p n ending sent
-
 -- a run that ends has sent at each time a prefix of what it has sent in the end
 pub sent-before : (p : MachineCode) (last n : ℕ) (m : Machine) (ending : Ending) (sent : List Pair) → exec p last m ≡ Ended ending sent → IsPrefix (sent_of (exec p n m)) sent
 sent-before p zero n m ending sent e =
-    let stays : exec p n m ≡ Ended ending sent = ap (exec p n) e ∙ ended-stays p n ending sent in
+    let stays : exec p n m ≡ Ended ending sent = ap (exec p n) e ∙ ended_stays p n ending sent in
     subst (λ (x : Machine). IsPrefix (sent_of x) sent) (sym stays) (prefix-itself sent)
 sent-before p (suc last) zero m ending sent e =
     subst (λ (x : Machine). IsPrefix (sent_of m) (sent_of x)) e (exec-keeps p (suc last) m)
@@ -127,6 +123,6 @@ sent-before p (suc last) (suc n) m ending sent e = sent-before p last n (step p 
 
 -- a run ends in one way
 pub ends-once : (p : MachineCode) (last n : ℕ) (m : Machine) (ending other : Ending) (sent more : List Pair) → exec p last m ≡ Ended ending sent → exec p n m ≡ Ended other more → ◌≡◌ {A = Machine} (Ended ending sent) (Ended other more)
-ends-once p zero n m ending other sent more e f = sym (ended-stays p n ending sent) ∙ ap (exec p n) (sym e) ∙ f
-ends-once p (suc last) zero m ending other sent more e f = sym e ∙ ap (exec p (suc last)) f ∙ ended-stays p (suc last) other more
+ends-once p zero n m ending other sent more e f = sym (ended_stays p n ending sent) ∙ ap (exec p n) (sym e) ∙ f
+ends-once p (suc last) zero m ending other sent more e f = sym e ∙ ap (exec p (suc last)) f ∙ ended_stays p (suc last) other more
 ends-once p (suc last) (suc n) m ending other sent more e f = ends-once p last n (step p m) ending other sent more e f

@@ -1,34 +1,17 @@
 -- The lists of the code that are left to go along, and the trees that they stand for.
-use Rattle.std.proofs.Common.{◌≡◌, sym, ap, ◌∙◌, ℕ, List, ◌∷◌, map, drop, get_or, length, ◌<◌, suc, ◌+◌}
+use Rattle.std.proofs.Common.{◌≡◌, sym, ap, ◌∙◌, ℕ, List, ◌∷◌, map, drop, get_or, length, ◌<◌, ◌+◌}
 use Rattle.std.specs.Prelude.{Vec}
 use Rattle.std.specs.declared.alloc.Global.{Global}
-use Rattle.std.proofs.Math.Seq.{drop-cons}
-use Rattle.std.proofs.Math.Numerals.{add-one}
 use Rattle.resolved.specs.declared.expression.Expression as E
 use Rattle.resolved.specs.declared.statement.Statement as S
 use Rattle.resolved.specs.declared.statement.Handler.{Handler}
-use Rattle.resolved.specs.Tree.{If, While, Try, Nested, Then, Catch}
+use Rattle.resolved.specs.Tree.{If, While, Try, Nested}
 use Rattle.resolved.specs.TreeOf.{expression_of, statement_of, block_of, handlers_of}
-use Rattle.resolved.proofs.Views.{at_if, at_while, at_try, at_nested}
-
-next : {A : Type 0} (xs : List A) (i : ℕ) (x : A) → i < length xs → x ≡ get_or xs i x → drop i xs ≡ x ∷ drop (i + 1) xs
-next xs i x inside is =
-    drop-cons xs i x inside ∙ (ap (λ y. y ∷ drop (suc i) xs) (sym is) ∙ ap (λ n. x ∷ drop n xs) (sym (add-one i)))
+use Rattle.resolved.proofs.Views.{at_if, at_while, at_try, at_nested, next}
 
 pub next-argument : (arguments : List E.Expression) (i : ℕ) (e : E.Expression) → i < length arguments → e ≡ get_or arguments i e
     → map expression_of (drop i arguments) ≡ expression_of e ∷ map expression_of (drop (i + 1) arguments)
 next-argument arguments i e inside is = ap (map expression_of) (next arguments i e inside is)
-
-pub next-statement : (block : List S.Statement) (i : ℕ) (statement : S.Statement) → i < length block → statement ≡ get_or block i statement
-    → block_of (drop i block) ≡ Then (statement_of statement) (block_of (drop (i + 1) block))
-next-statement block i statement inside is = ap block_of (next block i statement inside is)
-
-pub next-handler : (handlers : List Handler) (i : ℕ) (handler : Handler) (body : List S.Statement) → i < length handlers → handler ≡ get_or handlers i handler
-    → body ≡ handler.body.items
-    → handlers_of (drop i handlers) ≡ Catch handler.at handler.exception (block_of body) (handlers_of (drop (i + 1) handlers))
-next-handler handlers i handler body inside is lent =
-    ap handlers_of (next handlers i handler inside is)
-    ∙ ap (λ list. Catch handler.at handler.exception (block_of list) (handlers_of (drop (i + 1) handlers))) (sym lent)
 
 -- the trees of statements, by the lists that code goes along
 pub tree-if : (s : S.Statement) (at : ℕ) (e : E.Expression) (yes_block no_block : Vec S.Statement Global) (ys ns : List S.Statement)

@@ -1,5 +1,6 @@
 -- Conditions that are turned keep their base type.
 use Rattle.std.proofs.Common.{◌≡◌, refl, Bool, true, false, ◌&&◌}
+use Rattle.std.proofs.lemmas.Bool.{and_parts}
 use Rattle.resolved.specs.declared.expression.Base.{Base}
 use Rattle.resolved.specs.declared.expression.Base.TheVariants as base
 use Rattle.resolved.specs.declared.expression.Operator.{Operator}
@@ -7,7 +8,7 @@ use Rattle.resolved.specs.declared.expression.Operator.TheVariants as operator
 use Rattle.resolved.specs.Tree.{Expression, Integer, Logical, Read, Element, Unary, Binary, Short}
 use Rattle.resolved.specs.Program.{Program, ProcedureEntry}
 use Rattle.resolved.specs.WellFormed.{has_base, same_base, operand_base, result_base}
-use Rattle.resolved.proofs.Sound.Values.{both, same_base_is}
+use Rattle.resolved.proofs.Sound.Values.{same_base_is}
 use Rattle.lowering.specs.Expressions.{turned_operator, turned, tested}
 
 turned_bases : (op : Operator) → result_base op ≡ base.Boolean → (result_base (turned_operator op) ≡ base.Boolean) × (operand_base (turned_operator op) ≡ operand_base op)
@@ -30,8 +31,8 @@ pub record OperandsFit (program : Program) (procedure : ProcedureEntry) (wanted 
 pub operands-fit : (program : Program) (procedure : ProcedureEntry) (wanted : Base) (op : Operator) (d e : Expression)
     → has_base program procedure wanted (Binary op d e) ≡ true → OperandsFit program procedure wanted op d e
 operands-fit program procedure wanted op d e typed =
-    let outer = both (same_base (result_base op) wanted && has_base program procedure (operand_base op) d) (has_base program procedure (operand_base op) e) typed in
-    let inner = both (same_base (result_base op) wanted) (has_base program procedure (operand_base op) d) outer.0 in
+    let outer = and_parts (same_base (result_base op) wanted && has_base program procedure (operand_base op) d) (has_base program procedure (operand_base op) e) typed in
+    let inner = and_parts (same_base (result_base op) wanted) (has_base program procedure (operand_base op) d) outer.0 in
     record { result = same_base_is (result_base op) wanted inner.0; left = inner.1; right = outer.1 }
 
 module _ (program : Program) (procedure : ProcedureEntry) where

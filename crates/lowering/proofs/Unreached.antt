@@ -1,7 +1,9 @@
 -- A statement that does not end normally by its form has no normal end, so nothing stands behind it.
-use Rattle.std.proofs.Common.{◌≡◌, refl, sym, ap, subst, ◌∙◌, ℕ, ◌⊎◌, inl, inr, Bool, true, false, ◌&&◌, ◌||◌, List, [], ◌∷◌, ◌++◌, not}
+use Rattle.std.proofs.Common.{◌≡◌, refl, sym, ap, subst, ◌∙◌, ◌⊎◌, inl, inr, Bool, true, false, ◌&&◌, ◌||◌, List, [], ◌∷◌, ◌++◌, not}
 use Rattle.std.specs.Prelude.{Some, None, filter, if◌then◌else◌}
 use Rattle.std.proofs.lemmas.List.Folds.{list_any-append}
+use Rattle.std.proofs.lemmas.Bool.{or_parts, and_cases, and_parts}
+use Rattle.std.proofs.Math.Bool.{and-false}
 use Rattle.resolved.specs.declared.expression.Base.TheVariants.{Boolean}
 use Rattle.resolved.specs.declared.statement.Exit.{Exit}
 use Rattle.resolved.specs.declared.statement.Exit.TheVariants.{Normal, Return, Break, Continue, Throw}
@@ -9,27 +11,15 @@ use Rattle.resolved.specs.Tree.{Statement, If, Leave, ReturnWith, Try, Nested, B
 use Rattle.resolved.specs.Program.{Program, ProcedureEntry}
 use Rattle.resolved.specs.Ends.{same_exit, has_end, raises, thrown_ends, passes, then_ends, statement_ends, block_ends, handlers_ends}
 use Rattle.resolved.specs.WellFormed.{has_base, statement_fits, block_fits, handlers_fit, is_exception, may_leave_by}
-use Rattle.resolved.proofs.Sound.Values.{both}
 use Rattle.isolation.proofs.Among.{end-filter}
 use Rattle.lowering.specs.Code.{statement_falls, block_falls, handlers_fall}
-
-pub neither : (a b : Bool) → (a || b) ≡ false → (a ≡ false) × (b ≡ false)
-neither true b h = absurd (let no : true ≡ false = h in cc)
-neither false b h = (refl, h)
+use Rattle.resolved.proofs.Exits.{thrown-normal}
 
 none-of : (xs ys : List Exit) → has_end xs Normal ≡ false → has_end ys Normal ≡ false → has_end (xs ++ ys) Normal ≡ false
 none-of xs ys h k = list_any-append (same_exit Normal) xs ys ∙ (ap (λ b. b || has_end ys Normal) h ∙ k)
 
-none-thrown : (xs : List ℕ) → has_end (thrown_ends xs) Normal ≡ false
-none-thrown [] = refl
-none-thrown (x ∷ xs) = none-thrown xs
-
 none-left : (p : Exit → Bool) (xs : List Exit) → has_end xs Normal ≡ false → has_end (filter p xs) Normal ≡ false
-none-left p xs h = end-filter p xs Normal ∙ (ap (λ b. p Normal && b) h ∙ no (p Normal))
-  where
-    no : (b : Bool) → (b && false) ≡ false
-    no true = refl
-    no false = refl
+none-left p xs h = end-filter p xs Normal ∙ (ap (λ b. p Normal && b) h ∙ and-false (p Normal))
 
 then-first : (first rest : List Exit) → has_end first Normal ≡ false → has_end (then_ends first rest) Normal ≡ false
 then-first first rest h = by (has_end first Normal) h refl
@@ -55,27 +45,23 @@ not-normal program Break h = refl
 not-normal program Continue h = refl
 not-normal program (Throw exception) h = refl
 
-not_both : (a b : Bool) → (a && b) ≡ false → (a ≡ false) ⊎ (b ≡ false)
-not_both true b h = inr h
-not_both false b h = inl refl
-
 module _ (program : Program) (procedure : ProcedureEntry) where
   mutual
     pub statement-none : (statement : Statement) → statement_fits program procedure statement ≡ true → statement_falls statement ≡ false
         → has_end (statement_ends program statement) Normal ≡ false
     statement-none (If at e yes_block no_block) fits falls =
-        let parts = both (has_base program procedure Boolean e && block_fits program procedure yes_block) (block_fits program procedure no_block) fits in
-        let yes_fits : block_fits program procedure yes_block ≡ true = (both (has_base program procedure Boolean e) (block_fits program procedure yes_block) parts.0).1 in
-        let ends = neither (block_falls yes_block) (block_falls no_block) falls in
+        let parts = and_parts (has_base program procedure Boolean e && block_fits program procedure yes_block) (block_fits program procedure no_block) fits in
+        let yes_fits : block_fits program procedure yes_block ≡ true = (and_parts (has_base program procedure Boolean e) (block_fits program procedure yes_block) parts.0).1 in
+        let ends = or_parts (block_falls yes_block) (block_falls no_block) falls in
         none-of (thrown_ends (raises e) ++ block_ends program yes_block) (block_ends program no_block)
-        (none-of (thrown_ends (raises e)) (block_ends program yes_block) (none-thrown (raises e)) (block-none yes_block yes_fits ends.0))
+        (none-of (thrown_ends (raises e)) (block_ends program yes_block) (thrown-normal (raises e)) (block-none yes_block yes_fits ends.0))
         (block-none no_block parts.1 ends.1)
     statement-none (Leave at exit) fits falls = not-normal program exit fits
     statement-none (ReturnWith at None) fits falls = refl
-    statement-none (ReturnWith at (Some e)) fits falls = none-thrown (raises e)
+    statement-none (ReturnWith at (Some e)) fits falls = thrown-normal (raises e)
     statement-none (Try at block handlers) fits falls =
-        let parts = both (block_fits program procedure block) (handlers_fit program procedure handlers) fits in
-        let ends = neither (block_falls block) (handlers_fall handlers) falls in
+        let parts = and_parts (block_fits program procedure block) (handlers_fit program procedure handlers) fits in
+        let ends = or_parts (block_falls block) (handlers_fall handlers) falls in
         none-of (filter (passes handlers) (block_ends program block)) (handlers_ends program handlers)
         (none-left (passes handlers) (block_ends program block) (block-none block parts.0 ends.0)) (handlers-none handlers parts.1 ends.1)
     statement-none (Nested at block) fits falls = block-none block fits falls
@@ -84,8 +70,8 @@ module _ (program : Program) (procedure : ProcedureEntry) where
     pub block-none : (block : Block) → block_fits program procedure block ≡ true → block_falls block ≡ false → has_end (block_ends program block) Normal ≡ false
     block-none Empty fits falls = absurd (let no : true ≡ false = falls in cc)
     block-none (Then statement rest) fits falls =
-        let parts = both (statement_fits program procedure statement) (block_fits program procedure rest) fits in
-        by (not_both (statement_falls statement) (block_falls rest) falls) (λ h. statement-none statement parts.0 h) (λ h. block-none rest parts.1 h)
+        let parts = and_parts (statement_fits program procedure statement) (block_fits program procedure rest) fits in
+        by (and_cases (statement_falls statement) (block_falls rest) falls) (λ h. statement-none statement parts.0 h) (λ h. block-none rest parts.1 h)
       where
         by : (statement_falls statement ≡ false) ⊎ (block_falls rest ≡ false)
             → (statement_falls statement ≡ false → has_end (statement_ends program statement) Normal ≡ false)
@@ -98,7 +84,7 @@ module _ (program : Program) (procedure : ProcedureEntry) where
         → has_end (handlers_ends program handlers) Normal ≡ false
     handlers-none NoMore fits falls = refl
     handlers-none (Catch at handled body rest) fits falls =
-        let parts = both (is_exception program handled && block_fits program procedure body) (handlers_fit program procedure rest) fits in
-        let body_fits : block_fits program procedure body ≡ true = (both (is_exception program handled) (block_fits program procedure body) parts.0).1 in
-        let ends = neither (block_falls body) (handlers_fall rest) falls in
+        let parts = and_parts (is_exception program handled && block_fits program procedure body) (handlers_fit program procedure rest) fits in
+        let body_fits : block_fits program procedure body ≡ true = (and_parts (is_exception program handled) (block_fits program procedure body) parts.0).1 in
+        let ends = or_parts (block_falls body) (handlers_fall rest) falls in
         none-of (block_ends program body) (handlers_ends program rest) (block-none body body_fits ends.0) (handlers-none rest parts.1 ends.1)

@@ -2,7 +2,7 @@
 use Rattle.std.proofs.Common.{◌≡◌, ℕ, ◌+◌, ◌<◌, ◌≤◌, Bool, true, false, ℤ, pos, negsuc, List, [], ◌∷◌, length, refl, ap, ◌∙◌, slice_get, subst, arith, nat_lt, eqb-true}
 use Rattle.std.specs.Prelude.{Option, Some, None, if◌then◌else◌, is_none}
 use Rattle.std.specs.Option.{option_map}
-use Rattle.std.proofs.lemmas.Bool.{ltb-true, ltb-false}
+use Rattle.std.proofs.lemmas.Bool.{ltb-true, ltb-false, and_parts}
 use Rattle.std.proofs.lemmas.List.{length-map}
 use Rattle.std.proofs.lemmas.Option.{slice_get-get_or, slice_get_past, slice_get-map}
 use Rattle.resolved.specs.declared.expression.Value.{Value}
@@ -15,7 +15,6 @@ use Rattle.resolved.specs.SourceState.{value_of, cells, cell_at}
 use Rattle.resolved.specs.Value.{Evaluated, Yields, Raises, then_with, base_of, checked_index}
 use Rattle.resolved.specs.WellFormed.{VariableType, variable_type, same_base, scalar_by, array_by, has_length, cell_count}
 use Rattle.resolved.specs.Kinds.{StateFits, CellsFit, GivesBase}
-use Rattle.resolved.proofs.Sound.Values.{both}
 use Rattle.bytecode.specs.declared.value.Cell.{Cell}
 use Rattle.bytecode.specs.declared.value.Kind.{Kind}
 use Rattle.bytecode.specs.declared.value.Cell.TheVariants as cell
@@ -78,7 +77,7 @@ pub scalar-there : (o : Option VariableType) (test : Base → Bool) → scalar_b
     → (type : VariableType) × (o ≡ Some type) × (type.size ≡ None) × (test type.base ≡ true)
 scalar-there None test h = cc
 scalar-there (Some type) test h =
-    let parts : (is_none type.size ≡ true) × (test type.base ≡ true) = both (is_none type.size) (test type.base) h in
+    let parts : (is_none type.size ≡ true) × (test type.base ≡ true) = and_parts (is_none type.size) (test type.base) h in
     (type, refl, none_size type.size parts.0, parts.1)
   where
     none_size : (size : Option ℕ) → is_none size ≡ true → size ≡ None
@@ -89,7 +88,7 @@ pub array-there : (o : Option VariableType) (count : ℕ) (test : Base → Bool)
     → (type : VariableType) × (o ≡ Some type) × (type.size ≡ Some count) × (test type.base ≡ true)
 array-there None count test h = cc
 array-there (Some type) count test h =
-    let parts : (has_length type.size count ≡ true) × (test type.base ≡ true) = both (has_length type.size count) (test type.base) h in
+    let parts : (has_length type.size count ≡ true) × (test type.base ≡ true) = and_parts (has_length type.size count) (test type.base) h in
     (type, refl, this_size type.size parts.0, parts.1)
   where
     this_size : (size : Option ℕ) → has_length size count ≡ true → size ≡ Some count

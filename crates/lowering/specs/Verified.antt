@@ -11,9 +11,9 @@ use Rattle.verifier.specs.Refusals.{HasNoDefect}
 use Rattle.verifier.specs.Safety.{IsNeverStuck}
 use Rattle.lowering.specs.Graphs.{graph_of}
 
--- the module of every well-formed program without a fault of its ends has no fault
-abbrev pub ModulesHaveNoFault : Type 0
-ModulesHaveNoFault = (program : Program) → IsTrue (well_formed program) → end_faults program ≡ []
+-- the module of every well-formed program without a fault of its ends has no defect
+abbrev pub ModulesHaveNoDefect : Type 0
+ModulesHaveNoDefect = (program : Program) → IsTrue (well_formed program) → end_faults program ≡ []
     → HasNoDefect (laid_out (graph_of program))
 
 -- so no run of such a module is stuck, where its graph fits the module file

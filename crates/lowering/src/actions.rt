@@ -38,7 +38,8 @@ pub(crate) fn push_store(
     value: &Expression,
 ) -> Result<(), AllocError>
     requires { length code.now.items
-        + (value_size (expression_of index.now) + (value_size (expression_of value.now) + 1)) < 2 ^ 32 }
+        + (value_size (expression_of index.now) + (value_size (expression_of value.now) + 1))
+        < 2 ^ 32 }
     ensures { OnOk result (code.new.items ≡ code.old.items ++
         (value_code (length code.old.items) (expression_of index.now)
         ++ (value_code (length code.old.items + value_size (expression_of index.now))

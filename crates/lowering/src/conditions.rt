@@ -4,7 +4,7 @@ ghost use Rattle.resolved.specs.Value.{bool_eq};
 ghost use Rattle.lowering.specs.Expressions.{branch_code, branch_size, deciding, test_code, tested, turned, turned_operator, value_code, value_size};
 ghost use Rattle.std.specs.Prelude.{OnOk, if◌then◌else◌, length, ◌++◌, ◌+◌, ◌<◌, ◌^◌, ◌≡◌};
 
-use crate::emitter::{next_place, push};
+use crate::emitter::push;
 use crate::instructions::operator_instruction;
 use crate::operands::{push_value, value_size};
 use bytecode::Instruction;
@@ -85,7 +85,8 @@ pub(crate) fn branch_size(wanted: bool, condition: &Expression) -> u32
 fn push_turned(code: &mut Vec<Instruction>, condition: &Expression) -> Result<(), AllocError>
     requires { length code.now.items + value_size (turned (expression_of condition.now)) < 2 ^ 32 }
     ensures { OnOk result (code.new.items ≡
-        code.old.items ++ value_code (length code.old.items) (turned (expression_of condition.now))) }
+        code.old.items ++ value_code (length code.old.items)
+        (turned (expression_of condition.now))) }
 {
     match condition {
         Expression::Logical(truth) => return push(code, Instruction::PushBoolean(!*truth)),
@@ -111,8 +112,8 @@ fn push_test(
     target: u32,
     condition: &Expression,
 ) -> Result<(), AllocError>
-    requires { length code.now.items + (value_size (tested wanted (expression_of condition.now)) + 1)
-        < 2 ^ 32 }
+    requires { length code.now.items + (value_size (tested wanted (expression_of condition.now))
+        + 1) < 2 ^ 32 }
     ensures { OnOk result (code.new.items ≡ code.old.items ++
         test_code wanted (length code.old.items) target (expression_of condition.now)) }
 {
@@ -136,15 +137,17 @@ fn inner_target(wanted: bool, decides: bool, target: u32, behind: u32) -> u32
     }
 }
 
-/// Adds code that goes to the target where the condition has the wanted truth.
+/// Adds code that goes to the target where the condition has the wanted truth. What stands behind that code is given, so that no left
+/// operand is measured again for each connective that it stands in.
 #[tactic(auto, using(crate::proofs::Appending::growing))]
 pub(crate) fn push_branch(
     code: &mut Vec<Instruction>,
     wanted: bool,
     target: u32,
+    behind: u32,
     condition: &Expression,
 ) -> Result<(), AllocError>
-    requires { length code.now.items + branch_size wanted (expression_of condition.now) < 2 ^ 32 }
+    requires { behind ≡ length code.now.items + branch_size wanted (expression_of condition.now) }
     ensures { OnOk result (code.new.items ≡ code.old.items ++
         branch_code wanted (length code.old.items) target (expression_of condition.now)) }
 {
@@ -154,14 +157,16 @@ pub(crate) fn push_branch(
         Expression::Read(_) => push_test(code, wanted, target, condition),
         Expression::Element(_, _, _) => push_test(code, wanted, target, condition),
         Expression::Unary(Prefix::Negate, _) => push_test(code, wanted, target, condition),
-        Expression::Unary(Prefix::Not, operand) => push_branch(code, !wanted, target, operand),
+        Expression::Unary(Prefix::Not, operand) => {
+            push_branch(code, !wanted, target, behind, operand)
+        }
         Expression::Binary(_, _, _) => push_test(code, wanted, target, condition),
         Expression::Short(connective, left, right) => {
             let decides = decides_at(*connective);
-            let behind = next_place(code) + branch_size(decides, left) + branch_size(wanted, right);
+            let between = behind - branch_size(wanted, right);
             let inner = inner_target(wanted, decides, target, behind);
-            push_branch(code, decides, inner, left)?;
-            push_branch(code, wanted, target, right)
+            push_branch(code, decides, inner, between, left)?;
+            push_branch(code, wanted, target, behind, right)
         }
     }
 }

@@ -149,7 +149,8 @@ fn push_if(
     no_block: &[Statement],
 ) -> Result<(), AllocError>
     requires { length code.now.items + statement_size (program_of core.now)
-        (If 0 (expression_of condition.now) (block_of yes_block.now) (block_of no_block.now)) < 2 ^ 32 }
+        (If 0 (expression_of condition.now) (block_of yes_block.now) (block_of no_block.now))
+        < 2 ^ 32 }
     ensures { OnOk result (IsStatementAdded (program_of core.now)
         (record { behind = around.behind; test = around.test })
         (If 0 (expression_of condition.now) (block_of yes_block.now) (block_of no_block.now))
@@ -158,7 +159,7 @@ fn push_if(
     let jumps = jumps_over(yes_block, no_block);
     let test_end = next_place(code) + branch_size(false, condition);
     let second = test_end + block_size(core, yes_block) + jump_size(jumps);
-    push_branch(code, false, second, condition)?;
+    push_branch(code, false, second, test_end, condition)?;
     push_block(core, around, code, table, yes_block)?;
     push_jump(code, jumps, second + block_size(core, no_block))?;
     push_block(core, around, code, table, no_block)
@@ -182,13 +183,11 @@ fn push_while(
 {
     let start = next_place(code) + 1;
     let test = start + block_size(core, body);
-    let inner = LoopPlaces {
-        behind: test + branch_size(true, condition),
-        test,
-    };
+    let behind = test + branch_size(true, condition);
+    let inner = LoopPlaces { behind, test };
     push(code, Instruction::Jump(test))?;
     push_block(core, inner, code, table, body)?;
-    push_branch(code, true, start, condition)
+    push_branch(code, true, start, behind, condition)
 }
 
 /// Adds the code of a `try` with its handlers.

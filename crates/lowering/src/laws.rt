@@ -3,7 +3,7 @@ ghost use Rattle.lowering.specs.Direct.{GraphsHaveDirectJumps};
 ghost use Rattle.lowering.specs.Fitting.{GraphsFitTheFile};
 ghost use Rattle.lowering.specs.Kept.{GraphsKeepMeaning, ModulesKeepMeaning};
 ghost use Rattle.lowering.specs.Positions.{GraphsHavePositions};
-ghost use Rattle.lowering.specs.Verified.{ModulesAreNeverStuck, ModulesHaveNoFault};
+ghost use Rattle.lowering.specs.Verified.{ModulesAreNeverStuck, ModulesHaveNoDefect};
 
 /// The graph of every well-formed program without a fault of its ends keeps its meaning: on every world both send the same and
 /// end the same way.
@@ -32,9 +32,9 @@ pub fn graphs_fit_the_file()
     ensures { GraphsFitTheFile }
 {}
 
-/// The module of every well-formed program without a fault of its ends has no fault: the verifier does not refuse it.
-pub fn modules_have_no_fault()
-    ensures { ModulesHaveNoFault }
+/// The module of every well-formed program without a fault of its ends has no defect: the verifier does not refuse it.
+pub fn modules_have_no_defect()
+    ensures { ModulesHaveNoDefect }
 {}
 
 /// So no run of such a module is ever stuck, whatever the world gives, where the program's graph fits the module file.

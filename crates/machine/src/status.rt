@@ -9,6 +9,6 @@ pub enum Status {
     Threw(u32),
     /// It ended because it had as many frames as a run may have.
     Deep,
-    /// Memory ran out for the next step. Nothing has changed, and it may be tried again.
+    /// Memory ran out for the next step, which has changed nothing and may be tried again.
     NoMemory,
 }

@@ -6,7 +6,7 @@ use Rattle.std.specs.List.Sorted.{IsStrictlyIncreasing, IsStrictlySortedBy}
 use Rattle.std.specs.Ordering.{nat_cmp}
 use Rattle.std.specs.declared.cmp.Ordering.{Ordering}
 use Rattle.std.specs.declared.cmp.Ordering.TheVariants.{Less, Equal, Greater}
-use Rattle.std.proofs.lemmas.Bool.{ltb-true, eq-eqb, cases_lt}
+use Rattle.std.proofs.lemmas.Bool.{ltb-true, eq-eqb, cases_lt, not-true}
 use Rattle.std.proofs.lemmas.Cmp.{nat_cmp_total}
 use Rattle.std.proofs.lemmas.List.{append-nil, get_or_push, get_or_append_left}
 use Rattle.std.proofs.lemmas.List.Elements.{All-push, All-from_recursion}
@@ -16,7 +16,7 @@ use Rattle.std.proofs.lemmas.Option.{slice_get-get_or}
 use Rattle.std.proofs.lemmas.Slice.Eq.{bytes_eq-Decides}
 use Rattle.common.specs.declared.fault.OrNoMemory.{OrNoMemory}
 use Rattle.common.specs.declared.fault.OrNoMemory.TheVariants.{NoMemory, Refused}
-use Rattle.bytecode.specs.declared.fault.ReadStop.{ReadStop}
+use Rattle.bytecode.specs.declared.fault.ReadRefusal.{ReadRefusal}
 use Rattle.module_file.proofs.Loop.{ReadingFails}
 use Rattle.principals.specs.ActsFor.{PrincipalHierarchy, AllDifferent, AllBelow}
 use Rattle.labels.proofs.Ascending.{sorted_nil}
@@ -42,10 +42,6 @@ first false b h = absurd cc
 second : (a b : Bool) → (a && b) ≡ true → b ≡ true
 second true b h = h
 second false b h = absurd cc
-
-not-true : (b : Bool) → not b ≡ true → b ≡ false
-not-true true h = absurd cc
-not-true false h = refl
 
 neither : (a b : Bool) → (a || b) ≡ false → b ≡ false
 neither true b h = absurd cc
@@ -177,7 +173,7 @@ hierarchy-read bytes names rest pairs after h e f n p =
     let made : read hierarchy bytes ≡ Ok (record { names = names; pairs = pairs }, after) = rw (e, f) refl in
     made ∙ (λ i. Ok (record { names = sym n i; pairs = sym p i }, after))
 
-pub hierarchy-fails : (e : OrNoMemory ReadStop) (bytes : List ℕ) (names : List (List ℕ)) (rest : List ℕ) → read principals bytes ≡ Ok (names, rest) → ReadingFails e (read (Counted any (pair_after (length names))) rest) → ReadingFails e (read hierarchy bytes)
+pub hierarchy-fails : (e : OrNoMemory ReadRefusal) (bytes : List ℕ) (names : List (List ℕ)) (rest : List ℕ) → read principals bytes ≡ Ok (names, rest) → ReadingFails e (read (Counted any (pair_after (length names))) rest) → ReadingFails e (read hierarchy bytes)
 unfolding hierarchy
 hierarchy-fails NoMemory bytes names rest e f = tt
 hierarchy-fails (Refused stop) bytes names rest e f = rw (e, f) refl

@@ -2,7 +2,7 @@
 use Rattle.std.proofs.Common.{◌≡◌, ℕ, zero, suc, ◌-◌, ◌≤◌, Bool, true, false, cond, ltb, eqb, List, [], ◌∷◌, ◌++◌, length, drop, take, Option, Some, None, Result, Ok, Err, subst, arith}
 use Rattle.std.proofs.lemmas.List.{length-drop}
 use Rattle.std.specs.Int.{w32, from_be_bytes}
-use Rattle.bytecode.specs.declared.fault.ReadStop.{ReadStop}
+use Rattle.bytecode.specs.declared.fault.ReadRefusal.{ReadRefusal}
 use Rattle.bytecode.specs.declared.fault.ModuleDefect.TheVariants.{BadValue, Trailing}
 use Rattle.bytecode.specs.Form.{Coding, Form, Byte, Number, Text, Nothing, Marked, Checked, Then, Counted, Code, Named, stop_at, short, ◌>>=◌, Read, number_at, bytes_at, each_at, meant, operand_at, instruction_in, code_at, spelled_instruction, read, read_all}
 
@@ -23,11 +23,11 @@ bound n (Err stop) f h next = h
 next_at : {A B : Type 0} (n : ℕ) (r : Read A) (f : A × List ℕ → Read B) → IsInside n r → ((x : A × List ℕ) → IsInside (length x.1) (f x)) → IsInside n (r >>= f)
 next_at n r f h next = bound n r f h (λ x le. fewer (length x.1) n (f x) le (next x))
 
-tested : {A : Type 0} (n : ℕ) (b : Bool) (r : Read A) (stop : ReadStop) → IsInside n r → stop.left ≤ n → IsInside n (cond b r (Err stop))
+tested : {A : Type 0} (n : ℕ) (b : Bool) (r : Read A) (stop : ReadRefusal) → IsInside n r → stop.left ≤ n → IsInside n (cond b r (Err stop))
 tested n true r stop h s = h
 tested n false r stop h s = s
 
-spared_inside : {A : Type 0} (n : ℕ) (b : Bool) (r : Read A) (stop : ReadStop) → IsInside n r → stop.left ≤ n → IsInside n (cond b (Err stop) r)
+spared_inside : {A : Type 0} (n : ℕ) (b : Bool) (r : Read A) (stop : ReadRefusal) → IsInside n r → stop.left ≤ n → IsInside n (cond b (Err stop) r)
 spared_inside n true r stop h s = s
 spared_inside n false r stop h s = h
 
@@ -86,17 +86,17 @@ inside (Counted test one) bytes =
 inside (Code coding) bytes = next_at (length bytes) (number_at bytes) (λ size. code_at coding size.0 size.0 [] size.1) (number_inside bytes) (λ size. code_inside coding size.0 size.0 [] size.1)
 inside (Named make fields form) bytes = bound (length bytes) (read form bytes) (λ found. Ok (make found.0, found.1)) (inside form bytes) (λ found le. le)
 
-abbrev answer : {A : Type 0} → Bool → A → ReadStop → Result A ReadStop
+abbrev answer : {A : Type 0} → Bool → A → ReadRefusal → Result A ReadRefusal
 answer b x other = cond b (Ok x) (Err other)
 
-trailing : {A : Type 0} (b : Bool) (x : A) (other stop : ReadStop) (n : ℕ) → answer b x other ≡ Err stop → other.left ≤ n → stop.left ≤ n
+trailing : {A : Type 0} (b : Bool) (x : A) (other stop : ReadRefusal) (n : ℕ) → answer b x other ≡ Err stop → other.left ≤ n → stop.left ≤ n
 trailing true x other stop n e h = absurd cc
-trailing false x other stop n e h = let same : other ≡ stop = cc in subst (λ (s : ReadStop). s.left ≤ n) same h
+trailing false x other stop n e h = let same : other ≡ stop = cc in subst (λ (s : ReadRefusal). s.left ≤ n) same h
 
 -- all of the bytes as a value of the format
-all_inside : {A : Type 0} (form : Form A) (bytes : List ℕ) (r : Read A) → IsInside (length bytes) r → (stop : ReadStop) → (r >>= λ found. cond (eqb (length found.1) 0) (Ok found.0) (Err (stop_at Trailing found.1))) ≡ Err stop → stop.left ≤ length bytes
+all_inside : {A : Type 0} (form : Form A) (bytes : List ℕ) (r : Read A) → IsInside (length bytes) r → (stop : ReadRefusal) → (r >>= λ found. cond (eqb (length found.1) 0) (Ok found.0) (Err (stop_at Trailing found.1))) ≡ Err stop → stop.left ≤ length bytes
 all_inside form bytes (Ok x) h stop e = trailing (eqb (length x.1) 0) x.0 (stop_at Trailing x.1) stop (length bytes) e h
-all_inside form bytes (Err other) h stop e = let same : other ≡ stop = cc in subst (λ (s : ReadStop). s.left ≤ length bytes) same h
+all_inside form bytes (Err other) h stop e = let same : other ≡ stop = cc in subst (λ (s : ReadRefusal). s.left ≤ length bytes) same h
 
-pub stop_inside : {A : Type 0} (form : Form A) (bytes : List ℕ) (stop : ReadStop) → read_all form bytes ≡ Err stop → stop.left ≤ length bytes
+pub stop_inside : {A : Type 0} (form : Form A) (bytes : List ℕ) (stop : ReadRefusal) → read_all form bytes ≡ Err stop → stop.left ≤ length bytes
 stop_inside form bytes stop e = all_inside form bytes (read form bytes) (inside form bytes) stop e

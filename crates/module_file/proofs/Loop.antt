@@ -4,10 +4,10 @@ use Rattle.common.specs.Answers.{IfRefused}
 use Rattle.common.specs.declared.fault.OrNoMemory.{OrNoMemory}
 use Rattle.common.specs.declared.fault.OrNoMemory.TheVariants.{NoMemory, Refused}
 use Rattle.bytecode.specs.Form.{Read, each_at, ◌>>=◌}
-use Rattle.bytecode.specs.declared.fault.ReadStop.{ReadStop}
+use Rattle.bytecode.specs.declared.fault.ReadRefusal.{ReadRefusal}
 
 -- a function fails as reading does, or because memory ran out
-abbrev pub ReadingFails : {B : Type 0} → OrNoMemory ReadStop → Result B ReadStop → Type 0
+abbrev pub ReadingFails : {B : Type 0} → OrNoMemory ReadRefusal → Result B ReadRefusal → Type 0
 ReadingFails fault read = IfRefused (λ stop. read ≡ Err stop) fault
 
 -- one more value
@@ -19,7 +19,7 @@ each_goes_on {A} one count i before bytes x after total lt read so_far =
     sym (ap (λ (n : ℕ). each_at one n before bytes) left ∙ ap goes read) ∙ so_far
 
 -- a value that was not read
-pub each_fails : {A : Type 0} (e : OrNoMemory ReadStop) (one : List A → List ℕ → Read A) (count i : ℕ) (before : List A) (bytes : List ℕ) (total : Read (List A)) → i < count → ReadingFails e (one before bytes)
+pub each_fails : {A : Type 0} (e : OrNoMemory ReadRefusal) (one : List A → List ℕ → Read A) (count i : ℕ) (before : List A) (bytes : List ℕ) (total : Read (List A)) → i < count → ReadingFails e (one before bytes)
     → each_at one (count - i) before bytes ≡ total → ReadingFails e total
 each_fails NoMemory one count i before bytes total lt fails so_far = tt
 each_fails {A} (Refused stop) one count i before bytes total lt fails so_far =

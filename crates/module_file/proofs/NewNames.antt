@@ -15,7 +15,7 @@ use Rattle.common.specs.declared.fault.OrNoMemory.{OrNoMemory}
 use Rattle.common.specs.declared.fault.OrNoMemory.TheVariants.{NoMemory, Refused}
 use Rattle.bytecode.specs.Contents.{ChannelContents}
 use Rattle.bytecode.specs.Form.{Form, Named, Then, Counted, Checked, Text, Read, read, each_at, number_at}
-use Rattle.bytecode.specs.declared.fault.ReadStop.{ReadStop}
+use Rattle.bytecode.specs.declared.fault.ReadRefusal.{ReadRefusal}
 use Rattle.module_file.proofs.Loop.{ReadingFails, each_fails, each_goes_on}
 use Rattle.bytecode.specs.declared.fault.ModuleDefect.TheVariants.{BadValue}
 use Rattle.bytecode.specs.Format.{any, exceptions, channels, declared, is_built_in, channel_after, channel_names, direction, label, is_among, is_new_name, name_after}
@@ -78,7 +78,7 @@ names_go_on taken now count i before bytes name after total lt holds found so_fa
     let same : read (name_after now []) bytes ≡ read (name_after taken before) bytes = ap (λ (form : Form (List ℕ)). read form bytes) (in_set taken now before holds) in
     each_goes_on (one_name taken) count i before bytes name after total lt (sym same ∙ found) so_far
 
-pub names_fails : (e : OrNoMemory ReadStop) (taken now : List ℕ → Bool) (count i : ℕ) (before : List (List ℕ)) (bytes : List ℕ) (total : Read (List (List ℕ))) → i < count → ((q : List ℕ) → now q ≡ (taken q || is_among before q))
+pub names_fails : (e : OrNoMemory ReadRefusal) (taken now : List ℕ → Bool) (count i : ℕ) (before : List (List ℕ)) (bytes : List ℕ) (total : Read (List (List ℕ))) → i < count → ((q : List ℕ) → now q ≡ (taken q || is_among before q))
     → ReadingFails e (read (name_after now []) bytes) → each_at (one_name taken) (count - i) before bytes ≡ total → ReadingFails e total
 names_fails e taken now count i before bytes total lt holds found so_far =
     let same : read (name_after now []) bytes ≡ read (name_after taken before) bytes = ap (λ (form : Form (List ℕ)). read form bytes) (in_set taken now before holds) in
@@ -121,7 +121,7 @@ pub channels_go_on : (principals : ℕ) (taken now : List ℕ → Bool) (count i
 channels_go_on principals taken now count i before bytes channel after total lt holds found so_far =
     each_goes_on (one_channel principals taken) count i before bytes channel after total lt (sym (same_channel principals taken now before bytes holds) ∙ found) so_far
 
-pub channels_fail : (e : OrNoMemory ReadStop) (principals : ℕ) (taken now : List ℕ → Bool) (count i : ℕ) (before : List ChannelContents) (bytes : List ℕ) (total : Read (List ChannelContents)) → i < count
+pub channels_fail : (e : OrNoMemory ReadRefusal) (principals : ℕ) (taken now : List ℕ → Bool) (count i : ℕ) (before : List ChannelContents) (bytes : List ℕ) (total : Read (List ChannelContents)) → i < count
     → ((q : List ℕ) → now q ≡ (taken q || is_among (channel_names before) q)) → ReadingFails e (one_channel principals now [] bytes)
     → each_at (one_channel principals taken) (count - i) before bytes ≡ total → ReadingFails e total
 channels_fail e principals taken now count i before bytes total lt holds found so_far =
@@ -156,7 +156,7 @@ declared-read count taken bytes names rest all after e same f =
     let found : read (channels count names) rest ≡ Ok (all, after) = same_channels count taken names rest same ∙ f in
     rw (e, found) refl
 
-pub declared-fails : (e : OrNoMemory ReadStop) (count : ℕ) (taken : List ℕ → Bool) (bytes : List ℕ) (names : List (List ℕ)) (rest : List ℕ) → read exceptions bytes ≡ Ok (names, rest)
+pub declared-fails : (e : OrNoMemory ReadRefusal) (count : ℕ) (taken : List ℕ → Bool) (bytes : List ℕ) (names : List (List ℕ)) (rest : List ℕ) → read exceptions bytes ≡ Ok (names, rest)
     → ((q : List ℕ) → taken q ≡ (is_built_in q || is_among names q)) → ReadingFails e (counted_channels count taken rest) → ReadingFails e (read (declared count) bytes)
 unfolding declared
 declared-fails NoMemory count taken bytes names rest e same f = tt

@@ -4,7 +4,7 @@ use Rattle.std.specs.Int.{w32, from_be_bytes, to_be_bytes}
 use Rattle.std.proofs.lemmas.Bool.{cases_lt, ltb-false, le-ltb}
 use Rattle.std.proofs.lemmas.List.{take_at, drop_at, take-append-drop, length-append, length-take, get_or-drop, get_or-take, get_or_past}
 use Rattle.std.proofs.lemmas.Nat.{be_bytes_4, from_be_bytes-to_be_bytes_4}
-use Rattle.bytecode.specs.declared.fault.ReadStop.{ReadStop}
+use Rattle.bytecode.specs.declared.fault.ReadRefusal.{ReadRefusal}
 use Rattle.bytecode.specs.Form.{short, ◌>>=◌, number_at, bytes_at}
 
 -- each element is a byte
@@ -26,21 +26,21 @@ pub bytes_rest : (b : ℕ) (bytes : List ℕ) → IsBytes (b ∷ bytes) → IsBy
 bytes_rest b bytes h = record { below = λ i. h.below (suc i) }
 
 -- the value of a first step that went well
-pub step : {A B : Type 0} (r : Result A ReadStop) (f : A → Result B ReadStop) (y : B) → (r >>= f) ≡ Ok y → (x : A) × (r ≡ Ok x) × (f x ≡ Ok y)
+pub step : {A B : Type 0} (r : Result A ReadRefusal) (f : A → Result B ReadRefusal) (y : B) → (r >>= f) ≡ Ok y → (x : A) × (r ≡ Ok x) × (f x ≡ Ok y)
 step (Ok x) f y e = (x, refl, e)
 step (Err s) f y e = absurd cc
 
 -- a test that went well
-pub passed : {A : Type 0} (b : Bool) (r : Result A ReadStop) (s : ReadStop) (y : A) → cond b r (Err s) ≡ Ok y → (b ≡ true) × (r ≡ Ok y)
+pub passed : {A : Type 0} (b : Bool) (r : Result A ReadRefusal) (s : ReadRefusal) (y : A) → cond b r (Err s) ≡ Ok y → (b ≡ true) × (r ≡ Ok y)
 passed true r s y e = (refl, e)
 passed false r s y e = absurd cc
 
 -- a test for a fault that did not find one
-pub spared : {A : Type 0} (b : Bool) (r : Result A ReadStop) (s : ReadStop) (y : A) → cond b (Err s) r ≡ Ok y → (b ≡ false) × (r ≡ Ok y)
+pub spared : {A : Type 0} (b : Bool) (r : Result A ReadRefusal) (s : ReadRefusal) (y : A) → cond b (Err s) r ≡ Ok y → (b ≡ false) × (r ≡ Ok y)
 spared true r s y e = absurd cc
 spared false r s y e = (refl, e)
 
-abbrev good : {A : Type 0} → A → Result A ReadStop
+abbrev good : {A : Type 0} → A → Result A ReadRefusal
 good x = Ok x
 
 pub same_value : {A : Type 0} (x y : A) → good x ≡ good y → x ≡ y

@@ -3,11 +3,11 @@
 use Rattle.std.specs.Prelude.{ℕ, ◌-◌, List, length, Option, Some, None, Result, Ok, Err}
 use Rattle.bytecode.specs.Form.{read_all}
 use Rattle.bytecode.specs.Format.{module_file}
-use Rattle.bytecode.specs.declared.fault.ReadStop.{ReadStop}
+use Rattle.bytecode.specs.declared.fault.ReadRefusal.{ReadRefusal}
 use Rattle.module_file.specs.declared.fault.ModuleRefusal.{ModuleRefusal}
 
 -- a defect with its offset from the start of the bytes, if reading met one
-abbrev pub refusal_of : {A : Type 0} → List ℕ → Result A ReadStop → Option ModuleRefusal
+abbrev pub refusal_of : {A : Type 0} → List ℕ → Result A ReadRefusal → Option ModuleRefusal
 refusal_of bytes (Ok x) = None
 refusal_of bytes (Err stop) = Some (record { defect = stop.defect; offset = length bytes - stop.left })
 

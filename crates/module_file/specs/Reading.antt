@@ -6,10 +6,10 @@ use Rattle.common.specs.Answers.{Answers}
 use Rattle.common.specs.declared.fault.OrNoMemory.{OrNoMemory}
 use Rattle.bytecode.specs.Contents.{ModuleContents}
 use Rattle.module_file.specs.declared.decoding.Fields.{Fields}
-use Rattle.bytecode.specs.declared.fault.ReadStop.{ReadStop}
+use Rattle.bytecode.specs.declared.fault.ReadRefusal.{ReadRefusal}
 
 -- what a function returned, seen by the view, is what reading gives, unless memory ran out
-abbrev pub Decodes : {A B : Type 0} → (A → B) → Result A (OrNoMemory ReadStop) → Result B ReadStop → Type 0
+abbrev pub Decodes : {A B : Type 0} → (A → B) → Result A (OrNoMemory ReadRefusal) → Result B ReadRefusal → Type 0
 Decodes view result read = Answers (λ x. read ≡ Ok (view x)) (λ stop. read ≡ Err stop) result
 
 -- texts by their bytes

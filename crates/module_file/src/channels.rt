@@ -37,7 +37,8 @@ fn read_channel<'a>(
     taken: &BTreeSet<String>,
     bytes: &'a [u8],
 ) -> Result<(Channel, &'a [u8]), ReadFault>
-    ensures { Decodes (λ x. (x.0, x.1.now)) result (read (channel_after principals (contains_text taken.now) []) bytes.now) }
+    ensures { Decodes (λ x. (x.0, x.1.now)) result
+        (read (channel_after principals (contains_text taken.now) []) bytes.now) }
 {
     let (direction, rest) = read_direction(bytes)?;
     let (name, rest) = read_name(alloc, taken, rest)?;
@@ -53,7 +54,9 @@ fn read_channels(
     count: u32,
     bytes: &[u8],
 ) -> Result<(Vec<Channel>, &[u8]), ReadFault>
-    ensures { Decodes (λ x. (x.0.items, x.1.now)) result (each_at (λ before rest. read (channel_after principals (contains_text taken) before) rest) count [] bytes.now) }
+    ensures { Decodes (λ x. (x.0.items, x.1.now)) result
+        (each_at (λ before rest. read (channel_after principals (contains_text taken) before) rest)
+        count [] bytes.now) }
 {
     let mut channels = Vec::new(alloc);
     let mut rest = bytes;
@@ -73,7 +76,8 @@ fn read_counted_channels(
     taken: BTreeSet<String>,
     bytes: &[u8],
 ) -> Result<(Vec<Channel>, &[u8]), ReadFault>
-    ensures { Decodes (λ x. (x.0.items, x.1.now)) result (read (Counted any (channel_after principals (contains_text taken))) bytes.now) }
+    ensures { Decodes (λ x. (x.0.items, x.1.now)) result
+        (read (Counted any (channel_after principals (contains_text taken))) bytes.now) }
 {
     let (count, rest) = read_number(bytes)?;
     read_channels(alloc, principals, taken, count, rest)
@@ -86,7 +90,8 @@ pub(crate) fn read_declared<'a>(
     hierarchy: &Hierarchy,
     bytes: &'a [u8],
 ) -> Result<(Vec<String>, Vec<Channel>, &'a [u8]), ReadFault>
-    ensures { Decodes (λ x. ((texts x.0.items, x.1.items), x.2.now)) result (read (declared (length hierarchy.now.names)) bytes.now) }
+    ensures { Decodes (λ x. ((texts x.0.items, x.1.items), x.2.now)) result
+        (read (declared (length hierarchy.now.names)) bytes.now) }
 {
     let mut taken = take_built_in(alloc)?;
     let (exceptions, rest) = read_exceptions(alloc, &mut taken, bytes)?;

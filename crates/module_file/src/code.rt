@@ -18,7 +18,8 @@ const USUAL_WIDTH: usize = 3;
 /// The instruction at the front, which ends within the room that is left in its code.
 #[tactic(auto, unfolding(bytecode::specs::Opcodes::instructions))]
 fn read_instruction(room: u32, bytes: &[u8]) -> Result<(Instruction, &[u8]), ReadFault>
-    ensures gives { Decodes (λ x. (x.0, x.1.now)) result (instruction_in instructions room bytes.now) }
+    ensures gives { Decodes (λ x. (x.0, x.1.now)) result (instruction_in instructions room
+        bytes.now) }
     ensures inside { IfOk result (λ x. width_of x.0 ≤ room) }
 {
     let (opcode, rest) = read_byte(bytes)?;
@@ -41,7 +42,8 @@ fn read_instructions(
     size: u32,
     bytes: &[u8],
 ) -> Result<(Vec<Instruction>, &[u8]), ReadFault>
-    ensures { Decodes (λ x. (x.0.items, x.1.now)) result (code_at instructions size size [] bytes.now) }
+    ensures { Decodes (λ x. (x.0.items, x.1.now)) result (code_at instructions size size []
+        bytes.now) }
 {
     // Room for the bytes that are there, whatever the size claims.
     let mut code = Vec::with_capacity(alloc, bytes.len().min(size as usize) / USUAL_WIDTH)?;

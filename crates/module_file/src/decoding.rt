@@ -63,7 +63,8 @@ fn read_main<'a>(procedures: &[Procedure], bytes: &'a [u8]) -> Result<(u32, &'a 
 /// The globals, the procedures, and the number of the one where a run starts.
 #[tactic(auto, unfolding(bytecode::specs::Format::program))]
 fn read_program(alloc: Global, bytes: &[u8]) -> Result<(Program, &[u8]), ReadFault>
-    ensures { Decodes (λ x. ((x.0.globals.items, (x.0.procedures.items, x.0.main)), x.1.now)) result (read program bytes.now) }
+    ensures { Decodes (λ x. ((x.0.globals.items, (x.0.procedures.items, x.0.main)), x.1.now)) result
+        (read program bytes.now) }
 {
     let (globals, rest) = read_globals(alloc, bytes)?;
     let (procedures, rest) = read_procedures(alloc, rest)?;

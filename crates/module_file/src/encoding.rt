@@ -27,7 +27,8 @@ fn code_size(code: &[Instruction]) -> usize
 /// Writes code behind its length.
 fn put_code(out: &mut Vec<u8>, code: &[Instruction]) -> Result<(), AllocError>
     requires { IsShort (code_bytes code.now) }
-    ensures { OnOk result (out.new.items ≡ out.old.items ++ (number_bytes (length (code_bytes code.now)) ++ code_bytes code.now)) }
+    ensures { OnOk result (out.new.items ≡ out.old.items
+        ++ (number_bytes (length (code_bytes code.now)) ++ code_bytes code.now)) }
 {
     put_number(out, code_size(code) as u32)?;
     for instruction in code {
@@ -60,7 +61,8 @@ impl Field for Procedure {
 fn put_names(out: &mut Vec<u8>, names: &[String]) -> Result<(), AllocError>
     requires few { IsShort (texts names.now) }
     requires each { All IsShort (texts names.now) }
-    ensures { OnOk result (out.new.items ≡ out.old.items ++ list_bytes text_bytes (texts names.now)) }
+    ensures { OnOk result (out.new.items ≡ out.old.items ++ list_bytes text_bytes
+        (texts names.now)) }
 {
     put_list(out, names)
 }
@@ -70,7 +72,9 @@ fn put_hierarchy(out: &mut Vec<u8>, hierarchy: &Hierarchy) -> Result<(), AllocEr
     requires names { IsShort hierarchy.now.names }
     requires each { All IsShort hierarchy.now.names }
     requires pairs { IsShort hierarchy.now.pairs }
-    ensures { OnOk result (out.new.items ≡ out.old.items ++ (list_bytes text_bytes hierarchy.now.names ++ list_bytes pair_bytes hierarchy.now.pairs)) }
+    ensures { OnOk result (out.new.items ≡ out.old.items
+        ++ (list_bytes text_bytes hierarchy.now.names ++ list_bytes pair_bytes
+        hierarchy.now.pairs)) }
 {
     put_names(out, hierarchy.names())?;
     put_list(out, hierarchy.pairs())

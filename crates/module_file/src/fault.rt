@@ -1,7 +1,12 @@
 //! Why a module was not read.
 
+ghost use Rattle.bytecode.specs.Faults.{module_defect_words};
+ghost use Rattle.std.specs.Prelude.{Some};
+
 use bytecode::ModuleDefect;
 use common::OrNoMemory;
+use std::error::Error;
+use std::fmt;
 
 /// Why bytes spell no module: the first defect in reading order, and the byte offset where it stands.
 #[derive(Clone, Copy, Debug, PartialEq, Eq)]
@@ -9,6 +14,16 @@ pub struct ModuleRefusal {
     pub defect: ModuleDefect,
     pub offset: usize,
 }
+
+impl fmt::Display for ModuleRefusal {
+    ghost output = { λ refusal. Some (module_defect_words refusal.defect) };
+
+    fn fmt<W: fmt::Write>(&self, f: &mut fmt::Formatter<W>) -> fmt::Result {
+        write!(f, "{}", self.defect.words())
+    }
+}
+
+impl Error for ModuleRefusal {}
 
 /// Why a module was not read.
 pub type ModuleFault = OrNoMemory<ModuleRefusal>;

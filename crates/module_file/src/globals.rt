@@ -1,7 +1,8 @@
 //! Reading of globals.
 
+ghost use Rattle.common.specs.declared.limits.TheConstants.{MAX_CELLS};
 ghost use Rattle.bytecode.specs.Form.{read};
-ghost use Rattle.bytecode.specs.Format.{first_value, global_after, global_cells, global_of, globals, max_cells, variable_kind};
+ghost use Rattle.bytecode.specs.Format.{first_value, global_after, global_cells, global_of, globals, variable_kind};
 ghost use Rattle.module_file.specs.Reading.{Decodes};
 ghost use Rattle.std.specs.Prelude.{◌<◌, ◌≡◌, ◌≤◌};
 
@@ -66,7 +67,7 @@ impl Element for GlobalField {
 
     ghost reads = { λ self before bytes. read (global_after before) bytes };
 
-    ghost holds = { λ self cells before. (cells ≡ global_cells before) × (cells ≤ max_cells) };
+    ghost holds = { λ self cells before. (cells ≡ global_cells before) × (cells ≤ MAX_CELLS) };
 
     #[tactic(auto, unfolding(bytecode::specs::Format::global_after))]
     fn read<'a>(

@@ -83,7 +83,8 @@ impl Element for ReaderField {
 
     type State = ();
 
-    ghost reads = { λ self before bytes. read (reader_after self.principals self.owner before) bytes };
+    ghost reads = { λ self before bytes. read (reader_after self.principals self.owner before)
+        bytes };
 
     ghost holds = { λ self state before. Unit {0} };
 
@@ -151,7 +152,8 @@ fn read_readers(
     owner: u32,
     bytes: &[u8],
 ) -> Result<(Vec<u32>, &[u8]), ReadFault>
-    ensures { Decodes (λ x. (x.0.items, x.1.now)) result (read (Counted any (reader_after principals owner)) bytes.now) }
+    ensures { Decodes (λ x. (x.0.items, x.1.now)) result
+        (read (Counted any (reader_after principals owner)) bytes.now) }
 {
     let (count, rest) = read_number(bytes)?;
     read_each(alloc, &ReaderField { principals, owner }, (), count, rest)
@@ -188,7 +190,8 @@ fn read_pairs(
     principals: u32,
     bytes: &[u8],
 ) -> Result<(Vec<(u32, u32)>, &[u8]), ReadFault>
-    ensures { Decodes (λ x. (x.0.items, x.1.now)) result (read (Counted any (pair_after principals)) bytes.now) }
+    ensures { Decodes (λ x. (x.0.items, x.1.now)) result (read (Counted any (pair_after principals))
+        bytes.now) }
 {
     let (count, rest) = read_number(bytes)?;
     read_each(alloc, &PairField { principals }, (), count, rest)

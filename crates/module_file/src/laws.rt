@@ -4,7 +4,7 @@ ghost use Rattle.bytecode.specs.Contents.{ModuleContents};
 ghost use Rattle.module_file.specs.Decoded.{first_refusal};
 ghost use Rattle.bytecode.specs.Form.{Fits, read_all, spelled, Spells};
 ghost use Rattle.bytecode.specs.Format.{module_file};
-ghost use Rattle.bytecode.specs.declared.fault.ReadStop.{ReadStop};
+ghost use Rattle.bytecode.specs.declared.fault.ReadRefusal.{ReadRefusal};
 ghost use Rattle.std.specs.Prelude.{length, List, None, ℕ, ◌++◌, ◌≡◌, ◌≤◌};
 
 /// Each module has one spelling, and each spelling is that of one module.
@@ -32,6 +32,6 @@ pub fn spellings_are_not_refused()
 
 /// A refusal stands inside the bytes or at their end.
 pub fn refusals_stand_inside()
-    ensures { (bytes : List ℕ) (stop : ReadStop)
+    ensures { (bytes : List ℕ) (stop : ReadRefusal)
         → read_all module_file bytes ≡ Err stop → stop.left ≤ length bytes }
 {}

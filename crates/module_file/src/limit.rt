@@ -1,6 +1,7 @@
 //! Sizes of variables, in elements and in cells.
 
-ghost use Rattle.bytecode.specs.Format.{cells_of_size, is_size, max_cells};
+ghost use Rattle.common.specs.declared.limits.TheConstants.{MAX_CELLS};
+ghost use Rattle.bytecode.specs.Format.{cells_of_size, is_size};
 ghost use Rattle.std.specs.Prelude.{◌≡◌, ◌≤◌};
 
 use common::limits::{MAX_CELLS, MAX_ELEMENTS};
@@ -14,7 +15,7 @@ pub(crate) fn cells_of_size(size: u32) -> u32
 
 /// Whether a size is not too large, nor are the cells with it.
 pub(crate) fn is_size(cells: u32, size: u32) -> bool
-    requires { cells ≤ max_cells }
+    requires { cells ≤ MAX_CELLS }
     ensures { result ≡ is_size cells size }
 {
     size <= MAX_ELEMENTS && cells + cells_of_size(size) <= MAX_CELLS

@@ -17,7 +17,8 @@ use std::collections::BTreeSet;
 /// The text as a name, where it is one that is not taken.
 fn read_new_name<'a>(taken: &BTreeSet<String>, text: &'a [u8]) -> Option<&'a str>
     ensures { MatchOption result (is_new_name (contains_text taken.now) [] text.now ≡ false)
-        (λ name. (name.now ≡ text.now) × (is_new_name (contains_text taken.now) [] text.now ≡ true)) }
+        (λ name. (name.now ≡ text.now) × (is_new_name (contains_text taken.now) []
+        text.now ≡ true)) }
 {
     let Ok(name) = str::from_utf8(text) else {
         return None;
@@ -36,7 +37,8 @@ pub(crate) fn read_name<'a>(
     taken: &BTreeSet<String>,
     bytes: &'a [u8],
 ) -> Result<(String, &'a [u8]), ReadFault>
-    ensures { Decodes (λ x. (string_bytes x.0, x.1.now)) result (read (name_after (contains_text taken.now) []) bytes.now) }
+    ensures { Decodes (λ x. (string_bytes x.0, x.1.now)) result
+        (read (name_after (contains_text taken.now) []) bytes.now) }
 {
     let (size, rest) = read_number(bytes)?;
     let (name, rest) = read_text(size as usize, rest)?;
@@ -52,7 +54,8 @@ pub(crate) fn take(
     taken: &mut BTreeSet<String>,
     name: &str,
 ) -> Result<(), AllocError>
-    ensures { OnOk result ((q : List ℕ) → contains_text taken.new q ≡ (contains_text taken.old q || bytes_eq name.now q)) }
+    ensures { OnOk result ((q : List ℕ) → contains_text taken.new q
+        ≡ (contains_text taken.old q || bytes_eq name.now q)) }
 {
     taken.insert(String::from_str(alloc, name)?)?;
     Ok(())
@@ -65,8 +68,11 @@ pub(crate) fn read_names<'a>(
     count: u32,
     bytes: &'a [u8],
 ) -> Result<(Vec<String>, &'a [u8]), ReadFault>
-    ensures gives { Decodes (λ x. (texts x.0.items, x.1.now)) result (each_at (λ before rest. read (name_after (contains_text taken.old) before) rest) count [] bytes.now) }
-    ensures taken { IfOk result (λ x. (q : List ℕ) → contains_text taken.new q ≡ (contains_text taken.old q || is_among (texts x.0.items) q)) }
+    ensures gives { Decodes (λ x. (texts x.0.items, x.1.now)) result
+        (each_at (λ before rest. read (name_after (contains_text taken.old) before) rest) count []
+        bytes.now) }
+    ensures taken { IfOk result (λ x. (q : List ℕ) → contains_text taken.new q
+        ≡ (contains_text taken.old q || is_among (texts x.0.items) q)) }
 {
     let mut names = Vec::new(alloc);
     let mut rest = bytes;
@@ -85,7 +91,8 @@ pub(crate) fn read_first_names(
     count: u32,
     bytes: &[u8],
 ) -> Result<(Vec<String>, &[u8]), ReadFault>
-    ensures { Decodes (λ x. (texts x.0.items, x.1.now)) result (each_at (λ before rest. read (name_after (λ _. false) before) rest) count [] bytes.now) }
+    ensures { Decodes (λ x. (texts x.0.items, x.1.now)) result
+        (each_at (λ before rest. read (name_after (λ _. false) before) rest) count [] bytes.now) }
 {
     let mut taken = BTreeSet::new(alloc);
     read_names(alloc, &mut taken, count, bytes)
@@ -111,7 +118,8 @@ pub(crate) fn read_exceptions<'a>(
 ) -> Result<(Vec<String>, &'a [u8]), ReadFault>
     requires { (q : List ℕ) → contains_text taken.old q ≡ is_built_in q }
     ensures gives { Decodes (λ x. (texts x.0.items, x.1.now)) result (read exceptions bytes.now) }
-    ensures taken { IfOk result (λ x. (q : List ℕ) → contains_text taken.new q ≡ (is_built_in q || is_among (texts x.0.items) q)) }
+    ensures taken { IfOk result (λ x. (q : List ℕ) → contains_text taken.new q
+        ≡ (is_built_in q || is_among (texts x.0.items) q)) }
 {
     let (count, rest) = read_number(bytes)?;
     read_names(alloc, taken, count, rest)

@@ -1,7 +1,8 @@
 //! Reading of procedures.
 
+ghost use Rattle.common.specs.declared.limits.TheConstants.{MAX_CELLS};
 ghost use Rattle.bytecode.specs.Form.{read};
-ghost use Rattle.bytecode.specs.Format.{handler, handlers, max_cells, procedure, procedures, returned, slot_after, slot_cells, slot_of, slots};
+ghost use Rattle.bytecode.specs.Format.{handler, handlers, procedure, procedures, returned, slot_after, slot_cells, slot_of, slots};
 ghost use Rattle.module_file.specs.Reading.{Decodes};
 ghost use Rattle.std.specs.Prelude.{◌≡◌, ◌≤◌};
 
@@ -81,7 +82,7 @@ impl Element for SlotField {
 
     ghost reads = { λ self before bytes. read (slot_after self.parameters before) bytes };
 
-    ghost holds = { λ self cells before. (cells ≡ slot_cells before) × (cells ≤ max_cells) };
+    ghost holds = { λ self cells before. (cells ≡ slot_cells before) × (cells ≤ MAX_CELLS) };
 
     #[tactic(auto, unfolding(bytecode::specs::Format::slot_after))]
     fn read<'a>(

@@ -5,26 +5,26 @@ ghost use Rattle.common.specs.declared.fault.OrNoMemory.TheVariants.{Refused};
 ghost use Rattle.module_file.specs.Reading.{Decodes};
 ghost use Rattle.std.specs.Prelude.{[], IfOk, List, ℕ, ◌++◌, ◌∷◌, ◌≡◌};
 
-use bytecode::fault::{ModuleDefect, ReadStop};
+use bytecode::fault::{ModuleDefect, ReadRefusal};
 use byteorder::{BigEndian, ByteOrder};
 use common::OrNoMemory;
 use std::alloc::Global;
 
 /// Why a field was not read.
-pub(crate) type ReadFault = OrNoMemory<ReadStop>;
+pub(crate) type ReadFault = OrNoMemory<ReadRefusal>;
 
 /// The refusal of the field that `bytes` begin with.
 pub(crate) fn refuse(defect: ModuleDefect, bytes: &[u8]) -> ReadFault
     ensures { result ≡ Refused (stop_at defect bytes.now) }
 {
-    OrNoMemory::Refused(ReadStop {
+    OrNoMemory::Refused(ReadRefusal {
         defect,
         left: bytes.len(),
     })
 }
 
 /// The end of the bytes inside a field or before it.
-pub(crate) const SHORT: ReadStop = ReadStop {
+pub(crate) const SHORT: ReadRefusal = ReadRefusal {
     defect: ModuleDefect::Short,
     left: 0,
 };
@@ -94,7 +94,8 @@ where
     E::Item: Drop,
     E::State: Drop,
     requires { E.holds element.now state [] }
-    ensures { Decodes (λ x. (x.0.items, x.1.now)) result (each_at (E.reads element.now) count [] bytes.now) }
+    ensures { Decodes (λ x. (x.0.items, x.1.now)) result (each_at (E.reads element.now) count []
+        bytes.now) }
 {
     let mut items = Vec::new(alloc);
     let mut rest = bytes;

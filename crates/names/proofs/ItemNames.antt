@@ -2,7 +2,7 @@
 use Rattle.std.proofs.Common.{◌≡◌, ◌≢◌, refl, sym, ◌∙◌, subst, ap, ℕ, List, [], ◌∷◌, ◌++◌, map, Bool, true, false, cond, append-nil, append_assoc, arith}
 use Rattle.common.specs.Exceptions.{built_in_names}
 use Rattle.std.specs.Prelude.{All, IfOk, Option, Some, None, bytes_eq, codes, ◌==◌}
-use Rattle.std.proofs.lemmas.Bool.{eq-eqb}
+use Rattle.std.proofs.lemmas.Bool.{eq-eqb, and_from}
 use Rattle.std.proofs.lemmas.List.{map_push}
 use Rattle.std.proofs.lemmas.List.Elements.{All-nil, All-cons, All-head, All-tail}
 use Rattle.std.proofs.lemmas.List.Kept.{AllPairs-cons}
@@ -11,7 +11,6 @@ use Rattle.syntax.specs.Limits.{longest_name}
 use Rattle.syntax.specs.Tree.{ChannelTree, GlobalTree, ProcedureTree, ItemTree, ChannelItem, ExceptionItem, GlobalItem, ProcedureItem, ProgramTree}
 use Rattle.syntax.specs.Written.{Anywhere, IsWrittenItem, IsWritten}
 use Rattle.resolved.specs.Program.{Program, ChannelEntry, GlobalEntry, ProcedureEntry}
-use Rattle.resolved.proofs.Parts.{both_back}
 use Rattle.names.specs.declared.scope.Meaning.{Meaning}
 use Rattle.names.specs.declared.scope.Meaning.TheVariants.{Exception}
 use Rattle.names.specs.Finding.{along}
@@ -87,7 +86,7 @@ still_declared names new meaning name is = go (bytes_eq new name)
 
 bytes_eq-itself : (name : List ℕ) → bytes_eq name name ≡ true
 bytes_eq-itself [] = refl
-bytes_eq-itself (x ∷ name) = both_back (x == x) (bytes_eq name name) (eq-eqb x x refl) (bytes_eq-itself name)
+bytes_eq-itself (x ∷ name) = and_from (x == x) (bytes_eq name name) (eq-eqb x x refl) (bytes_eq-itself name)
 
 now_declared : (names : Environment) (name : List ℕ) (meaning : Meaning) → IsDeclared (declaring name meaning names) name
 now_declared names name meaning = (meaning, ap (λ b. cond b (Some meaning) (names name)) (bytes_eq-itself name))

@@ -2,7 +2,7 @@
 use Rattle.std.proofs.Common.{◌≡◌, refl, sym, ◌∙◌, subst, ap, ℕ, List, [], ◌∷◌, ◌++◌, length, Bool, true, false, cond, Ok, Err, arith}
 use Rattle.common.specs.Exceptions.{built_in_names}
 use Rattle.std.specs.Prelude.{IfOk, Option, Some, None, slice_get, bytes_eq, codes, ◌==◌, ◌&&◌, is_none}
-use Rattle.std.proofs.lemmas.Bool.{eqb-true}
+use Rattle.std.proofs.lemmas.Bool.{eqb-true, and_parts}
 use Rattle.std.proofs.lemmas.List.{length-append}
 use Rattle.principals.specs.ActsFor.{PrincipalHierarchy}
 use Rattle.common.specs.declared.direction.Direction.{Direction}
@@ -10,7 +10,6 @@ use Rattle.common.specs.declared.direction.Direction.TheVariants as directions
 use Rattle.syntax.specs.Tree.{GlobalValueTree, ScalarTree, ArrayTree, ItemTree, ChannelItem, ExceptionItem, GlobalItem, ProcedureItem, ProgramTree}
 use Rattle.resolved.specs.declared.expression.Variable.TheVariants.{Global, Local}
 use Rattle.resolved.specs.Program.{Program, ProcedureEntry}
-use Rattle.resolved.proofs.Sound.Values.{both}
 use Rattle.names.specs.declared.scope.Meaning.{Meaning}
 use Rattle.names.specs.declared.scope.Meaning.TheVariants.{Input, Output, Exception, Procedure, Scalar, Array}
 use Rattle.names.specs.Finding.{Finding, give, along}
@@ -28,7 +27,7 @@ same_bytes [] [] e = refl
 same_bytes [] (y ∷ b) e = absurd (cc)
 same_bytes (x ∷ a) [] e = absurd (cc)
 same_bytes (x ∷ a) (y ∷ b) e =
-    let parts = both (x == y) (bytes_eq a b) e in
+    let parts = and_parts (x == y) (bytes_eq a b) e in
     let first = eqb-true x y parts.0 in
     let rest = same_bytes a b parts.1 in
     λ i. first i ∷ rest i

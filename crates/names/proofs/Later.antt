@@ -1,25 +1,42 @@
 -- Later points of a body: what stays, and the setting, which is the same.
-use Rattle.std.proofs.Common.{◌≡◌, ◌≤◌, length, take, drop, ◌++◌, map, refl, sym, ◌∙◌, ap, arith}
-use Rattle.std.proofs.lemmas.List.{take-append-le, take-append-drop, length-take}
-use Rattle.std.proofs.Math.Seq.{take-length}
+use Rattle.std.proofs.Common.{◌≡◌, ◌≤◌, ◌++◌, cond, length, take, drop, map, None, refl, sym, ◌∙◌, ap, arith}
+use Rattle.std.specs.Prelude.{bytes_eq, string_bytes}
+use Rattle.std.specs.List.{list_any}
+use Rattle.std.proofs.lemmas.List.{take-append-le, drop-append-le, take-append-drop, length-take, map-append}
+use Rattle.std.proofs.Math.Seq.{take-length, drop-length}
 use Rattle.names.specs.declared.body.Body.{Body}
-use Rattle.names.specs.Views.{IsLater, setting_of, signature_view}
+use Rattle.names.specs.Views.{IsLater, found_in, setting_of, signature_view, texts_of, without}
+use Rattle.names.proofs.Tables.{without_both}
 
 pub later_same : (body : Body) → IsLater body body
-later_same body = record { hierarchy = refl; top = refl; result = refl; locals = take-length body.locals.entries }
+later_same body = record {
+  hierarchy = refl;
+  top = refl;
+  result = refl;
+  declared = take-length body.declared.items;
+  locals = λ name. ap (λ gone. without (texts_of gone) (found_in body.locals) name) (sym (drop-length body.declared.items));
+}
 
 pub later_through : (first second third : Body) → IsLater first second → IsLater second third → IsLater first third
 later_through first second third p q =
-    let n = length first.locals.entries in
-    let m = length second.locals.entries in
-    let short : n ≤ m = omega (arith, length-take n second.locals.entries, ap length p.locals) in
-    let split = take-append-drop m third.locals.entries in
+    let a = first.declared.items in
+    let b = second.declared.items in
+    let c = third.declared.items in
+    let n = length a in
+    let m = length b in
+    let short : n ≤ m = omega (arith, length-take n b, ap length p.declared) in
+    let split : b ++ drop m c ≡ c = ap (λ front. front ++ drop m c) (sym q.declared) ∙ take-append-drop m c in
+    let since : texts_of (drop n b) ++ texts_of (drop m c) ≡ texts_of (drop n c) =
+    sym (map-append string_bytes (drop n b) (drop m c)) ∙ ap texts_of (sym (drop-append-le n b (drop m c) short)) ∙ ap (λ all. texts_of (drop n all)) split in
     record {
       hierarchy = q.hierarchy ∙ p.hierarchy;
       top = q.top ∙ p.top;
       result = q.result ∙ p.result;
-      locals = ap (take n) (sym split ∙ ap (λ front. front ++ drop m third.locals.entries) q.locals)
-          ∙ take-append-le n second.locals.entries (drop m third.locals.entries) short ∙ p.locals;
+      declared = ap (take n) (sym split) ∙ take-append-le n b (drop m c) short ∙ p.declared;
+      locals = λ name. p.locals name
+          ∙ ap (λ found. cond (list_any (λ one. bytes_eq one name) (texts_of (drop n b))) None found) (q.locals name)
+          ∙ sym (without_both (texts_of (drop n b)) (texts_of (drop m c)) (found_in third.locals) name)
+          ∙ ap (λ gone. without gone (found_in third.locals) name) since;
     }
 
 pub setting_same : (before after : Body) → IsLater before after → setting_of after ≡ setting_of before

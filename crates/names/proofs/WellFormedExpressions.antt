@@ -2,7 +2,7 @@
 -- its base type there.
 use Rattle.std.proofs.Common.{◌≡◌, refl, sym, subst, ℕ, ◌+◌, ◌≤◌, List, map, Bool, true, false, cond, arith}
 use Rattle.std.specs.Prelude.{IfOk, Option, Some, None, ◌==◌, slice_get, bytes_eq}
-use Rattle.std.proofs.lemmas.Bool.{le-leb, eq-eqb}
+use Rattle.std.proofs.lemmas.Bool.{le-leb, eq-eqb, and_from}
 use Rattle.syntax.specs.declared.tree.BinaryOperator.{BinaryOperator}
 use Rattle.syntax.specs.declared.tree.BinaryOperator.TheVariants as binary
 use Rattle.syntax.specs.Nodes.{expression_nodes as written_nodes}
@@ -15,7 +15,6 @@ use Rattle.resolved.specs.Program.{Program, ProcedureEntry, SlotEntry, ResultEnt
 use Rattle.resolved.specs.Tree.{Expression}
 use Rattle.resolved.specs.WellFormed.{same_base, prefix_base, VariableType, variable_type, scalar_by, array_by, has_base, channel_is, is_exception, parameters_of, literal_limit, expression_nodes}
 use Rattle.resolved.proofs.Sound.Values.{same_base_is, same_base_itself}
-use Rattle.resolved.proofs.Parts.{both_back}
 use Rattle.names.specs.declared.scope.Meaning.{Meaning}
 use Rattle.names.specs.declared.scope.Meaning.TheVariants.{Input, Output, Exception, Procedure, Scalar, Array}
 use Rattle.names.specs.Finding.{Finding}
@@ -188,27 +187,27 @@ module _ (program : Program) (procedure : ProcedureEntry) (signatures : List Sig
   element_read : (found : Option VariableType) (base : Base) (size : ℕ) → found ≡ array_type base size → array_by found size (same_base base) ≡ true
   element_read found base size e =
       subst (λ one. array_by one size (same_base base) ≡ true) (sym e)
-      (both_back (size == size) (same_base base base) (eq-eqb size size refl) (same_base_itself base))
+      (and_from (size == size) (same_base base base) (eq-eqb size size refl) (same_base_itself base))
 
   combined_fits : (operator : BinaryOperator) (base : Base) (d e : Expression)
       → has_base program procedure (operands_base (use_of operator) base) d ≡ true
       → has_base program procedure (operands_base (use_of operator) base) e ≡ true
       → has_base program procedure (value_base (use_of operator)) (combined (use_of operator) base d e) ≡ true
-  combined_fits binary.Multiply base d e = both_back (has_base program procedure Int d) (has_base program procedure Int e)
-  combined_fits binary.Divide base d e = both_back (has_base program procedure Int d) (has_base program procedure Int e)
-  combined_fits binary.Remainder base d e = both_back (has_base program procedure Int d) (has_base program procedure Int e)
-  combined_fits binary.Add base d e = both_back (has_base program procedure Int d) (has_base program procedure Int e)
-  combined_fits binary.Subtract base d e = both_back (has_base program procedure Int d) (has_base program procedure Int e)
-  combined_fits binary.LessThan base d e = both_back (has_base program procedure Int d) (has_base program procedure Int e)
-  combined_fits binary.AtMost base d e = both_back (has_base program procedure Int d) (has_base program procedure Int e)
-  combined_fits binary.GreaterThan base d e = both_back (has_base program procedure Int d) (has_base program procedure Int e)
-  combined_fits binary.AtLeast base d e = both_back (has_base program procedure Int d) (has_base program procedure Int e)
-  combined_fits binary.EqualTo Int d e = both_back (has_base program procedure Int d) (has_base program procedure Int e)
-  combined_fits binary.EqualTo Boolean d e = both_back (has_base program procedure Boolean d) (has_base program procedure Boolean e)
-  combined_fits binary.NotEqualTo Int d e = both_back (has_base program procedure Int d) (has_base program procedure Int e)
-  combined_fits binary.NotEqualTo Boolean d e = both_back (has_base program procedure Boolean d) (has_base program procedure Boolean e)
-  combined_fits binary.And base d e = both_back (has_base program procedure Boolean d) (has_base program procedure Boolean e)
-  combined_fits binary.Or base d e = both_back (has_base program procedure Boolean d) (has_base program procedure Boolean e)
+  combined_fits binary.Multiply base d e = and_from (has_base program procedure Int d) (has_base program procedure Int e)
+  combined_fits binary.Divide base d e = and_from (has_base program procedure Int d) (has_base program procedure Int e)
+  combined_fits binary.Remainder base d e = and_from (has_base program procedure Int d) (has_base program procedure Int e)
+  combined_fits binary.Add base d e = and_from (has_base program procedure Int d) (has_base program procedure Int e)
+  combined_fits binary.Subtract base d e = and_from (has_base program procedure Int d) (has_base program procedure Int e)
+  combined_fits binary.LessThan base d e = and_from (has_base program procedure Int d) (has_base program procedure Int e)
+  combined_fits binary.AtMost base d e = and_from (has_base program procedure Int d) (has_base program procedure Int e)
+  combined_fits binary.GreaterThan base d e = and_from (has_base program procedure Int d) (has_base program procedure Int e)
+  combined_fits binary.AtLeast base d e = and_from (has_base program procedure Int d) (has_base program procedure Int e)
+  combined_fits binary.EqualTo Int d e = and_from (has_base program procedure Int d) (has_base program procedure Int e)
+  combined_fits binary.EqualTo Boolean d e = and_from (has_base program procedure Boolean d) (has_base program procedure Boolean e)
+  combined_fits binary.NotEqualTo Int d e = and_from (has_base program procedure Int d) (has_base program procedure Int e)
+  combined_fits binary.NotEqualTo Boolean d e = and_from (has_base program procedure Boolean d) (has_base program procedure Boolean e)
+  combined_fits binary.And base d e = and_from (has_base program procedure Boolean d) (has_base program procedure Boolean e)
+  combined_fits binary.Or base d e = and_from (has_base program procedure Boolean d) (has_base program procedure Boolean e)
 
   combined_nodes : (operator : BinaryOperator) (base : Base) (d e : Expression)
       → expression_nodes (combined (use_of operator) base d e) ≡ 1 + expression_nodes d + expression_nodes e
@@ -248,7 +247,7 @@ module _ (program : Program) (procedure : ProcedureEntry) (signatures : List Sig
         (wanting_keeps names Int (expression_place index) (written_nodes index) (expression_finding names index) (expression_keeps index written.1))
         (λ i kept. record {
           fits =
-              λ means. both_back (array_by (variable_type program procedure a.variable) a.size (same_base a.base)) (has_base program procedure Int i)
+              λ means. and_from (array_by (variable_type program procedure a.variable) a.size (same_base a.base)) (has_base program procedure Int i)
               (element_read (variable_type program procedure a.variable) a.base a.size (stands means)) (kept.fits means);
           few = omega (arith, kept.few);
         }))
@@ -257,7 +256,7 @@ module _ (program : Program) (procedure : ProcedureEntry) (signatures : List Sig
         then_finds (wanting base (expression_place operand) (expression_finding names operand)) _ (TypedKept names base (written_nodes operand)) _
         (wanting_keeps names base (expression_place operand) (written_nodes operand) (expression_finding names operand) (expression_keeps operand written.1))
         (λ e kept. record {
-          fits = λ means. both_back (same_base base base) (has_base program procedure base e) (same_base_itself base) (kept.fits means);
+          fits = λ means. and_from (same_base base base) (has_base program procedure base e) (same_base_itself base) (kept.fits means);
           few = omega (arith, kept.few);
         })
     expression_keeps (BinaryTree at operator left right) written =

@@ -5,7 +5,7 @@ use Rattle.std.specs.List.{list_all}
 use Rattle.std.specs.declared.cmp.Ordering.{Ordering}
 use Rattle.std.specs.declared.cmp.Ordering.TheVariants.{Less, Equal, Greater}
 use Rattle.std.specs.Ordering.{nat_cmp}
-use Rattle.std.proofs.lemmas.Bool.{lt-ltb}
+use Rattle.std.proofs.lemmas.Bool.{lt-ltb, and_from, and_parts}
 use Rattle.std.proofs.lemmas.List.Folds.{list_all-append}
 use Rattle.std.proofs.lemmas.List.Quantifiers.{position-Some}
 use Rattle.std.proofs.lemmas.List.Sums.{sum_by-cons, sum_by_push}
@@ -18,8 +18,6 @@ use Rattle.syntax.specs.Tree.{NameTree, PolicyTree, LabelTree}
 use Rattle.syntax.specs.Nodes.{policy_nodes, label_nodes as written_nodes}
 use Rattle.resolved.specs.Program.{ThrownEntry}
 use Rattle.resolved.specs.WellFormed.{policy_fits, label_fits, written_fits, label_nodes}
-use Rattle.resolved.proofs.Sound.Values.{both}
-use Rattle.resolved.proofs.Parts.{both_back}
 use Rattle.names.specs.Finding.{Finding, along, put_last}
 use Rattle.names.specs.Labels.{principal_found, principal_finding, readers_finding, policy_finding, policies_finding, label_finding, optional_label_finding}
 use Rattle.names.specs.Resolution.{joined_all}
@@ -29,33 +27,33 @@ use Rattle.names.proofs.Passing.{then_finds}
 
 with_element_all : {X : Type 0} (test : X → Bool) (cmp : X → X → Ordering) (x : X) (ys : List X) → test x ≡ true → list_all test ys ≡ true
     → list_all test (with_element cmp x ys) ≡ true
-with_element_all test cmp x [] here rest = both_back (test x) true here refl
+with_element_all test cmp x [] here rest = and_from (test x) true here refl
 with_element_all test cmp x (y ∷ ys) here rest =
-    let parts = both (test y) (list_all test ys) rest in
+    let parts = and_parts (test y) (list_all test ys) rest in
     go (with_element_all test cmp x ys here parts.1) (cmp x y)
   where
     go : list_all test (with_element cmp x ys) ≡ true → (order : Ordering)
         → list_all test (by_order order (x ∷ y ∷ ys) (y ∷ ys) (y ∷ with_element cmp x ys)) ≡ true
-    go deeper Less = both_back (test x) (list_all test (y ∷ ys)) here rest
+    go deeper Less = and_from (test x) (list_all test (y ∷ ys)) here rest
     go deeper Equal = rest
-    go deeper Greater = both_back (test y) (list_all test (with_element cmp x ys)) (both (test y) (list_all test ys) rest).0 deeper
+    go deeper Greater = and_from (test y) (list_all test (with_element cmp x ys)) (and_parts (test y) (list_all test ys) rest).0 deeper
 
 set_all : {X : Type 0} (test : X → Bool) (cmp : X → X → Ordering) (xs : List X) → list_all test xs ≡ true
     → list_all test (ascending_set cmp xs) ≡ true
 set_all test cmp [] passed = refl
 set_all test cmp (x ∷ xs) passed =
-    let parts = both (test x) (list_all test xs) passed in
+    let parts = and_parts (test x) (list_all test xs) passed in
     with_element_all test cmp x (ascending_set cmp xs) parts.0 (set_all test cmp xs parts.1)
 
 filter_all : {X : Type 0} (test keep : X → Bool) (xs : List X) → list_all test xs ≡ true → list_all test (filter keep xs) ≡ true
 filter_all test keep [] passed = refl
 filter_all {X = X} test keep (x ∷ xs) passed =
-    let parts = both (test x) (list_all test xs) passed in
+    let parts = and_parts (test x) (list_all test xs) passed in
     go (keep x) (filter_all test keep xs parts.1) parts.0
   where
     go : (kept : Bool) → list_all test (filter keep xs) ≡ true → test x ≡ true
         → list_all test (cond {A = List X} kept (x ∷ filter keep xs) (filter keep xs)) ≡ true
-    go true rest here = both_back (test x) (list_all test (filter keep xs)) here rest
+    go true rest here = and_from (test x) (list_all test (filter keep xs)) here rest
     go false rest here = rest
 
 with_element_sum : {X : Type 0} (weight : X → ℕ) (cmp : X → X → Ordering) (x : X) (ys : List X)
@@ -85,7 +83,7 @@ filter_length {X = X} keep (x ∷ xs) = go (keep x) (filter_length keep xs)
 -- ---- what is found of each element
 
 pub all_pushed : {X : Type 0} (test : X → Bool) (xs : List X) (x : X) → list_all test xs ≡ true → test x ≡ true → list_all test (xs ++ x ∷ []) ≡ true
-all_pushed test xs x e f = list_all-append test xs (x ∷ []) ∙ both_back (list_all test xs) (list_all test (x ∷ [])) e (both_back (test x) true f refl)
+all_pushed test xs x e f = list_all-append test xs (x ∷ []) ∙ and_from (list_all test xs) (list_all test (x ∷ [])) e (and_from (test x) true f refl)
 
 each_passes : {X A : Type 0} (look : X → Finding A) (test : A → Bool) (weight : A → ℕ) (written : X → ℕ)
     → ((x : X) → IfOk (look x) (λ a. (test a ≡ true) × (weight a ≤ written x))) → (found : List A) (xs : List X) → list_all test found ≡ true
@@ -133,7 +131,7 @@ module _ (h : PrincipalHierarchy) where
       then_finds (along (put_last (principal_finding h)) [] policy.readers) _
       (λ readers. (list_all is_there readers ≡ true) × (sum_by one_of readers ≤ 0 + sum_by one_of policy.readers)) _
       (each_passes (principal_finding h) is_there one_of one_of principal_there [] policy.readers refl) (λ readers readers_there. (
-        both_back (is_there owner) (list_all is_there (readers_beside owner readers)) owner_there.0
+        and_from (is_there owner) (list_all is_there (readers_beside owner readers)) owner_there.0
             (filter_all is_there (λ reader. not (reader == owner)) (ascending_set nat_cmp readers) (set_all is_there nat_cmp readers readers_there.0)),
         omega (
           arith,
@@ -165,8 +163,8 @@ module _ (h : PrincipalHierarchy) where
       → list_all (λ (thrown : ThrownEntry). label_fits h thrown.label) throws ≡ true → label_fits h (joined_all label throws) ≡ true
   joined_all_there label [] e f = e
   joined_all_there label (thrown ∷ rest) e f =
-      let parts = both (label_fits h thrown.label) (list_all (λ (other : ThrownEntry). label_fits h other.label) rest) f in
+      let parts = and_parts (label_fits h thrown.label) (list_all (λ (other : ThrownEntry). label_fits h other.label) rest) f in
       joined_all_there (joined label thrown.label) rest
       (set_all (policy_fits h) policy_cmp (label ++ thrown.label)
-      (list_all-append (policy_fits h) label thrown.label ∙ both_back (list_all (policy_fits h) label) (list_all (policy_fits h) thrown.label) e parts.0))
+      (list_all-append (policy_fits h) label thrown.label ∙ and_from (list_all (policy_fits h) label) (list_all (policy_fits h) thrown.label) e parts.0))
       parts.1

@@ -1,8 +1,8 @@
 -- The procedures that are found fit the program, where their frames have few enough cells.
 use Rattle.std.proofs.Common.{◌≡◌, refl, sym, ◌∙◌, subst, ap, ℕ, ◌+◌, ◌≤◌, List, [], ◌∷◌, ◌++◌, map, length, take, Bool, true, false, append-nil, append_assoc, arith}
-use Rattle.std.specs.Prelude.{IfOk, Option, Some, None, ◌==◌, ◌&&◌, ◌||◌, not, nat_le, sum_by}
+use Rattle.std.specs.Prelude.{IfOk, Option, Some, None, ◌==◌, ◌&&◌, not, nat_le, sum_by}
 use Rattle.std.specs.List.{list_all, list_any}
-use Rattle.std.proofs.lemmas.Bool.{eq-eqb, eqb-true, le-leb}
+use Rattle.std.proofs.lemmas.Bool.{eq-eqb, eqb-true, le-leb, or_parts, or_from, and_from, and_parts, not-true}
 use Rattle.std.proofs.lemmas.List.{length-map, length-append, map_push}
 use Rattle.std.proofs.lemmas.List.Folds.{list_all-append}
 use Rattle.std.proofs.lemmas.List.Sums.{sum_by-cons}
@@ -16,9 +16,8 @@ use Rattle.resolved.specs.declared.expression.Base.{Base}
 use Rattle.resolved.specs.declared.expression.Variable.TheVariants.{Local}
 use Rattle.resolved.specs.Program.{Program, ProcedureEntry, SlotEntry, ResultEntry, ThrownEntry}
 use Rattle.resolved.specs.Tree.{Block}
-use Rattle.resolved.specs.WellFormed.{is_exception, label_fits, written_fits, result_fits, size_fits, parameter_fits, throws_fit, block_loops, counts_from, cell_limit, procedure_fits, label_nodes, procedure_nodes}
-use Rattle.resolved.proofs.Sound.Values.{both}
-use Rattle.resolved.proofs.Parts.{both_back, procedure_from_parts}
+use Rattle.resolved.specs.WellFormed.{is_exception, label_fits, written_fits, result_fits, size_fits, parameter_fits, throws_fit, block_loops, counts_from, procedure_fits, label_nodes, procedure_nodes}
+use Rattle.resolved.proofs.Parts.{procedure_from_parts}
 use Rattle.names.specs.declared.scope.Meaning.TheVariants.{Exception, Scalar}
 use Rattle.names.specs.Finding.{demand, along}
 use Rattle.names.specs.Environment.{Environment, fresh_finding, exception_finding}
@@ -30,6 +29,7 @@ use Rattle.names.proofs.Passing.{then_finds, demand_finds, any_finds, finds_for_
 use Rattle.names.proofs.WellFormedExpressions.{given_base, slot_base, Signed, Stands, Means, means_declaring, exception_found}
 use Rattle.names.proofs.WellFormedLabels.{label_there, optional_label_there, joined_all_there, all_pushed}
 use Rattle.names.proofs.WellFormedStatements.{slot_fits, IsPrefix, BlockKept, prefix_before, local_there, block_keeps}
+use Rattle.common.specs.declared.limits.TheConstants.{MAX_CELLS}
 
 -- ---- lists of exceptions
 
@@ -43,42 +43,30 @@ not_same m n e = go (n == m) refl
         let yes : (m == n) ≡ true = eq-eqb m n (sym same) in
         absurd (cc)
 
-any_parts : (a b : Bool) → (a || b) ≡ false → (a ≡ false) × (b ≡ false)
-any_parts false b e = (refl, e)
-any_parts true b e = absurd (cc)
-
-any_back : (a b : Bool) → a ≡ false → b ≡ false → (a || b) ≡ false
-any_back false b e f = f
-any_back true b e f = absurd (cc)
-
 any_pushed : {X : Type 0} (test : X → Bool) (xs : List X) (x : X) → list_any test xs ≡ false → test x ≡ false → list_any test (xs ++ x ∷ []) ≡ false
-any_pushed test [] x e f = any_back (test x) false f refl
+any_pushed test [] x e f = or_from (test x) false f refl
 any_pushed test (y ∷ xs) x e f =
-    let parts = any_parts (test y) (list_any test xs) e in
-    any_back (test y) (list_any test (xs ++ x ∷ [])) parts.0 (any_pushed test xs x parts.1 f)
+    let parts = or_parts (test y) (list_any test xs) e in
+    or_from (test y) (list_any test (xs ++ x ∷ [])) parts.0 (any_pushed test xs x parts.1 f)
 
 throws_pushed : (program : Program) (throws : List ThrownEntry) (new : ThrownEntry) → throws_fit program throws ≡ true
     → is_thrown throws new.exception ≡ false → is_exception program new.exception ≡ true → label_fits program.hierarchy new.label ≡ true
     → throws_fit program (throws ++ new ∷ []) ≡ true
 throws_pushed program [] new fit absent there labelled =
-    both_back (is_exception program new.exception && label_fits program.hierarchy new.label && true) true
-    (both_back (is_exception program new.exception && label_fits program.hierarchy new.label) true
-    (both_back (is_exception program new.exception) (label_fits program.hierarchy new.label) there labelled) refl) refl
+    and_from (is_exception program new.exception && label_fits program.hierarchy new.label && true) true
+    (and_from (is_exception program new.exception && label_fits program.hierarchy new.label) true
+    (and_from (is_exception program new.exception) (label_fits program.hierarchy new.label) there labelled) refl) refl
 throws_pushed program (entry ∷ rest) new fit absent there labelled =
     let names_it = λ (other : ThrownEntry). other.exception == entry.exception in
     let a = is_exception program entry.exception && label_fits program.hierarchy entry.label in
-    let outer = both (a && not (list_any names_it rest)) (throws_fit program rest) fit in
-    let inner = both a (not (list_any names_it rest)) outer.0 in
-    let absent_parts = any_parts (entry.exception == new.exception) (is_thrown rest new.exception) absent in
+    let outer = and_parts (a && not (list_any names_it rest)) (throws_fit program rest) fit in
+    let inner = and_parts a (not (list_any names_it rest)) outer.0 in
+    let absent_parts = or_parts (entry.exception == new.exception) (is_thrown rest new.exception) absent in
     let once : list_any names_it (rest ++ new ∷ []) ≡ false =
-    any_pushed names_it rest new (not_true (list_any names_it rest) inner.1) (not_same entry.exception new.exception absent_parts.0) in
-    both_back (a && not (list_any names_it (rest ++ new ∷ []))) (throws_fit program (rest ++ new ∷ []))
-    (both_back a (not (list_any names_it (rest ++ new ∷ []))) inner.0 (ap not once))
+    any_pushed names_it rest new (not-true (list_any names_it rest) inner.1) (not_same entry.exception new.exception absent_parts.0) in
+    and_from (a && not (list_any names_it (rest ++ new ∷ []))) (throws_fit program (rest ++ new ∷ []))
+    (and_from a (not (list_any names_it (rest ++ new ∷ []))) inner.0 (ap not once))
     (throws_pushed program rest new outer.1 absent_parts.1 there labelled)
-  where
-    not_true : (test : Bool) → not test ≡ true → test ≡ false
-    not_true false e = refl
-    not_true true e = absurd (cc)
 
 -- ---- parts of a procedure
 
@@ -109,7 +97,7 @@ parameters_begin program procedure setting names bases all point (parameter ∷ 
     (any_finds (fresh_finding (point.names parameter.name.text) parameter.name.at)) (λ one nothing.
     let slot = scalar_slot parameter.at base (Some label) parameter.name.text in
     record {
-      slots_fit = all_pushed (slot_fits setting) point.slots slot begun.slots_fit (both_back true (label_fits setting.hierarchy label) refl there.0);
+      slots_fit = all_pushed (slot_fits setting) point.slots slot begun.slots_fit (and_from true (label_fits setting.hierarchy label) refl there.0);
       parameters_fit = all_pushed parameter_fits point.slots slot begun.parameters_fit refl;
       bases_are = map_push slot_base point.slots slot ∙ ap (λ one. one ++ base ∷ []) begun.bases_are;
       no_loops = begun.no_loops;
@@ -146,7 +134,7 @@ throws_keep program procedure signatures h names before nodes throws (thrown ∷
     let new : ThrownEntry = record { exception = exception; label = label } in
     record {
       fit =
-          λ same means. throws_pushed program throws new (kept.fit same means) (absent_is (is_thrown throws exception) absent) (stands means)
+          λ same means. throws_pushed program throws new (kept.fit same means) (not-true (is_thrown throws exception) absent) (stands means)
           (subst (λ one. label_fits one label ≡ true) (sym same) there.0);
       labels = all_pushed (λ (thrown : ThrownEntry). label_fits h thrown.label) throws new kept.labels there.0;
       few = omega (arith, length-append throws (new ∷ []), kept.few);
@@ -154,10 +142,6 @@ throws_keep program procedure signatures h names before nodes throws (thrown ∷
     (λ next kept_next.
     throws_keep program procedure signatures h names (before + tree.thrown_nodes thrown) nodes next written
     (omega (arith, e, sum_by-cons tree.thrown_nodes thrown written)) kept_next)
-  where
-    absent_is : (test : Bool) → not test ≡ true → test ≡ false
-    absent_is false e = refl
-    absent_is true e = absurd (cc)
 
 result_there : (h : PrincipalHierarchy) (finding : WrittenResultTree)
     → IfOk (result_finding h finding) (λ found. (result_fits h found ≡ true) × (given_base found ≡ result_base_of finding))
@@ -186,7 +170,7 @@ pub record World (h : PrincipalHierarchy) (top : TopLevel) : Type 0 where
   pub means : (procedure : ProcedureEntry) → Means program procedure top.signatures top.names
 
 pub record ProcedureKept (h : PrincipalHierarchy) (top : TopLevel) (written : ProcedureTree) (entry : ProcedureEntry) : Type 0 where
-  pub fits : (world : World h top) → nat_le (frame_cells entry.slots) cell_limit ≡ true → procedure_fits world.program entry ≡ true
+  pub fits : (world : World h top) → nat_le (frame_cells entry.slots) MAX_CELLS ≡ true → procedure_fits world.program entry ≡ true
   pub signed : Signed entry (signature_of written)
   pub few : procedure_nodes entry ≤ tree.procedure_nodes written
 
@@ -233,7 +217,7 @@ module _ (h : PrincipalHierarchy) (top : TopLevel) (written : ProcedureTree) (re
   abbrev entry : ProcedureEntry
   entry = entry_with written result begin end throws done
 
-  parts_fit : (world : World h top) → nat_le (frame_cells done.0.slots) cell_limit ≡ true → procedure_fits world.program entry ≡ true
+  parts_fit : (world : World h top) → nat_le (frame_cells done.0.slots) MAX_CELLS ≡ true → procedure_fits world.program entry ≡ true
   parts_fit world few_cells =
       let place : Place h top (result_base_of written.result) = record { program = world.program; procedure = entry; value = parts.result_there.1 } in
       let begun = parts.begun place in
@@ -248,7 +232,7 @@ module _ (h : PrincipalHierarchy) (top : TopLevel) (written : ProcedureTree) (re
       let whole : IsPrefix world.program entry setting done.0.slots = ([], sym (append-nil done.0.slots)) in
       let all : list_all (slot_fits setting) done.0.slots ≡ true =
       ap (list_all (slot_fits setting)) kept.slots ∙ list_all-append (slot_fits setting) point.slots kept.more
-      ∙ both_back (list_all (slot_fits setting) point.slots) (list_all (slot_fits setting) kept.more) begun.slots_fit kept.slots_fit in
+      ∙ and_from (list_all (slot_fits setting) point.slots) (list_all (slot_fits setting) kept.more) begun.slots_fit kept.slots_fit in
       let before : IsPrefix world.program entry setting point.slots =
       prefix_before world.program entry setting point.slots kept.more done.0.slots kept.slots whole in
       let begins : label_fits h (begin_label_of begin) ≡ true = begin_there h begin parts.begin_there in

@@ -2,7 +2,7 @@
 use Rattle.std.proofs.Common.{◌≡◌, refl, sym, ◌∙◌, subst, ap, ℕ, zero, suc, ◌+◌, ◌<◌, ◌≤◌, List, [], ◌∷◌, ◌++◌, map, length, Bool, true, false, cond, IsTrue, arith}
 use Rattle.std.specs.Prelude.{All, IfOk, Option, Some, None, option_map, ◌==◌, ◌&&◌, ◌||◌, is_none, slice_get, slice_index_or, bytes_eq, codes, nat_le, nat_lt, sum_by}
 use Rattle.std.specs.List.{list_all}
-use Rattle.std.proofs.lemmas.Bool.{le-leb, leb-true, lt-ltb}
+use Rattle.std.proofs.lemmas.Bool.{le-leb, leb-true, lt-ltb, and_from, and_parts}
 use Rattle.std.proofs.lemmas.List.{length-append, length-map, map_push}
 use Rattle.std.proofs.lemmas.List.Elements.{All-head, All-tail}
 use Rattle.std.proofs.lemmas.List.Sums.{sum_by-cons, sum_by_push}
@@ -19,9 +19,8 @@ use Rattle.resolved.specs.declared.expression.Base.TheVariants.{Int, Boolean}
 use Rattle.resolved.specs.declared.expression.Variable.TheVariants.{Global, Local}
 use Rattle.resolved.specs.Program.{Program, ChannelEntry, GlobalEntry, ProcedureEntry}
 use Rattle.resolved.specs.Value.{base_of as base_of_value}
-use Rattle.resolved.specs.WellFormed.{same_base, VariableType, global_type, parameters_of, same_direction, channel_is, label_fits, is_zero_value, first_fits, main_fits, cell_count, cell_limit, array_limit, principal_limit, node_limit, size_fits, label_nodes, procedure_nodes, program_nodes, procedure_fits, well_formed}
-use Rattle.resolved.proofs.Parts.{both_back, program_from_parts}
-use Rattle.resolved.proofs.Sound.Values.{both}
+use Rattle.resolved.specs.WellFormed.{same_base, VariableType, global_type, parameters_of, same_direction, channel_is, label_fits, is_zero_value, first_fits, main_fits, cell_count, node_limit, size_fits, label_nodes, procedure_nodes, program_nodes, procedure_fits, well_formed}
+use Rattle.resolved.proofs.Parts.{program_from_parts}
 use Rattle.names.specs.declared.scope.Meaning.{Meaning}
 use Rattle.names.specs.declared.scope.Meaning.TheVariants.{Input, Output, Exception, Procedure, Scalar, Array}
 use Rattle.names.specs.Finding.{along, give_if}
@@ -34,6 +33,8 @@ use Rattle.names.proofs.Passing.{then_finds, if_finds, demand_finds, any_finds}
 use Rattle.names.proofs.WellFormedExpressions.{given_base, slot_base, Signed, Stands}
 use Rattle.names.proofs.WellFormedLabels.{label_there, all_pushed}
 use Rattle.names.proofs.WellFormedProcedures.{World, ProcedureKept, procedure_keeps}
+use Rattle.common.proofs.Cases.{there_at}
+use Rattle.common.specs.declared.limits.TheConstants.{MAX_ELEMENTS, MAX_CELLS, MAX_PRINCIPALS}
 
 -- ---- lists
 
@@ -45,11 +46,6 @@ pub still_is : {X : Type 0} (xs ys : List X) (n : ℕ) (x : X) → slice_get xs 
 still_is [] ys n x e = absurd (cc)
 still_is (y ∷ xs) ys zero x e = e
 still_is (y ∷ xs) ys (suc n) x e = still_is xs ys n x e
-
-there_is : {X : Type 0} (xs : List X) (n : ℕ) → n < length xs → (x : X) × (slice_get xs n ≡ Some x)
-there_is [] n below = absurd (omega arith)
-there_is (x ∷ xs) zero below = (x, refl)
-there_is (x ∷ xs) (suc n) below = there_is xs n (omega arith)
 
 index_mapped : {X Y : Type 0} (f : X → Y) (xs : List X) (n : ℕ) (x : X) (d : Y) → slice_get xs n ≡ Some x → slice_index_or (map f xs) n d ≡ f x
 index_mapped f [] n x d e = absurd (cc)
@@ -286,10 +282,10 @@ unfolding first_finding size_finding
 first_there base (ScalarTree constant) =
     if_finds (same_base (constant_base constant) base) (record { size = None; first = constant_value constant }) _ (constant_place constant)
     (FirstKept base (ScalarTree constant)) (λ same.
-    (refl, both_back (same_base (base_of_value (constant_value constant)) base) true (constant_of_base constant base same) refl, refl))
+    (refl, and_from (same_base (base_of_value (constant_value constant)) base) true (constant_of_base constant base same) refl, refl))
 first_there base (ArrayTree size) =
     then_finds (size_finding size) _ (λ long. (size_fits (Some long) ≡ true) × (long ≡ size.size)) _
-    (if_finds (nat_lt 0 size.size && nat_le size.size array_limit) size.size _ size.at (λ long. (size_fits (Some long) ≡ true) × (long ≡ size.size)) (λ fit. (fit, refl)))
+    (if_finds (nat_lt 0 size.size && nat_le size.size MAX_ELEMENTS) size.size _ size.at (λ long. (size_fits (Some long) ≡ true) × (long ≡ size.size)) (λ fit. (fit, refl)))
     (λ long there. (there.0, zero_fits base, ap some_size there.1))
   where
     some_size : ℕ → Option ℕ
@@ -306,8 +302,8 @@ global_there h global =
     then_finds (label_finding h global.label) _ (λ found. (label_fits h found ≡ true) × (1 + label_nodes found ≤ tree.label_nodes global.label)) _
     (label_there h global.label) (λ label there.
     then_finds (first_finding base global.value) _ (FirstKept base global.value) _ (first_there base global.value) (λ value kept. (
-      both_back (size_fits value.size && label_fits h label) (same_base (base_of_value value.first) base && (is_none value.size || is_zero_value value.first))
-          (both_back (size_fits value.size) (label_fits h label) kept.0 there.0) kept.1,
+      and_from (size_fits value.size && label_fits h label) (same_base (base_of_value value.first) base && (is_none value.size || is_zero_value value.first))
+          (and_from (size_fits value.size) (label_fits h label) kept.0 there.0) kept.1,
       (λ i. record { base = base; size = kept.2 i }),
     )))
 
@@ -320,7 +316,7 @@ abbrev channel_nodes : ChannelEntry → ℕ
 channel_nodes entry = 1 + label_nodes entry.label
 
 abbrev frame_fits : ProcedureEntry → Bool
-frame_fits entry = nat_le (frame_cells entry.slots) cell_limit
+frame_fits entry = nat_le (frame_cells entry.slots) MAX_CELLS
 
 -- a procedure that fits each program of the hierarchy, if its frame has few enough cells
 abbrev ProcedureFits : PrincipalHierarchy → TopLevel → ProcedureEntry → Type 0
@@ -434,19 +430,19 @@ mapped_cells [] = refl
 mapped_cells (entry ∷ globals) =
     omega (arith, mapped_cells globals, sum_by-cons entry_cells entry globals, sum_by-cons variable_cells (variable_of entry) (map variable_of globals))
 
-cells_kept : (shape : Shape) (cells : ℕ) (items : List ItemTree) → cells ≡ sum_by variable_cells shape.variables → cells ≤ cell_limit
-    → IfOk (along next_global_cells cells items) (λ all. (all ≡ sum_by variable_cells (shape_all shape items).variables) × (all ≤ cell_limit))
+cells_kept : (shape : Shape) (cells : ℕ) (items : List ItemTree) → cells ≡ sum_by variable_cells shape.variables → cells ≤ MAX_CELLS
+    → IfOk (along next_global_cells cells items) (λ all. (all ≡ sum_by variable_cells (shape_all shape items).variables) × (all ≤ MAX_CELLS))
 cells_kept shape cells [] e few = (e, few)
 cells_kept shape cells (ChannelItem channel ∷ items) e few = cells_kept (shape_with shape (ChannelItem channel)) cells items e few
 cells_kept shape cells (ExceptionItem at name ∷ items) e few = cells_kept (shape_with shape (ExceptionItem at name)) cells items e few
 cells_kept shape cells (ProcedureItem procedure ∷ items) e few = cells_kept (shape_with shape (ProcedureItem procedure)) cells items e few
 cells_kept shape cells (GlobalItem global ∷ items) e few =
     let next = cells + global_cells global.value in
-    then_finds (give_if (nat_le next cell_limit) next _ global.name.at) (λ more. along next_global_cells more items)
-    (λ more. (more ≡ sum_by variable_cells (shape_with shape (GlobalItem global)).variables) × (more ≤ cell_limit)) _
-    (if_finds (nat_le next cell_limit) next _ global.name.at
-    (λ more. (more ≡ sum_by variable_cells (shape_with shape (GlobalItem global)).variables) × (more ≤ cell_limit))
-    (λ within. (omega (arith, e, cells_of_value global.value, sum_by_push variable_cells shape.variables (declared_variable global)), leb-true next cell_limit within)))
+    then_finds (give_if (nat_le next MAX_CELLS) next _ global.name.at) (λ more. along next_global_cells more items)
+    (λ more. (more ≡ sum_by variable_cells (shape_with shape (GlobalItem global)).variables) × (more ≤ MAX_CELLS)) _
+    (if_finds (nat_le next MAX_CELLS) next _ global.name.at
+    (λ more. (more ≡ sum_by variable_cells (shape_with shape (GlobalItem global)).variables) × (more ≤ MAX_CELLS))
+    (λ within. (omega (arith, e, cells_of_value global.value, sum_by_push variable_cells shape.variables (declared_variable global)), leb-true next MAX_CELLS within)))
     (λ more parts. cells_kept (shape_with shape (GlobalItem global)) more items parts.0 parts.1)
 
 frames_kept : (one : Unit {0}) (procedures : List ProcedureEntry) → IfOk (along next_frame one procedures) (λ done. list_all frame_fits procedures ≡ true)
@@ -455,14 +451,14 @@ frames_kept one (procedure ∷ procedures) =
     then_finds (next_frame one procedure) (λ next. along next_frame next procedures) (λ next. frame_fits procedure ≡ true) _
     (demand_finds (frame_fits procedure) _ procedure.at) (λ next fit.
     IfOk-weaker (along next_frame next procedures) (λ done. list_all frame_fits procedures ≡ true) (λ done. list_all frame_fits (procedure ∷ procedures) ≡ true)
-    (λ done rest. both_back (frame_fits procedure) (list_all frame_fits procedures) fit rest) (frames_kept next procedures))
+    (λ done rest. and_from (frame_fits procedure) (list_all frame_fits procedures) fit rest) (frames_kept next procedures))
 
 all_fit : (h : PrincipalHierarchy) (top : TopLevel) (world : World h top) (procedures : List ProcedureEntry) → Each (ProcedureFits h top) procedures
     → list_all frame_fits procedures ≡ true → list_all (procedure_fits world.program) procedures ≡ true
 all_fit h top world [] each frames = refl
 all_fit h top world (procedure ∷ procedures) each frames =
-    let parts = both (frame_fits procedure) (list_all frame_fits procedures) frames in
-    both_back (procedure_fits world.program procedure) (list_all (procedure_fits world.program) procedures) (each.0 world parts.0)
+    let parts = and_parts (frame_fits procedure) (list_all frame_fits procedures) frames in
+    and_from (procedure_fits world.program procedure) (list_all (procedure_fits world.program) procedures) (each.0 world parts.0)
     (all_fit h top world procedures each.1 parts.1)
 
 -- ---- main
@@ -519,7 +515,7 @@ module _ (h : PrincipalHierarchy) (top : TopLevel) (shape : Shape) (nodes : ℕ)
   stands_there procedure (Exception n) e = lt-ltb n (3 + length tables.exceptions) (omega (arith, e, kept.exceptions))
   stands_there procedure (Procedure n) e =
       let long : length (map signature_from tables.procedures) ≡ length shape.signatures = ap length kept.signatures in
-      let (callee, found) = there_is tables.procedures n (omega (arith, e, long, length-map tables.procedures signature_from)) in
+      let (callee, found) = there_at tables.procedures n (omega (arith, e, long, length-map tables.procedures signature_from)) in
       let none : Signature = record { parameters = []; result = None } in
       let same : signature_at top.signatures n ≡ signature_from callee =
       ap (λ one. slice_index_or one n none) (top_kept.signatures ∙ sym kept.signatures) ∙ index_mapped signature_from tables.procedures n callee none found in (
@@ -543,17 +539,17 @@ module _ (h : PrincipalHierarchy) (top : TopLevel) (shape : Shape) (nodes : ℕ)
   }
 
   program_fits : IsHierarchy h → main_fits (slice_get tables.procedures main) ≡ true
-      → (cells : ℕ) → cells ≡ sum_by variable_cells shape.variables → cells ≤ cell_limit → list_all frame_fits tables.procedures ≡ true → nodes ≤ node_limit
+      → (cells : ℕ) → cells ≡ sum_by variable_cells shape.variables → cells ≤ MAX_CELLS → list_all frame_fits tables.procedures ≡ true → nodes ≤ node_limit
       → IsTrue (well_formed program)
   unfolding world
   program_fits hierarchy main_is cells cells_are few_cells frames few_nodes =
       let same : sum_by variable_cells (map variable_of tables.globals) ≡ sum_by variable_cells shape.variables = ap (sum_by variable_cells) kept.variables in
       program_from_parts program (record {
-        principals_fit = le-leb (length h.names) principal_limit hierarchy.few;
+        principals_fit = le-leb (length h.names) MAX_PRINCIPALS hierarchy.few;
         channels_fit = kept.channels_fit;
         globals_are =
-            both_back (list_all (global_fits h) tables.globals) (nat_le (sum_by entry_cells tables.globals) cell_limit) kept.globals_fit
-            (le-leb (sum_by entry_cells tables.globals) cell_limit (omega (arith, mapped_cells tables.globals, same, cells_are, few_cells)));
+            and_from (list_all (global_fits h) tables.globals) (nat_le (sum_by entry_cells tables.globals) MAX_CELLS) kept.globals_fit
+            (le-leb (sum_by entry_cells tables.globals) MAX_CELLS (omega (arith, mapped_cells tables.globals, same, cells_are, few_cells)));
         procedures_fit = all_fit h top world tables.procedures kept.procedures_fit frames;
         main_is = main_is;
         nodes_fit = le-leb (program_nodes program) node_limit (omega (arith, kept.few, few_nodes));
@@ -581,7 +577,7 @@ resolution_keeps placed longest h written hierarchy is few =
     })) (λ tables kept.
     then_finds (main_finding (top.names (codes "main")) tables.procedures) _ (λ main. main_fits (slice_get tables.procedures main) ≡ true) _
     (main_found (top.names (codes "main")) tables.procedures) (λ main main_is.
-    then_finds (along next_global_cells 0 written.items) _ (λ all. (all ≡ sum_by variable_cells shape.variables) × (all ≤ cell_limit)) _
+    then_finds (along next_global_cells 0 written.items) _ (λ all. (all ≡ sum_by variable_cells shape.variables) × (all ≤ MAX_CELLS)) _
     (cells_kept no_items 0 written.items refl (omega arith)) (λ cells cells_are.
     then_finds (along next_frame tt tables.procedures) _ (λ done. list_all frame_fits tables.procedures ≡ true) _ (frames_kept tt tables.procedures)
     (λ done frames. program_fits h top shape nodes tables main top_kept kept hierarchy main_is cells cells_are.0 cells_are.1 frames (omega (arith, few)))))))

@@ -3,7 +3,7 @@
 use Rattle.std.proofs.Common.{◌≡◌, refl, sym, ◌∙◌, subst, ap, ℕ, suc, ◌+◌, ◌≤◌, List, [], ◌∷◌, ◌++◌, map, length, Bool, true, false, append-nil, append_assoc, arith}
 use Rattle.std.specs.Prelude.{All, IfOk, Option, Some, None, ◌==◌, ◌&&◌, is_none, slice_get, slice_index_or, sum_by, nat_lt, nat_le}
 use Rattle.std.specs.List.{list_all}
-use Rattle.std.proofs.lemmas.Bool.{eq-eqb, eqb-true}
+use Rattle.std.proofs.lemmas.Bool.{eq-eqb, eqb-true, and_from, and_parts}
 use Rattle.std.proofs.lemmas.List.{length-append}
 use Rattle.std.proofs.lemmas.List.Elements.{All-head, All-tail}
 use Rattle.std.proofs.lemmas.List.Folds.{list_all-append}
@@ -20,9 +20,8 @@ use Rattle.common.specs.declared.direction.Direction.TheVariants as directions
 use Rattle.resolved.specs.declared.statement.Exit.TheVariants as exits
 use Rattle.resolved.specs.Program.{Program, ProcedureEntry, SlotEntry, ResultEntry}
 use Rattle.resolved.specs.Tree.{Expression, Statement, Call, If, While, Leave, ReturnWith, Try, Nested, Block, Empty, Handlers, Catch}
-use Rattle.resolved.specs.WellFormed.{same_base, slot_type, variable_type, scalar_by, array_by, has_base, has_result, target_by, channel_is, is_exception, is_array, arguments_match, call_matches, parameters_of, statement_fits, block_fits, handlers_fit, statement_loops, block_loops, handlers_loops, counts_from, array_limit, size_fits, written_fits, expression_nodes, statement_nodes, block_nodes, handlers_nodes}
-use Rattle.resolved.proofs.Sound.Values.{both, same_base_is, same_base_itself}
-use Rattle.resolved.proofs.Parts.{both_back}
+use Rattle.resolved.specs.WellFormed.{same_base, slot_type, variable_type, scalar_by, array_by, has_base, has_result, target_by, channel_is, is_exception, is_array, arguments_match, call_matches, parameters_of, statement_fits, block_fits, handlers_fit, statement_loops, block_loops, handlers_loops, counts_from, size_fits, written_fits, expression_nodes, statement_nodes, block_nodes, handlers_nodes}
+use Rattle.resolved.proofs.Sound.Values.{same_base_is, same_base_itself}
 use Rattle.names.specs.declared.scope.Meaning.TheVariants.{Input, Output, Exception, Procedure, Scalar, Array}
 use Rattle.names.specs.Finding.{Finding, demand, along}
 use Rattle.names.specs.Environment.{Environment, ScalarUse, ArrayUse, fresh_finding, scalar_finding, array_finding, input_finding, output_finding, exception_finding, procedure_finding}
@@ -32,6 +31,7 @@ use Rattle.names.specs.Statements.{Setting, Point, signature_at, next_argument, 
 use Rattle.names.proofs.Passing.{then_finds, if_finds, demand_finds, any_finds}
 use Rattle.names.proofs.WellFormedExpressions.{given_base, slot_base, scalar_type, array_type, Stands, Means, means_declaring, scalar_found, array_found, input_found, output_found, exception_found, procedure_found, TypedKept, ExpressionKept, expression_keeps, typed_keeps}
 use Rattle.names.proofs.WellFormedLabels.{optional_label_there}
+use Rattle.common.specs.declared.limits.TheConstants.{MAX_ELEMENTS}
 
 -- ---- lists
 
@@ -40,9 +40,9 @@ counts_both n [] ys e f =
     let same : n + 0 ≡ n = omega arith in
     subst (λ one. counts_from one ys ≡ true) same f
 counts_both n (m ∷ xs) ys e f =
-    let parts = both (m == n) (counts_from (suc n) xs) e in
+    let parts = and_parts (m == n) (counts_from (suc n) xs) e in
     let same : n + suc (length xs) ≡ suc n + length xs = omega arith in
-    both_back (m == n) (counts_from (suc n) (xs ++ ys)) parts.0
+    and_from (m == n) (counts_from (suc n) (xs ++ ys)) parts.0
     (counts_both (suc n) xs ys parts.1 (subst (λ one. counts_from one ys ≡ true) same f))
 
 at_end : {X : Type 0} (xs : List X) (x : X) (rest : List X) → slice_get ((xs ++ x ∷ []) ++ rest) (length xs) ≡ Some x
@@ -125,13 +125,13 @@ module _ (program : Program) (procedure : ProcedureEntry) (setting : Setting) wh
     slots = second.slots ∙ ap (λ one. one ++ second.more) first.slots ∙ append_assoc p.slots first.more second.more;
     slots_fit =
         list_all-append (slot_fits setting) first.more second.more
-        ∙ both_back (list_all (slot_fits setting) first.more) (list_all (slot_fits setting) second.more) first.slots_fit second.slots_fit;
+        ∙ and_from (list_all (slot_fits setting) first.more) (list_all (slot_fits setting) second.more) first.slots_fit second.slots_fit;
     loops_count = counts_both p.loops k l first.loops_count (subst (λ one. counts_from one l ≡ true) first.loops_all second.loops_count);
     loops_all = omega (arith, first.loops_all, second.loops_all, length-append k l);
     few = omega (arith, first.few, second.few, length-append first.more second.more);
     fits =
         λ is means. let before = prefix_before q.slots second.more r.slots second.slots is in
-        both_back s t (first.fits before means) (second.fits is (first.names before means));
+        and_from s t (first.fits before means) (second.fits is (first.names before means));
     names =
         λ is means. second.names is (first.names (prefix_before q.slots second.more r.slots second.slots is) means);
   }
@@ -145,7 +145,7 @@ module _ (program : Program) (procedure : ProcedureEntry) (setting : Setting) wh
     loops_count = kept.loops_count;
     loops_all = kept.loops_all;
     few = kept.few;
-    fits = λ is means. both_back test t (passes means) (kept.fits is means);
+    fits = λ is means. and_from test t (passes means) (kept.fits is means);
     names = kept.names;
   }
 
@@ -177,18 +177,18 @@ module _ (program : Program) (procedure : ProcedureEntry) (setting : Setting) wh
   matches_parameters [] (argument ∷ rest) e = e
   matches_parameters (parameter ∷ parameters) [] e = e
   matches_parameters (parameter ∷ parameters) (argument ∷ rest) e =
-      let parts = both (has_base program procedure parameter.base argument) (match_bases (map slot_base parameters) rest) e in
-      both_back (has_base program procedure parameter.base argument) (arguments_match program procedure parameters rest) parts.0
+      let parts = and_parts (has_base program procedure parameter.base argument) (match_bases (map slot_base parameters) rest) e in
+      and_from (has_base program procedure parameter.base argument) (arguments_match program procedure parameters rest) parts.0
       (matches_parameters parameters rest parts.1)
 
   match_push : (bases : List Base) (found : List Expression) (base : Base) (e : Expression) → match_bases bases found ≡ true
       → has_base program procedure base e ≡ true → match_bases (bases ++ base ∷ []) (found ++ e ∷ []) ≡ true
-  match_push [] [] base e matched has = both_back (has_base program procedure base e) true has refl
+  match_push [] [] base e matched has = and_from (has_base program procedure base e) true has refl
   match_push [] (x ∷ found) base e matched has = cc
   match_push (b ∷ bases) [] base e matched has = cc
   match_push (b ∷ bases) (x ∷ found) base e matched has =
-      let parts = both (has_base program procedure b x) (match_bases bases found) matched in
-      both_back (has_base program procedure b x) (match_bases (bases ++ base ∷ []) (found ++ e ∷ [])) parts.0
+      let parts = and_parts (has_base program procedure b x) (match_bases bases found) matched in
+      and_from (has_base program procedure b x) (match_bases (bases ++ base ∷ []) (found ++ e ∷ [])) parts.0
       (match_push bases found base e parts.1 has)
 
   record ArgumentsKept (names : Environment) (bases : List Base) (written : ℕ) (found : List Expression) : Type 0 where
@@ -294,7 +294,7 @@ module _ (program : Program) (procedure : ProcedureEntry) (setting : Setting) wh
     array_passes : (x : Variable) (base : Base) (size : ℕ) (test : Base → Bool) → variable_type program procedure x ≡ array_type base size → test base ≡ true
         → array_by (variable_type program procedure x) size test ≡ true
     array_passes x base size test e passed =
-        subst (λ one. array_by one size test ≡ true) (sym e) (both_back (size == size) (test base) (eq-eqb size size refl) passed)
+        subst (λ one. array_by one size test ≡ true) (sym e) (and_from (size == size) (test base) (eq-eqb size size refl) passed)
 
     gives_value : (given : Option ResultEntry) (base : Base) → gives_base base (given_base given) ≡ true → has_result given (same_base base) ≡ true
     gives_value None base e = e
@@ -307,7 +307,7 @@ module _ (program : Program) (procedure : ProcedureEntry) (setting : Setting) wh
     call_passes made target there takes =
         let (callee, found, matched, given) = there in
         subst (λ one. call_matches program procedure one made.arguments target ≡ true) (sym found)
-        (both_back (arguments_match program procedure (parameters_of callee) made.arguments)
+        (and_from (arguments_match program procedure (parameters_of callee) made.arguments)
         (target_by program procedure target (λ base. has_result callee.result (same_base base))) matched (takes callee given))
 
     assigned_keeps : (names : Environment) (at : ℕ) (target : Variable) (base : Base) (right : RightTree) → IsWrittenRight placed longest right
@@ -319,7 +319,7 @@ module _ (program : Program) (procedure : ProcedureEntry) (setting : Setting) wh
         (λ number. MeansHere names → Stands program procedure setting.signatures (Input number)) _
         (input_found program procedure setting.signatures names channel) (λ number stands. record {
           fits =
-              λ means e. both_back (channel_is (slice_get program.channels number) directions.Input)
+              λ means e. and_from (channel_is (slice_get program.channels number) directions.Input)
               (scalar_by (variable_type program procedure target) (same_base Int)) (stands means) (scalar_passes target base (same_base Int) e same);
           no_loops = refl;
           few = omega arith;
@@ -371,7 +371,7 @@ module _ (program : Program) (procedure : ProcedureEntry) (setting : Setting) wh
         then_finds (typed_finding names a.base right) _ (HasBase names a.base (tree.expression_nodes right)) _
         (typed_keeps program procedure setting.signatures placed longest names a.base right right_written) (λ e kept_e. record {
           fits =
-              λ means. both_back (array_by (variable_type program procedure a.variable) a.size (λ base. has_base program procedure base e)) (has_base program procedure Int i)
+              λ means. and_from (array_by (variable_type program procedure a.variable) a.size (λ base. has_base program procedure base e)) (has_base program procedure Int i)
               (array_passes a.variable a.base a.size (λ base. has_base program procedure base e) (stands means) (kept_e.fits means)) (kept_i.fits means);
           no_loops = refl;
           few = omega (arith, kept_i.few, kept_e.few);
@@ -393,7 +393,7 @@ module _ (program : Program) (procedure : ProcedureEntry) (setting : Setting) wh
         then_finds (input_finding (names channel.text) channel.at) _
         (λ number. MeansHere names → Stands program procedure setting.signatures (Input number)) _
         (input_found program procedure setting.signatures names channel) (λ number stands. record {
-          fits = λ means. both_back (channel_is (slice_get program.channels number) directions.Input) true (stands means) refl;
+          fits = λ means. and_from (channel_is (slice_get program.channels number) directions.Input) true (stands means) refl;
           no_loops = refl;
           few = omega arith;
         })
@@ -408,7 +408,7 @@ module _ (program : Program) (procedure : ProcedureEntry) (setting : Setting) wh
         then_finds (typed_finding names Int right) _ (HasBase names Int (tree.expression_nodes right)) _
         (typed_keeps program procedure setting.signatures placed longest names Int right written) (λ e kept. record {
           fits =
-              λ means. both_back (channel_is (slice_get program.channels number) directions.Output) (has_base program procedure Int e)
+              λ means. and_from (channel_is (slice_get program.channels number) directions.Output) (has_base program procedure Int e)
               (stands means) (kept.fits means);
           no_loops = refl;
           few = omega (arith, kept.few);
@@ -499,7 +499,7 @@ module _ (program : Program) (procedure : ProcedureEntry) (setting : Setting) wh
           record {
             more = slot ∷ [];
             slots = refl;
-            slots_fit = both_back (slot_fits setting slot) true there refl;
+            slots_fit = and_from (slot_fits setting slot) true there refl;
             loops_count = subst (λ loops. counts_from point.loops loops ≡ true) (sym kept.no_loops) refl;
             loops_all =
                 let none : length (statement_loops statement) ≡ 0 = ap length kept.no_loops in
@@ -520,12 +520,12 @@ module _ (program : Program) (procedure : ProcedureEntry) (setting : Setting) wh
           (optional_label_there setting.hierarchy label) (λ written there.
           then_finds (fresh_finding (point.names name.text) name.at) _ (λ one. Unit {0}) _ (any_finds (fresh_finding (point.names name.text) name.at)) (λ one nothing.
           then_finds (size_finding size) _ (λ length_of. size_fits (Some length_of) ≡ true) _
-          (if_finds (nat_lt 0 size.size && nat_le size.size array_limit) size.size _ size.at _ (λ fit. fit)) (λ length_of fit.
+          (if_finds (nat_lt 0 size.size && nat_le size.size MAX_ELEMENTS) size.size _ size.at _ (λ fit. fit)) (λ length_of fit.
           let slot = array_slot at base written name.text length_of in
           record {
             more = slot ∷ [];
             slots = refl;
-            slots_fit = both_back (slot_fits setting slot) true (both_back (size_fits (Some length_of)) (written_fits setting.hierarchy written) fit there) refl;
+            slots_fit = and_from (slot_fits setting slot) true (and_from (size_fits (Some length_of)) (written_fits setting.hierarchy written) fit there) refl;
             loops_count = refl;
             loops_all = omega arith;
             few = omega arith;
@@ -559,12 +559,12 @@ module _ (program : Program) (procedure : ProcedureEntry) (setting : Setting) wh
             slots = kept.slots;
             slots_fit = kept.slots_fit;
             loops_count =
-                both_back (point.loops == point.loops) (counts_from (suc point.loops) (block_loops done.1)) (eq-eqb point.loops point.loops refl)
+                and_from (point.loops == point.loops) (counts_from (suc point.loops) (block_loops done.1)) (eq-eqb point.loops point.loops refl)
                 (subst (λ one. counts_from one (block_loops done.1) ≡ true) next kept.loops_count);
             loops_all = omega (arith, kept.loops_all);
             few = omega (arith, kept.few, kept_e.few);
             fits =
-                λ is means. both_back (has_base program procedure Boolean e) (block_fits program procedure done.1) (kept_e.fits means)
+                λ is means. and_from (has_base program procedure Boolean e) (block_fits program procedure done.1) (kept_e.fits means)
                 (kept.fits is means);
             names = kept.names;
           }

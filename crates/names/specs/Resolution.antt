@@ -2,7 +2,7 @@
 -- items, each from left to right with its body, then `main` (304), and last the cells of the globals and of each procedure (704).
 -- Source: our own; what is left out of the labels of a procedure as in JFlow (Myers 1999).
 use Rattle.std.specs.Prelude.{ℕ, ◌+◌, List, [], ◌∷◌, ◌++◌, map, length, sum_by, Bool, false, not, ◌==◌, ◌&&◌, nat_le, if◌then◌else◌, codes, is_none, Option, Some, None, unwrap_or, slice_get, pos, neg_ℤ}
-use Rattle.common.specs.declared.exceptions.TheConstants.{ARITH, ARITH_NAME, BOUNDS, BOUNDS_NAME, END, END_NAME}
+use Rattle.common.specs.declared.exceptions.TheConstants.{ARITH, ARITH_NAME, BOUNDS, BOUNDS_NAME, END, END_NAME, BUILT_IN}
 use Rattle.std.specs.List.{list_any}
 use Rattle.principals.specs.ActsFor.{PrincipalHierarchy}
 use Rattle.labels.specs.Label.{Label}
@@ -16,7 +16,7 @@ use Rattle.resolved.specs.declared.expression.Value.{Value}
 use Rattle.resolved.specs.declared.expression.Value.TheVariants.{Number, Truth}
 use Rattle.resolved.specs.declared.expression.Variable.TheVariants.{Global, Local}
 use Rattle.resolved.specs.Program.{Program, ChannelEntry, GlobalEntry, SlotEntry, ResultEntry, ThrownEntry, ProcedureEntry}
-use Rattle.resolved.specs.WellFormed.{same_base, cell_count, cell_limit}
+use Rattle.resolved.specs.WellFormed.{same_base, cell_count}
 use Rattle.names.specs.declared.fault.NameDefect.TheVariants as refusals
 use Rattle.names.specs.declared.scope.Meaning.{Meaning}
 use Rattle.names.specs.declared.scope.Meaning.TheVariants as meanings
@@ -25,6 +25,7 @@ use Rattle.names.specs.Environment.{Environment, declaring, fresh_finding, excep
 use Rattle.names.specs.Labels.{label_finding, optional_label_finding}
 use Rattle.names.specs.Expressions.{base_of}
 use Rattle.names.specs.Statements.{Signature, Point, with_local, scalar_slot, size_finding, block_finding}
+use Rattle.common.specs.declared.limits.TheConstants.{MAX_CELLS}
 
 -- ---- the names of the items
 
@@ -45,7 +46,7 @@ built_in = record {
       (declaring BOUNDS_NAME.now (meanings.Exception BOUNDS)
       (declaring ARITH_NAME.now (meanings.Exception ARITH) nothing_declared));
   channels = 0;
-  exceptions = 3;
+  exceptions = BUILT_IN;
   globals = 0;
   signatures = [];
 }
@@ -272,7 +273,7 @@ global_cells (ArrayTree size) = size.size
 
 abbrev pub next_global_cells : (cells : ℕ) → ItemTree → Finding ℕ
 next_global_cells cells (GlobalItem global) =
-    give_if (nat_le (cells + global_cells global.value) cell_limit) (cells + global_cells global.value)
+    give_if (nat_le (cells + global_cells global.value) MAX_CELLS) (cells + global_cells global.value)
     refusals.TooManyCells global.name.at
 next_global_cells cells (ChannelItem channel) = give cells
 next_global_cells cells (ExceptionItem at name) = give cells
@@ -286,7 +287,7 @@ abbrev pub frame_cells : List SlotEntry → ℕ
 frame_cells slots = sum_by (λ (slot : SlotEntry). cell_count slot.size) slots
 
 abbrev pub next_frame : Unit {0} → ProcedureEntry → Finding (Unit {0})
-next_frame _ procedure = demand (nat_le (frame_cells procedure.slots) cell_limit) refusals.TooManyCells procedure.at
+next_frame _ procedure = demand (nat_le (frame_cells procedure.slots) MAX_CELLS) refusals.TooManyCells procedure.at
 
 unfoldable pub frames_finding : List ProcedureEntry → Finding (Unit {0})
 frames_finding procedures = along next_frame tt procedures

@@ -13,7 +13,7 @@ use Rattle.resolved.specs.declared.expression.Variable.TheVariants.{Local}
 use Rattle.resolved.specs.declared.statement.Exit.TheVariants as exits
 use Rattle.resolved.specs.Tree.{Expression, Statement, Assign, Clear, Store, Receive, Send, Call, If, While, Leave, ReturnWith, Try, Nested, Block, Empty, Then, Handlers, NoMore, Catch}
 use Rattle.resolved.specs.Program.{SlotEntry}
-use Rattle.resolved.specs.WellFormed.{same_base, array_limit}
+use Rattle.resolved.specs.WellFormed.{same_base}
 use Rattle.names.specs.declared.fault.NameDefect.TheVariants as refusals
 use Rattle.names.specs.declared.scope.Meaning.{Meaning}
 use Rattle.names.specs.declared.scope.Meaning.TheVariants.{Scalar, Array}
@@ -21,6 +21,7 @@ use Rattle.names.specs.Finding.{Finding, give, refuse, give_if, demand, and_then
 use Rattle.names.specs.Environment.{Environment, declaring, fresh_finding, scalar_finding, array_finding, input_finding, output_finding, exception_finding, procedure_finding}
 use Rattle.names.specs.Labels.{optional_label_finding}
 use Rattle.names.specs.Expressions.{Typed, base_of, expression_finding, typed_finding}
+use Rattle.common.specs.declared.limits.TheConstants.{MAX_ELEMENTS}
 
 -- what a call has to know of a procedure: the types of its parameters, and the type of its value, if it gives one
 pub record Signature : Type 0 where
@@ -120,7 +121,7 @@ declare_finding setting point at base label name value = do
 
 -- the size of an array: 1 to 65536
 unfoldable pub size_finding : SizeTree → Finding ℕ
-size_finding size = give_if (nat_lt 0 size.size && nat_le size.size array_limit) size.size refusals.ArraySize size.at
+size_finding size = give_if (nat_lt 0 size.size && nat_le size.size MAX_ELEMENTS) size.size refusals.ArraySize size.at
 
 unfoldable pub declare_array_finding : Setting → Point → (at : ℕ) → Base → Option LabelTree → NameTree → SizeTree → Finding (Point × Statement)
 declare_array_finding setting point at base label name size = do

@@ -1,9 +1,10 @@
 -- What the private functions work with, as the definitions see it, and what each of them gives: what is found, or the first
 -- fault.
 -- Source: our own.
-use Rattle.std.specs.Prelude.{◌≡◌, ℕ, ◌+◌, List, length, map, take, Option, Some, None, Result, Ok, String, Vec}
+use Rattle.std.specs.Prelude.{◌≡◌, ℕ, ◌+◌, List, length, map, take, drop, bytes_eq, if◌then◌else◌, Option, Some, None, Result, Ok, String, Vec}
 use Rattle.std.specs.declared.alloc.Global.{Global}
-use Rattle.std.specs.HashMap.{HashMap, get_by_text}
+use Rattle.std.specs.BTreeMap.{BTreeMap, get_by_text}
+use Rattle.std.specs.List.{list_any}
 use Rattle.std.specs.String.{string_bytes}
 use Rattle.resolved.specs.declared.expression.Expression.{Expression as CodeExpression}
 use Rattle.resolved.specs.declared.statement.Statement.{Statement as CodeStatement}
@@ -42,8 +43,15 @@ itself x = x
 -- ---- names
 
 -- what a table of names says of a name
-abbrev pub found_in : {S : Type 0} → HashMap (String Global) Meaning S → Environment
+abbrev pub found_in : BTreeMap (String Global) Meaning → Environment
 found_in table name = get_by_text table name
+
+abbrev pub texts_of : List (String Global) → List (List ℕ)
+texts_of names = map string_bytes names
+
+-- the same where some names stand for nothing
+abbrev pub without : List (List ℕ) → Environment → Environment
+without removed names other = if list_any (λ name. bytes_eq name other) removed then None else names other
 
 -- the names of one table, and behind them those of another
 abbrev pub or_else : {A : Type 0} → Option A → Option A → Option A
@@ -73,12 +81,14 @@ setting_of body = record { hierarchy = body.hierarchy.now; signatures = signatur
 abbrev pub point_of : Body → Point
 point_of body = record { names = names_of body; slots = map slot_entry body.slots.items; loops = body.loops }
 
--- a later point of the same body, where the names that were in the table of locals are its first ones still
+-- a later point of the same body: what was declared there is declared still and stands first, and the table of locals says what it
+-- said there, but for the names that were declared since
 pub record IsLater (before after : Body) : Type 0 where
   pub hierarchy : after.hierarchy.now ≡ before.hierarchy.now
   pub top : after.top.now ≡ before.top.now
   pub result : after.result ≡ before.result
-  pub locals : take (length before.locals.entries) after.locals.entries ≡ before.locals.entries
+  pub declared : take (length before.declared.items) after.declared.items ≡ before.declared.items
+  pub locals : (name : List ℕ) → found_in before.locals name ≡ without (texts_of (drop (length before.declared.items) after.declared.items)) (found_in after.locals) name
 
 -- what is found together with the point behind it
 abbrev pub at_point : {X A : Type 0} → Body → (X → A) → X → Point × A

@@ -11,7 +11,7 @@ ghost use Rattle.syntax.specs.Tree.{NestedTree, TryTree, WhileTree, block_tree, 
 use crate::body::Body;
 use crate::fault::NameFault;
 use crate::operator::base_of;
-use crate::scope::require_exception;
+use crate::scope::{remove_all, require_exception};
 use resolved::expression::Base;
 use resolved::statement::{Exit, Handler, Statement};
 use syntax::{Block, Catch};
@@ -28,9 +28,10 @@ impl<'a> Body<'a> {
         ensures grows { OnOk result (taken self.new ≤
             taken self.old + block_nodes (block_tree written.now)) }
     {
-        let before = self.locals.len();
+        let before = self.declared.len();
         let made = self.resolve_statements(&written.statements)?;
-        self.locals.truncate(before);
+        remove_all(&mut self.locals, &self.declared[before..]);
+        self.declared.truncate(before);
         Ok(made)
     }
 
@@ -82,7 +83,7 @@ impl<'a> Body<'a> {
         Ok(handlers)
     }
 
-    /// A statement.
+    /// A statement. The function is longer than others, since it is one match over all statements.
     #[cycle(block)]
     #[tactic(auto, unfolding(crate::specs::Statements::statement_finding))]
     fn resolve_statement(&mut self, written: &syntax::Statement) -> Result<Statement, NameFault>

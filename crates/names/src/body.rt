@@ -8,24 +8,25 @@ ghost use Rattle.std.specs.Prelude.{[], None, OnOk, map, ◌+◌, ◌≡◌};
 ghost use Rattle.syntax.specs.Tree.{name_tree};
 
 use crate::fault::NameFault;
-use crate::scope::{Meaning, find, insert};
+use crate::scope::{Meaning, Names, find, insert};
 use crate::top::TopNames;
-use indexmap::IndexMap;
 use principals::Hierarchy;
 use resolved::expression::Base;
 use resolved::tables::Slot;
 use std::alloc::Global;
+use std::collections::BTreeMap;
 use syntax::Name;
 
-/// A point of a body: the names of the top level, the parameters and locals in scope, the slots that they and those of blocks that
-/// have ended have taken, and how many loops have begun.
+/// A point of a body: the names of the top level, the parameters and locals in scope, in a table and again in the order in which they
+/// were declared, the slots that they and those of blocks that have ended have taken, and how many loops have begun.
 #[derive(Drop)]
 pub struct Body<'a> {
     pub alloc: Global,
     pub hierarchy: &'a Hierarchy,
     pub top: &'a TopNames,
     pub result: Option<Base>,
-    pub locals: IndexMap<String, Meaning>,
+    pub locals: Names,
+    pub declared: Vec<String>,
     pub slots: Vec<Slot>,
     pub loops: u32,
 }
@@ -53,7 +54,8 @@ impl<'a> Body<'a> {
             hierarchy,
             top,
             result: value,
-            locals: IndexMap::new(alloc),
+            locals: BTreeMap::new(alloc),
+            declared: Vec::new(alloc),
             slots: Vec::new(alloc),
             loops: 0,
         }
@@ -78,6 +80,8 @@ impl<'a> Body<'a> {
         ensures grows { OnOk result (taken self.new ≡ taken self.old + 1) }
     {
         insert(self.alloc, &mut self.locals, slot.name.as_str(), meaning)?;
+        let name = String::from_str(self.alloc, slot.name.as_str())?;
+        self.declared.push(name)?;
         self.slots.push(slot)?;
         Ok(())
     }

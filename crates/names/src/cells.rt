@@ -1,10 +1,11 @@
 //! How many cells the globals have, and each frame.
 
+ghost use Rattle.common.specs.declared.limits.TheConstants.{MAX_CELLS};
 ghost use Rattle.names.specs.Finding.{demand};
 ghost use Rattle.names.specs.Resolution.{frame_cells, frames_finding, global_cells, global_cells_finding, next_global_cells};
 ghost use Rattle.names.specs.Views.{Resolves, itself};
 ghost use Rattle.resolved.specs.ProgramOf.{procedure_entry, slot_entry};
-ghost use Rattle.resolved.specs.WellFormed.{cell_count, cell_limit};
+ghost use Rattle.resolved.specs.WellFormed.{cell_count};
 ghost use Rattle.std.specs.Prelude.{IfOk, map, nat_le, ◌≡◌, ◌≤◌};
 ghost use Rattle.syntax.specs.Tree.{global_value_tree, item_tree};
 
@@ -25,9 +26,9 @@ fn cells_of_global(value: &GlobalValue) -> u32
 
 /// The cells of the globals so far, with those of the next item.
 fn add_global(cells: u32, item: &Item) -> Result<u32, NameFault>
-    requires { cells ≤ cell_limit }
+    requires { cells ≤ MAX_CELLS }
     ensures made { Resolves itself result (next_global_cells cells (item_tree item.now)) }
-    ensures few { IfOk result (λ all. all ≤ cell_limit) }
+    ensures few { IfOk result (λ all. all ≤ MAX_CELLS) }
 {
     match item {
         Item::Channel(_) | Item::Exception { .. } | Item::Procedure(_) => Ok(cells),
@@ -68,7 +69,7 @@ fn cells_of_slot(size: Option<u32>) -> u32
 
 /// Whether a frame of these slots has few enough cells.
 fn fits(slots: &[Slot]) -> bool
-    ensures { result ≡ nat_le (frame_cells (map slot_entry slots.now)) cell_limit }
+    ensures { result ≡ nat_le (frame_cells (map slot_entry slots.now)) MAX_CELLS }
 {
     let mut cells = 0;
     for slot in slots {

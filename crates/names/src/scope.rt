@@ -2,14 +2,14 @@
 
 ghost use Rattle.names.specs.Environment.{array_finding, declaring, exception_finding, fresh_finding, input_finding, output_finding, procedure_finding, scalar_finding};
 ghost use Rattle.names.specs.Finding.{give};
-ghost use Rattle.names.specs.Views.{Resolves, array_use, found_in, itself, scalar_use};
-ghost use Rattle.std.specs.Prelude.{OnOk, List, length, take, ◌≡◌, None, ℕ};
+ghost use Rattle.names.specs.Views.{Resolves, array_use, found_in, itself, scalar_use, texts_of, without};
+ghost use Rattle.std.specs.Prelude.{OnOk, List, ◌≡◌, None, ℕ};
 
 use crate::fault::{NameDefect, NameFault, NameRefusal};
 use common::OrNoMemory;
-use indexmap::IndexMap;
 use resolved::expression::{Base, Variable};
 use std::alloc::Global;
+use std::collections::BTreeMap;
 
 /// What a name stands for. Channels are numbered in their order, inputs and outputs together; so are globals, procedures and
 /// exceptions, of which 0, 1 and 2 are `Arith`, `Bounds` and `End`; a local has the number of its slot.
@@ -40,28 +40,39 @@ pub struct FoundArray {
     pub size: u32,
 }
 
+/// What names stand for. The names are a stranger's, so the table is ordered: no choice of names makes looking them up slow, as
+/// colliding hashes would.
+pub type Names = BTreeMap<String, Meaning>;
+
 /// What a name stands for by a table.
-pub fn find(table: &IndexMap<String, Meaning>, name: &str) -> Option<Meaning>
+pub fn find(table: &Names, name: &str) -> Option<Meaning>
     ensures { result ≡ found_in table.now name.now }
 {
     table.get(name).copied()
 }
 
-/// Puts a name into a table in which it is not yet.
+/// Puts a name into a table, where it has this meaning from now on.
 pub fn insert(
     alloc: Global,
-    table: &mut IndexMap<String, Meaning>,
+    table: &mut Names,
     name: &str,
     meaning: Meaning,
 ) -> Result<(), NameFault>
-    requires fresh { found_in table.old name.now ≡ None }
-    ensures made { Resolves (λ _. λ (other : List ℕ). found_in table.new other) result
+    ensures { Resolves (λ _. λ (other : List ℕ). found_in table.new other) result
         (give (declaring name.now meaning (found_in table.old))) }
-    ensures behind { OnOk result (take (length table.old.entries) table.new.entries ≡
-        table.old.entries) }
 {
     table.insert(String::from_str(alloc, name)?, meaning)?;
     Ok(())
+}
+
+/// Takes names out of a table.
+pub fn remove_all(table: &mut Names, names: &[String])
+    ensures { (other : List ℕ) → found_in table.new other ≡
+        without (texts_of names.now) (found_in table.old) other }
+{
+    for name in names {
+        table.remove(name.as_str());
+    }
 }
 
 /// Refuses the declaration of a name that stands for something already.

@@ -219,6 +219,7 @@ impl<'a> Body<'a> {
         Ok(Statement::Clear(at, number))
     }
 
+    /// An assignment of a value, a call or a `receive` to a scalar: 301, 401 to 403 where a name or a type is wrong.
     #[tactic(auto, unfolding(crate::specs::Statements::assign_finding))]
     pub fn resolve_assign(&self, target: &Name, value: &RightSide) -> Result<Statement, NameFault>
         ensures { Resolves statement_of result
@@ -229,6 +230,7 @@ impl<'a> Body<'a> {
         self.resolve_right_side(target.at, found.variable, found.base, value)
     }
 
+    /// An assignment to an element of an array.
     #[tactic(auto, unfolding(crate::specs::Statements::store_finding))]
     pub fn resolve_store(
         &self,
@@ -246,6 +248,7 @@ impl<'a> Body<'a> {
         Ok(Statement::Store(name.at, found.variable, found.size, index, value))
     }
 
+    /// A call whose value, if there is one, is left.
     #[tactic(auto, unfolding(crate::specs::Statements::call_statement_finding))]
     pub fn resolve_call_statement(&self, call: &Call) -> Result<Statement, NameFault>
         ensures { Resolves statement_of result
@@ -256,6 +259,7 @@ impl<'a> Body<'a> {
         Ok(Statement::Call(call.procedure.at, made.procedure, made.arguments, None))
     }
 
+    /// A `receive` whose number is left.
     #[tactic(auto, unfolding(crate::specs::Statements::receive_finding))]
     pub fn resolve_receive(&self, at: usize, channel: &Name) -> Result<Statement, NameFault>
         ensures { Resolves statement_of result
@@ -265,6 +269,7 @@ impl<'a> Body<'a> {
         Ok(Statement::Receive(at, number, None))
     }
 
+    /// A `send` of an int to an output.
     #[tactic(auto, unfolding(crate::specs::Statements::send_finding))]
     pub fn resolve_send(
         &self,
@@ -280,6 +285,7 @@ impl<'a> Body<'a> {
         Ok(Statement::Send(at, number, self.type_expression(Base::Int, value)?))
     }
 
+    /// A `throw` of an exception.
     #[tactic(auto, unfolding(crate::specs::Statements::throw_finding))]
     pub fn resolve_throw(&self, at: usize, name: &Name) -> Result<Statement, NameFault>
         ensures { Resolves statement_of result
@@ -289,6 +295,7 @@ impl<'a> Body<'a> {
         Ok(Statement::Leave(at, Exit::Throw(number)))
     }
 
+    /// A `return`, with a value exactly where the procedure has one.
     #[tactic(auto, unfolding(crate::specs::Statements::return_finding))]
     pub fn resolve_return(
         &self,

@@ -1,5 +1,6 @@
 //! The top level of a program: what the names of its items stand for.
 
+ghost use Rattle.common.specs.declared.exceptions.TheConstants.{BUILT_IN};
 ghost use Rattle.names.specs.Finding.{give};
 ghost use Rattle.names.specs.Resolution.{built_in, channel_meaning, global_meaning, item_meaning, item_name, next_name, result_base_of, signature_of, top_finding};
 ghost use Rattle.names.specs.Statements as spec;
@@ -10,12 +11,12 @@ ghost use Rattle.syntax.specs.Tree.{global_value_tree, item_tree, name_tree, wri
 
 use crate::fault::NameFault;
 use crate::operator::base_of;
-use crate::scope::{Meaning, find, insert, require_fresh};
+use crate::scope::{Meaning, Names, find, insert, require_fresh};
 use common::Direction;
-use common::exceptions::{ARITH, ARITH_NAME, BOUNDS, BOUNDS_NAME, END, END_NAME};
-use indexmap::IndexMap;
+use common::exceptions::{ARITH, ARITH_NAME, BOUNDS, BOUNDS_NAME, BUILT_IN, END, END_NAME};
 use resolved::expression::{Base, Variable};
 use std::alloc::{AllocError, Global};
+use std::collections::BTreeMap;
 use syntax::{GlobalValue, Item, Name, Procedure, WrittenResult};
 
 /// What a call has to know of a procedure: the types of its parameters, and the type of its value, if it gives one.
@@ -28,7 +29,7 @@ pub struct CodeSignature {
 /// What the names of the top level stand for, how many items there are of each kind, and the signatures of the procedures.
 #[derive(Drop)]
 pub struct TopNames {
-    pub names: IndexMap<String, Meaning>,
+    pub names: Names,
     pub channels: u32,
     pub exceptions: u32,
     pub globals: u32,
@@ -109,14 +110,14 @@ impl TopNames {
     fn declare_built_in(alloc: Global) -> Result<TopNames, NameFault>
         ensures { Resolves top_view result (give built_in) }
     {
-        let mut names = IndexMap::new(alloc);
+        let mut names = BTreeMap::new(alloc);
         insert(alloc, &mut names, ARITH_NAME, Meaning::Exception(ARITH))?;
         insert(alloc, &mut names, BOUNDS_NAME, Meaning::Exception(BOUNDS))?;
         insert(alloc, &mut names, END_NAME, Meaning::Exception(END))?;
         Ok(TopNames {
             names,
             channels: 0,
-            exceptions: 3,
+            exceptions: BUILT_IN,
             globals: 0,
             signatures: Vec::new(alloc),
         })
@@ -124,7 +125,7 @@ impl TopNames {
 
     /// What the name of the next item stands for.
     fn meaning_of(&self, item: &Item) -> Meaning
-        requires { length self.now.signatures.items < most_nodes + 3 }
+        requires { length self.now.signatures.items < most_nodes + BUILT_IN }
         ensures { result ≡ item_meaning (top_view self.now) (item_tree item.now) }
     {
         match item {
@@ -141,7 +142,7 @@ impl TopNames {
     #[tactic(auto, unfolding(crate::specs::Resolution::next_name))]
     fn add(&mut self, alloc: Global, item: &Item) -> Result<(), NameFault>
         requires room { self.old.channels + self.old.exceptions + self.old.globals +
-            length self.old.signatures.items < most_nodes + 3 }
+            length self.old.signatures.items < most_nodes + BUILT_IN }
         ensures made { Resolves (λ _. top_view self.new) result
             (next_name (top_view self.old) (item_tree item.now)) }
         ensures grows { OnOk result

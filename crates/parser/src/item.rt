@@ -19,7 +19,8 @@ use syntax::{
 impl<'a> Parser<'a> {
     #[tactic(auto, unfolding(syntax::specs::Grammar::negative_constant, crate::specs::Reading::read))]
     fn parse_negative_constant(&mut self) -> Result<Constant, ParseFault>
-        ensures { (room : ℕ) → IsRead constant_tree result self.new.rest.now (read room negative_constant (terminals_of self.old.rest.now)) }
+        ensures { (room : ℕ) → IsRead constant_tree result self.new.rest.now
+            (read room negative_constant (terminals_of self.old.rest.now)) }
     {
         let token = self.expect(Kind::Minus)?;
         let (_, value) = self.parse_integer()?;
@@ -32,7 +33,8 @@ impl<'a> Parser<'a> {
 
     #[tactic(auto, using(crate::proofs::Items::constant_reads))]
     fn parse_constant(&mut self) -> Result<Constant, ParseFault>
-        ensures { (room : ℕ) → IsRead constant_tree result self.new.rest.now (read room constant (terminals_of self.old.rest.now)) }
+        ensures { (room : ℕ) → IsRead constant_tree result self.new.rest.now
+            (read room constant (terminals_of self.old.rest.now)) }
     {
         match self.kind() {
             Kind::Minus => self.parse_negative_constant(),
@@ -64,7 +66,8 @@ impl<'a> Parser<'a> {
 
     #[tactic(auto, unfolding(crate::specs::Reading::read))]
     fn parse_assigned_constant(&mut self) -> Result<Constant, ParseFault>
-        ensures { (room : ℕ) → IsRead constant_tree result self.new.rest.now (read room (Assign ▸ constant) (terminals_of self.old.rest.now)) }
+        ensures { (room : ℕ) → IsRead constant_tree result self.new.rest.now
+            (read room (Assign ▸ constant) (terminals_of self.old.rest.now)) }
     {
         self.expect(Kind::Assign)?;
         self.parse_constant()
@@ -72,7 +75,8 @@ impl<'a> Parser<'a> {
 
     #[tactic(auto, using(crate::proofs::Items::global_value_reads))]
     fn parse_global_value(&mut self) -> Result<GlobalValue, ParseFault>
-        ensures { (room : ℕ) → IsRead global_value_tree result self.new.rest.now (read room global_value (terminals_of self.old.rest.now)) }
+        ensures { (room : ℕ) → IsRead global_value_tree result self.new.rest.now
+            (read room global_value (terminals_of self.old.rest.now)) }
     {
         match self.kind() {
             Kind::Assign => {
@@ -88,7 +92,8 @@ impl<'a> Parser<'a> {
 
     #[tactic(auto, unfolding(syntax::specs::Grammar::global, crate::specs::Reading::read))]
     fn parse_global(&mut self) -> Result<Item, ParseFault>
-        ensures { (room : ℕ) → IsRead item_tree result self.new.rest.now (read room global (terminals_of self.old.rest.now)) }
+        ensures { (room : ℕ) → IsRead item_tree result self.new.rest.now
+            (read room global (terminals_of self.old.rest.now)) }
     {
         let token = self.expect(Kind::Global)?;
         let (_, base) = self.parse_base()?;
@@ -107,7 +112,8 @@ impl<'a> Parser<'a> {
 
     #[tactic(auto, unfolding(syntax::specs::Grammar::exception, crate::specs::Reading::read))]
     fn parse_exception(&mut self) -> Result<Item, ParseFault>
-        ensures { (room : ℕ) → IsRead item_tree result self.new.rest.now (read room exception (terminals_of self.old.rest.now)) }
+        ensures { (room : ℕ) → IsRead item_tree result self.new.rest.now
+            (read room exception (terminals_of self.old.rest.now)) }
     {
         let token = self.expect(Kind::Exception)?;
         let name = self.parse_name()?;
@@ -120,7 +126,8 @@ impl<'a> Parser<'a> {
 
     #[tactic(auto, using(crate::proofs::Items::direction_reads))]
     fn parse_direction(&mut self) -> Result<(usize, Direction), ParseFault>
-        ensures { (room : ℕ) → IsRead (λ found. (found.0, found.1)) result self.new.rest.now (read room direction (terminals_of self.old.rest.now)) }
+        ensures { (room : ℕ) → IsRead (λ found. (found.0, found.1)) result self.new.rest.now
+            (read room direction (terminals_of self.old.rest.now)) }
     {
         match self.kind() {
             Kind::Input => {
@@ -137,7 +144,8 @@ impl<'a> Parser<'a> {
 
     #[tactic(auto, unfolding(syntax::specs::Grammar::channel, crate::specs::Reading::read))]
     fn parse_channel(&mut self) -> Result<Item, ParseFault>
-        ensures { (room : ℕ) → IsRead item_tree result self.new.rest.now (read room channel (terminals_of self.old.rest.now)) }
+        ensures { (room : ℕ) → IsRead item_tree result self.new.rest.now
+            (read room channel (terminals_of self.old.rest.now)) }
     {
         let (at, direction) = self.parse_direction()?;
         let label = self.parse_label()?;
@@ -153,7 +161,8 @@ impl<'a> Parser<'a> {
 
     #[tactic(auto, unfolding(syntax::specs::Grammar::valued, crate::specs::Reading::read))]
     fn parse_valued_result(&mut self) -> Result<(usize, WrittenResult), ParseFault>
-        ensures { (room : ℕ) → IsRead (λ found. (found.0, written_result_tree found.1)) result self.new.rest.now (read room valued (terminals_of self.old.rest.now)) }
+        ensures { (room : ℕ) → IsRead (λ found. (found.0, written_result_tree found.1)) result
+            self.new.rest.now (read room valued (terminals_of self.old.rest.now)) }
     {
         let (at, base) = self.parse_base()?;
         let label = self.parse_label()?;
@@ -162,7 +171,8 @@ impl<'a> Parser<'a> {
 
     #[tactic(auto, using(crate::proofs::Items::written_result_reads))]
     fn parse_result(&mut self) -> Result<(usize, WrittenResult), ParseFault>
-        ensures { (room : ℕ) → IsRead (λ found. (found.0, written_result_tree found.1)) result self.new.rest.now (read room written_result (terminals_of self.old.rest.now)) }
+        ensures { (room : ℕ) → IsRead (λ found. (found.0, written_result_tree found.1)) result
+            self.new.rest.now (read room written_result (terminals_of self.old.rest.now)) }
     {
         match self.kind() {
             Kind::Void => {
@@ -175,7 +185,8 @@ impl<'a> Parser<'a> {
 
     #[tactic(auto, unfolding(syntax::specs::Grammar::parameter, crate::specs::Reading::read))]
     fn parse_parameter(&mut self) -> Result<Parameter, ParseFault>
-        ensures { (room : ℕ) → IsRead parameter_tree result self.new.rest.now (read room parameter (terminals_of self.old.rest.now)) }
+        ensures { (room : ℕ) → IsRead parameter_tree result self.new.rest.now
+            (read room parameter (terminals_of self.old.rest.now)) }
     {
         let (at, base) = self.parse_base()?;
         let label = self.parse_label()?;
@@ -190,14 +201,17 @@ impl<'a> Parser<'a> {
 
     #[tactic(auto, unfolding(crate::specs::Reading::read))]
     fn parse_another_parameter(&mut self) -> Result<Parameter, ParseFault>
-        ensures { (room : ℕ) → IsRead parameter_tree result self.new.rest.now (read room (Comma ▸ parameter) (terminals_of self.old.rest.now)) }
+        ensures { (room : ℕ) → IsRead parameter_tree result self.new.rest.now
+            (read room (Comma ▸ parameter) (terminals_of self.old.rest.now)) }
     {
         self.expect(Kind::Comma)?;
         self.parse_parameter()
     }
 
     fn parse_some_parameters(&mut self) -> Result<Vec<Parameter>, ParseFault>
-        ensures { (room : ℕ) → IsRead (λ parameters. map parameter_tree parameters.items) result self.new.rest.now (read room (separated Comma parameter) (terminals_of self.old.rest.now)) }
+        ensures { (room : ℕ) → IsRead (λ parameters. map parameter_tree parameters.items) result
+            self.new.rest.now (read room (separated Comma parameter)
+            (terminals_of self.old.rest.now)) }
     {
         let mut parameters = Vec::new(self.alloc);
         let first = self.parse_parameter()?;
@@ -211,7 +225,8 @@ impl<'a> Parser<'a> {
 
     #[tactic(auto, using(crate::proofs::Items::parameters_reads))]
     fn parse_parameters(&mut self) -> Result<Vec<Parameter>, ParseFault>
-        ensures { (room : ℕ) → IsRead (λ parameters. map parameter_tree parameters.items) result self.new.rest.now (read room parameters (terminals_of self.old.rest.now)) }
+        ensures { (room : ℕ) → IsRead (λ parameters. map parameter_tree parameters.items) result
+            self.new.rest.now (read room parameters (terminals_of self.old.rest.now)) }
     {
         match self.kind() {
             Kind::Int | Kind::Boolean => self.parse_some_parameters(),
@@ -221,7 +236,8 @@ impl<'a> Parser<'a> {
 
     #[tactic(auto, unfolding(crate::specs::Reading::read))]
     fn parse_label_behind_colon(&mut self) -> Result<WrittenLabel, ParseFault>
-        ensures { (room : ℕ) → IsRead label_tree result self.new.rest.now (read room (Colon ▸ label) (terminals_of self.old.rest.now)) }
+        ensures { (room : ℕ) → IsRead label_tree result self.new.rest.now (read room (Colon ▸ label)
+            (terminals_of self.old.rest.now)) }
     {
         self.expect(Kind::Colon)?;
         self.parse_label()
@@ -229,7 +245,8 @@ impl<'a> Parser<'a> {
 
     #[tactic(auto, using(crate::proofs::Items::end_label_reads))]
     fn parse_end_label(&mut self) -> Result<Option<WrittenLabel>, ParseFault>
-        ensures { (room : ℕ) → IsRead optional_label_tree result self.new.rest.now (read room end_label (terminals_of self.old.rest.now)) }
+        ensures { (room : ℕ) → IsRead optional_label_tree result self.new.rest.now
+            (read room end_label (terminals_of self.old.rest.now)) }
     {
         if self.is_at(Kind::Colon) {
             let label = self.parse_label_behind_colon()?;
@@ -240,7 +257,8 @@ impl<'a> Parser<'a> {
 
     #[tactic(auto, unfolding(syntax::specs::Grammar::thrown, crate::specs::Reading::read))]
     fn parse_thrown(&mut self) -> Result<Thrown, ParseFault>
-        ensures { (room : ℕ) → IsRead thrown_tree result self.new.rest.now (read room thrown (terminals_of self.old.rest.now)) }
+        ensures { (room : ℕ) → IsRead thrown_tree result self.new.rest.now
+            (read room thrown (terminals_of self.old.rest.now)) }
     {
         let name = self.parse_name()?;
         let label = self.parse_label()?;
@@ -249,14 +267,16 @@ impl<'a> Parser<'a> {
 
     #[tactic(auto, unfolding(crate::specs::Reading::read))]
     fn parse_another_thrown(&mut self) -> Result<Thrown, ParseFault>
-        ensures { (room : ℕ) → IsRead thrown_tree result self.new.rest.now (read room (Comma ▸ thrown) (terminals_of self.old.rest.now)) }
+        ensures { (room : ℕ) → IsRead thrown_tree result self.new.rest.now
+            (read room (Comma ▸ thrown) (terminals_of self.old.rest.now)) }
     {
         self.expect(Kind::Comma)?;
         self.parse_thrown()
     }
 
     fn parse_thrown_list(&mut self) -> Result<Vec<Thrown>, ParseFault>
-        ensures { (room : ℕ) → IsRead (λ list. map thrown_tree list.items) result self.new.rest.now (read room thrown_list (terminals_of self.old.rest.now)) }
+        ensures { (room : ℕ) → IsRead (λ list. map thrown_tree list.items) result self.new.rest.now
+            (read room thrown_list (terminals_of self.old.rest.now)) }
     {
         let mut list = Vec::new(self.alloc);
         let first = self.parse_thrown()?;
@@ -270,7 +290,8 @@ impl<'a> Parser<'a> {
 
     #[tactic(auto, unfolding(syntax::specs::Grammar::some_throws, crate::specs::Reading::read))]
     fn parse_some_throws(&mut self) -> Result<Vec<Thrown>, ParseFault>
-        ensures { (room : ℕ) → IsRead (λ list. map thrown_tree list.items) result self.new.rest.now (read room some_throws (terminals_of self.old.rest.now)) }
+        ensures { (room : ℕ) → IsRead (λ list. map thrown_tree list.items) result self.new.rest.now
+            (read room some_throws (terminals_of self.old.rest.now)) }
     {
         self.expect(Kind::Throws)?;
         self.expect(Kind::OpenParenthesis)?;
@@ -281,7 +302,8 @@ impl<'a> Parser<'a> {
 
     #[tactic(auto, using(crate::proofs::Items::throws_reads))]
     fn parse_throws(&mut self) -> Result<Vec<Thrown>, ParseFault>
-        ensures { (room : ℕ) → IsRead (λ list. map thrown_tree list.items) result self.new.rest.now (read room throws (terminals_of self.old.rest.now)) }
+        ensures { (room : ℕ) → IsRead (λ list. map thrown_tree list.items) result self.new.rest.now
+            (read room throws (terminals_of self.old.rest.now)) }
     {
         if self.is_at(Kind::Throws) {
             return self.parse_some_throws();
@@ -291,7 +313,8 @@ impl<'a> Parser<'a> {
 
     #[tactic(auto, unfolding(syntax::specs::Grammar::procedure, crate::specs::Reading::read))]
     fn parse_procedure(&mut self) -> Result<Item, ParseFault>
-        ensures { IsRead item_tree result self.new.rest.now (read MAX_LEVELS procedure (terminals_of self.old.rest.now)) }
+        ensures { IsRead item_tree result self.new.rest.now (read MAX_LEVELS procedure
+            (terminals_of self.old.rest.now)) }
     {
         let (at, result) = self.parse_result()?;
         let name = self.parse_name()?;
@@ -316,7 +339,8 @@ impl<'a> Parser<'a> {
 
     #[tactic(auto, using(crate::proofs::Items::item_reads))]
     fn parse_item(&mut self) -> Result<Item, ParseFault>
-        ensures { IsRead item_tree result self.new.rest.now (read MAX_LEVELS item (terminals_of self.old.rest.now)) }
+        ensures { IsRead item_tree result self.new.rest.now
+            (read MAX_LEVELS item (terminals_of self.old.rest.now)) }
     {
         match self.kind() {
             Kind::Input | Kind::Output => self.parse_channel(),

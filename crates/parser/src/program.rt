@@ -21,7 +21,8 @@ impl<'a> Parser<'a> {
     /// The items of a program, up to the end marker.
     #[tactic(auto, unfolding(syntax::specs::Grammar::program, crate::specs::Reading::read))]
     fn parse_program(&mut self) -> Result<Vec<Item>, ParseFault>
-        ensures { IsRead (λ list. program_tree list.items) result self.new.rest.now (read MAX_LEVELS program (terminals_of self.old.rest.now)) }
+        ensures { IsRead (λ list. program_tree list.items) result self.new.rest.now
+            (read MAX_LEVELS program (terminals_of self.old.rest.now)) }
     {
         let items = self.parse_items()?;
         self.expect(Kind::End)?;

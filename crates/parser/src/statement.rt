@@ -32,7 +32,8 @@ pub enum Behind {
 impl<'a> Parser<'a> {
     #[tactic(auto, unfolding(crate::specs::Reading::read))]
     fn parse_another_expression(&mut self, room: u32) -> Result<Expression, ParseFault>
-        ensures { IsRead expression_tree result self.new.rest.now (read room (Comma ▸ expression) (terminals_of self.old.rest.now)) }
+        ensures { IsRead expression_tree result self.new.rest.now (read room (Comma ▸ expression)
+            (terminals_of self.old.rest.now)) }
     {
         self.expect(Kind::Comma)?;
         self.parse_expression(room)
@@ -40,7 +41,8 @@ impl<'a> Parser<'a> {
 
     /// One expression or more, with commas between them.
     fn parse_some_expressions(&mut self, room: u32) -> Result<Vec<Expression>, ParseFault>
-        ensures { IsRead (λ list. map expression_tree list.items) result self.new.rest.now (read room (separated Comma expression) (terminals_of self.old.rest.now)) }
+        ensures { IsRead (λ list. map expression_tree list.items) result self.new.rest.now
+            (read room (separated Comma expression) (terminals_of self.old.rest.now)) }
     {
         let mut expressions = Vec::new(self.alloc);
         let first = self.parse_expression(room)?;
@@ -54,7 +56,8 @@ impl<'a> Parser<'a> {
 
     #[tactic(auto, unfolding(syntax::specs::Grammar::condition, crate::specs::Reading::read))]
     fn parse_condition(&mut self, room: u32) -> Result<Expression, ParseFault>
-        ensures { IsRead expression_tree result self.new.rest.now (read room condition (terminals_of self.old.rest.now)) }
+        ensures { IsRead expression_tree result self.new.rest.now
+            (read room condition (terminals_of self.old.rest.now)) }
     {
         self.expect(Kind::OpenParenthesis)?;
         let condition = self.parse_expression(room)?;
@@ -64,7 +67,8 @@ impl<'a> Parser<'a> {
 
     #[tactic(auto, unfolding(syntax::specs::Grammar::receive, crate::specs::Reading::read))]
     fn parse_receive(&mut self) -> Result<Statement, ParseFault>
-        ensures { (room : ℕ) → IsRead statement_tree result self.new.rest.now (read room receive (terminals_of self.old.rest.now)) }
+        ensures { (room : ℕ) → IsRead statement_tree result self.new.rest.now
+            (read room receive (terminals_of self.old.rest.now)) }
     {
         let token = self.expect(Kind::Receive)?;
         let channel = self.parse_name()?;
@@ -77,7 +81,8 @@ impl<'a> Parser<'a> {
 
     #[tactic(auto, unfolding(syntax::specs::Grammar::send, crate::specs::Reading::read))]
     fn parse_send(&mut self, room: u32) -> Result<Statement, ParseFault>
-        ensures { IsRead statement_tree result self.new.rest.now (read room send (terminals_of self.old.rest.now)) }
+        ensures { IsRead statement_tree result self.new.rest.now
+            (read room send (terminals_of self.old.rest.now)) }
     {
         let token = self.expect(Kind::Send)?;
         let channel = self.parse_name()?;
@@ -93,7 +98,8 @@ impl<'a> Parser<'a> {
 
     #[tactic(auto, unfolding(syntax::specs::Grammar::break_statement, crate::specs::Reading::read))]
     fn parse_break(&mut self) -> Result<Statement, ParseFault>
-        ensures { (room : ℕ) → IsRead statement_tree result self.new.rest.now (read room break_statement (terminals_of self.old.rest.now)) }
+        ensures { (room : ℕ) → IsRead statement_tree result self.new.rest.now
+            (read room break_statement (terminals_of self.old.rest.now)) }
     {
         let token = self.expect(Kind::Break)?;
         self.expect(Kind::Semicolon)?;
@@ -104,7 +110,8 @@ impl<'a> Parser<'a> {
 
     #[tactic(auto, unfolding(syntax::specs::Grammar::throw_statement, crate::specs::Reading::read))]
     fn parse_throw(&mut self) -> Result<Statement, ParseFault>
-        ensures { (room : ℕ) → IsRead statement_tree result self.new.rest.now (read room throw_statement (terminals_of self.old.rest.now)) }
+        ensures { (room : ℕ) → IsRead statement_tree result self.new.rest.now
+            (read room throw_statement (terminals_of self.old.rest.now)) }
     {
         let token = self.expect(Kind::Throw)?;
         let exception = self.parse_name()?;
@@ -117,7 +124,8 @@ impl<'a> Parser<'a> {
 
     #[tactic(auto, unfolding(syntax::specs::Grammar::continue_statement, crate::specs::Reading::read))]
     fn parse_continue(&mut self) -> Result<Statement, ParseFault>
-        ensures { (room : ℕ) → IsRead statement_tree result self.new.rest.now (read room continue_statement (terminals_of self.old.rest.now)) }
+        ensures { (room : ℕ) → IsRead statement_tree result self.new.rest.now
+            (read room continue_statement (terminals_of self.old.rest.now)) }
     {
         let token = self.expect(Kind::Continue)?;
         self.expect(Kind::Semicolon)?;
@@ -143,7 +151,8 @@ impl<'a> Parser<'a> {
 
     #[tactic(auto, using(crate::proofs::Blocks::returned_reads))]
     fn parse_returned(&mut self, room: u32) -> Result<Option<Expression>, ParseFault>
-        ensures { IsRead optional_expression_tree result self.new.rest.now (read room returned (terminals_of self.old.rest.now)) }
+        ensures { IsRead optional_expression_tree result self.new.rest.now
+            (read room returned (terminals_of self.old.rest.now)) }
     {
         if self.is_at_expression() {
             let value = self.parse_expression(room)?;
@@ -154,7 +163,8 @@ impl<'a> Parser<'a> {
 
     #[tactic(auto, unfolding(syntax::specs::Grammar::return_statement, crate::specs::Reading::read))]
     fn parse_return(&mut self, room: u32) -> Result<Statement, ParseFault>
-        ensures { IsRead statement_tree result self.new.rest.now (read room return_statement (terminals_of self.old.rest.now)) }
+        ensures { IsRead statement_tree result self.new.rest.now (read room return_statement
+            (terminals_of self.old.rest.now)) }
     {
         let token = self.expect(Kind::Return)?;
         let value = self.parse_returned(room)?;
@@ -204,7 +214,8 @@ impl<'a> Parser<'a> {
     /// Statements up to the first token that begins none.
     #[cycle(statement)]
     fn parse_statements(&mut self, room: u32) -> Result<Vec<Statement>, ParseFault>
-        ensures { IsRead (λ list. map statement_tree list.items) result self.new.rest.now (read room (many statement_read) (terminals_of self.old.rest.now)) }
+        ensures { IsRead (λ list. map statement_tree list.items) result self.new.rest.now
+            (read room (many statement_read) (terminals_of self.old.rest.now)) }
     {
         let mut statements = Vec::new(self.alloc);
         while self.is_at_statement() {
@@ -217,7 +228,8 @@ impl<'a> Parser<'a> {
     #[cycle(statement)]
     #[tactic(auto, unfolding(crate::specs::Reading::read))]
     fn parse_else_block(&mut self, room: u32) -> Result<Block, ParseFault>
-        ensures { IsRead block_tree result self.new.rest.now (read room (Else ▸ block) (terminals_of self.old.rest.now)) }
+        ensures { IsRead block_tree result self.new.rest.now (read room (Else ▸ block)
+            (terminals_of self.old.rest.now)) }
     {
         self.expect(Kind::Else)?;
         self.parse_block(room)
@@ -226,7 +238,8 @@ impl<'a> Parser<'a> {
     #[cycle(statement)]
     #[tactic(auto, using(crate::proofs::Blocks::otherwise_reads))]
     fn parse_otherwise(&mut self, room: u32) -> Result<Option<Block>, ParseFault>
-        ensures { IsRead optional_block_tree result self.new.rest.now (read room otherwise (terminals_of self.old.rest.now)) }
+        ensures { IsRead optional_block_tree result self.new.rest.now
+            (read room otherwise (terminals_of self.old.rest.now)) }
     {
         if self.is_at(Kind::Else) {
             let block = self.parse_else_block(room)?;
@@ -238,7 +251,8 @@ impl<'a> Parser<'a> {
     #[cycle(statement)]
     #[tactic(auto, unfolding(syntax::specs::Grammar::conditional, crate::specs::Reading::read))]
     fn parse_if(&mut self, room: u32) -> Result<Statement, ParseFault>
-        ensures { IsRead statement_tree result self.new.rest.now (read room conditional (terminals_of self.old.rest.now)) }
+        ensures { IsRead statement_tree result self.new.rest.now (read room conditional
+            (terminals_of self.old.rest.now)) }
     {
         let token = self.expect(Kind::If)?;
         let condition = self.parse_condition(room)?;
@@ -250,7 +264,8 @@ impl<'a> Parser<'a> {
     #[cycle(statement)]
     #[tactic(auto, unfolding(syntax::specs::Grammar::while_statement, crate::specs::Reading::read))]
     fn parse_while(&mut self, room: u32) -> Result<Statement, ParseFault>
-        ensures { IsRead statement_tree result self.new.rest.now (read room while_statement (terminals_of self.old.rest.now)) }
+        ensures { IsRead statement_tree result self.new.rest.now (read room while_statement
+            (terminals_of self.old.rest.now)) }
     {
         let token = self.expect(Kind::While)?;
         let condition = self.parse_condition(room)?;
@@ -261,7 +276,8 @@ impl<'a> Parser<'a> {
     #[cycle(statement)]
     #[tactic(auto, unfolding(syntax::specs::Grammar::catch, crate::specs::Reading::read))]
     fn parse_catch(&mut self, room: u32) -> Result<Catch, ParseFault>
-        ensures { IsRead catch_tree result self.new.rest.now (read room catch (terminals_of self.old.rest.now)) }
+        ensures { IsRead catch_tree result self.new.rest.now
+            (read room catch (terminals_of self.old.rest.now)) }
     {
         let token = self.expect(Kind::Catch)?;
         self.expect(Kind::OpenParenthesis)?;
@@ -278,7 +294,8 @@ impl<'a> Parser<'a> {
     /// Handlers, one at least.
     #[cycle(statement)]
     fn parse_catches(&mut self, room: u32) -> Result<Vec<Catch>, ParseFault>
-        ensures { IsRead (λ list. map catch_tree list.items) result self.new.rest.now (read room catches (terminals_of self.old.rest.now)) }
+        ensures { IsRead (λ list. map catch_tree list.items) result self.new.rest.now
+            (read room catches (terminals_of self.old.rest.now)) }
     {
         let mut catches = Vec::new(self.alloc);
         let first = self.parse_catch(room)?;
@@ -293,7 +310,8 @@ impl<'a> Parser<'a> {
     #[cycle(statement)]
     #[tactic(auto, unfolding(syntax::specs::Grammar::attempt, crate::specs::Reading::read))]
     fn parse_try(&mut self, room: u32) -> Result<Statement, ParseFault>
-        ensures { IsRead statement_tree result self.new.rest.now (read room attempt (terminals_of self.old.rest.now)) }
+        ensures { IsRead statement_tree result self.new.rest.now
+            (read room attempt (terminals_of self.old.rest.now)) }
     {
         let token = self.expect(Kind::Try)?;
         let body = self.parse_block(room)?;
@@ -304,7 +322,8 @@ impl<'a> Parser<'a> {
     #[cycle(statement)]
     #[tactic(auto, unfolding(syntax::specs::Grammar::nested, crate::specs::Reading::read))]
     fn parse_nested(&mut self, room: u32) -> Result<Statement, ParseFault>
-        ensures { IsRead statement_tree result self.new.rest.now (read room nested (terminals_of self.old.rest.now)) }
+        ensures { IsRead statement_tree result self.new.rest.now
+            (read room nested (terminals_of self.old.rest.now)) }
     {
         let body = self.parse_block(room)?;
         Ok(Statement::make_nested(body))
@@ -313,7 +332,8 @@ impl<'a> Parser<'a> {
     #[cycle(statement)]
     #[tactic(auto, using(crate::proofs::Blocks::statement_reads))]
     fn parse_statement(&mut self, room: u32) -> Result<Statement, ParseFault>
-        ensures { IsRead statement_tree result self.new.rest.now (read room statement_read (terminals_of self.old.rest.now)) }
+        ensures { IsRead statement_tree result self.new.rest.now (read room statement_read
+            (terminals_of self.old.rest.now)) }
     {
         match self.kind() {
             Kind::Int | Kind::Boolean => self.parse_declaration(room),
@@ -358,7 +378,8 @@ impl<'a> Parser<'a> {
 
     #[tactic(auto, using(crate::proofs::Blocks::expressions_reads))]
     fn parse_expressions(&mut self, room: u32) -> Result<Vec<Expression>, ParseFault>
-        ensures { IsRead (λ list. map expression_tree list.items) result self.new.rest.now (read room expressions (terminals_of self.old.rest.now)) }
+        ensures { IsRead (λ list. map expression_tree list.items) result self.new.rest.now
+            (read room expressions (terminals_of self.old.rest.now)) }
     {
         if self.is_at_expression() {
             return self.parse_some_expressions(room);
@@ -369,7 +390,8 @@ impl<'a> Parser<'a> {
     /// The arguments of a call, in parentheses.
     #[tactic(auto, using(crate::proofs::Blocks::arguments_reads))]
     fn parse_arguments(&mut self, room: u32) -> Result<Vec<Expression>, ParseFault>
-        ensures { IsRead (λ list. map expression_tree list.items) result self.new.rest.now (read room arguments (terminals_of self.old.rest.now)) }
+        ensures { IsRead (λ list. map expression_tree list.items) result self.new.rest.now
+            (read room arguments (terminals_of self.old.rest.now)) }
     {
         self.enter(Kind::OpenParenthesis, room)?;
         let arguments = self.parse_expressions(room - 1)?;
@@ -380,7 +402,9 @@ impl<'a> Parser<'a> {
     /// A right side behind the name that it begins with: a call, or an expression.
     #[tactic(auto)]
     fn parse_right_by_name(&mut self, name: Name, room: u32) -> Result<RightSide, ParseFault>
-        ensures { IsRead right_tree result self.new.rest.now (right_behind room (name_tree name) (is_at OpenParenthesis (terminals_of self.old.rest.now)) (terminals_of self.old.rest.now)) }
+        ensures { IsRead right_tree result self.new.rest.now (right_behind room (name_tree name)
+            (is_at OpenParenthesis (terminals_of self.old.rest.now))
+            (terminals_of self.old.rest.now)) }
     {
         if self.is_at(Kind::OpenParenthesis) {
             let arguments = self.parse_arguments(room)?;
@@ -396,7 +420,8 @@ impl<'a> Parser<'a> {
 
     #[tactic(auto, using(crate::proofs::Rights::right_reads))]
     fn parse_right(&mut self, room: u32) -> Result<RightSide, ParseFault>
-        ensures { IsRead right_tree result self.new.rest.now (read room right_read (terminals_of self.old.rest.now)) }
+        ensures { IsRead right_tree result self.new.rest.now
+            (read room right_read (terminals_of self.old.rest.now)) }
     {
         match self.kind() {
             Kind::Receive => {
@@ -420,7 +445,8 @@ impl<'a> Parser<'a> {
 
     #[tactic(auto, unfolding(crate::specs::Reading::read))]
     fn parse_assigned(&mut self, room: u32) -> Result<RightSide, ParseFault>
-        ensures { IsRead right_tree result self.new.rest.now (read room (Assign ▸ right_read) (terminals_of self.old.rest.now)) }
+        ensures { IsRead right_tree result self.new.rest.now (read room (Assign ▸ right_read)
+            (terminals_of self.old.rest.now)) }
     {
         self.expect(Kind::Assign)?;
         self.parse_right(room)
@@ -429,7 +455,8 @@ impl<'a> Parser<'a> {
     /// What stands behind the name of a local.
     #[tactic(auto, using(crate::proofs::Rights::first_reads))]
     fn parse_first_value(&mut self, room: u32) -> Result<First, ParseFault>
-        ensures { IsRead first_tree result self.new.rest.now (read room first_read (terminals_of self.old.rest.now)) }
+        ensures { IsRead first_tree result self.new.rest.now
+            (read room first_read (terminals_of self.old.rest.now)) }
     {
         match self.kind() {
             Kind::Assign => {
@@ -445,7 +472,8 @@ impl<'a> Parser<'a> {
 
     #[tactic(auto, unfolding(crate::specs::Reading::read, crate::specs::Reading::declare_read, crate::specs::Reading::first_read))]
     fn parse_declaration(&mut self, room: u32) -> Result<Statement, ParseFault>
-        ensures { IsRead statement_tree result self.new.rest.now (read room declare_read (terminals_of self.old.rest.now)) }
+        ensures { IsRead statement_tree result self.new.rest.now (read room declare_read
+            (terminals_of self.old.rest.now)) }
     {
         let (at, base) = self.parse_base()?;
         let label = self.parse_optional_label()?;
@@ -472,7 +500,9 @@ impl<'a> Parser<'a> {
 
     #[tactic(auto, unfolding(crate::specs::Reading::read))]
     fn parse_element(&mut self, room: u32) -> Result<(Expression, Expression), ParseFault>
-        ensures { IsRead (λ pair. AtIndexTree (expression_tree pair.0) (expression_tree pair.1)) result self.new.rest.now (read room (index ◂ Assign · expression gives λ pair. AtIndexTree pair.0 pair.1) (terminals_of self.old.rest.now)) }
+        ensures { IsRead (λ pair. AtIndexTree (expression_tree pair.0) (expression_tree pair.1))
+            result self.new.rest.now (read room (index ◂ Assign · expression gives λ pair.
+            AtIndexTree pair.0 pair.1) (terminals_of self.old.rest.now)) }
     {
         let index = self.parse_index(room)?;
         self.expect(Kind::Assign)?;
@@ -483,7 +513,8 @@ impl<'a> Parser<'a> {
     /// What stands behind the name that a statement begins with.
     #[tactic(auto, using(crate::proofs::Rights::behind_reads))]
     fn parse_behind_name(&mut self, room: u32) -> Result<Behind, ParseFault>
-        ensures { IsRead behind_tree result self.new.rest.now (read room behind_read (terminals_of self.old.rest.now)) }
+        ensures { IsRead behind_tree result self.new.rest.now (read room behind_read
+            (terminals_of self.old.rest.now)) }
     {
         match self.kind() {
             Kind::Assign => {
@@ -503,7 +534,8 @@ impl<'a> Parser<'a> {
 
     #[tactic(auto, unfolding(crate::specs::Reading::read, crate::specs::Reading::named_read, crate::specs::Reading::behind_read))]
     fn parse_named(&mut self, room: u32) -> Result<Statement, ParseFault>
-        ensures { IsRead statement_tree result self.new.rest.now (read room named_read (terminals_of self.old.rest.now)) }
+        ensures { IsRead statement_tree result self.new.rest.now
+            (read room named_read (terminals_of self.old.rest.now)) }
     {
         let name = self.parse_name()?;
         let behind = self.parse_behind_name(room)?;

@@ -1,15 +1,13 @@
 -- What a walk finds of each form of statement, from what it finds of the blocks in it.
-use Rattle.std.proofs.Common.{◌≡◌, sym, ap, ◌∙◌, subst, ℕ, List, [], ◌∷◌, ◌++◌, Bool, false, ◌||◌, filter, drop, get_or, length, ◌<◌, suc, ◌+◌}
+use Rattle.std.proofs.Common.{◌≡◌, sym, ap, ◌∙◌, subst, ℕ, List, [], ◌∷◌, ◌++◌, Bool, false, ◌||◌, filter, length}
 use Rattle.std.specs.Prelude.{◌==◌, Option, Some, None, Vec}
 use Rattle.std.specs.declared.alloc.Global.{Global}
-use Rattle.std.proofs.Math.Seq.{drop-cons}
-use Rattle.std.proofs.Math.Numerals.{add-one}
 use Rattle.resolved.specs.declared.expression.Expression as E
 use Rattle.resolved.specs.declared.statement.Statement as S
 use Rattle.resolved.specs.declared.statement.Handler.{Handler}
 use Rattle.resolved.specs.declared.statement.Exit.{Exit}
 use Rattle.resolved.specs.declared.statement.Exit.TheVariants.{Normal, Return}
-use Rattle.resolved.specs.Tree.{Expression, Statement, If, While, Try, Nested, ReturnWith, Block, Then, Handlers, Catch}
+use Rattle.resolved.specs.Tree.{Expression, Statement, If, While, Try, Nested, ReturnWith, Block, Handlers}
 use Rattle.resolved.specs.TreeOf.{expression_of, statement_of, block_of, handlers_of}
 use Rattle.resolved.proofs.Views.{at_if, at_while, at_try, at_nested}
 use Rattle.resolved.specs.Program.{Program}
@@ -129,18 +127,3 @@ module _ (program : Program) (at : ℕ) (block : Block) (handlers : Handlers) (e
       (second ∙ ap (λ v. join v y) first)
       (try-found (block_ends program block) (handlers_ends program handlers) handlers (block_paths program block) (handlers_paths program handlers)
       e0 e1 e2 none i1 i2 r0 r1 r2 x y k empty tried handled left united summary)
-
--- the next statement of a block, and the next handler
-pub next-statement : (block : List S.Statement) (i : ℕ) (statement : S.Statement) → i < length block → statement ≡ get_or block i statement
-    → block_of (drop i block) ≡ Then (statement_of statement) (block_of (drop (i + 1) block))
-next-statement block i statement inside is =
-    ap block_of (drop-cons block i statement inside ∙ ap (λ s. s ∷ drop (suc i) block) (sym is))
-    ∙ ap (λ n. Then (statement_of statement) (block_of (drop n block))) (sym (add-one i))
-
-pub next-handler : (handlers : List Handler) (i : ℕ) (handler : Handler) (body : List S.Statement) → i < length handlers → handler ≡ get_or handlers i handler
-    → body ≡ handler.body.items
-    → handlers_of (drop i handlers) ≡ Catch handler.at handler.exception (block_of body) (handlers_of (drop (i + 1) handlers))
-next-handler handlers i handler body inside is lent =
-    ap handlers_of (drop-cons handlers i handler inside ∙ ap (λ h. h ∷ drop (suc i) handlers) (sym is))
-    ∙ ap (λ n. Catch handler.at handler.exception (block_of handler.body.items) (handlers_of (drop n handlers))) (sym (add-one i))
-    ∙ ap (λ list. Catch handler.at handler.exception (block_of list) (handlers_of (drop (i + 1) handlers))) (sym lent)

@@ -6,7 +6,8 @@ use Rattle.std.proofs.lemmas.List.{map-append, take_more, take-append-drop}
 use Rattle.std.proofs.Math.ListN.{drop_of_length-le}
 use Rattle.std.proofs.Math.Seq.{drop-cons}
 use Rattle.std.proofs.Math.Numerals.{add-one}
-use Rattle.std.proofs.lemmas.Bool.{eqb-true, and_parts}
+use Rattle.std.proofs.lemmas.Bool.{and_parts}
+use Rattle.std.proofs.Math.Bool.{or-true, or-false}
 use Rattle.resolved.specs.declared.statement.Exit.{Exit}
 use Rattle.resolved.specs.declared.statement.Exit.TheVariants.{Normal, Return, Break, Continue, Throw}
 use Rattle.resolved.specs.declared.statement.Statement as S
@@ -31,16 +32,9 @@ use Rattle.path_map.specs.Joins.{join_raised}
 use Rattle.path_map.specs.Paths.{block_paths}
 use Rattle.path_map.specs.Sets.{AreDeclared, is_one_of, row_has, throws}
 use Rattle.path_map.specs.Walks.{IsFound}
-use Rattle.path_map.proofs.Summary.{same-number, or-true, or-false, any-append, raised-append, throws-thrown}
+use Rattle.path_map.proofs.Summary.{same-number, any-append, raised-append, throws-thrown}
 use Rattle.path_map.proofs.Walking.{first-left}
-
-same-is : (x y : Exit) → same_exit x y ≡ true → x ≡ y
-same-is Normal Normal e = refl
-same-is Return Return e = refl
-same-is Break Break e = refl
-same-is Continue Continue e = refl
-same-is (Throw a) (Throw b) e = ap Throw (eqb-true a b e)
-same-is _ _ e = absurd (let no : false ≡ true = e in cc)
+use Rattle.resolved.proofs.Exits.{same-exit}
 
 -- what all ends are, one of them is
 one-of-all : (f : Exit → Bool) (ends : List Exit) (x : Exit) → has_end ends x ≡ true → list_all f ends ≡ true → f x ≡ true
@@ -50,7 +44,7 @@ one-of-all f (y ∷ ends) x there all =
     go (same_exit x y) refl parts.0 (λ more. one-of-all f ends x more parts.1)
   where
     go : (b : Bool) → same_exit x y ≡ b → f y ≡ true → (has_end ends x ≡ true → f x ≡ true) → f x ≡ true
-    go true e here more = ap f (same-is x y e) ∙ here
+    go true e here more = ap f (same-exit x y e) ∙ here
     go false e here more = more (rw e at there)
 
 not-all : (f : Exit → Bool) (ends : List Exit) (x : Exit) → has_end ends x ≡ true → f x ≡ false → list_all f ends ≡ false

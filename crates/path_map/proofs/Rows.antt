@@ -1,5 +1,5 @@
 -- Rows of bits: one bit set, one cleared, two rows put together; and literals.
-use Rattle.std.proofs.Common.{◌≡◌, ◌≢◌, refl, sym, ap, ◌∙◌, ℕ, zero, suc, ◌+◌, ◌-◌, ◌*◌, ◌/◌, ◌%◌, ◌^◌, ◌<◌, ◌≤◌, max, List, Bool, true, false, not, ◌&&◌, ◌||◌, length, set, get_or, take, nat_eq, ltb, arith, rules, inl, inr}
+use Rattle.std.proofs.Common.{◌≡◌, ◌≢◌, refl, sym, ap, ◌∙◌, ℕ, zero, suc, ◌+◌, ◌-◌, ◌*◌, ◌/◌, ◌%◌, ◌^◌, ◌<◌, ◌≤◌, max, List, [], ◌∷◌, ◌++◌, replicate, Bool, true, false, not, ◌&&◌, ◌||◌, length, set, get_or, take, nat_eq, ltb, arith, rules, inl, inr}
 use Rattle.std.specs.Prelude.{◌==◌, pos, negsuc, if◌then◌else◌}
 use Rattle.std.specs.Int.{bit_at, int_wrap, bit_not, trailing_zeros}
 use mir.Val.{to_z}
@@ -11,12 +11,12 @@ use Rattle.std.proofs.lemmas.Int.{int_wrap_fits}
 use Rattle.std.proofs.lemmas.Nat.Bits.{bit_at_set_same, bit_at_set_other, bit_at_clear_same, bit_at_clear_other, bit_at_or, bit_at-lt, bit_at-zero, bit_at-trailing_zeros, and_pow}
 use Rattle.std.proofs.lemmas.List.{get_or-set_same, get_or-set_other, get_or_past, get_or-take, length-take}
 use Rattle.std.proofs.lemmas.Bool.{eqb-true, eqb-false, eq-eqb, ne_eqb, ltb-true, ltb-false, and_parts, or_cases, cases_eq}
+use Rattle.std.proofs.Math.Bool.{or-true, or-false}
 use mir.Syntax.{w32, w64}
 use Rattle.path_map.specs.declared.exits.Raised.{Raised}
 use Rattle.path_map.specs.declared.exits.Raised.TheVariants.{Nothing, One, Several}
 use Rattle.path_map.specs.Joins.{join_raised}
 use Rattle.path_map.specs.Sets.{row_has, word_has, HasTwo, HasOnly, IsSummaryOf}
-use Rattle.path_map.proofs.Summary.{or-true, or-false}
 
 -- a row in which one word was written
 write-same : (words : List ℕ) (e other v : ℕ) → e / 64 < length words → other / 64 ≡ e / 64
@@ -329,3 +329,11 @@ large-literal n large fits =
     let k : ℕ = 4294967295 - n in
     let is : n % 4294967296 ≡ 4294967296 - suc k = omega arith in
     ap (λ m. to_z w32 m) is ∙ to_z-neg w32 k (omega arith)
+
+-- zeros behind a list are read as what is past its end
+pub zeros_behind : (xs : List ℕ) (n i : ℕ) → get_or (xs ++ replicate n 0) i 0 ≡ get_or xs i 0
+zeros_behind [] zero i = refl
+zeros_behind [] (suc n) zero = refl
+zeros_behind [] (suc n) (suc i) = zeros_behind [] n i
+zeros_behind (x ∷ xs) n zero = refl
+zeros_behind (x ∷ xs) n (suc i) = zeros_behind xs n i

@@ -3,6 +3,7 @@ use Rattle.std.proofs.Common.{◌≡◌, ◌≢◌, refl, sym, ap, ◌∙◌, �
 use Rattle.std.specs.Prelude.{◌==◌, if◌then◌else◌}
 use Rattle.std.specs.List.{list_all, list_any}
 use Rattle.std.proofs.lemmas.Bool.{eqb-true, eqb-false, eq-eqb, and_parts}
+use Rattle.std.proofs.Math.Bool.{or-true, or-false, and-false, or_assoc, and_assoc}
 use Rattle.resolved.specs.declared.statement.Exit.{Exit}
 use Rattle.resolved.specs.declared.statement.Exit.TheVariants.{Normal, Return, Break, Continue, Throw}
 use Rattle.resolved.specs.Tree.{Handlers}
@@ -14,30 +15,9 @@ use Rattle.path_map.specs.Exits.{thrown_in, raised_by, exits_of}
 use Rattle.path_map.specs.Joins.{join_raised, join, after, only_raised, of_loop}
 use Rattle.path_map.specs.Sets.{is_one_of, IsSummaryOf, throws}
 
--- tests of Booleans
-pub or-assoc : (a b c : Bool) → ((a || b) || c) ≡ (a || (b || c))
-or-assoc true b c = refl
-or-assoc false b c = refl
-
-pub and-assoc : (a b c : Bool) → ((a && b) && c) ≡ (a && (b && c))
-and-assoc true b c = refl
-and-assoc false b c = refl
-
-pub or-false : (a : Bool) → (a || false) ≡ a
-or-false true = refl
-or-false false = refl
-
-pub or-true : (a : Bool) → (a || true) ≡ true
-or-true true = refl
-or-true false = refl
-
 pub or-same : (a : Bool) → (a || a) ≡ a
 or-same true = refl
 or-same false = refl
-
-pub and-false : (b : Bool) → (b && false) ≡ false
-and-false true = refl
-and-false false = refl
 
 pub same-number : (n : ℕ) → (n == n) ≡ true
 same-number n = eq-eqb n n refl
@@ -45,11 +25,11 @@ same-number n = eq-eqb n n refl
 -- tests of lists that are put together
 pub any-append : {A : Type 0} (f : A → Bool) (xs ys : List A) → list_any f (xs ++ ys) ≡ (list_any f xs || list_any f ys)
 any-append f [] ys = refl
-any-append f (x ∷ xs) ys = ap (λ b. f x || b) (any-append f xs ys) ∙ sym (or-assoc (f x) (list_any f xs) (list_any f ys))
+any-append f (x ∷ xs) ys = ap (λ b. f x || b) (any-append f xs ys) ∙ sym (or_assoc (f x) (list_any f xs) (list_any f ys))
 
 pub all-append : {A : Type 0} (f : A → Bool) (xs ys : List A) → list_all f (xs ++ ys) ≡ (list_all f xs && list_all f ys)
 all-append f [] ys = refl
-all-append f (x ∷ xs) ys = ap (λ b. f x && b) (all-append f xs ys) ∙ sym (and-assoc (f x) (list_all f xs) (list_all f ys))
+all-append f (x ∷ xs) ys = ap (λ b. f x && b) (all-append f xs ys) ∙ sym (and_assoc (f x) (list_all f xs) (list_all f ys))
 
 pub thrown-append : (xs ys : List Exit) → thrown_in (xs ++ ys) ≡ thrown_in xs ++ thrown_in ys
 thrown-append [] ys = refl
@@ -241,10 +221,10 @@ join-assoc a b c =
 pub exits-assoc : (a b c : Exits) → join (join a b) c ≡ join a (join b c)
 exits-assoc a b c =
     rw (
-      or-assoc a.normal b.normal c.normal,
-      or-assoc a.returns b.returns c.returns,
-      or-assoc a.breaks b.breaks c.breaks,
-      or-assoc a.continues b.continues c.continues,
+      or_assoc a.normal b.normal c.normal,
+      or_assoc a.returns b.returns c.returns,
+      or_assoc a.breaks b.breaks c.breaks,
+      or_assoc a.continues b.continues c.continues,
       join-assoc a.raised b.raised c.raised,
     ) refl
 

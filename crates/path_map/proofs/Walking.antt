@@ -3,6 +3,7 @@ use Rattle.std.proofs.Common.{◌≡◌, refl, sym, ap, ◌∙◌, subst, ℕ, �
 use Rattle.std.specs.Prelude.{◌==◌}
 use Rattle.std.proofs.lemmas.Bool.{eqb-true, eqb-false, eq-eqb, ne_eqb}
 use Rattle.std.proofs.lemmas.List.{map-append, length-append}
+use Rattle.std.proofs.Math.Bool.{or-false, and-false, or_assoc}
 use Rattle.resolved.specs.declared.statement.Exit.{Exit}
 use Rattle.resolved.specs.declared.statement.Exit.TheVariants.{Normal, Return, Break, Continue, Throw}
 use Rattle.resolved.specs.Tree.{Statement, Block, Empty, Then, Handlers, NoMore, Catch, place_of}
@@ -23,13 +24,13 @@ use Rattle.path_map.specs.Joins.{join, join_raised, after, only_raised, of_loop}
 use Rattle.path_map.specs.Paths.{statement_paths, block_paths, rest_paths, handlers_paths}
 use Rattle.path_map.specs.Sets.{row_has, IsSum, IsSummaryOf, is_one_of, throws}
 use Rattle.path_map.specs.Walks.{IsFound, AreThrown, AreLeft}
-use Rattle.path_map.proofs.Summary.{or-assoc, or-false, any-append, exits-append, exits-assoc, exits-then, throws-then, after-assoc, after-normal, and-false, join-none, loop-summary, loop-throws, exits-pass, throws-pass, throws-in, throws-thrown, exits-thrown, raised-same, raised-append, summary-is}
+use Rattle.path_map.proofs.Summary.{any-append, exits-append, exits-assoc, exits-then, throws-then, after-assoc, after-normal, join-none, loop-summary, loop-throws, exits-pass, throws-pass, throws-in, throws-thrown, exits-thrown, raised-same, raised-append, summary-is}
 
 -- sums of sets
 pub sum-then : (a b c : List ℕ) (f g h : ℕ → Bool) → IsSum a f b → IsSum b g c → ((e : ℕ) → h e ≡ (f e || g e)) → IsSum a h c
 sum-then a b c f g h first second each = record {
   has = λ e.
-      second.has e ∙ ap (λ x. x || g e) (first.has e) ∙ or-assoc (row_has a e) (f e) (g e)
+      second.has e ∙ ap (λ x. x || g e) (first.has e) ∙ or_assoc (row_has a e) (f e) (g e)
       ∙ ap (λ x. row_has a e || x) (sym (each e));
 }
 
@@ -195,7 +196,7 @@ module _ (program : Program) (in_loop : Bool) (block : Block) (old : List Exits)
           raised = λ e.
               ap (λ b. row_has more e || (b && throws rest e)) goes_on
               ∙ ap (λ b. b || (has_end ends Normal && throws rest e)) (piece.raised.has e)
-              ∙ or-assoc (row_has has e) (throws ends e) (has_end ends Normal && throws rest e)
+              ∙ or_assoc (row_has has e) (throws ends e) (has_end ends Normal && throws rest e)
               ∙ ap (λ b. row_has has e || b) (sym (throws-then ends rest e))
               ∙ ap (λ b. row_has has e || (b && throws (then_ends ends rest) e)) (sym reached)
               ∙ along.raised e;
@@ -302,7 +303,7 @@ module _ (program : Program) (in_loop : Bool) (handlers : Handlers) (old : List 
               ∙ along.entries;
           raised = λ e.
               ap (λ b. b || throws rest e) (piece.raised.has e)
-              ∙ or-assoc (row_has has e) (throws ends e) (throws rest e)
+              ∙ or_assoc (row_has has e) (throws ends e) (throws rest e)
               ∙ ap (λ b. row_has has e || b) (sym (any-append (same_exit (Throw e)) ends rest))
               ∙ along.raised e;
           left = λ e.

@@ -25,7 +25,7 @@ pub enum EndDefect {
 
 /// A program whose ends have a fault: what is wrong, and the byte of the token at which it stands.
 #[derive(Clone, Copy, Debug, PartialEq, Eq, Error)]
-#[error("a fault in the ends of a program")]
+#[error("{defect}")]
 pub struct EndRefusal {
     pub defect: EndDefect,
     pub at: usize,

@@ -4,7 +4,8 @@ ghost use Rattle.path_map.specs.Joins.{raised_list, raises_some};
 ghost use Rattle.path_map.specs.Sets.{AreRaised, IsSum, is_one_of};
 ghost use Rattle.resolved.specs.Ends.{divisor_can_raise, index_can_raise, is_division, raises, raises_all};
 ghost use Rattle.resolved.specs.TreeOf.{expression_of, some_expression_of};
-ghost use Rattle.resolved.specs.Value.{in_range, is_zero, literal_number};
+ghost use Rattle.resolved.specs.Value.{in_range, literal_number};
+ghost use Rattle.common.specs.Integers.{is_zero};
 ghost use Rattle.std.specs.Prelude.{IfOk, OnOk, map, ℕ, ◌||◌, ◌≡◌};
 
 use crate::exits::Raised;

@@ -5,7 +5,8 @@ ghost use Rattle.std.specs.Prelude.{OnOk, false, length, not, ℕ, ◌&&◌, ◌
 use crate::exits::Raised;
 use std::alloc::{AllocError, Global};
 
-// A set of exceptions, as a row of bits that is as long as its greatest exception has asked for.
+// A set of exceptions, as a row of bits that is as long as its greatest exception has asked for. Numbers of 32 bits take 67,108,864
+// words of 64 bits at most.
 #[derive(Drop)]
 pub(crate) struct ExceptionSet {
     words: Vec<u64>,
@@ -22,14 +23,15 @@ impl ExceptionSet {
     }
 
     // Makes room for so many words.
+    #[tactic(auto, using(crate::proofs::Rows::zeros_behind))]
     fn grow(&mut self, count: usize) -> Result<(), AllocError>
         requires { count ≤ 67108864 }
         ensures room { OnOk result (count ≤ length self.new.words.items) }
         ensures unchanged { OnOk result ((exception : ℕ) →
             row_has self.new.words.items exception ≡ row_has self.old.words.items exception) }
     {
-        while self.words.len() < count {
-            self.words.push(0)?;
+        if self.words.len() < count {
+            self.words.resize(count, 0)?;
         }
         Ok(())
     }

@@ -12,7 +12,7 @@ use Rattle.lexer.specs.declared.fault.LexRefusal.TheVariants as lex
 use Rattle.lexer.proofs.Listed.{listed}
 use Rattle.lexer.proofs.Total.{is_cut_or_refused}
 use Rattle.principals.specs.ActsFor.{PrincipalHierarchy, IsHierarchy, AllBelow, AllDifferent}
-use Rattle.principals.specs.HierarchyText.{Entry, Declares, Relates, IsHierarchyForm, IsUnexpectedInHierarchyAt, IsEntryRefusal, Twice, Crowded, UnknownLeft, UnknownRight, IsFirstRefusal, IsSaid, declared, written, greatest_text, Says, IsHierarchyOf, IsRefusedText}
+use Rattle.principals.specs.HierarchyText.{Entry, Declares, Relates, IsHierarchyForm, IsUnexpectedInHierarchyAt, IsEntryRefusal, Twice, Crowded, UnknownLeft, UnknownRight, IsFirstRefusal, IsSaid, declared, written, Says, IsHierarchyOf, IsRefusedText}
 use Rattle.principals.specs.Laws.{HasOneHierarchy, IsReadOrRefused}
 use Rattle.principals.specs.Reading.{Built, HaveNames, ReadingState, Fresh, Ended, next, run, said}
 use Rattle.principals.specs.declared.fault.HierarchyRefusal.{HierarchyRefusal}
@@ -22,6 +22,7 @@ use Rattle.principals.proofs.Building.{built_nothing, built_name, built_pair, bu
 use Rattle.principals.proofs.Closure.{none_in_nil, Contains-cons_cases, Contains-first, Contains-later}
 use Rattle.principals.proofs.Names.{number_contained}
 use Rattle.principals.proofs.Uniqueness.{hierarchy_once}
+use Rattle.common.specs.declared.limits.TheConstants.{MAX_TEXT}
 
 -- ---- entries
 
@@ -154,12 +155,12 @@ refused_entry text es names entry f (Crowded name h full) says first = (es, says
 refused_entry text es names entry f (UnknownLeft left right h) says first = (es, says, first)
 refused_entry text es names entry f (UnknownRight left right h k) says first = (es, says, first)
 
-not_lexed : (text : List ℕ) (f : LexRefusal) → length text ≤ greatest_text → IsTextRefused text f → Read text
+not_lexed : (text : List ℕ) (f : LexRefusal) → length text ≤ MAX_TEXT → IsTextRefused text f → Read text
 not_lexed text (lex.NoToken at) fits r = inr (fault.Syntax at, (fits, inl (lex.NoToken at, r, refl)))
 not_lexed text (lex.LiteralTooLarge at) fits r = inr (fault.Syntax at, (fits, inl (lex.LiteralTooLarge at, r, refl)))
 not_lexed text (lex.UnclosedComment at) fits r = inr (fault.Syntax at, (fits, inl (lex.UnclosedComment at, r, refl)))
 
-lexed : (text : List ℕ) (tokens : List Terminal) → IsUtf8 text → length text ≤ greatest_text → IsCut text tokens → Read text
+lexed : (text : List ℕ) (tokens : List Terminal) → IsUtf8 text → length text ≤ MAX_TEXT → IsCut text tokens → Read text
 lexed text tokens utf8 fits cut =
     ⊎_elim
     (λ form.
@@ -182,7 +183,7 @@ is_read_or_refused text utf8 =
     (λ cut. lexed text cut.0 utf8 fits cut.1)
     (λ refused. not_lexed text refused.0 fits refused.1)
     (is_cut_or_refused text utf8))
-    (cases_lt greatest_text (length text))
+    (cases_lt MAX_TEXT (length text))
 
 pub has_one_hierarchy : HasOneHierarchy
 has_one_hierarchy text hierarchy other first second =

@@ -12,12 +12,13 @@ use Rattle.lexer.specs.declared.fault.LexRefusal.{LexRefusal}
 use Rattle.lexer.specs.declared.fault.LexRefusal.TheVariants as lex
 use Rattle.lexer.proofs.Cutting.{has_one_cut, not_cut_and_refused, has_one_refusal}
 use Rattle.principals.specs.ActsFor.{PrincipalHierarchy, HasName, IsHierarchy}
-use Rattle.principals.specs.HierarchyText.{Entry, IsHierarchyForm, IsPrefixOfForm, IsUnexpectedInHierarchyAt, IsEntryRefusal, Twice, Crowded, UnknownLeft, UnknownRight, IsFirstRefusal, IsSaid, declared, written, greatest_text, Says, IsHierarchyOf, IsLexRefusalAt, IsSyntaxRefusal, IsRefusedText, refusal_of_lex}
+use Rattle.principals.specs.HierarchyText.{Entry, IsHierarchyForm, IsPrefixOfForm, IsUnexpectedInHierarchyAt, IsEntryRefusal, Twice, Crowded, UnknownLeft, UnknownRight, IsFirstRefusal, IsSaid, declared, written, Says, IsHierarchyOf, IsLexRefusalAt, IsSyntaxRefusal, IsRefusedText, refusal_of_lex}
 use Rattle.principals.specs.Reading.{Ended, IsFormRefusal}
 use Rattle.principals.specs.declared.fault.HierarchyRefusal.{HierarchyRefusal}
 use Rattle.principals.specs.declared.fault.HierarchyRefusal.TheVariants as fault
 use Rattle.principals.proofs.Automaton.{derived_is_read}
 use Rattle.principals.proofs.Names.{one_number}
+use Rattle.common.specs.declared.limits.TheConstants.{MAX_TEXT}
 
 -- ---- two places in one list
 
@@ -149,10 +150,10 @@ says_not_syntax text es at says s =
 
 -- the three ways in which a text is refused
 abbrev Long : List ℕ → HierarchyRefusal → Type 0
-Long text f = (f ≡ fault.TooLong) × (greatest_text < length text)
+Long text f = (f ≡ fault.TooLong) × (MAX_TEXT < length text)
 
 abbrev Formless : List ℕ → HierarchyRefusal → Type 0
-Formless text f = (at : ℕ) × (f ≡ fault.Syntax at) × (length text ≤ greatest_text) × IsSyntaxRefusal text at
+Formless text f = (at : ℕ) × (f ≡ fault.Syntax at) × (length text ≤ MAX_TEXT) × IsSyntaxRefusal text at
 
 abbrev Wrong : List ℕ → HierarchyRefusal → Type 0
 Wrong text f = (es : List Entry) × Says text es × IsFirstRefusal es f
@@ -164,7 +165,7 @@ ways text (fault.DeclaredTwice at) h = inr (inr h)
 ways text (fault.UnknownPrincipal at) h = inr (inr h)
 ways text (fault.TooManyPrincipals at) h = inr (inr h)
 
-too_long : {P : Type 0} (text : List ℕ) → greatest_text < length text → length text ≤ greatest_text → P
+too_long : {P : Type 0} (text : List ℕ) → MAX_TEXT < length text → length text ≤ MAX_TEXT → P
 too_long text h k = absurd (omega arith)
 
 pub refused_text_once : (text : List ℕ) (f g : HierarchyRefusal) → IsRefusedText text f → IsRefusedText text g → f ≡ g
@@ -218,14 +219,14 @@ entries_refused text es (fault.UnknownPrincipal at) says h = (es, says, h)
 entries_refused text es (fault.TooManyPrincipals at) says h = (es, says, h)
 
 -- and what refused tokens are
-pub tokens_refused : (text : List ℕ) (r : LexRefusal) (f : HierarchyRefusal) → length text ≤ greatest_text → f ≡ refusal_of_lex r → IsTextRefused text r
+pub tokens_refused : (text : List ℕ) (r : LexRefusal) (f : HierarchyRefusal) → length text ≤ MAX_TEXT → f ≡ refusal_of_lex r → IsTextRefused text r
     → IsRefusedText text f
 tokens_refused text (lex.NoToken at) f fits is refused = rw is (fits, inl (lex.NoToken at, refused, refl))
 tokens_refused text (lex.LiteralTooLarge at) f fits is refused = rw is (fits, inl (lex.LiteralTooLarge at, refused, refl))
 tokens_refused text (lex.UnclosedComment at) f fits is refused = rw is (fits, inl (lex.UnclosedComment at, refused, refl))
 
 -- and what an unexpected token is
-pub form_refused : (text : List ℕ) (tokens : List Terminal) (f : HierarchyRefusal) → length text ≤ greatest_text → IsCut text tokens → IsFormRefusal tokens f
+pub form_refused : (text : List ℕ) (tokens : List Terminal) (f : HierarchyRefusal) → length text ≤ MAX_TEXT → IsCut text tokens → IsFormRefusal tokens f
     → IsRefusedText text f
 form_refused text tokens f fits cut (at, is, unexpected) = rw is (fits, inr (tokens, cut, unexpected))
 

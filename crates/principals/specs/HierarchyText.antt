@@ -115,13 +115,9 @@ pub record IsSaid (entries : List Entry) (hierarchy : PrincipalHierarchy) : Type
 
 -- ---- the whole text
 
--- the greatest length of a text in bytes
-abbrev pub greatest_text : ℕ
-greatest_text = MAX_TEXT
-
 -- a text of this form, with its entries
 pub record Says (text : List ℕ) (entries : List Entry) : Type 0 where
-  pub fits : length text ≤ greatest_text
+  pub fits : length text ≤ MAX_TEXT
   pub tokens : List Terminal
   pub cut : IsCut text tokens
   pub form : IsHierarchyForm tokens entries
@@ -150,11 +146,17 @@ IsSyntaxRefusal text at =
     ((refusal : LexRefusal) × IsTextRefused text refusal × IsLexRefusalAt refusal at)
     ⊎ ((tokens : List Terminal) × IsCut text tokens × IsUnexpectedInHierarchyAt tokens at)
 
+-- what a text says is refused first for this
+abbrev pub SaysRefused : List ℕ → HierarchyRefusal → Type 0
+SaysRefused text refusal = (entries : List Entry) × Says text entries × IsFirstRefusal entries refusal
+
 -- the first refusal of a text
 abbrev pub IsRefusedText : List ℕ → HierarchyRefusal → Type 0
-IsRefusedText text TooLong = greatest_text < length text
-IsRefusedText text (Syntax at) = (length text ≤ greatest_text) × IsSyntaxRefusal text at
-IsRefusedText text refusal = (entries : List Entry) × Says text entries × IsFirstRefusal entries refusal
+IsRefusedText text TooLong = MAX_TEXT < length text
+IsRefusedText text (Syntax at) = (length text ≤ MAX_TEXT) × IsSyntaxRefusal text at
+IsRefusedText text (DeclaredTwice at) = SaysRefused text (DeclaredTwice at)
+IsRefusedText text (UnknownPrincipal at) = SaysRefused text (UnknownPrincipal at)
+IsRefusedText text (TooManyPrincipals at) = SaysRefused text (TooManyPrincipals at)
 
 -- the place of a refusal is a character boundary of the text, so that its line and its column can be found
 abbrev pub HasBoundary : List ℕ → HierarchyRefusal → Type 0

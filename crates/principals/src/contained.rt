@@ -26,7 +26,8 @@ impl Hierarchy {
             slice_get (map (λ name. string_bytes name) names.now) number ≡ Some name →
             HasName self.now (slice_index here.new number) name }
         ensures missing { IsFalse result → (name : List ℕ)
-            × Contains (map (λ name. string_bytes name) names.now) name × (¬ Contains self.now.names name) }
+            × Contains (map (λ name. string_bytes name) names.now) name
+            × (¬ Contains self.now.names name) }
     {
         for (number, name) in names.iter().enumerate() {
             match self.find(name.as_str()) {
@@ -40,7 +41,8 @@ impl Hierarchy {
     // Whether the first number of each pair acts for the second, by the numbers that they have here.
     fn relates_all(&self, here: &[u32], pairs: &[(u32, u32)]) -> bool
         requires { AllBelow (length here.now) pairs.now }
-        ensures { IsTrue result ↔ All (λ pair. ActsFor self.now.pairs (slice_index here.now pair.0) (slice_index here.now pair.1)) pairs.now }
+        ensures { IsTrue result ↔ All (λ pair. ActsFor self.now.pairs (slice_index here.now pair.0)
+            (slice_index here.now pair.1)) pairs.now }
     {
         for (left, right) in pairs {
             if !self.acts_for(here[*left as usize], here[*right as usize]) {

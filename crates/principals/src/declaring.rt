@@ -25,7 +25,8 @@ fn declare(
     names: &mut IndexSet<String>,
     name: &Token<'_>,
 ) -> Result<(), HierarchyFault>
-    ensures added { OnOk result (names_of names.new ≡ names_of names.old ++ name.now.text.now ∷ []) }
+    ensures added { OnOk result (names_of names.new ≡ names_of names.old ++ name.now.text.now ∷
+        []) }
     ensures fresh { OnOk result (¬ Contains (names_of names.old) name.now.text.now) }
     ensures room { OnOk result (length (names_of names.old) < MAX_PRINCIPALS) }
     ensures rejected { IfErr result (IfRefused
@@ -46,7 +47,8 @@ fn declare(
 /// The number of a principal that was declared before.
 fn find_number(names: &IndexSet<String>, name: &Token<'_>) -> Result<u32, HierarchyRefusal>
     requires { length (names_of names.now) ≤ MAX_PRINCIPALS }
-    ensures found { IfOk result (λ number. slice_get (names_of names.now) number ≡ Some name.now.text.now) }
+    ensures found { IfOk result (λ number. slice_get (names_of names.now) number
+        ≡ Some name.now.text.now) }
     ensures unknown { IfErr result (λ refusal. (refusal ≡ UnknownPrincipal name.now.span.start)
         × (¬ Contains (names_of names.now) name.now.text.now)) }
 {
@@ -63,8 +65,10 @@ fn find_pair(
     right: &Token<'_>,
 ) -> Result<(u32, u32), HierarchyRefusal>
     requires { length (names_of names.now) ≤ MAX_PRINCIPALS }
-    ensures left { IfOk result (λ pair. slice_get (names_of names.now) pair.0 ≡ Some left.now.text.now) }
-    ensures right { IfOk result (λ pair. slice_get (names_of names.now) pair.1 ≡ Some right.now.text.now) }
+    ensures left { IfOk result (λ pair. slice_get (names_of names.now) pair.0
+        ≡ Some left.now.text.now) }
+    ensures right { IfOk result (λ pair. slice_get (names_of names.now) pair.1
+        ≡ Some right.now.text.now) }
     ensures rejected { IfErr result (IsEntryRefusal (names_of names.now)
         (Relates (terminal_of left.now) (terminal_of right.now))) }
 {

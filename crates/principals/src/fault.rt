@@ -5,6 +5,12 @@ use common::OrNoMemory;
 use lexer::LexRefusal;
 use thiserror::Error;
 
+/// The number by which an unknown principal is reported, in the text of a hierarchy and wherever a host or an observer names one.
+pub const UNKNOWN_PRINCIPAL: u32 = 153;
+
+/// The words by which one is reported.
+pub const UNKNOWN_PRINCIPAL_WORDS: &str = "unknown principal";
+
 /// Why a text has no hierarchy. Each place is a byte of the text.
 #[derive(Clone, Copy, Debug, Drop, PartialEq, Eq, Error)]
 pub enum HierarchyRefusal {

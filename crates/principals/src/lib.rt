@@ -15,7 +15,7 @@ mod row;
 mod table;
 
 use common::limits::MAX_PRINCIPALS;
-pub use fault::{HierarchyFault, HierarchyRefusal};
+pub use fault::{HierarchyFault, HierarchyRefusal, UNKNOWN_PRINCIPAL, UNKNOWN_PRINCIPAL_WORDS};
 use indexmap::IndexSet;
 pub use row::Row;
 use std::alloc::{AllocError, Global};

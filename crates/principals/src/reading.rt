@@ -76,7 +76,8 @@ impl<'a> Progress<'a> {
 
     /// What was read after one more token, or `None` where no text of the form goes on with it.
     fn next(self, token: Token<'a>) -> Option<Progress<'a>>
-        ensures { option_map (λ after. state_of after) result ≡ next (state_of self.entry) (terminal_of token.entry) }
+        ensures { option_map (λ after. state_of after) result ≡ next (state_of self.entry)
+            (terminal_of token.entry) }
     {
         match self {
             Progress::Fresh => match role_of(&token) {
@@ -112,7 +113,8 @@ impl<'a> Progress<'a> {
 
     /// The statement that one more token makes whole.
     fn finish(self, token: Token<'a>) -> Option<Statement<'a>>
-        ensures { map (λ statement. entry_of statement) (option_to_list result) ≡ said (state_of self.entry) (terminal_of token.entry) }
+        ensures { map (λ statement. entry_of statement) (option_to_list result)
+            ≡ said (state_of self.entry) (terminal_of token.entry) }
     {
         match self {
             Progress::Declaring => Some(Statement::Declares(token)),
@@ -128,7 +130,8 @@ pub(crate) fn read_statements<'a>(
     tokens: &[Token<'a>],
 ) -> Result<Vec<Statement<'a>>, HierarchyFault>
     requires { IsTerminated (terminals_of tokens.now) }
-    ensures form { IfOk result (λ statements. IsHierarchyForm (terminals_of tokens.now) (entries_of statements.items)) }
+    ensures form { IfOk result (λ statements. IsHierarchyForm (terminals_of tokens.now)
+        (entries_of statements.items)) }
     ensures rejected { IfErr result (IfRefused (IsFormRefusal (terminals_of tokens.now))) }
 {
     let mut statements = Vec::new(alloc);

@@ -1,9 +1,12 @@
-//! A set of numbers below 256, as bits.
+//! A set of numbers of principals, as bits.
 
+ghost use Rattle.common.specs.declared.limits.TheConstants.{MAX_PRINCIPALS};
 ghost use Rattle.principals.specs.Table.{has};
 ghost use Rattle.std.specs.Prelude.{Contains, IsTrue, ℕ, ◌&&◌, ◌<◌, ◌==◌, ◌||◌, ◌↔◌, ◌≡◌, ◌⊎◌};
 
-/// A set of numbers below [`Row::LIMIT`]. Number `n` is bit `n % 64` of word `n / 64`.
+use common::limits::MAX_PRINCIPALS;
+
+/// A set of numbers below `MAX_PRINCIPALS`. Number `n` is bit `n % 64` of word `n / 64`.
 #[derive(Clone, Copy, Debug)]
 pub struct Row {
     words: [u64; 4],
@@ -11,15 +14,15 @@ pub struct Row {
 
 impl Row {
     /// All members are below this number.
-    pub const LIMIT: usize = 256;
+    pub(crate) const LIMIT: usize = MAX_PRINCIPALS as usize;
 
     /// The set without members.
     pub(crate) const EMPTY: Row = Row { words: [0; 4] };
 
-    /// The set of those of these numbers that are below [`Row::LIMIT`].
+    /// The set of those of these numbers that are below `MAX_PRINCIPALS`.
     pub fn of(numbers: &[u32]) -> Row
         ensures { (member : ℕ) → IsTrue (has result member)
-            ↔ ((member < 256) × Contains numbers.now member) }
+            ↔ ((member < MAX_PRINCIPALS) × Contains numbers.now member) }
     {
         let mut row = Row::EMPTY;
         for number in numbers {
@@ -31,7 +34,7 @@ impl Row {
     // Makes `number` a member, if it is below the limit.
     fn insert_below_limit(&mut self, number: u32)
         ensures { (member : ℕ) → IsTrue (has self.new member)
-            ↔ (((member < 256) × (member ≡ number)) ⊎ IsTrue (has self.old member)) }
+            ↔ (((member < MAX_PRINCIPALS) × (member ≡ number)) ⊎ IsTrue (has self.old member)) }
     {
         if (number as usize) < Row::LIMIT {
             self.insert(number);
@@ -50,7 +53,7 @@ impl Row {
 
     /// Makes `number` a member.
     pub(crate) fn insert(&mut self, number: u32)
-        requires { number < 256 }
+        requires { number < MAX_PRINCIPALS }
         ensures { (member : ℕ) → has self.new member ≡ (member == number || has self.old member) }
     {
         self.words[(number / 64) as usize] |= 1 << (number % 64);
@@ -58,7 +61,8 @@ impl Row {
 
     /// Whether some number is a member of both sets.
     pub(crate) fn meets(&self, other: &Row) -> bool
-        ensures { IsTrue result ↔ ((member : ℕ) × IsTrue (has self.now member) × IsTrue (has other.now member)) }
+        ensures { IsTrue result ↔ ((member : ℕ) × IsTrue (has self.now member) ×
+            IsTrue (has other.now member)) }
     {
         for i in 0..4 {
             if self.words[i] & other.words[i] != 0 {
@@ -70,7 +74,8 @@ impl Row {
 
     /// Makes the members of `other` members.
     pub(crate) fn merge(&mut self, other: &Row)
-        ensures { (member : ℕ) → has self.new member ≡ (has self.old member || has other.now member) }
+        ensures { (member : ℕ) → has self.new member ≡ (has self.old member || has other.now
+            member) }
     {
         for i in 0..4 {
             self.words[i] |= other.words[i];
@@ -79,7 +84,8 @@ impl Row {
 
     /// Makes the members of `other` members if `between` is one.
     pub(crate) fn merge_if(&mut self, between: u32, other: &Row)
-        ensures { (member : ℕ) → has self.new member ≡ (has self.old member || (has self.old between && has other.now member)) }
+        ensures { (member : ℕ) → has self.new member
+            ≡ (has self.old member || (has self.old between && has other.now member)) }
     {
         if self.has(between) {
             self.merge(other);

@@ -13,7 +13,8 @@ fn relate_written(alloc: Global, count: u32, pairs: &[(u32, u32)]) -> Result<Vec
     requires few { count ≤ MAX_PRINCIPALS }
     requires there { All (λ pair. (pair.0 < count) × (pair.1 < count)) pairs.now }
     ensures rows { IfOk result (λ table. length table.items ≡ count) }
-    ensures written { IfOk result (λ table. (a b : ℕ) → a < count → related table.items a b ≡ is_written pairs.now a b) }
+    ensures written { IfOk result (λ table. (a b : ℕ) → a < count → related table.items a b
+        ≡ is_written pairs.now a b) }
 {
     let mut table = relate_itself(alloc, count)?;
     for (left, right) in pairs {
@@ -26,7 +27,8 @@ fn relate_written(alloc: Global, count: u32, pairs: &[(u32, u32)]) -> Result<Vec
 fn relate_itself(alloc: Global, count: u32) -> Result<Vec<Row>, AllocError>
     requires { count ≤ MAX_PRINCIPALS }
     ensures rows { IfOk result (λ table. length table.items ≡ count) }
-    ensures itself { IfOk result (λ table. (a b : ℕ) → a < count → related table.items a b ≡ is_written [] a b) }
+    ensures itself { IfOk result (λ table. (a b : ℕ) → a < count → related table.items a b
+        ≡ is_written [] a b) }
 {
     let mut table = Vec::with_capacity(alloc, count as usize)?;
     for number in 0..count {
@@ -58,7 +60,8 @@ pub(crate) fn close_table(
     requires few { count ≤ MAX_PRINCIPALS }
     requires there { All (λ pair. (pair.0 < count) × (pair.1 < count)) pairs.now }
     ensures rows { IfOk result (λ table. length table.items ≡ count) }
-    ensures closed { IfOk result (λ table. (a b : ℕ) → a < count → related table.items a b ≡ acts_for pairs.now a b) }
+    ensures closed { IfOk result (λ table. (a b : ℕ) → a < count → related table.items a b
+        ≡ acts_for pairs.now a b) }
 {
     let mut table = relate_written(alloc, count, pairs)?;
     for between in 0..count {

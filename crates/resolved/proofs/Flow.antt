@@ -2,9 +2,10 @@
 use Rattle.std.proofs.Common.{◌≡◌, refl, sym, ap, ◌∙◌, subst, ℕ, Bool, true, false, not, ◌&&◌, ◌==◌, ◌||◌, List, [], ◌∷◌, ◌++◌, ◌⊎◌, inl, inr, ⊎_elim, ◌↔◌, arith}
 use Rattle.std.specs.Prelude.{IsTrue, IsFalse, Contains, Some, None, find}
 use Rattle.std.specs.List.{list_all}
-use Rattle.std.proofs.lemmas.Bool.{and_parts}
+use Rattle.std.proofs.lemmas.Bool.{and_parts, not-false, not-true}
 use Rattle.principals.specs.ActsFor.{PrincipalHierarchy}
 use Rattle.std.proofs.lemmas.List.Elements.{Contains-append_cases}
+use Rattle.std.proofs.Math.Bool.{and-false}
 use Rattle.principals.proofs.Closure.{Contains-later, Contains-first, none_in_nil}
 use Rattle.labels.specs.Label.{ReaderPolicy, Label, Covers, covers, flows}
 use Rattle.labels.specs.Constraints.{Written, Unknown, Atom, is_written, value, join_of, holds, FitsAll, first_unmet, IsRefusedAt, StandsFor, OneByOne, outer, Linked, ends, label_lattice, renamed, reported_steps, reported_gathered}
@@ -104,16 +105,12 @@ labelled-or_refused program =
         (policy : ReaderPolicy) × (chain : List Demand) × (d : Demand) × IsProgramRefused program policy chain d
     refused last first there e = by_right last.right refl (and_parts (is_written last.right) (not (holds (label_lattice program.hierarchy) (least_labels program) last)) e)
       where
-        fails : (b : Bool) → not b ≡ true → b ≡ false
-        fails false f = refl
-        fails true f = let i : false ≡ true = f in absurd (cc)
-
         by_right : (r : Atom Unwritten Label) → last.right ≡ r → (is_written last.right ≡ true) × (not (holds (label_lattice program.hierarchy) (least_labels program) last) ≡ true) →
             (policy : ReaderPolicy) × (chain : List Demand) × (d : Demand) × IsProgramRefused program policy chain d
         by_right (Unknown u) is parts = let i : false ≡ true = sym (ap is_written is) ∙ parts.0 in absurd (cc)
         by_right (Written to) is parts =
             let found = unmet-chain same_unwritten unwritten-same unwritten-itself (label_lattice program.hierarchy) (IsLattice-flows program.hierarchy)
-            (program_demands program) last to there is (fails _ parts.1) in
+            (program_demands program) last to there is (not-true _ parts.1) in
             let policy = uncovered program.hierarchy found.0 found.2.to found.2.not_below in (
               policy.0,
               found.1,
@@ -144,11 +141,7 @@ labelled-or_refused program =
             by_right : (r : Atom Unwritten Label) → d.right ≡ r → IsFalse (is_written d.right && not (holds (label_lattice program.hierarchy) (least_labels program) d)) →
                 IsTrue (holds (label_lattice program.hierarchy) (least_labels program) d)
             by_right (Unknown u) is e = unknown-holds (label_lattice program.hierarchy) (IsLattice-flows program.hierarchy) (program_demands program) (least_labels program) (labels-least program).fits d u h is
-            by_right (Written to) is e = passes (holds (label_lattice program.hierarchy) (least_labels program) d) (sym (ap (λ r. is_written r && not (holds (label_lattice program.hierarchy) (least_labels program) d)) is) ∙ e)
-              where
-                passes : (b : Bool) → not b ≡ false → b ≡ true
-                passes true f = refl
-                passes false f = let i : true ≡ false = f in absurd (cc)
+            by_right (Written to) is e = not-false (holds (label_lattice program.hierarchy) (least_labels program) d) (sym (ap (λ r. is_written r && not (holds (label_lattice program.hierarchy) (least_labels program) d)) is) ∙ e)
 
 -- ---- a policy that was reported of the first demand that does not hold is that of a chain
 policy-in_all : (l : List Label) (policy : ReaderPolicy) (h : PrincipalHierarchy) → Contains (join_all (label_lattice h) l) policy →
@@ -211,10 +204,6 @@ first-is_written h labels (d ∷ ds) last fits e =
     turned true f = refl
     turned false f = f
 
-    both_false : (b : Bool) → (b && false) ≡ false
-    both_false true = refl
-    both_false false = refl
-
     go : (b : Bool) → holds (label_lattice h) labels d ≡ b → (is_written d.right || holds (label_lattice h) labels d) ≡ true →
         find (λ (d : Demand). not (holds (label_lattice h) labels d)) (d ∷ ds) ≡ Some last →
         (find (λ (d : Demand). not (holds (label_lattice h) labels d)) ds ≡ Some last →
@@ -222,7 +211,7 @@ first-is_written h labels (d ∷ ds) last fits e =
         (first_unmet (label_lattice h) (d ∷ ds) labels ≡ Some last) × Contains (d ∷ ds) last × (is_written last.right ≡ true)
     go true f fit e later =
         let found = later (sym (rw f refl) ∙ e) in
-        (rw (f, both_false (is_written d.right)) found.0, Contains-later d ds last found.1, found.2)
+        (rw (f, and-false (is_written d.right)) found.0, Contains-later d ds last found.1, found.2)
     go false f fit e later =
         let is : Some d ≡ Some last = sym (rw f refl) ∙ e in
         let same : d ≡ last = cc in

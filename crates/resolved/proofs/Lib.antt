@@ -1,6 +1,7 @@
 pub mod Cases
 pub mod Views
 pub mod Sound
+pub mod Exits
 pub mod Parts
 pub mod Growing
 pub mod Flow

@@ -1,33 +1,26 @@
 -- The parts of being well formed, one by one.
-use Rattle.std.proofs.Common.{◌≡◌, refl, subst, ℕ, zero, suc, List, [], ◌∷◌, length, Bool, true, false, ◌&&◌}
+use Rattle.std.proofs.Common.{◌≡◌, subst, ℕ, zero, suc, List, [], ◌∷◌, length, Bool, true, ◌&&◌}
 use Rattle.std.specs.Prelude.{Some, ◌==◌, slice_get, nat_le, sum_by}
 use Rattle.std.specs.List.{list_all}
 use Rattle.std.proofs.lemmas.Option.{get_or_from_slice_get}
+use Rattle.std.proofs.lemmas.Bool.{and_from, and_parts}
 use Rattle.resolved.specs.Program.{Program, ProcedureEntry, SlotEntry, ChannelEntry, procedure_at}
-use Rattle.resolved.specs.WellFormed.{parameter_fits, parameters_of, size_fits, written_fits, cell_count, cell_limit, result_fits, label_fits, throws_fit, block_fits, block_loops, counts_from, procedure_fits, principal_limit, globals_fit, main_fits, program_nodes, node_limit, well_formed}
-use Rattle.resolved.proofs.Sound.Values.{both}
-
-pub both_back : (a b : Bool) → a ≡ true → b ≡ true → (a && b) ≡ true
-both_back a true h k = h_and a h
-  where
-    h_and : (a : Bool) → a ≡ true → (a && true) ≡ true
-    h_and true h = refl
-    h_and false h = h
-both_back a false h k = cc
+use Rattle.resolved.specs.WellFormed.{parameter_fits, parameters_of, size_fits, written_fits, cell_count, result_fits, label_fits, throws_fit, block_fits, block_loops, counts_from, procedure_fits, globals_fit, main_fits, program_nodes, node_limit, well_formed}
+use Rattle.common.specs.declared.limits.TheConstants.{MAX_CELLS, MAX_PRINCIPALS}
 
 eleven : (a b c d e f g i j k l : Bool) → (a && b && c && d && e && f && g && i && j && k && l) ≡ true
     → (a ≡ true) × (b ≡ true) × (c ≡ true) × (d ≡ true) × (e ≡ true) × (f ≡ true) × (g ≡ true) × (i ≡ true) × (j ≡ true) × (k ≡ true) × (l ≡ true)
 eleven a b c d e f g i j k l h =
-    let h10 : ((a && b && c && d && e && f && g && i && j && k) ≡ true) × (l ≡ true) = both (a && b && c && d && e && f && g && i && j && k) l h in
-    let h9 : ((a && b && c && d && e && f && g && i && j) ≡ true) × (k ≡ true) = both (a && b && c && d && e && f && g && i && j) k h10.0 in
-    let h8 : ((a && b && c && d && e && f && g && i) ≡ true) × (j ≡ true) = both (a && b && c && d && e && f && g && i) j h9.0 in
-    let h7 : ((a && b && c && d && e && f && g) ≡ true) × (i ≡ true) = both (a && b && c && d && e && f && g) i h8.0 in
-    let h6 : ((a && b && c && d && e && f) ≡ true) × (g ≡ true) = both (a && b && c && d && e && f) g h7.0 in
-    let h5 : ((a && b && c && d && e) ≡ true) × (f ≡ true) = both (a && b && c && d && e) f h6.0 in
-    let h4 : ((a && b && c && d) ≡ true) × (e ≡ true) = both (a && b && c && d) e h5.0 in
-    let h3 : ((a && b && c) ≡ true) × (d ≡ true) = both (a && b && c) d h4.0 in
-    let h2 : ((a && b) ≡ true) × (c ≡ true) = both (a && b) c h3.0 in
-    let h1 : ((a) ≡ true) × (b ≡ true) = both (a) b h2.0 in
+    let h10 : ((a && b && c && d && e && f && g && i && j && k) ≡ true) × (l ≡ true) = and_parts (a && b && c && d && e && f && g && i && j && k) l h in
+    let h9 : ((a && b && c && d && e && f && g && i && j) ≡ true) × (k ≡ true) = and_parts (a && b && c && d && e && f && g && i && j) k h10.0 in
+    let h8 : ((a && b && c && d && e && f && g && i) ≡ true) × (j ≡ true) = and_parts (a && b && c && d && e && f && g && i) j h9.0 in
+    let h7 : ((a && b && c && d && e && f && g) ≡ true) × (i ≡ true) = and_parts (a && b && c && d && e && f && g) i h8.0 in
+    let h6 : ((a && b && c && d && e && f) ≡ true) × (g ≡ true) = and_parts (a && b && c && d && e && f) g h7.0 in
+    let h5 : ((a && b && c && d && e) ≡ true) × (f ≡ true) = and_parts (a && b && c && d && e) f h6.0 in
+    let h4 : ((a && b && c && d) ≡ true) × (e ≡ true) = and_parts (a && b && c && d) e h5.0 in
+    let h3 : ((a && b && c) ≡ true) × (d ≡ true) = and_parts (a && b && c) d h4.0 in
+    let h2 : ((a && b) ≡ true) × (c ≡ true) = and_parts (a && b) c h3.0 in
+    let h1 : ((a) ≡ true) × (b ≡ true) = and_parts (a) b h2.0 in
     (h1.0, h1.1, h2.1, h3.1, h4.1, h5.1, h6.1, h7.1, h8.1, h9.1, h10.1)
 
 eleven_back : (a b c d e f g i j k l : Bool)
@@ -44,16 +37,16 @@ eleven_back : (a b c d e f g i j k l : Bool)
     → l ≡ true
     → (a && b && c && d && e && f && g && i && j && k && l) ≡ true
 eleven_back a b c d e f g i j k l h0 h1 h2 h3 h4 h5 h6 h7 h8 h9 h10 =
-    both_back (a && b && c && d && e && f && g && i && j && k) l (both_back (a && b && c && d && e && f && g && i && j) k (both_back (a && b && c && d && e && f && g && i) j (both_back (a && b && c && d && e && f && g) i (both_back (a && b && c && d && e && f) g (both_back (a && b && c && d && e) f (both_back (a && b && c && d) e (both_back (a && b && c) d (both_back (a && b) c (both_back a b h0 h1) h2) h3) h4) h5) h6) h7) h8) h9) h10
+    and_from (a && b && c && d && e && f && g && i && j && k) l (and_from (a && b && c && d && e && f && g && i && j) k (and_from (a && b && c && d && e && f && g && i) j (and_from (a && b && c && d && e && f && g) i (and_from (a && b && c && d && e && f) g (and_from (a && b && c && d && e) f (and_from (a && b && c && d) e (and_from (a && b && c) d (and_from (a && b) c (and_from a b h0 h1) h2) h3) h4) h5) h6) h7) h8) h9) h10
 
 six : (a b c d e f : Bool) → (a && b && c && d && e && f) ≡ true
     → (a ≡ true) × (b ≡ true) × (c ≡ true) × (d ≡ true) × (e ≡ true) × (f ≡ true)
 six a b c d e f h =
-    let h5 : ((a && b && c && d && e) ≡ true) × (f ≡ true) = both (a && b && c && d && e) f h in
-    let h4 : ((a && b && c && d) ≡ true) × (e ≡ true) = both (a && b && c && d) e h5.0 in
-    let h3 : ((a && b && c) ≡ true) × (d ≡ true) = both (a && b && c) d h4.0 in
-    let h2 : ((a && b) ≡ true) × (c ≡ true) = both (a && b) c h3.0 in
-    let h1 : ((a) ≡ true) × (b ≡ true) = both (a) b h2.0 in
+    let h5 : ((a && b && c && d && e) ≡ true) × (f ≡ true) = and_parts (a && b && c && d && e) f h in
+    let h4 : ((a && b && c && d) ≡ true) × (e ≡ true) = and_parts (a && b && c && d) e h5.0 in
+    let h3 : ((a && b && c) ≡ true) × (d ≡ true) = and_parts (a && b && c) d h4.0 in
+    let h2 : ((a && b) ≡ true) × (c ≡ true) = and_parts (a && b) c h3.0 in
+    let h1 : ((a) ≡ true) × (b ≡ true) = and_parts (a) b h2.0 in
     (h1.0, h1.1, h2.1, h3.1, h4.1, h5.1)
 
 six_back : (a b c d e f : Bool)
@@ -65,14 +58,14 @@ six_back : (a b c d e f : Bool)
     → f ≡ true
     → (a && b && c && d && e && f) ≡ true
 six_back a b c d e f h0 h1 h2 h3 h4 h5 =
-    both_back (a && b && c && d && e) f (both_back (a && b && c && d) e (both_back (a && b && c) d (both_back (a && b) c (both_back a b h0 h1) h2) h3) h4) h5
+    and_from (a && b && c && d && e) f (and_from (a && b && c && d) e (and_from (a && b && c) d (and_from (a && b) c (and_from a b h0 h1) h2) h3) h4) h5
 
 -- a procedure that fits
 pub record ProcedureParts (program : Program) (procedure : ProcedureEntry) : Type 0 where
   pub parameters_there : nat_le procedure.parameters (length procedure.slots) ≡ true
   pub parameters_written : list_all parameter_fits (parameters_of procedure) ≡ true
   pub slots_fit : list_all (λ (slot : SlotEntry). size_fits slot.size && written_fits program.hierarchy slot.written) procedure.slots ≡ true
-  pub frame_cells : nat_le (sum_by (λ (slot : SlotEntry). cell_count slot.size) procedure.slots) cell_limit ≡ true
+  pub frame_cells : nat_le (sum_by (λ (slot : SlotEntry). cell_count slot.size) procedure.slots) MAX_CELLS ≡ true
   pub result_label_fits : result_fits program.hierarchy procedure.result ≡ true
   pub begin_label_fits : label_fits program.hierarchy procedure.begin_label ≡ true
   pub end_label_fits : label_fits program.hierarchy procedure.end_label ≡ true
@@ -87,7 +80,7 @@ procedure_parts program procedure h =
     (nat_le procedure.parameters (length procedure.slots))
     (list_all parameter_fits (parameters_of procedure))
     (list_all (λ (slot : SlotEntry). size_fits slot.size && written_fits program.hierarchy slot.written) procedure.slots)
-    (nat_le (sum_by (λ (slot : SlotEntry). cell_count slot.size) procedure.slots) cell_limit)
+    (nat_le (sum_by (λ (slot : SlotEntry). cell_count slot.size) procedure.slots) MAX_CELLS)
     (result_fits program.hierarchy procedure.result)
     (label_fits program.hierarchy procedure.begin_label)
     (label_fits program.hierarchy procedure.end_label)
@@ -116,7 +109,7 @@ procedure_from_parts program procedure parts =
     (nat_le procedure.parameters (length procedure.slots))
     (list_all parameter_fits (parameters_of procedure))
     (list_all (λ (slot : SlotEntry). size_fits slot.size && written_fits program.hierarchy slot.written) procedure.slots)
-    (nat_le (sum_by (λ (slot : SlotEntry). cell_count slot.size) procedure.slots) cell_limit)
+    (nat_le (sum_by (λ (slot : SlotEntry). cell_count slot.size) procedure.slots) MAX_CELLS)
     (result_fits program.hierarchy procedure.result)
     (label_fits program.hierarchy procedure.begin_label)
     (label_fits program.hierarchy procedure.end_label)
@@ -128,7 +121,7 @@ procedure_from_parts program procedure parts =
 
 -- a well-formed program
 pub record ProgramParts (program : Program) : Type 0 where
-  pub principals_fit : nat_le (length program.hierarchy.names) principal_limit ≡ true
+  pub principals_fit : nat_le (length program.hierarchy.names) MAX_PRINCIPALS ≡ true
   pub channels_fit : list_all (λ (entry : ChannelEntry). label_fits program.hierarchy entry.label) program.channels ≡ true
   pub globals_are : globals_fit program ≡ true
   pub procedures_fit : list_all (procedure_fits program) program.procedures ≡ true
@@ -138,7 +131,7 @@ pub record ProgramParts (program : Program) : Type 0 where
 pub program_parts : (program : Program) → well_formed program ≡ true → ProgramParts program
 program_parts program h =
     let parts = six
-    (nat_le (length program.hierarchy.names) principal_limit)
+    (nat_le (length program.hierarchy.names) MAX_PRINCIPALS)
     (list_all (λ (entry : ChannelEntry). label_fits program.hierarchy entry.label) program.channels)
     (globals_fit program)
     (list_all (procedure_fits program) program.procedures)
@@ -157,7 +150,7 @@ program_parts program h =
 pub program_from_parts : (program : Program) → ProgramParts program → well_formed program ≡ true
 program_from_parts program parts =
     six_back
-    (nat_le (length program.hierarchy.names) principal_limit)
+    (nat_le (length program.hierarchy.names) MAX_PRINCIPALS)
     (list_all (λ (entry : ChannelEntry). label_fits program.hierarchy entry.label) program.channels)
     (globals_fit program)
     (list_all (procedure_fits program) program.procedures)
@@ -171,8 +164,8 @@ pub passes_at : {A : Type 0} (test : A → Bool) (xs : List A) (i : ℕ) (x : A)
 passes_at test [] i x h e = cc
 passes_at test (y ∷ ys) zero x h e =
     let same : y ≡ x = cc in
-    subst (λ z. test z ≡ true) same (both (test y) _ h).0
-passes_at test (y ∷ ys) (suc i) x h e = passes_at test ys i x (both (test y) _ h).1 e
+    subst (λ z. test z ≡ true) same (and_parts (test y) _ h).0
+passes_at test (y ∷ ys) (suc i) x h e = passes_at test ys i x (and_parts (test y) _ h).1 e
 
 -- a procedure of a well-formed program fits, and is what stands in the table
 pub procedure_there : (program : Program) → well_formed program ≡ true → (f : ℕ) (procedure : ProcedureEntry)

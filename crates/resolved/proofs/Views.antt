@@ -1,5 +1,7 @@
 -- What the tree of each statement of the code is, by the lists of the code.
-use Rattle.std.proofs.Common.{◌≡◌, ℕ, refl, ap, sym, ◌∙◌}
+use Rattle.std.proofs.Common.{◌≡◌, ℕ, suc, ◌+◌, ◌<◌, List, ◌∷◌, drop, get_or, length, refl, ap, sym, ◌∙◌}
+use Rattle.std.proofs.Math.Numerals.{add-one}
+use Rattle.std.proofs.Math.Seq.{drop-cons}
 use Rattle.std.specs.Prelude.{Vec}
 use Rattle.std.specs.declared.alloc.Global.{Global}
 use mathlib.Core.Former
@@ -68,3 +70,20 @@ at_try f block handlers is = ap (λ t. f (statement_of t)) is ∙ ap f (statemen
 pub at_nested : {A : Type 0} (f : Statement → A) {s : S.Statement} {at : ℕ} (block : Vec S.Statement Global)
     → s ≡ S.Nested at block → f (statement_of s) ≡ f (Nested at (block_of block.items))
 at_nested f block is = ap (λ t. f (statement_of t)) is ∙ ap f (statement_of_nested _ block)
+
+-- ---- what is next in a list
+
+pub next : {A : Type 0} (xs : List A) (i : ℕ) (x : A) → i < length xs → x ≡ get_or xs i x → drop i xs ≡ x ∷ drop (i + 1) xs
+next xs i x inside is =
+    drop-cons xs i x inside ∙ (ap (λ y. y ∷ drop (suc i) xs) (sym is) ∙ ap (λ n. x ∷ drop n xs) (sym (add-one i)))
+
+pub next-statement : (block : List S.Statement) (i : ℕ) (statement : S.Statement) → i < length block → statement ≡ get_or block i statement
+    → block_of (drop i block) ≡ Then (statement_of statement) (block_of (drop (i + 1) block))
+next-statement block i statement inside is = ap block_of (next block i statement inside is)
+
+pub next-handler : (handlers : List Handler) (i : ℕ) (handler : Handler) (body : List S.Statement) → i < length handlers → handler ≡ get_or handlers i handler
+    → body ≡ handler.body.items
+    → handlers_of (drop i handlers) ≡ Catch handler.at handler.exception (block_of body) (handlers_of (drop (i + 1) handlers))
+next-handler handlers i handler body inside is lent =
+    ap handlers_of (next handlers i handler inside is)
+    ∙ ap (λ list. Catch handler.at handler.exception (block_of list) (handlers_of (drop (i + 1) handlers))) (sym lent)

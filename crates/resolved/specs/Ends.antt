@@ -9,7 +9,8 @@ use Rattle.resolved.specs.declared.statement.Exit.{Exit}
 use Rattle.resolved.specs.declared.statement.Exit.TheVariants.{Normal, Return, Break, Continue, Throw}
 use Rattle.resolved.specs.Tree.{Expression, Integer, Logical, Read, Element, Unary, Binary, Short, Statement, Assign, Clear, Store, Receive, Send, Call, If, While, Leave, ReturnWith, Try, Nested, Block, Empty, Then, Handlers, NoMore, Catch}
 use Rattle.resolved.specs.Program.{Program, ThrownEntry, procedure_at}
-use Rattle.resolved.specs.Value.{literal_number, is_zero, in_range, arith_exception, bounds_exception, end_exception}
+use Rattle.resolved.specs.Value.{literal_number, in_range, arith_exception, bounds_exception, end_exception}
+use Rattle.common.specs.Integers.{is_zero}
 
 -- whether two exits are the same
 abbrev pub same_exit : Exit → Exit → Bool

@@ -1,6 +1,6 @@
 -- Values, and what the operators make of them.
 -- Source: our own language; whole numbers reduced to 32 bits, with division toward zero.
-use Rattle.std.specs.Prelude.{ℕ, Bool, true, false, not, ◌==◌, ℤ, pos, negsuc, ◌+ℤ◌, ◌-ℤ◌, ◌*ℤ◌, neg_ℤ, int_lt, int_le, int_div, int_rem, nat_lt, if◌then◌else◌}
+use Rattle.std.specs.Prelude.{ℕ, Bool, true, false, not, ℤ, pos, negsuc, ◌+ℤ◌, ◌-ℤ◌, ◌*ℤ◌, neg_ℤ, int_lt, int_le, int_div, int_rem, nat_lt, if◌then◌else◌}
 use Rattle.common.specs.declared.exceptions.TheConstants.{ARITH, BOUNDS, END}
 use Rattle.std.specs.Int.{int_wrap}
 use Rattle.std.specs.Ordering.{int_eq}
@@ -15,6 +15,7 @@ use Rattle.resolved.specs.declared.expression.Operator.{Operator}
 use Rattle.resolved.specs.declared.expression.Operator.TheVariants.{Add, Subtract, Multiply, Divide, Remainder, LessThan, AtMost, GreaterThan, AtLeast, Equal, Unequal, Same, Different}
 use Rattle.resolved.specs.declared.expression.Connective.{Connective}
 use Rattle.resolved.specs.declared.expression.Connective.TheVariants.{And, Or}
+use Rattle.common.specs.Integers.{is_zero}
 
 -- the built-in exceptions
 abbrev pub arith_exception : ℕ
@@ -66,10 +67,6 @@ base_of (Truth b) = Boolean
 abbrev pub prefix_value : Prefix → Value → Value
 prefix_value Negate v = Number (wrapped (neg_ℤ (number_in v)))
 prefix_value Not v = Truth (not (truth_in v))
-
-abbrev pub is_zero : ℤ → Bool
-is_zero (pos n) = n == 0
-is_zero (negsuc n) = false
 
 -- what a division gives, which raises `Arith` where the divisor is 0
 abbrev pub unless_zero : ℤ → ℤ → Evaluated Value

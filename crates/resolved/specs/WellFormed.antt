@@ -3,6 +3,7 @@
 -- source gets which breaks it; those without a number are kept by whatever makes a program.
 -- Source: our own.
 use Rattle.std.specs.Prelude.{ℕ, suc, ◌+◌, List, [], ◌∷◌, ◌++◌, Bool, true, false, not, ◌==◌, ◌&&◌, ◌||◌, Option, Some, None, is_none, length, take, sum_by, slice_get, nat_lt, nat_le}
+use Rattle.common.specs.declared.exceptions.TheConstants.{BUILT_IN}
 use Rattle.common.specs.declared.limits.TheConstants.{MAX_CELLS, MAX_ELEMENTS, MAX_INTEGER, MAX_PRINCIPALS, MAX_TEXT}
 use Rattle.std.specs.List.{list_all, list_any}
 use Rattle.principals.specs.ActsFor.{PrincipalHierarchy}
@@ -23,7 +24,8 @@ use Rattle.resolved.specs.declared.statement.Exit.{Exit}
 use Rattle.resolved.specs.declared.statement.Exit.TheVariants.{Normal, Return, Break, Continue, Throw}
 use Rattle.resolved.specs.Tree.{Expression, Integer, Logical, Read, Element, Unary, Binary, Short, Statement, Assign, Clear, Store, Receive, Send, Call, If, While, Leave, ReturnWith, Try, Nested, Block, Empty, Then, Handlers, NoMore, Catch}
 use Rattle.resolved.specs.Program.{Program, ProcedureEntry, SlotEntry, ResultEntry, ThrownEntry, ChannelEntry, GlobalEntry}
-use Rattle.resolved.specs.Value.{base_of, is_zero}
+use Rattle.resolved.specs.Value.{base_of}
+use Rattle.common.specs.Integers.{is_zero}
 
 -- the greatest literal
 abbrev pub literal_limit : ℕ
@@ -158,7 +160,7 @@ call_matches program procedure (Some callee) arguments target =
 
 -- 301 unknown name, 403 wrong use: an exception that is there, built in or declared
 abbrev pub is_exception : Program → ℕ → Bool
-is_exception program exception = nat_lt exception (3 + length program.exceptions)
+is_exception program exception = nat_lt exception (BUILT_IN + length program.exceptions)
 
 -- what `break`, `continue` and `throw` may take
 abbrev pub may_leave_by : Program → Exit → Bool
@@ -283,16 +285,8 @@ main_fits None = false
 main_fits (Some procedure) = procedure.parameters == 0 && is_none procedure.result
 
 -- ---- limits
--- the greatest length of an array; the cells of the globals, and those of a frame; the principals; the nodes of a tree
-abbrev pub array_limit : ℕ
-array_limit = MAX_ELEMENTS
 
-abbrev pub cell_limit : ℕ
-cell_limit = MAX_CELLS
-
-abbrev pub principal_limit : ℕ
-principal_limit = MAX_PRINCIPALS
-
+-- the nodes of a tree
 abbrev pub node_limit : ℕ
 node_limit = MAX_TEXT
 
@@ -304,7 +298,7 @@ cell_count (Some length) = length
 -- 703 array size: a length that an array may have
 abbrev pub size_fits : Option ℕ → Bool
 size_fits None = true
-size_fits (Some length) = nat_lt 0 length && nat_le length array_limit
+size_fits (Some length) = nat_lt 0 length && nat_le length MAX_ELEMENTS
 
 -- no refusal, since a source is short: how many nodes a program has, its expressions, statements and handlers, and the entries of its tables with the policies and
 -- readers of channels
@@ -362,7 +356,7 @@ procedure_fits program procedure =
     nat_le procedure.parameters (length procedure.slots)
     && list_all parameter_fits (parameters_of procedure)
     && list_all (λ (slot : SlotEntry). size_fits slot.size && written_fits program.hierarchy slot.written) procedure.slots
-    && nat_le (sum_by (λ (slot : SlotEntry). cell_count slot.size) procedure.slots) cell_limit
+    && nat_le (sum_by (λ (slot : SlotEntry). cell_count slot.size) procedure.slots) MAX_CELLS
     && result_fits program.hierarchy procedure.result
     && label_fits program.hierarchy procedure.begin_label
     && label_fits program.hierarchy procedure.end_label
@@ -376,12 +370,12 @@ abbrev pub globals_fit : Program → Bool
 globals_fit program =
     list_all (λ (entry : GlobalEntry). size_fits entry.size && label_fits program.hierarchy entry.label && first_fits entry)
     program.globals
-    && nat_le (sum_by (λ (entry : GlobalEntry). cell_count entry.size) program.globals) cell_limit
+    && nat_le (sum_by (λ (entry : GlobalEntry). cell_count entry.size) program.globals) MAX_CELLS
 
 -- a well-formed program
 abbrev pub well_formed : Program → Bool
 well_formed program =
-    nat_le (length program.hierarchy.names) principal_limit
+    nat_le (length program.hierarchy.names) MAX_PRINCIPALS
     && list_all (λ (entry : ChannelEntry). label_fits program.hierarchy entry.label) program.channels
     && globals_fit program
     && list_all (procedure_fits program) program.procedures

@@ -4,7 +4,7 @@ ghost use Rattle.resolved.specs.Exceptions as spec;
 ghost use Rattle.std.specs.Prelude.{[], map, slice_get, unwrap_or, ◌≡◌};
 ghost use Rattle.std.specs.String.{string_bytes};
 
-use common::exceptions::{ARITH, ARITH_NAME, BOUNDS, BOUNDS_NAME, END, END_NAME};
+use common::exceptions::{ARITH, ARITH_NAME, BOUNDS, BOUNDS_NAME, BUILT_IN, END, END_NAME};
 
 /// The name of an exception, where these are the declared ones; empty where there is none of this number.
 pub fn exception_name(declared: &[String], exception: u32) -> &str
@@ -14,7 +14,7 @@ pub fn exception_name(declared: &[String], exception: u32) -> &str
         ARITH => ARITH_NAME,
         BOUNDS => BOUNDS_NAME,
         END => END_NAME,
-        _ => declared_name(declared, (exception - 3) as usize),
+        _ => declared_name(declared, (exception - BUILT_IN) as usize),
     }
 }
 

@@ -16,5 +16,6 @@ pub struct Core {
     pub globals: Vec<GlobalVariable>,
     pub procedures: Vec<Procedure>,
     pub main: u32,
-    pub ghost well_formed: { IsTrue (well_formed (program_from hierarchy channels.items exceptions.items globals.items procedures.items main)) },
+    pub ghost well_formed: { IsTrue (well_formed (program_from hierarchy channels.items
+        exceptions.items globals.items procedures.items main)) },
 }

@@ -4,18 +4,14 @@ use Rattle.std.specs.Prelude.{slice_get, ◌==◌}
 use Rattle.std.proofs.lemmas.Bool.{eqb-true, eqb-false, or_cases}
 use Rattle.std.proofs.lemmas.List.{take_more, length_push}
 use Rattle.std.proofs.lemmas.List.Folds.{list_any-append}
+use Rattle.std.proofs.Math.Bool.{or-false}
 use Rattle.solver.specs.Bits.{has_bit}
 use Rattle.solver.specs.Breaker.{AreKept, BreaksSides, IsBreakerOf, IsFirstBreaker, IsKeptRow, IsKnown, NoneBreaks, nothing, some}
 use Rattle.solver.specs.Rows.{atom_has, left_has}
 use Rattle.solver.specs.declared.row.Row.{Row}
 use Rattle.solver.specs.declared.system.Atom.{Atom}
 use Rattle.solver.specs.declared.system.Constraint.{Constraint}
-use Rattle.solver.proofs.Meaning.{some-same}
-use Rattle.solver.proofs.Searching.{lt_or_last}
-
-or-false : (b : Bool) → (b || false) ≡ b
-or-false true = refl
-or-false false = refl
+use Rattle.common.proofs.Cases.{same_some, last_cases}
 
 -- one more atom of a left side
 pub left-step : (rows : List Row) (left : List Atom) (i n : ℕ) (d : Atom) (before after : Bool) → i < length left → before ≡ left_has rows (take i left) n →
@@ -50,7 +46,7 @@ kept-push below count [] kept (suc to) d h = absurd (omega (arith, h))
 kept-push below count (k ∷ known) kept to d h = go to h
   where
     one : (known' : List (Option Row)) (i : ℕ) → i < length (known' ++ None ∷ []) → (i < length known') ⊎ (i ≡ length known')
-    one known' i h' = lt_or_last i (length known') (omega (arith, h', length_push known' None))
+    one known' i h' = last_cases i (length known') (omega (arith, h', length_push known' None))
 
     push-before : (known' : List (Option Row)) (i : ℕ) → i < length known' → get_or (known' ++ None ∷ []) i d ≡ get_or known' i d
     push-before [] i h' = absurd (omega (arith, h'))
@@ -81,7 +77,7 @@ kept-set below count known at o kept one h to d lt = go (nat_eq to at) refl
 -- ---- the constraints one by one
 slice_get-at : {X : Type 0} (xs : List X) (i : ℕ) (x d : X) → slice_get xs i ≡ Some x → get_or xs i d ≡ x
 slice_get-at [] i x d e = absurd (cc)
-slice_get-at (y ∷ ys) zero x d e = some-same y x e
+slice_get-at (y ∷ ys) zero x d e = same_some y x e
 slice_get-at (y ∷ ys) (suc i) x d e = slice_get-at ys i x d e
 
 pub slice_get-has : {X : Type 0} (xs : List X) (i : ℕ) (d : X) → i < length xs → slice_get xs i ≡ Some (get_or xs i d)
@@ -102,7 +98,7 @@ module _ {T : Type 0} (below : ℕ → ℕ → Bool) (count : ℕ) (rows : List 
       (λ last.
       let same_c : breaks.constraint ≡ c = sym (slice_get-at cs i breaks.constraint c (subst (λ k. slice_get cs k ≡ Some breaks.constraint) last breaks.at)) ∙ sym is in
       none n h (subst (λ (x : Constraint T). BreaksSides below rows x.left.items x.right n) same_c breaks.sides))
-      (lt_or_last j i lt)
+      (last_cases j i lt)
 
   pub some-first : (i n : ℕ) (c : Constraint T) → i < length cs → c ≡ get_or cs i c → NoneBreaks below count rows cs i → IsBreakerOf below count rows c.left.items c.right (Some n) →
       IsFirstBreaker below count rows cs (Some n)

@@ -2,7 +2,7 @@
 use Rattle.std.proofs.Common.{◌≡◌, refl, sym, ap, ◌∙◌, subst, ℕ, zero, suc, ◌<◌, ◌≤◌, ◌+◌, ◌*◌, ◌/◌, ◌%◌, length, set, get_or, get_or-set_other, get_or-set_same, List, [], ◌∷◌, ◌++◌, Bool, true, false, arith, nat_eq, nat_lt, ◌≢◌, ⊎_elim}
 use Rattle.std.specs.Prelude.{IsTrue, ◌==◌, if◌then◌else◌}
 use Rattle.std.specs.Int.{bit_at}
-use Rattle.std.proofs.lemmas.Bool.{eqb-true, eqb-false, eq-eqb, ltb-true}
+use Rattle.std.proofs.lemmas.Bool.{eqb-true, eqb-false, eq-eqb, ltb-true, cases_lt}
 use Rattle.std.proofs.lemmas.Nat.Bits.{bit_at-zero}
 use Rattle.solver.specs.Bits.{has_bit}
 use Rattle.solver.specs.Reach.{ReachesBy, directly, edge, onward}
@@ -11,9 +11,8 @@ use Rattle.solver.specs.Spread.{AreMasks, mask_at}
 use Rattle.solver.specs.declared.edges.Edges.{Edges}
 use Rattle.solver.specs.declared.row.Row.{Row}
 use Rattle.solver.specs.declared.system.Atom.TheVariants.{Unknown}
-use Rattle.solver.proofs.Members.{lt_or_ge}
-use Rattle.solver.proofs.Searching.{lt_or_last}
 use Rattle.solver.proofs.Spreading.{row_at-inside}
+use Rattle.common.proofs.Cases.{last_cases}
 
 pub ltb-ge : (a b : ℕ) → b ≤ a → nat_lt a b ≡ false
 ltb-ge a b h = go (nat_lt a b) refl
@@ -82,7 +81,7 @@ put-step old block masks rows u before after word h so_far is inside after_is wo
   done = λ w n lt. ⊎_elim
       (λ (earlier : w < u). let ne : w ≢ u = omega (arith, earlier) in has_at-other rows u w n after ne ∙ so_far.done w n earlier)
       (λ (last : w ≡ u). ap (λ x. has_at (set rows u after) x n) last ∙ (here n ∙ ap (λ x. put old block masks x n) (sym last)))
-      (lt_or_last w u lt);
+      (last_cases w u lt);
   rest = λ w n le. let ne : w ≢ u = omega (arith, le) in has_at-other rows u w n after ne ∙ so_far.rest w n (omega (arith, le));
 }
   where
@@ -102,7 +101,7 @@ pub put-end : (old : List Row) (block : ℕ) (masks : List ℕ) (rows : List Row
 put-end old block masks rows u is_put len len' w n =
     ⊎_elim (λ (lt : w < u). is_put.done w n lt)
     (λ (ge : u ≤ w). is_put.rest w n ge ∙ beyond (omega (arith, ge, len')) (omega (arith, ge, len)))
-    (lt_or_ge w u)
+    (cases_lt w u)
   where
     beyond : length old ≤ w → length masks ≤ w → has_at old w n ≡ put old block masks w n
     beyond h h' = go (nat_eq (n / 64) block) refl

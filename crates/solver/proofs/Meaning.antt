@@ -17,15 +17,9 @@ use Rattle.solver.specs.declared.edges.Edges.{Edges}
 use Rattle.solver.specs.declared.system.Atom.{Atom}
 use Rattle.solver.specs.declared.system.Atom.TheVariants.{Unknown, Written}
 use Rattle.solver.specs.declared.system.Constraint.{Constraint}
+use Rattle.common.proofs.Cases.{same_some, contained_map}
 
 -- ---- lists
-pub Contains-map : {X Y : Type 0} (f : X → Y) (xs : List X) (x : X) → Contains xs x → Contains (map f xs) (f x)
-Contains-map f [] x h = absurd (none_in_nil x h)
-Contains-map {X} {Y} f (y ∷ ys) x h =
-    ⊎_elim
-    (λ (is : y ≡ x). subst (λ (z : Y). Contains (map f (y ∷ ys)) z) (ap f is) (Contains-first (f y) (map f ys)))
-    (λ k. Contains-later (f y) (map f ys) (f x) (Contains-map f ys x k))
-    (Contains-cons_cases y ys x h)
 
 pub Contains-map_only : {X Y : Type 0} (f : X → Y) (xs : List X) (y : Y) → Contains (map f xs) y → (x : X) × Contains xs x × (f x ≡ y)
 Contains-map_only f [] y h = absurd (none_in_nil y h)
@@ -45,22 +39,19 @@ abbrev some_or : {X : Type 0} → X → Option X → X
 some_or d None = d
 some_or d (Some x) = x
 
-pub some-same : {X : Type 0} (x y : X) → Some x ≡ Some y → x ≡ y
-some-same x y e = ap (some_or x) e
-
 pub at-contains : {X : Type 0} (xs : List X) (i : ℕ) (x : X) → slice_get xs i ≡ Some x → Contains xs x
 at-contains [] i x e = absurd (cc)
-at-contains {X} (y ∷ ys) zero x e = subst (λ (z : X). Contains (y ∷ ys) z) (some-same y x e) (Contains-first y ys)
+at-contains {X} (y ∷ ys) zero x e = subst (λ (z : X). Contains (y ∷ ys) z) (same_some y x e) (Contains-first y ys)
 at-contains (y ∷ ys) (suc i) x e = Contains-later y ys x (at-contains ys i x e)
 
 pub at-map : {X Y : Type 0} (f : X → Y) (xs : List X) (i : ℕ) (x : X) → slice_get xs i ≡ Some x → slice_get (map f xs) i ≡ Some (f x)
 at-map f [] i x e = absurd (cc)
-at-map f (y ∷ ys) zero x e = ap (λ z. Some (f z)) (some-same y x e)
+at-map f (y ∷ ys) zero x e = ap (λ z. Some (f z)) (same_some y x e)
 at-map f (y ∷ ys) (suc i) x e = at-map f ys i x e
 
 pub at-map_only : {X Y : Type 0} (f : X → Y) (xs : List X) (i : ℕ) (y : Y) → slice_get (map f xs) i ≡ Some y → (x : X) × (slice_get xs i ≡ Some x) × (f x ≡ y)
 at-map_only f [] i y e = absurd (cc)
-at-map_only f (x ∷ xs) zero y e = (x, refl, some-same (f x) y e)
+at-map_only f (x ∷ xs) zero y e = (x, refl, same_some (f x) y e)
 at-map_only f (x ∷ xs) (suc i) y e = at-map_only f xs i y e
 
 -- ---- atoms
@@ -135,10 +126,10 @@ pub links_of-has : {T : Type 0} (k : ℕ) (cs : List (Constraint T)) (i : ℕ) (
     Contains (links_of k cs) (link from (k + i) c.right)
 links_of-has k [] i c from at part = absurd (cc)
 links_of-has {T} k (d ∷ cs) zero c from at part =
-    let here : d ≡ c = some-same d c at in
+    let here : d ≡ c = same_some d c at in
     subst (λ n. Contains (links_of k (d ∷ cs)) (link from n c.right)) (sym (add-zero k))
     (Contains-append_left (left_links k d.right d.left.items) (links_of (suc k) cs) (link from k c.right)
-    (subst (λ (x : Constraint T). Contains (left_links k x.right x.left.items) (link from k c.right)) (sym here) (Contains-map (λ a. link a k c.right) c.left.items from part)))
+    (subst (λ (x : Constraint T). Contains (left_links k x.right x.left.items) (link from k c.right)) (sym here) (contained_map (λ a. link a k c.right) c.left.items from part)))
 links_of-has {T} k (d ∷ cs) (suc i) c from at part =
     let e : suc k + i ≡ k + suc i = omega arith in
     Contains-append_right (left_links k d.right d.left.items) (links_of (suc k) cs) (link from (k + suc i) c.right)
@@ -188,13 +179,13 @@ module _ {T V : Type 0} (l : Lattice V) (table : List V) (cs : List (Constraint 
   reaches-to n u (reach.directly by _ h) =
       let part = leads-part cs edges are (Written n) by (Unknown u) h in
       formal.directly (constraint_of l table part.constraint) u
-      (Contains-map (constraint_of l table) cs part.constraint (at-contains cs by part.constraint part.at))
-      (Contains-map (atom_of l table) part.constraint.left.items (Written n) part.part) (ap (atom_of l table) part.right)
+      (contained_map (constraint_of l table) cs part.constraint (at-contains cs by part.constraint part.at))
+      (contained_map (atom_of l table) part.constraint.left.items (Written n) part.part) (ap (atom_of l table) part.right)
   reaches-to n u (reach.onward by w _ r h) =
       let part = leads-part cs edges are (Unknown w) by (Unknown u) h in
       formal.onward (constraint_of l table part.constraint) w u (reaches-to n w r)
-      (Contains-map (constraint_of l table) cs part.constraint (at-contains cs by part.constraint part.at))
-      (Contains-map (atom_of l table) part.constraint.left.items (Unknown w) part.part) (ap (atom_of l table) part.right)
+      (contained_map (constraint_of l table) cs part.constraint (at-contains cs by part.constraint part.at))
+      (contained_map (atom_of l table) part.constraint.left.items (Unknown w) part.part) (ap (atom_of l table) part.right)
 
   pub in_table : (c : Constraint T) (n : ℕ) → Contains cs c → Contains c.left.items (Written n) → n < length table
   in_table c n h part =

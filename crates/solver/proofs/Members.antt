@@ -1,10 +1,11 @@
 -- Members of sets that are kept as words: after a number is added, and of a union.
-use Rattle.std.proofs.Common.{◌≡◌, refl, sym, ap, subst, ◌∙◌, ℕ, zero, suc, ◌<◌, ◌≤◌, ◌+◌, ◌*◌, ◌/◌, ◌%◌, ◌^◌, length, set, get_or, get_or-set_other, get_or-set_same, List, Bool, true, false, arith, nat_eq, ◌||◌, ◌≢◌, w64, max, ◌⊎◌, inl, inr, nat_lt, [], ◌∷◌, ⊎_elim, not}
+use Rattle.std.proofs.Common.{◌≡◌, refl, sym, ap, subst, ◌∙◌, ℕ, zero, suc, ◌<◌, ◌≤◌, ◌+◌, ◌*◌, ◌/◌, ◌%◌, ◌^◌, length, set, get_or, get_or-set_other, get_or-set_same, List, Bool, true, false, arith, nat_eq, ◌||◌, ◌≢◌, w64, max, ◌⊎◌, [], ◌∷◌, ⊎_elim, not}
 use Rattle.std.specs.Prelude.{Decides, IsTrue, bit_or, ◌==◌}
 use Rattle.std.specs.Int.{bit_at}
-use Rattle.std.proofs.lemmas.Bool.{eqb-true, eqb-false, eq-eqb, ltb-true, ltb-false}
+use Rattle.std.proofs.lemmas.Bool.{eqb-true, eqb-false, eq-eqb, cases_lt}
 use Rattle.std.proofs.lemmas.Nat.Bits.{bit_at_or, bit_at_set_same, bit_at_set_other, bit_at-lt, bit_at-zero, bit_at_above, same_from_bits}
 use Rattle.solver.specs.Bits.{Includes, IncludesWord, has_bit}
+use Rattle.common.proofs.Cases.{last_cases}
 
 pub neq-eqb : (a b : ℕ) → a ≢ b → nat_eq a b ≡ false
 neq-eqb a b ne = go (nat_eq a b) refl
@@ -12,13 +13,6 @@ neq-eqb a b ne = go (nat_eq a b) refl
     go : (t : Bool) → nat_eq a b ≡ t → nat_eq a b ≡ false
     go true e = absurd (ne (eqb-true a b e))
     go false e = e
-
-pub lt_or_ge : (k n : ℕ) → (k < n) ⊎ (n ≤ k)
-lt_or_ge k n = go (nat_lt k n) refl
-  where
-    go : (t : Bool) → nat_lt k n ≡ t → (k < n) ⊎ (n ≤ k)
-    go true e = inl (ltb-true k n e)
-    go false e = inr (ltb-false k n e)
 
 -- a number is added
 pub set-member : (words : List ℕ) (i w n : ℕ) → i / 64 < length words → w ≡ get_or words (i / 64) 0 →
@@ -119,7 +113,7 @@ includes-kept words other j small small' includes =
     let is : bit_at (get_or words (n / 64) 0) (n % 64) ≡ 1 = eqb-true (bit_at (get_or words (n / 64) 0) (n % 64)) 1 (includes n has) in
     sym (ap (λ x. bit_at (get_or words x 0) (n % 64)) word ∙ ap (bit_at (get_or words j 0)) place) ∙ is)
     (λ (ge : 64 ≤ i). let no : 0 ≡ 1 = sym (bit_at_above (get_or other j 0) 64 i small' ge) ∙ one in absurd (omega (arith, no)))
-    (lt_or_ge i 64)))
+    (cases_lt i 64)))
 
 -- beyond the words there are none
 pub get_or-beyond : (words : List ℕ) (j : ℕ) → length words ≤ j → get_or words j 0 ≡ 0
@@ -137,13 +131,6 @@ pub record IsJoinedTo (old other words : List ℕ) (grew : Bool) (k : ℕ) : Typ
   pub same : grew ≡ false → (j : ℕ) → j < k → bit_or (get_or old j 0) (get_or other j 0) ≡ get_or old j 0
   pub grown : grew ≡ true → Includes old other → ⊥
 
-pub last-of : (j k : ℕ) → j < k + 1 → (j < k) ⊎ (j ≡ k)
-last-of j k h = go (nat_eq j k) refl
-  where
-    go : (t : Bool) → nat_eq j k ≡ t → (j < k) ⊎ (j ≡ k)
-    go true e = inr (eqb-true j k e)
-    go false e = let ne : j ≢ k = eqb-false j k e in inl (omega (arith, h))
-
 pub join-step : (old other words : List ℕ) (grew grew' : Bool) (k joined : ℕ) → k < length words → IsJoinedTo old other words grew k →
     joined ≡ bit_or (get_or old k 0) (get_or other k 0) → get_or old k 0 < 2 ^ 64 → get_or other k 0 < 2 ^ 64 →
     (grew' ≡ false → (grew ≡ false) × (joined ≡ get_or old k 0)) → (grew' ≡ true → (grew ≡ true) ⊎ (joined ≢ get_or old k 0)) →
@@ -152,11 +139,11 @@ join-step old other words grew grew' k joined h so_far is small small' keeps gro
   done = λ j lt. ⊎_elim
       (λ (before : j < k). let other_word : j ≢ k = omega (arith, before) in get_or-set_other words k j joined 0 other_word ∙ so_far.done j before)
       (λ (last : j ≡ k). ap (λ i. get_or (set words k joined) i 0) last ∙ (get_or-set_same words k joined 0 h ∙ (is ∙ ap (λ i. bit_or (get_or old i 0) (get_or other i 0)) (sym last))))
-      (last-of j k lt);
+      (last_cases j k lt);
   rest = λ j le. let other_word : j ≢ k = omega (arith, le) in get_or-set_other words k j joined 0 other_word ∙ so_far.rest j (omega (arith, le));
   same = λ e j lt. ⊎_elim (λ (before : j < k). so_far.same (keeps e).0 j before)
       (λ (last : j ≡ k). ap (λ i. bit_or (get_or old i 0) (get_or other i 0)) last ∙ (sym is ∙ ((keeps e).1 ∙ ap (λ i. get_or old i 0) (sym last))))
-      (last-of j k lt);
+      (last_cases j k lt);
   grown = λ e includes. ⊎_elim (λ before. so_far.grown before includes)
       (λ differs. differs (is ∙ includes-kept old other k small small' includes))
       (grows e);
@@ -167,11 +154,11 @@ pub join-end : (old other words : List ℕ) (grew : Bool) (k : ℕ) → IsJoined
 join-end old other words grew k joined len len' len'' n =
     ⊎_elim (λ (lt : n / 64 < k). joined.done (n / 64) lt)
     (λ (ge : k ≤ n / 64). rw (get_or-beyond words (n / 64) (omega (arith, ge, len)), get_or-beyond old (n / 64) (omega (arith, ge, len')), get_or-beyond other (n / 64) (omega (arith, ge, len''))) refl)
-    (lt_or_ge (n / 64) k)
+    (cases_lt (n / 64) k)
 
 pub join-same : (old other words : List ℕ) (grew : Bool) (k : ℕ) → IsJoinedTo old other words grew k → length old ≤ k → length other ≤ k → grew ≡ false → Includes old other
 join-same old other words grew k joined len len' e =
-    kept-includes old other (λ j. ⊎_elim (λ (lt : j < k). joined.same e j lt) (λ (ge : k ≤ j). beyond-words old other j (omega (arith, ge, len)) (omega (arith, ge, len'))) (lt_or_ge j k))
+    kept-includes old other (λ j. ⊎_elim (λ (lt : j < k). joined.same e j lt) (λ (ge : k ≤ j). beyond-words old other j (omega (arith, ge, len)) (omega (arith, ge, len'))) (cases_lt j k))
 
 pub join-start : (old other : List ℕ) → IsJoinedTo old other old false 0
 join-start old other = record {

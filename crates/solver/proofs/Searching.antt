@@ -1,5 +1,5 @@
 -- A search along edges: what stays true while more is found, and that in the end all is found.
-use Rattle.std.proofs.Common.{◌≡◌, refl, sym, ap, ◌∙◌, subst, ℕ, zero, suc, ◌<◌, ◌≤◌, ◌+◌, length, set, get_or, List, [], ◌∷◌, ◌++◌, Bool, true, false, arith, take, ◌≢◌, add-one, ◌⊎◌, inl, inr, ⊎_elim, get_or-set_other, get_or-set_same, length-set, replicate, nat_eq}
+use Rattle.std.proofs.Common.{◌≡◌, refl, sym, ap, ◌∙◌, subst, ℕ, zero, suc, ◌<◌, ◌≤◌, ◌+◌, length, set, get_or, List, [], ◌∷◌, ◌++◌, Bool, true, false, arith, take, add-one, ◌⊎◌, inl, inr, ⊎_elim, get_or-set_other, get_or-set_same, length-set, replicate, nat_eq}
 use Rattle.std.specs.Prelude.{if◌then◌else◌, IsTrue, Contains}
 use Rattle.std.proofs.lemmas.Bool.{eqb-true, eqb-false}
 use Rattle.std.proofs.lemmas.List.{get_or_read, length_push, length-replicate, take_more}
@@ -14,6 +14,7 @@ use Rattle.solver.specs.declared.edges.Edges.{Edges}
 use Rattle.solver.specs.declared.search.Found.{Found}
 use Rattle.solver.specs.declared.system.Atom.{Atom}
 use Rattle.solver.specs.declared.system.Atom.TheVariants.{Unknown, Written}
+use Rattle.common.proofs.Cases.{last_cases}
 
 -- ---- marks
 abbrev pub marks_count : List Bool → ℕ
@@ -64,13 +65,6 @@ marked-cases marks u w e = go (nat_eq w u) refl
     go : (t : Bool) → nat_eq w u ≡ t → (w ≡ u) ⊎ IsTrue (get_or marks w false)
     go true is = inl (eqb-true w u is)
     go false is = inr (sym (get_or-set_other marks u w true false (eqb-false w u is)) ∙ e)
-
-pub lt_or_last : (k n : ℕ) → k < n + 1 → (k < n) ⊎ (k ≡ n)
-lt_or_last k n h = go (nat_eq k n) refl
-  where
-    go : (t : Bool) → nat_eq k n ≡ t → (k < n) ⊎ (k ≡ n)
-    go true e = inr (eqb-true k n e)
-    go false e = let ne : k ≢ n = eqb-false k n e in inl (omega (arith, h))
 
 -- ---- what was found stays at its index
 at-push : (found : List Found) (x : Found) (k : ℕ) → k < length found → get_or (found ++ x ∷ []) k nothing_found ≡ get_or found k nothing_found
@@ -200,7 +194,7 @@ trail-push edges n found x from trail came leads k h =
       came = subst (λ (y : Found). CameFrom n (found ++ x ∷ []) k y.parent from) e (came-kept at (omega arith) (omega (arith, last)) came);
       leads = subst (λ (y : Found). LeadsTo edges from y.by (Unknown y.unknown)) e leads;
     })
-    (lt_or_last k (length found) (omega (arith, h, length_push found x)))
+    (last_cases k (length found) (omega (arith, h, length_push found x)))
 
 grows-trail : (edges : Edges) (n : ℕ) (row : List Edge) (parent : ℕ) (marks : List Bool) (found : List Found) (marks' : List Bool) (found' : List Found) (from : Atom) →
     Grows row parent marks found marks' found' → CameFrom n found (length found) parent from → ((by u : ℕ) → Contains row (edge by (Unknown u)) → LeadsTo edges from by (Unknown u)) →
@@ -271,7 +265,7 @@ searched-step edges n marks found next row marks' found' s h row_is grows marked
       (λ (is : p ≡ next). λ by u k. marked by u
       (subst (λ xs. Contains xs (edge by (Unknown u))) (sym row_is)
       (subst (λ (f : Found). Contains (row_of edges (Unknown f.unknown)) (edge by (Unknown u))) (grows-at grows p (omega (arith, is, h)) ∙ ap (λ j. get_or found j nothing_found) is) k)))
-      (lt_or_last p next (omega (arith, before)));
+      (last_cases p next (omega (arith, before)));
   reached = omega (arith, h, grows-longer grows);
 }
 

@@ -22,12 +22,9 @@ use Rattle.solver.specs.declared.search.Found.{Found}
 use Rattle.solver.specs.declared.system.Atom.{Atom}
 use Rattle.solver.specs.declared.system.Atom.TheVariants.{Unknown, Written}
 use Rattle.solver.specs.declared.system.Constraint.{Constraint}
-use Rattle.solver.proofs.Meaning.{AreEdges, Contains-at, Contains-map, Contains-map_only, at-contains, at-map, at-map_only, in_table, leads-part, part-leads, reaches-to, some-same}
+use Rattle.solver.proofs.Meaning.{AreEdges, Contains-at, Contains-map_only, at-contains, at-map, at-map_only, in_table, leads-part, part-leads, reaches-to}
 use Rattle.solver.proofs.Values.{is_among-row}
-
-by_test : {P : Type 0} (b : Bool) → (b ≡ true → P) → (b ≡ false → P) → P
-by_test true held fails = held refl
-by_test false held fails = fails refl
+use Rattle.common.proofs.Cases.{same_some, by_test, contained_map}
 
 -- ---- the written elements in whose row an unknown stands
 rows_with-has : (k count : ℕ) (rows : List Row) (u i : ℕ) → i < count → IsTrue (has_at rows u (k + i)) → Contains (rows_with k (reached_by k count rows) u) (k + i)
@@ -100,7 +97,7 @@ find-at : {X : Type 0} (test : X → Bool) (xs : List X) (i : ℕ) (x : X) → s
     ((j : ℕ) (y : X) → j < i → slice_get xs j ≡ Some y → test y ≡ false) → find test xs ≡ Some x
 find-at test [] i x at passes before = absurd (cc)
 find-at {X} test (y ∷ ys) zero x at passes before =
-    let is : y ≡ x = some-same y x at in
+    let is : y ≡ x = same_some y x at in
     let y_passes : test y ≡ true = ap test is ∙ passes in
     rw y_passes (ap Some is)
 find-at test (y ∷ ys) (suc i) x at passes before =
@@ -161,7 +158,7 @@ module _ {T V : Type 0} (l : Lattice V) (laws : LatticeLaws l) (table : List V) 
       let in' : Contains (reaching u) n =
       subst (λ m. Contains (reaching u) m) (zero-add n) (rows_with-has 0 (length table) rows u n h (subst (λ m. IsTrue (has_at rows u m)) (sym (zero-add n)) has)) in
       subst (λ x. IsTrue (l.leq (written_at l table n) x)) (sym (join-is (reaching u)))
-      (join_all-above l laws (map (written_at l table) (reaching u)) (written_at l table n) (Contains-map (written_at l table) (reaching u) n in'))
+      (join_all-above l laws (map (written_at l table) (reaching u)) (written_at l table n) (contained_map (written_at l table) (reaching u) n in'))
 
   row-reaches : (u n : ℕ) → Contains (reaching u) n → (n < length table) × ReachesBy edges n u
   row-reaches u n h = let found = rows_with-only 0 (length table) rows u n h in (omega (arith, found.0), are_rows.sound u n found.1)
@@ -278,13 +275,13 @@ module _ {T V : Type 0} (l : Lattice V) (laws : LatticeLaws l) (table : List V) 
       (c.right ≡ Written to) × IsFalse (holds l vals (one_meant c))
   broken-fails n i to from h arrives leads fails c at =
       let part = leads-part cs edges are from i (Written to) leads in
-      let same_c : part.constraint ≡ c = some-same part.constraint c (sym part.at ∙ at) in
+      let same_c : part.constraint ≡ c = same_some part.constraint c (sym part.at ∙ at) in
       let right : c.right ≡ Written to = ap (λ (x : Constraint T). x.right) (sym same_c) ∙ part.right in
       let here : Contains c.left.items from = subst (λ (x : Constraint T). Contains x.left.items from) same_c part.part in (
         right,
         by_test (holds l vals (one_meant c)) (λ held.
             let flows = laws.transitive (written_at l table n) (value vals (atom_of l table from)) (value vals (atom_of l table c.right)) (arrives-below n from h arrives)
-            (part-below l laws all_meant vals (one_meant c) held (atom_of l table from) (Contains-map (atom_of l table) c.left.items from here)) in
+            (part-below l laws all_meant vals (one_meant c) held (atom_of l table from) (contained_map (atom_of l table) c.left.items from here)) in
             let flows_to : l.leq (written_at l table n) (written_at l table to) ≡ true = subst (λ r. IsTrue (l.leq (written_at l table n) (value vals (atom_of l table r)))) right flows in
             let no : true ≡ false = sym flows_to ∙ fails in absurd (cc))
             (λ e. e),
@@ -295,11 +292,11 @@ module _ {T V : Type 0} (l : Lattice V) (laws : LatticeLaws l) (table : List V) 
       (picked : List (formal.Constraint T ℕ V)) × Picks all_meant chain picked × Linked all_meant (atom_of l table from) picked (one_meant c)
   leads-joined _ _ _ _ (reach.ends from to by leads) c at =
       let part = leads-part cs edges are from by to leads in
-      let same_c : part.constraint ≡ c = some-same part.constraint c (sym part.at ∙ at) in
+      let same_c : part.constraint ≡ c = same_some part.constraint c (sym part.at ∙ at) in
       let here : Contains c.left.items from = subst (λ (x : Constraint T). Contains x.left.items from) same_c part.part in (
         one_meant c ∷ [],
         (at-map one_meant cs by c at, tt),
-        formal.ends (atom_of l table from) (one_meant c) (Contains-map one_meant cs c (at-contains cs by c at)) (Contains-map (atom_of l table) c.left.items from here),
+        formal.ends (atom_of l table from) (one_meant c) (contained_map one_meant cs c (at-contains cs by c at)) (contained_map (atom_of l table) c.left.items from here),
       )
   leads-joined _ _ _ _ (reach.goes_on from to by u last rest leads more) c at =
       let part = leads-part cs edges are from by (Unknown u) leads in
@@ -307,8 +304,8 @@ module _ {T V : Type 0} (l : Lattice V) (laws : LatticeLaws l) (table : List V) 
       let onward = leads-joined (Unknown u) rest last to more c at in (
         one_meant d ∷ onward.0,
         (at-map one_meant cs by d part.at, onward.1),
-        formal.goes_on (atom_of l table from) (one_meant d) u onward.0 (one_meant c) (Contains-map one_meant cs d (at-contains cs by d part.at))
-            (Contains-map (atom_of l table) d.left.items from part.part) (ap (atom_of l table) part.right) onward.2,
+        formal.goes_on (atom_of l table from) (one_meant d) u onward.0 (one_meant c) (contained_map one_meant cs d (at-contains cs by d part.at))
+            (contained_map (atom_of l table) d.left.items from part.part) (ap (atom_of l table) part.right) onward.2,
       )
 
   pub record IsRefusedBy (n : ℕ) (chain : List ℕ) : Type 0 where

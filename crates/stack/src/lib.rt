@@ -9,8 +9,8 @@ pub mod slab;
 
 pub use globals::Globals;
 pub use point::Point;
-pub use shape::{Shape, Span, cells_of, count_of, kind_of, repeat};
+pub use shape::{Shape, Span, cells_of, count_of, repeat};
 pub use slab::{
-    Back, Place, Site, Stand, Waiting, before, call_on, give_back_on, leave_on, operand_on,
-    point_of, site_of,
+    Back, Place, Site, Stand, Waiting, call_on, give_back_on, leave_on, operand_on, point_of,
+    site_of,
 };

@@ -1,6 +1,6 @@
 //! The cells of slots that lie one behind another.
 
-ghost use Rattle.stack.specs.Slab.{cells_in, kind_in, place_in, total};
+ghost use Rattle.stack.specs.Slab.{cells_in, place_in, total};
 ghost use Rattle.std.specs.Prelude.{IfOk, OnErr, OnOk, map, replicate, slice_get, ◌++◌, ◌≡◌};
 
 use bytecode::{Cell, Kind, Slot};
@@ -93,15 +93,6 @@ pub fn cells_of(slots: &[Slot]) -> Result<usize, AllocError>
         size = next;
     }
     Ok(size)
-}
-
-/// The kind of a slot's values.
-pub fn kind_of(slot: Slot) -> Kind
-    ensures { result ≡ kind_in slot }
-{
-    match slot {
-        Slot::Scalar(kind) | Slot::Array(kind, _) => kind,
-    }
 }
 
 /// Adds a cell so many times.

@@ -6,9 +6,9 @@ use Rattle.lexer.specs.Terminal.{Terminal, IsTerminated}
 use Rattle.syntax.specs.Grammar.{SpellsProgram}
 use Rattle.syntax.specs.Nesting.{IsNested}
 use Rattle.syntax.specs.Nodes.{program_nodes}
-use Rattle.syntax.specs.Limits.{most_levels}
 use Rattle.syntax.specs.Tree.{ProgramTree}
 use Rattle.syntax.specs.Written.{IsWritten}
+use Rattle.common.specs.declared.limits.TheConstants.{MAX_LEVELS}
 
 -- tokens spell at most one tree
 abbrev pub SpellsOneTree : Type 0
@@ -29,7 +29,7 @@ SpelledHasFewNodes =
 abbrev pub SpelledIsNested : Type 0
 SpelledIsNested =
     (tokens : List Terminal) (tree : ProgramTree) → SpellsProgram tokens tree → All IsSpelled tokens
-    → IsNested most_levels tree
+    → IsNested MAX_LEVELS tree
 
 -- what tokens spell is written: where each token has the text of its kind, which has at most so many bytes, the tree's names are
 -- names of at most so many bytes, its integers are small enough, and its nodes stand where tokens begin

@@ -14,10 +14,7 @@ longest_name = MAX_TEXT
 abbrev pub most_nodes : ℕ
 most_nodes = MAX_TEXT + 1
 
-abbrev pub most_levels : ℕ
-most_levels = MAX_LEVELS
-
 pub record IsProgram (program : ProgramTree) : Type 0 where
   pub written : IsWritten Anywhere longest_name program
   pub few : program_nodes program ≤ most_nodes
-  pub nested : IsNested most_levels program
+  pub nested : IsNested MAX_LEVELS program

@@ -1,7 +1,8 @@
 //! A program, which is made only of a tree that a text can have.
 
+ghost use Rattle.common.specs.declared.limits.TheConstants.{MAX_LEVELS};
 ghost use Rattle.std.specs.Prelude.{◌≡◌, ◌≤◌};
-ghost use Rattle.syntax.specs.Limits.{IsProgram, longest_name, most_levels, most_nodes};
+ghost use Rattle.syntax.specs.Limits.{IsProgram, longest_name, most_nodes};
 ghost use Rattle.syntax.specs.Nesting.{IsNested};
 ghost use Rattle.syntax.specs.Nodes.{program_nodes};
 ghost use Rattle.syntax.specs.Tree.{program_tree};
@@ -52,7 +53,7 @@ impl Program {
 
         // There are at most 1,048,577 nodes, nested at most 64 levels deep.
         ensures few { program_nodes (program_tree self.now) ≤ most_nodes }
-        ensures nested { IsNested most_levels (program_tree self.now) }
+        ensures nested { IsNested MAX_LEVELS (program_tree self.now) }
     {
         self.items.as_slice()
     }

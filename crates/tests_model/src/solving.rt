@@ -33,7 +33,8 @@ fn flow(alloc: Global, left: Atom, right: Atom) -> Result<Constraint<u8>, AllocE
 // The secret flows to an unknown, and that to the secret or to everybody.
 fn system(alloc: Global, to: u32) -> Result<System<Label, u8>, AllocError>
     requires { to < 2 }
-    ensures { IfOk result (λ system. InRange (length system.written.items) system.unknowns system.constraints.items) }
+    ensures { IfOk result (λ system. InRange (length system.written.items) system.unknowns
+        system.constraints.items) }
 {
     let first = flow(alloc, Atom::Written(0), Atom::Unknown(0))?;
     let second = flow(alloc, Atom::Unknown(0), Atom::Written(to))?;

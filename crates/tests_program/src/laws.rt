@@ -9,6 +9,7 @@ fn laws_of_sources(_rt: HostRuntime) {
     resolved::laws::gathered_constraints_decide();
     resolved::laws::precise_programs_are_accepted();
     gathering::laws::programs_are_gathered();
+    gathering::laws::labellings_fit_what_is_gathered();
     gathering::laws::unknowns_have_numbers_below_their_count();
     gathering::laws::what_is_gathered_is_in_proportion_to_the_program();
     runs::ends_are_possible();
@@ -45,7 +46,7 @@ fn laws_of_compiling(_rt: HostRuntime) {
     lowering::laws::graphs_have_positions();
     lowering::laws::graphs_have_direct_jumps();
     lowering::laws::graphs_fit_the_file();
-    lowering::laws::modules_have_no_fault();
+    lowering::laws::modules_have_no_defect();
     lowering::laws::modules_are_never_stuck();
     compiler::places_agree();
     parser::spelling_laws();

@@ -1,20 +1,16 @@
 -- What a module that has a spelling keeps to: lengths of four bytes, and a procedure in which a run may start.
-use Rattle.std.proofs.Common.{◌≡◌, ℕ, zero, suc, ◌<◌, ◌^◌, true, List, [], ◌∷◌, ◌++◌, length, slice_get, Some, None, subst, arith}
+use Rattle.std.proofs.Common.{◌≡◌, ℕ, zero, suc, ◌<◌, ◌^◌, true, List, [], ◌∷◌, ◌++◌, length, slice_get, Some, None, subst}
 use Rattle.bytecode.specs.Code.{code_length}
 use Rattle.bytecode.specs.Contents.{ProcedureContents, ModuleContents}
 use Rattle.bytecode.specs.Form.{Fits, FitEach}
 use Rattle.bytecode.specs.Format.{may_start, main, handlers, procedure, procedures, program, contents, module_file}
-use Rattle.bytecode.proofs.Spelling.{spelled-length}
+use Rattle.bytecode.proofs.Widths.{procedure_short}
 
 pub record IsBounded (m : ModuleContents) : Type 0 where
   pub few : length m.procedures < 2 ^ 32
   pub short : (k : ℕ) (p : ProcedureContents) → slice_get m.procedures k ≡ Some p → code_length p.code < 2 ^ 32
   pub handled : (k : ℕ) (p : ProcedureContents) → slice_get m.procedures k ≡ Some p → length p.handlers < 2 ^ 32
   pub starts : may_start (slice_get m.procedures m.main) ≡ true
-
-code_short : (p : ProcedureContents) → Fits procedure p → code_length p.code < 2 ^ 32
-unfolding procedure
-code_short p h = omega (arith, h.0.1.1.1.0.0, spelled-length p.code)
 
 handlers_few : (p : ProcedureContents) → Fits procedure p → length p.handlers < 2 ^ 32
 unfolding procedure handlers
@@ -29,7 +25,7 @@ procedures_fit : (all : List ProcedureContents) → Fits procedures all → (len
 unfolding procedures
 procedures_fit all h = (h.0, each_fits [] all h.2)
 
-main_starts : (all : List ProcedureContents) (number : ℕ) → Fits (main all) number → may_start (slice_get all number) ≡ true
+pub main_starts : (all : List ProcedureContents) (number : ℕ) → Fits (main all) number → may_start (slice_get all number) ≡ true
 unfolding main
 main_starts all number h = h.1
 
@@ -38,4 +34,4 @@ unfolding module_file contents program
 bounded m h =
     let all = h.0.1.1.1 in
     let b = procedures_fit m.procedures all.0 in
-    record { few = b.0; short = λ k p there. code_short p (b.1 k p there); handled = λ k p there. handlers_few p (b.1 k p there); starts = main_starts m.procedures m.main all.1 }
+    record { few = b.0; short = λ k p there. procedure_short p (b.1 k p there); handled = λ k p there. handlers_few p (b.1 k p there); starts = main_starts m.procedures m.main all.1 }

@@ -5,7 +5,7 @@ use Rattle.std.proofs.lemmas.List.{reverse-append}
 use Rattle.bytecode.specs.Code.{width_of, instruction_at}
 use Rattle.bytecode.specs.Contents.{ProcedureContents, ModuleContents}
 use Rattle.bytecode.specs.Machine as machine
-use Rattle.bytecode.specs.Machine.{State, Caller, Machine, Running, Ended, Deep, Header, machine_code, header_of, code_of, position_after, kinds_of, frame_limit}
+use Rattle.bytecode.specs.Machine.{State, Caller, Machine, Running, Ended, Deep, Header, machine_code, header_of, code_of, position_after, kinds_of}
 use Rattle.bytecode.specs.Values.{kind_of, is_same_kind}
 use Rattle.bytecode.specs.declared.instruction.Instruction.TheVariants.{Call, Return, ReturnValue}
 use Rattle.bytecode.specs.declared.value.Kind.{Kind}
@@ -17,6 +17,7 @@ use Rattle.verifier.proofs.Holds.{same_of, holds_first}
 use Rattle.verifier.proofs.Laws.{start_in_flow}
 use Rattle.verifier.proofs.Rows.{right_kind}
 use Rattle.verifier.proofs.Runs.{Waits, inner, Stands, Good, runs, over, leaves_same, leaves_good, value_good}
+use Rattle.common.specs.declared.limits.TheConstants.{MAX_FRAMES}
 
 -- the machine pops what the effect pops
 record Pops (kinds : List Kind) (before operands : List Cell) (rest : List Kind) : Type 0 where
@@ -63,7 +64,7 @@ module _ (m : ModuleContents) (free : HasNoDefect m) (p : ProcedureContents) (s 
   -- ---- a call
 
   enters_good : (callee : ProcedureContents) (number : ℕ) (rest : List Kind) → Stands m p s (Call number) (map kind_of s.frame.operands) → slice_get m.procedures number ≡ Some callee → effect m p (Call number) (map kind_of s.frame.operands) ≡ Leaves (pushed callee.returned rest) → (arguments left : List Cell) → map kind_of arguments ≡ (header_of callee).parameters → map kind_of left ≡ rest → Good m (machine.enters (machine_code m) s number callee.slots (Some (arguments, left)))
-  enters_good callee number rest st there e arguments left kinds is = split (nat_lt (length s.callers + 1) frame_limit)
+  enters_good callee number rest st there e arguments left kinds is = split (nat_lt (length s.callers + 1) MAX_FRAMES)
     where
       resumes : position_after (instruction_at (code_of (slice_get m.procedures s.frame.procedure)) s.frame.position) s.frame.position ≡ s.frame.position + width_of (Call number)
       resumes = ap (λ o. position_after (instruction_at (code_of o) s.frame.position) s.frame.position) st.there ∙ ap (λ o. position_after o s.frame.position) st.instruction

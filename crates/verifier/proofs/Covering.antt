@@ -1,11 +1,11 @@
 -- Handlers that wait until control comes to an offset that they cover.
-use Rattle.std.proofs.Common.{◌≡◌, ◌≢◌, ◌⊎◌, inl, inr, ℕ, suc, zero, ◌<◌, ◌≤◌, List, length, get_or, refl, ap, ◌∙◌, arith}
+use Rattle.std.proofs.Common.{◌≡◌, ◌≢◌, inl, inr, ℕ, suc, zero, ◌<◌, ◌≤◌, List, length, get_or, refl, ap, ◌∙◌, arith}
 use Rattle.std.specs.List.{Contains}
 use Rattle.std.proofs.lemmas.List.Sorted.{Contains-permutation, IsPermutation-sym, length_permutation}
+use Rattle.std.proofs.lemmas.Bool.{cases_eq, cases_lt}
 use Rattle.bytecode.specs.declared.declaration.Handler.{Handler}
 use Rattle.verifier.specs.Coverage.{IsCoverage, IsSortedByStart, Waits, leaf, left, total}
 use Rattle.verifier.specs.declared.coverage.Coverage.{Coverage}
-use Rattle.verifier.proofs.Reaching.{number_cases}
 use Rattle.verifier.proofs.Shared.{any_default}
 
 -- ---- sums
@@ -17,7 +17,7 @@ total_same f g (suc n) h = omega (arith, total_same f g n (λ k b. h k (omega ar
 -- one number got less, and the others are the same
 pub total_less : (f g : ℕ → ℕ) (n index : ℕ) → index < n → g index < f index → ((k : ℕ) → k ≢ index → g k ≡ f k) → total g n < total f n
 total_less f g zero index h less others = absurd (omega arith)
-total_less f g (suc n) index h less others = elim (number_cases n index) [
+total_less f g (suc n) index h less others = elim (cases_eq n index) [
   | inl last ↦ omega (arith, total_same f g n (λ k b. others k (λ e. omega (arith, e, last))), ap f last, ap g last, less)
   | inr before ↦ omega (arith, total_less f g n index (omega (arith, before_last before)) less others, others n before)
 ]
@@ -41,7 +41,7 @@ module _ (c : Coverage) (at : ℕ) (good : IsCoverage c) where
   pub later_waits : (index : ℕ) (h : Handler) → index < length c.handlers.items → h ≡ get_or c.handlers.items index h → at < h.start → ((k : ℕ) → k < index → leaf c.ends k ≤ at) → (x : Handler) → Waits c x → x.start ≤ at → at < x.end → ⊥
   later_waits index h inside is later first x w low high = elim (good.ends w.index x w.inside w.there) [
     | inl zero_is ↦ omega (arith, zero_is, w.waits)
-    | inr end ↦ elim (order w.index index) [
+    | inr end ↦ elim (cases_lt w.index index) [
       | inl less ↦ omega (arith, first w.index less, end)
       | inr from ↦
           let rises = good.rises index w.index h from w.inside in
@@ -49,18 +49,12 @@ module _ (c : Coverage) (at : ℕ) (good : IsCoverage c) where
           omega (arith, rises, ap (λ (y : Handler). y.start) is, ap (λ (y : Handler). y.start) other, later, low)
     ]
   ]
-    where
-      order : (a b : ℕ) → (a < b) ⊎ (b ≤ a)
-      order a b = grind arith
 
   pub above_inside : (index : ℕ) → at < leaf c.ends index → index < length c.handlers.items
-  above_inside index above = elim (order index (length c.handlers.items)) [
+  above_inside index above = elim (cases_lt index (length c.handlers.items)) [
     | inl less ↦ less
     | inr from ↦ absurd (omega (arith, good.behind index from, above))
   ]
-    where
-      order : (a b : ℕ) → (a < b) ⊎ (b ≤ a)
-      order a b = grind arith
 
 -- a handler was taken: its number is 0
 pub taken_left : (c new : Coverage) (index : ℕ) → new.ends.width ≡ c.ends.width → leaf new.ends index ≡ 0 → ((k : ℕ) → k ≢ index → leaf new.ends k ≡ leaf c.ends k) → index < c.ends.width → 0 < leaf c.ends index → left new < left c

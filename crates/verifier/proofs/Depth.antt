@@ -1,6 +1,7 @@
 -- The longest list of a search is as long as any that an instruction finds or leaves.
 use Rattle.std.proofs.Common.{◌≡◌, ◌⊎◌, inl, inr, ℕ, zero, suc, ◌+◌, ◌<◌, ◌≤◌, Bool, true, false, if◌then◌else◌, List, [], ◌∷◌, length, get_or, drop, max, Option, Some, None, refl, sym, ap, ◌∙◌, arith}
 use Rattle.std.proofs.lemmas.List.{drop_more}
+use Rattle.std.proofs.lemmas.Bool.{cases_lt}
 use Rattle.bytecode.specs.Contents.{ProcedureContents, ModuleContents}
 use Rattle.bytecode.specs.Code.{width_of}
 use Rattle.bytecode.specs.Values.{is_same_kind}
@@ -16,13 +17,13 @@ use Rattle.verifier.specs.declared.fault.CodeDefect.TheVariants.{OperandKind}
 use Rattle.verifier.specs.declared.operands.Link.{Link}
 use Rattle.verifier.specs.declared.search.Search.{Search}
 use Rattle.verifier.proofs.Laws.{flow_within}
-use Rattle.verifier.proofs.Reaching.{before_or_not, going_done, no_items}
+use Rattle.verifier.proofs.Reaching.{going_done, no_items}
 use Rattle.verifier.proofs.Runs.{leaves_same}
 
 -- ---- the greatest depth of links
 
 max_cases : (a b : ℕ) → (max a b ≡ a) ⊎ (max a b ≡ b)
-max_cases a b = elim (before_or_not a b) [ inl h ↦ inr (omega (arith, h)) | inr h ↦ inl (omega (arith, h)) ]
+max_cases a b = elim (cases_lt a b) [ inl h ↦ inr (omega (arith, h)) | inr h ↦ inl (omega (arith, h)) ]
 
 -- one more link of those that are left
 pub greatest_more : (links : List Link) (k deepest : ℕ) (d : Link) → k < length links → max deepest (greatest (drop k links)) ≡ greatest links → max (max (get_or links k d).depth deepest) (greatest (drop (k + 1) links)) ≡ greatest links

@@ -19,6 +19,7 @@ use Rattle.verifier.specs.declared.fault.CodeDefect.{CodeDefect}
 use Rattle.verifier.specs.declared.fault.CodeDefect.TheVariants as defect
 use Rattle.verifier.proofs.Offsets.{next_boundary}
 use Rattle.verifier.specs.declared.fault.CodeRefusal.{CodeRefusal}
+use Rattle.common.proofs.Cases.{append_empty}
 
 module _ (m : ModuleContents) (number : ℕ) (procedure : ProcedureContents) where
   -- ---- the loop over instructions
@@ -77,10 +78,6 @@ module _ (m : ModuleContents) (number : ℕ) where
 
 -- ---- where there is no defect
 
-append_nothing : {X : Type 0} (xs ys : List X) → xs ++ ys ≡ [] → (xs ≡ []) × (ys ≡ [])
-append_nothing [] ys e = (refl, e)
-append_nothing {X} (x ∷ xs) ys e = absurd (let no : ◌≡◌ {A = List X} (x ∷ (xs ++ ys)) [] = e in cc)
-
 no_defect : (number offset : ℕ) (o : Option CodeDefect) → refusals_at number offset o ≡ [] → o ≡ None
 no_defect number offset None e = refl
 no_defect number offset (Some wrong) e = absurd (cc)
@@ -89,34 +86,34 @@ module _ (m : ModuleContents) (number : ℕ) (procedure : ProcedureContents) whe
   instructions_right : (offset : ℕ) (code : List Instruction) → instruction_refusals m number procedure offset code ≡ [] → (k : ℕ) (i : Instruction) → slice_get code k ≡ Some i → instruction_defect m procedure i ≡ None
   instructions_right offset [] e k i is = absurd (let no : None ≡ Some i = is in cc)
   instructions_right offset (x ∷ code) e zero i is =
-      let both = append_nothing (refusals_at number offset (instruction_defect m procedure x)) (instruction_refusals m number procedure (offset + width_of x) code) e in
+      let both = append_empty (refusals_at number offset (instruction_defect m procedure x)) (instruction_refusals m number procedure (offset + width_of x) code) e in
       let same : x ≡ i = cc in
       ap (instruction_defect m procedure) (sym same) ∙ no_defect number offset (instruction_defect m procedure x) both.0
   instructions_right offset (x ∷ code) e (suc k) i is =
-      let both = append_nothing (refusals_at number offset (instruction_defect m procedure x)) (instruction_refusals m number procedure (offset + width_of x) code) e in
+      let both = append_empty (refusals_at number offset (instruction_defect m procedure x)) (instruction_refusals m number procedure (offset + width_of x) code) e in
       instructions_right (offset + width_of x) code both.1 k i is
 
   handlers_right : (handlers : List Handler) → handler_refusals m number procedure handlers ≡ [] → (h : Handler) (k : ℕ) → k < length handlers → get_or handlers k h ≡ h → handler_defect m procedure h ≡ None
   handlers_right [] e h k inside is = absurd (omega arith)
   handlers_right (x ∷ handlers) e h zero inside is =
-      let both = append_nothing (refusals_at number x.start (handler_defect m procedure x)) (handler_refusals m number procedure handlers) e in
+      let both = append_empty (refusals_at number x.start (handler_defect m procedure x)) (handler_refusals m number procedure handlers) e in
       let same : x ≡ h = is in
       ap (handler_defect m procedure) (sym same) ∙ no_defect number x.start (handler_defect m procedure x) both.0
   handlers_right (x ∷ handlers) e h (suc k) inside is =
-      let both = append_nothing (refusals_at number x.start (handler_defect m procedure x)) (handler_refusals m number procedure handlers) e in
+      let both = append_empty (refusals_at number x.start (handler_defect m procedure x)) (handler_refusals m number procedure handlers) e in
       handlers_right handlers both.1 h k (omega arith) is
 
 procedures_right : (m : ModuleContents) (number : ℕ) (procedures : List ProcedureContents) → procedure_refusals m number procedures ≡ [] → (k : ℕ) (p : ProcedureContents) → slice_get procedures k ≡ Some p → (instruction_refusals m (number + k) p 0 p.code ≡ []) × (handler_refusals m (number + k) p p.handlers ≡ [])
 procedures_right m number [] e k p is = absurd (let no : None ≡ Some p = is in cc)
 procedures_right m number (x ∷ procedures) e zero p is =
-    let both = append_nothing (instruction_refusals m number x 0 x.code ++ handler_refusals m number x x.handlers) (procedure_refusals m (number + 1) procedures) e in
-    let own = append_nothing (instruction_refusals m number x 0 x.code) (handler_refusals m number x x.handlers) both.0 in
+    let both = append_empty (instruction_refusals m number x 0 x.code ++ handler_refusals m number x x.handlers) (procedure_refusals m (number + 1) procedures) e in
+    let own = append_empty (instruction_refusals m number x 0 x.code) (handler_refusals m number x x.handlers) both.0 in
     let same : x ≡ p = cc in
     let at : number ≡ number + 0 = omega arith in
     subst (λ (n : ℕ). (instruction_refusals m n p 0 p.code ≡ []) × (handler_refusals m n p p.handlers ≡ [])) at
     (subst (λ (q : ProcedureContents). (instruction_refusals m number q 0 q.code ≡ []) × (handler_refusals m number q q.handlers ≡ [])) same own)
 procedures_right m number (x ∷ procedures) e (suc k) p is =
-    let both = append_nothing (instruction_refusals m number x 0 x.code ++ handler_refusals m number x x.handlers) (procedure_refusals m (number + 1) procedures) e in
+    let both = append_empty (instruction_refusals m number x 0 x.code ++ handler_refusals m number x x.handlers) (procedure_refusals m (number + 1) procedures) e in
     let there = procedures_right m (number + 1) procedures both.1 k p is in
     let at : number + 1 + k ≡ number + suc k = omega arith in
     subst (λ (n : ℕ). (instruction_refusals m n p 0 p.code ≡ []) × (handler_refusals m n p p.handlers ≡ [])) at there
@@ -147,7 +144,7 @@ all_right m e k p is = let none = procedures_right m 0 m.procedures e k p is in 
 
 pub own_right : (m : ModuleContents) (number : ℕ) (p : ProcedureContents) → None ≡ slice_get (own_refusals m number p) 0 → IsRight m p
 own_right m number p e =
-    let both = append_nothing (instruction_refusals m number p 0 p.code) (handler_refusals m number p p.handlers) (nothing_first (own_refusals m number p) (sym e)) in
+    let both = append_empty (instruction_refusals m number p 0 p.code) (handler_refusals m number p p.handlers) (nothing_first (own_refusals m number p) (sym e)) in
     right m number p both.0 both.1
 
 -- ---- so control goes to instructions or to the end

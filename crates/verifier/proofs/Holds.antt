@@ -1,7 +1,7 @@
 -- Cells of one kind, and slots that hold cells of their kinds.
-use Rattle.std.proofs.Common.{◌≡◌, ℕ, zero, suc, ◌==◌, Bool, true, false, if◌then◌else◌, List, [], ◌∷◌, length, map, take, replicate, slice_get, slice_set, Option, Some, None, refl, sym, ap, ◌∙◌, subst, arith, pos, negsuc, ℤ}
+use Rattle.std.proofs.Common.{◌≡◌, ℕ, zero, suc, ◌==◌, Bool, true, false, if◌then◌else◌, List, [], ◌∷◌, length, map, take, replicate, slice_get, slice_set, Option, Some, None, refl, sym, ap, ◌∙◌, subst, pos, negsuc, ℤ}
 use Rattle.std.specs.Prelude.{nat_lt}
-use Rattle.std.proofs.lemmas.Bool.Decides.{nat_tests}
+use Rattle.std.proofs.lemmas.Bool.{eqb-true}
 use Rattle.bytecode.specs.Machine.{changed, element_at, with_element, scalar_cell, first_cells, first_slot, first_slots, first_global, slot_of, cells_of_global, kinds_of}
 use Rattle.bytecode.specs.Values.{kind_of, zero_of, is_same_kind}
 use Rattle.bytecode.specs.declared.value.Kind.{Kind}
@@ -63,15 +63,12 @@ scalar_kind q (x ∷ cells) h = h.0
 abbrev pub Holds : List Slot → (ℕ → List Cell) → Type 0
 Holds slots cells = (k : ℕ) (s : Slot) → slice_get slots k ≡ Some s → AllOf (slot_kind (Some s)) (cells k)
 
-eq_of : (a b : ℕ) → a == b ≡ true → a ≡ b
-eq_of a b e = grind (arith, nat_tests)
-
 -- one slot with other cells of its kind
 pub holds_changed : (slots : List Slot) (cells : ℕ → List Cell) (k : ℕ) (new : List Cell) → Holds slots cells → AllOf (slot_kind (slice_get slots k)) new → Holds slots (changed cells k new)
 holds_changed slots cells k new h all j s is = split (j == k) refl
   where
     split : (b : Bool) → j == k ≡ b → AllOf (slot_kind (Some s)) (if b then new else cells j)
-    split true e = subst (λ o. AllOf (slot_kind o) new) (ap (slice_get slots) (sym (eq_of j k e)) ∙ is) all
+    split true e = subst (λ o. AllOf (slot_kind o) new) (ap (slice_get slots) (sym (eqb-true j k e)) ∙ is) all
     split false e = h j s is
 
 -- ---- arguments

@@ -1,14 +1,16 @@
 -- A table that keeps every edge has every list that the flow may give.
-use Rattle.std.proofs.Common.{◌≡◌, ◌≢◌, ◌⊎◌, inl, inr, ℕ, suc, zero, ◌==◌, Bool, true, false, if◌then◌else◌, List, [], ◌∷◌, Option, Some, None, refl, sym, ap, ◌∙◌, subst, arith}
+use Rattle.std.proofs.Common.{◌≡◌, ◌≢◌, ◌⊎◌, inl, inr, ℕ, ◌==◌, Bool, true, false, if◌then◌else◌, List, [], ◌∷◌, Option, Some, None, refl, sym, ap, ◌∙◌, subst, arith}
 use Rattle.std.proofs.lemmas.Bool.Decides.{nat_tests}
+use Rattle.std.proofs.lemmas.Bool.{eqb-true, cases_eq}
 use Rattle.bytecode.specs.Contents.{ProcedureContents, ModuleContents}
 use Rattle.bytecode.specs.Code.{code_length, instruction_at}
 use Rattle.bytecode.specs.declared.value.Kind.{Kind}
 use Rattle.bytecode.specs.declared.instruction.Instruction.{Instruction}
 use Rattle.verifier.specs.declared.fault.CodeDefect.{CodeDefect}
-use Rattle.verifier.specs.Flow.{Edge, Flow, starts, grows, changed, nowhere, effect, Misses, IsOperandDefect, misses, meets, falls, FlowsWell, between}
+use Rattle.verifier.specs.Flow.{Edge, Flow, starts, grows, nowhere, effect, Misses, IsOperandDefect, misses, meets, falls, FlowsWell, between}
 use Rattle.bytecode.specs.declared.value.Kind.TheVariants.{Int, Boolean}
 use Rattle.verifier.specs.declared.fault.CodeDefect.TheVariants.{FallsOffEnd}
+use Rattle.bytecode.specs.Machine.{changed}
 
 -- a table that is done: it has the start, keeps every edge, each of its instructions finds its operands, and none is at the end
 pub record IsDone (m : ModuleContents) (p : ProcedureContents) (table : ℕ → Option (List Kind)) : Type 0 where
@@ -16,9 +18,6 @@ pub record IsDone (m : ModuleContents) (p : ProcedureContents) (table : ℕ → 
   pub finds : (at : ℕ) (kinds : List Kind) (i : Instruction) (wrong : CodeDefect) → table at ≡ Some kinds → instruction_at p.code at ≡ Some i → effect m p i kinds ≡ Misses wrong → ⊥
   pub keeps : (at : ℕ) (kinds : List Kind) (to : ℕ) (after : List Kind) → table at ≡ Some kinds → Edge m p at kinds to after → table to ≡ Some after
   pub none_at_end : table (code_length p.code) ≡ None
-
-eq_of : (a b : ℕ) → a == b ≡ true → a ≡ b
-eq_of a b e = grind (arith, nat_tests)
 
 pub same_self : (a : ℕ) → a == a ≡ true
 same_self a = grind (arith, nat_tests)
@@ -28,7 +27,7 @@ pub changed_cases : (table : ℕ → Option (List Kind)) (to : ℕ) (after : Lis
 changed_cases table to after at kinds e = split (at == to) refl e
   where
     split : (b : Bool) → at == to ≡ b → (if b then Some after else table at) ≡ Some kinds → ((at ≡ to) × (after ≡ kinds)) ⊎ (table at ≡ Some kinds)
-    split true t e = inl (eq_of at to t, (cc))
+    split true t e = inl (eqb-true at to t, (cc))
     split false f e = inr e
 
 pub changed_at : (table : ℕ → Option (List Kind)) (to : ℕ) (after : List Kind) → changed table to (Some after) to ≡ Some after
@@ -90,12 +89,6 @@ pub record IsInFlow (m : ModuleContents) (p : ProcedureContents) (at : ℕ) (kin
 pub start_in_flow : (m : ModuleContents) (p : ProcedureContents) → IsInFlow m p 0 []
 start_in_flow m p = record { table = changed nowhere 0 (Some []); flow = starts; has = changed_at nowhere 0 [] }
 
-number_cases : (a b : ℕ) → (a ≡ b) ⊎ (a ≢ b)
-number_cases zero zero = inl refl
-number_cases zero (suc b) = inr (λ e. omega arith)
-number_cases (suc a) zero = inr (λ e. omega arith)
-number_cases (suc a) (suc b) = elim (number_cases a b) [ inl e ↦ inl (ap suc e) | inr ne ↦ inr (λ e. ne (omega arith)) ]
-
 -- and so is what an edge leads to
 pub along_in_flow : (m : ModuleContents) (p : ProcedureContents) → FlowsWell m p → (at : ℕ) (kinds : List Kind) (to : ℕ) (after : List Kind) → IsInFlow m p at kinds → Edge m p at kinds to after → IsInFlow m p to after
 along_in_flow m p free at kinds to after h edge = cases (h.table to) refl
@@ -105,7 +98,7 @@ along_in_flow m p free at kinds to after h edge = cases (h.table to) refl
     cases (Some others) e =
         elim (same_or_not after others) [
           | inl same ↦ record { table = h.table; flow = h.flow; has = e ∙ ap Some (sym same) }
-          | inr ne ↦ elim (number_cases to (code_length p.code)) [
+          | inr ne ↦ elim (cases_eq to (code_length p.code)) [
             | inl ends ↦ absurd (free (code_length p.code) FallsOffEnd (falls h.table others h.flow (ap h.table (sym ends) ∙ e)))
             | inr inside ↦ absurd (free to (between after others) (meets h.table at kinds to after others h.flow h.has edge inside e ne))
           ]

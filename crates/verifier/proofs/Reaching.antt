@@ -5,6 +5,7 @@ use Rattle.std.proofs.lemmas.Bool.Decides.{nat_tests}
 use Rattle.std.proofs.lemmas.List.{length-replicate, get_or-set_same, get_or-set_other, get_or_append_left}
 use Rattle.std.proofs.lemmas.List.Elements.{Contains-append_left, Contains-push, Contains-push_cases}
 use Rattle.std.proofs.Math.ListN.{length-set}
+use Rattle.std.proofs.lemmas.Bool.{cases_lt, eqb-true, cases_eq}
 use Rattle.bytecode.specs.Contents.{ProcedureContents, ModuleContents}
 use Rattle.bytecode.specs.Code.{width_of, code_length, instruction_at}
 use Rattle.bytecode.specs.declared.value.Kind.{Kind}
@@ -12,7 +13,7 @@ use Rattle.bytecode.specs.declared.declaration.Handler.{Handler}
 use Rattle.bytecode.specs.declared.instruction.Instruction.{Instruction}
 use Rattle.verifier.specs.declared.fault.CodeDefect.{CodeDefect}
 use Rattle.bytecode.specs.Targets.{target_of}
-use Rattle.verifier.specs.Flow.{Edge, next, jumps, caught, Flow, starts, nowhere, grows, misses, meets, falls, IsOperandDefect, FlowsWell, changed, between, effect, all_popped, pushed, exchanged, signature, is_own, and_then, Leaves, Misses, goes_on}
+use Rattle.verifier.specs.Flow.{Edge, next, jumps, caught, Flow, starts, nowhere, grows, misses, meets, falls, IsOperandDefect, FlowsWell, between, effect, all_popped, pushed, exchanged, signature, is_own, and_then, Leaves, Misses, goes_on}
 use Rattle.verifier.specs.Operands.{list_of, IsLonger}
 use Rattle.verifier.specs.Boundaries.{IsBoundary, KeepsBoundaries}
 use Rattle.verifier.specs.Coverage.{IsCoverage, Waits}
@@ -24,18 +25,10 @@ use Rattle.verifier.specs.declared.coverage.Coverage.{Coverage}
 use Rattle.verifier.specs.declared.search.Search.{Search}
 use Rattle.verifier.proofs.Offsets.{start_inside}
 use Rattle.verifier.proofs.Laws.{IsDone, flows_well, changed_at}
+use Rattle.bytecode.specs.Machine.{changed}
 
 fun_ext : {f g : ℕ → Option (List Kind)} → ((x : ℕ) → f x ≡ g x) → f ≡ g
 fun_ext h = λ i x. h x i
-
-eq_of : (a b : ℕ) → a == b ≡ true → a ≡ b
-eq_of a b e = grind (arith, nat_tests)
-
-pub number_cases : (a b : ℕ) → (a ≡ b) ⊎ (a ≢ b)
-number_cases zero zero = inl refl
-number_cases zero (suc b) = inr (λ e. omega arith)
-number_cases (suc a) zero = inr (λ e. omega arith)
-number_cases (suc a) (suc b) = elim (number_cases a b) [ inl e ↦ inl (ap suc e) | inr ne ↦ inr (λ e. ne (omega arith)) ]
 
 past_end : {A : Type 0} (xs : List A) (k : ℕ) (d : A) → length xs ≤ k → get_or xs k d ≡ d
 past_end [] k d h = refl
@@ -80,7 +73,7 @@ module _ (m : ModuleContents) (p : ProcedureContents) (s new : Search) (at to li
 
   is_changed : (offset : ℕ) → table new offset ≡ changed (table s) to (Some (list_of s.operands list)) offset
   is_changed offset =
-      elim (number_cases offset to) [
+      elim (cases_eq offset to) [
         | inl same ↦ ap (table new) same ∙ arrives ∙ sym (changed_at (table s) to (list_of s.operands list)) ∙ ap (changed (table s) to (Some (list_of s.operands list))) (sym same)
         | inr ne ↦ others offset ne ∙ not_at offset ne
       ]
@@ -89,7 +82,7 @@ module _ (m : ModuleContents) (p : ProcedureContents) (s new : Search) (at to li
       not_at offset ne = split (offset == to) refl
         where
           split : (b : Bool) → offset == to ≡ b → table s offset ≡ (if b then Some (list_of s.operands list) else table s offset)
-          split true t = absurd (ne (eq_of offset to t))
+          split true t = absurd (ne (eqb-true offset to t))
           split false f = refl
 
   was_none : table s to ≡ None
@@ -97,7 +90,7 @@ module _ (m : ModuleContents) (p : ProcedureContents) (s new : Search) (at to li
 
   keeps : (offset : ℕ) (kinds : List Kind) → table s offset ≡ Some kinds → table new offset ≡ Some kinds
   keeps offset kinds h =
-      elim (number_cases offset to) [
+      elim (cases_eq offset to) [
         | inl same ↦ absurd (let f : None ≡ Some kinds = sym was_none ∙ ap (table s) (sym same) ∙ h in cc)
         | inr ne ↦ others offset ne ∙ h
       ]
@@ -121,18 +114,18 @@ module _ (m : ModuleContents) (p : ProcedureContents) (s new : Search) (at to li
     searching = record {
       root = subst StartsWithEmpty (sym lists) g.root;
       sized = ap length shapes ∙ length-set s.shapes to (Some list) ∙ g.sized;
-      numbers = λ offset n h. elim (number_cases offset to) [
+      numbers = λ offset n h. elim (cases_eq offset to) [
         | inl same ↦ let f : Some list ≡ Some n = sym at_to ∙ ap (λ k. get_or new.shapes k None) (sym same) ∙ h in let n_is : list ≡ n = cc in omega (arith, ap length lists)
         | inr ne ↦ omega (arith, ap length lists, g.numbers offset n (sym (at_other offset ne) ∙ h))
       ];
-      begins = λ offset kinds h. elim (number_cases offset to) [
+      begins = λ offset kinds h. elim (cases_eq offset to) [
         | inl same ↦ subst (λ q. (i : Instruction) × (instruction_at p.code q ≡ Some i)) (sym same) (begins_at is_boundary)
         | inr ne ↦ g.begins offset kinds (sym (others offset ne) ∙ h)
       ];
       first = keeps 0 [] g.first;
       met = subst (AreMet m p) (sym lists) g.met;
       flow = subst (Flow m p) (sym (fun_ext is_changed)) (grows (table s) at e.kinds to (list_of s.operands list) g.flow e.has e.edge was_none);
-      pending = λ offset kinds h. elim (number_cases offset to) [
+      pending = λ offset kinds h. elim (cases_eq offset to) [
         | inl same ↦ inl (subst (λ w. Contains w offset) (sym work) (subst (Contains (s.work ++ to ∷ [])) (sym same) (Contains-push s.work to)))
         | inr ne ↦ elim (g.pending offset kinds (sym (others offset ne) ∙ h)) [
           | inl w ↦ inl (subst (λ l. Contains l offset) (sym work) (Contains-append_left s.work (to ∷ []) offset w))
@@ -236,11 +229,6 @@ looked_at m p s at g kept = record {
 
 -- ---- more lists
 
-pub before_or_not : (a b : ℕ) → (a < b) ⊎ (b ≤ a)
-before_or_not a zero = inr (omega arith)
-before_or_not zero (suc b) = inl (omega arith)
-before_or_not (suc a) (suc b) = elim (before_or_not a b) [ inl h ↦ inl (omega (arith, h)) | inr h ↦ inr (omega (arith, h)) ]
-
 longer_row : (lists more : List (List Kind)) (o : Option ℕ) → ((n : ℕ) → o ≡ Some n → n < length lists) → IsLonger lists more → row more o ≡ row lists o
 longer_row lists more None h l = refl
 longer_row lists more (Some n) h l = ap Some (ap (λ ls. get_or ls n []) l.1 ∙ get_or_append_left lists l.0 [] n (h n refl))
@@ -267,7 +255,7 @@ module _ (m : ModuleContents) (p : ProcedureContents) (s new : Search) (busy : L
     where
       all_met : AreMet m p new.operands
       all_met k inside =
-          elim (before_or_not k (length s.operands)) [
+          elim (cases_lt k (length s.operands)) [
             | inl old ↦ subst (IsMet m p) (sym (ap (λ ls. list_of ls k) longer.1 ∙ get_or_append_left s.operands longer.0 [] k old)) (g.met k old)
             | inr added ↦ met k added inside
           ]

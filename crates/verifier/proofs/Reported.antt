@@ -1,5 +1,5 @@
 -- What the verifier reports.
-use Rattle.std.proofs.Common.{◌≡◌, ◌⊎◌, inl, inr, ℕ, zero, suc, ◌+◌, ◌<◌, List, [], ◌∷◌, ◌++◌, length, get_or, slice_get, Some, None, refl, sym, ap, ◌∙◌, subst, arith}
+use Rattle.std.proofs.Common.{◌≡◌, inl, inr, ℕ, zero, suc, ◌+◌, ◌<◌, List, [], ◌∷◌, ◌++◌, length, get_or, slice_get, Some, None, sym, ap, ◌∙◌, subst, arith}
 use Rattle.bytecode.specs.Contents.{ProcedureContents, ModuleContents}
 use Rattle.verifier.specs.Refusals.{HasNoDefect, IsOperandRefusal, IsCodeRefusal, IsCodeRefusalAfter}
 use Rattle.verifier.specs.Fixed.{fixed_refusals}
@@ -13,6 +13,7 @@ use Rattle.verifier.specs.Verified.{IsRefusalOf, IsVerified}
 use Rattle.verifier.proofs.Bounds.{IsBounded}
 use Rattle.verifier.proofs.NeverStuck.{never_stuck}
 use Rattle.verifier.proofs.FixedRefusals.{get_at}
+use Rattle.common.proofs.Cases.{last_cases}
 
 -- where there is a refusal there is a defect
 pub excluded : (m : ModuleContents) (refusal : CodeRefusal) → IsCodeRefusal m refusal → HasNoDefect m → ⊥
@@ -42,12 +43,6 @@ all_flow m none flow = record {
 }
 
 -- ---- the loop over procedures
-
-last_cases : (k n : ℕ) → k < n + 1 → (k < n) ⊎ (k ≡ n)
-last_cases zero zero h = inr refl
-last_cases zero (suc n) h = inl (omega arith)
-last_cases (suc k) zero h = absurd (omega arith)
-last_cases (suc k) (suc n) h = elim (last_cases k n (omega arith)) [ inl l ↦ inl (omega arith) | inr e ↦ inr (ap suc e) ]
 
 pub item_at : (m : ModuleContents) (procedures : List ProcedureContents) → procedures ≡ m.procedures → (index : ℕ) (item : ProcedureContents) → item ≡ get_or procedures index item → index < length procedures → slice_get m.procedures index ≡ Some item
 item_at m procedures are index item is inside = ap (λ all. slice_get all index) (sym are) ∙ get_at procedures index item inside ∙ ap Some (sym is)

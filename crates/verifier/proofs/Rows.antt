@@ -2,7 +2,7 @@
 use Rattle.std.proofs.Common.{◌≡◌, ℕ, Bool, true, false, if◌then◌else◌, List, [], ◌∷◌, ◌++◌, map, replicate, Option, Some, None, refl, sym, ap, ◌∙◌, subst, ℤ}
 use Rattle.bytecode.specs.Contents.{ProcedureContents, ModuleContents}
 use Rattle.bytecode.specs.Machine as machine
-use Rattle.bytecode.specs.Machine.{State, Caller, Machine, Running, Ended, Stuck, Deep, Header, machine_code, header_of, code_of, slots_of, slot_at, with_slot, with_global, element_at, with_element, computed, bounds, arith as arithmetic, first_slots, kinds_of, frame_limit}
+use Rattle.bytecode.specs.Machine.{State, Caller, Machine, Running, Ended, Stuck, Deep, Header, machine_code, header_of, code_of, slots_of, slot_at, with_slot, with_global, element_at, with_element, computed, bounds, arith as arithmetic, first_slots, kinds_of}
 use Rattle.bytecode.specs.Values.{kind_of, zero_of, is_same_kind}
 use Rattle.bytecode.specs.declared.instruction.Arithmetic.{Arithmetic}
 use Rattle.bytecode.specs.declared.instruction.Comparison.{Comparison}
@@ -22,6 +22,7 @@ use Rattle.verifier.specs.Flow.{Effect, Leaves, Misses, and_then, all_popped, ef
 use Rattle.verifier.specs.declared.fault.CodeDefect.TheVariants.{OperandKind}
 use Rattle.verifier.proofs.Holds.{AllOf, same_of, all_zero, element_kind, with_element_kind, scalar_kind}
 use Rattle.verifier.proofs.Runs.{Stands, Good, leaves_same, next_good, jump_good, raised_good}
+use Rattle.common.specs.declared.limits.TheConstants.{MAX_FRAMES}
 
 -- an operand that was popped was of the kind
 pub right_kind : (b : Bool) (kinds after : List Kind) (more : List Kind → Effect) → and_then (if b then Leaves kinds else Misses OperandKind) more ≡ Leaves after → (b ≡ true) × (more kinds ≡ Leaves after)

@@ -1,13 +1,15 @@
 -- One more list that is kept once.
-use Rattle.std.proofs.Common.{◌≡◌, ◌≢◌, ◌⊎◌, inl, inr, ℕ, suc, zero, ◌+◌, ◌-◌, ◌<◌, ◌≤◌, List, [], ◌∷◌, ◌++◌, length, drop, get_or, set, Option, Some, None, refl, sym, ap, ◌∙◌, subst, arith, length-append}
+use Rattle.std.proofs.Common.{◌≡◌, ◌≢◌, inl, inr, ℕ, suc, zero, ◌+◌, ◌-◌, ◌<◌, ◌≤◌, List, [], ◌∷◌, ◌++◌, length, drop, get_or, set, Option, Some, None, refl, sym, ap, ◌∙◌, subst, arith, length-append}
 use Rattle.std.proofs.lemmas.List.{drop_all, get_or_append_left, get_or-set_same, get_or-set_other}
 use Rattle.std.proofs.Math.Seq.{get_or-append_seam}
 use Rattle.std.proofs.Math.ListN.{length-set}
+use Rattle.std.proofs.lemmas.Bool.{cases_eq}
 use Rattle.std.specs.Prelude.{IfSome}
 use Rattle.verifier.specs.Operands.{list_of, packed, spelled, HasAbove, IsLink, IsShared}
 use Rattle.verifier.specs.declared.operands.Link.{Link}
 use Rattle.bytecode.specs.declared.value.Kind.{Kind}
 use Rattle.bytecode.specs.declared.value.Kind.TheVariants.{Int, Boolean}
+use Rattle.common.proofs.Cases.{last_cases}
 
 pub spelled_push : (lists : List (List Kind)) (links : List Link) (link : Link) → spelled lists (links ++ link ∷ []) ≡ spelled lists links ++ (link.kind ∷ list_of (spelled lists links) link.below) ∷ []
 spelled_push lists [] link = refl
@@ -21,18 +23,6 @@ old lists n k h = get_or_append_left lists (n ∷ []) [] k h
 
 new : (lists : List (List Kind)) (n : List Kind) → list_of (lists ++ n ∷ []) (length lists) ≡ n
 new lists n = get_or-append_seam lists n [] []
-
-last_cases : (k n : ℕ) → k < n + 1 → (k < n) ⊎ (k ≡ n)
-last_cases zero zero h = inr refl
-last_cases zero (suc n) h = inl (omega arith)
-last_cases (suc k) zero h = absurd (omega arith)
-last_cases (suc k) (suc n) h = elim (last_cases k n (omega arith)) [ inl l ↦ inl (omega arith) | inr e ↦ inr (ap suc e) ]
-
-number_cases : (a b : ℕ) → (a ≡ b) ⊎ (a ≢ b)
-number_cases zero zero = inl refl
-number_cases zero (suc b) = inr (λ e. omega arith)
-number_cases (suc a) zero = inr (λ e. omega arith)
-number_cases (suc a) (suc b) = elim (number_cases a b) [ inl e ↦ inl (ap suc e) | inr ne ↦ inr (λ e. ne (omega arith)) ]
 
 -- the tail of a list that is there is there
 abbrev pub HasTails : List (List Kind) → Type 0
@@ -91,7 +81,7 @@ module _ (lists : List (List Kind)) (kind : Kind) (below : ℕ) (there : below <
   pub above_same : (above : List (Option ℕ)) → HasTails lists → ((a b : ℕ) → a < length lists → b < length lists → list_of lists a ≡ list_of lists b → a ≡ b) → HasAbove kind lists above → HasAbove kind (lists ++ (kind ∷ list_of lists below) ∷ []) (set (above ++ None ∷ []) below (Some (length lists)))
   above_same above tails distinct h = record {
     long = omega (arith, length-append lists ((kind ∷ list_of lists below) ∷ []), length-append above (None ∷ []), length-set (above ++ None ∷ []) below (Some (length lists)), h.long);
-    some = λ k r l e. elim (number_cases k below) [
+    some = λ k r l e. elim (cases_eq k below) [
       | inl ek ↦
           let f : Some (length lists) ≡ Some r = sym (at_below above h k ek) ∙ e in
           let r_is : length lists ≡ r = cc in (
@@ -105,7 +95,7 @@ module _ (lists : List (List Kind)) (kind : Kind) (below : ℕ) (there : below <
             | inr e2 ↦ some_none kind above h k r e2 f
           ]
     ];
-    none = λ k l e r m same. elim (number_cases k below) [
+    none = λ k l e r m same. elim (cases_eq k below) [
       | inl ek ↦ absurd (let f : Some (length lists) ≡ None = sym (at_below above h k ek) ∙ e in cc)
       | inr nk ↦
           let f : get_or (above ++ None ∷ []) k None ≡ None = sym (get_or-set_other (above ++ None ∷ []) below k (Some (length lists)) None nk) ∙ e in

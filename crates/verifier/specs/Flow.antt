@@ -6,8 +6,8 @@ use Rattle.std.specs.List.{Contains}
 use Rattle.bytecode.specs.Contents.{ProcedureContents, ModuleContents}
 use Rattle.bytecode.specs.Code.{width_of, code_length, instruction_at}
 use Rattle.bytecode.specs.Targets.{target_of}
-use Rattle.bytecode.specs.Machine.{header_of, machine_code}
-use Rattle.bytecode.specs.Values.{is_same_kind}
+use Rattle.bytecode.specs.Machine.{header_of, machine_code, changed}
+use Rattle.bytecode.specs.Values.{is_same_kind, kind_of_slot}
 use Rattle.bytecode.specs.declared.instruction.Instruction.{Instruction}
 use Rattle.bytecode.specs.declared.instruction.Instruction.TheVariants.{Push, PushBoolean, Pop, Load, Store, LoadGlobal, StoreGlobal, LoadElement, StoreElement, LoadGlobalElement, StoreGlobalElement, Clear, Compute, Negate, Not, Compare, SameBoolean, OtherBoolean, Jump, JumpIfFalse, Call, Return, ReturnValue, Receive, Send, Throw}
 use Rattle.bytecode.specs.declared.value.Kind.{Kind}
@@ -31,8 +31,7 @@ exchange kinds pushes = record { pops = map (λ kind. Some kind) kinds; pushes =
 -- the kind of a slot or a global
 abbrev pub slot_kind : Option Slot → Kind
 slot_kind None = Int
-slot_kind (Some (slot.Scalar kind)) = kind
-slot_kind (Some (slot.Array kind count)) = kind
+slot_kind (Some slot) = kind_of_slot slot
 
 abbrev pub kind_in : ProcedureContents → ℕ → Kind
 kind_in procedure k = slot_kind (slice_get procedure.slots k)
@@ -178,10 +177,6 @@ pub data Edge (m : ModuleContents) (procedure : ProcedureContents) (at : ℕ) (k
   caught : (i : Instruction) (handler : Handler) → instruction_at procedure.code at ≡ Some i → Contains procedure.handlers handler → handler.start ≤ at → at < handler.end → Edge m procedure at kinds handler.target []
 
 -- ---- the flow
-
--- the same table with one list changed
-abbrev pub changed : {A : Type 0} → (ℕ → A) → ℕ → A → ℕ → A
-changed table k value j = if j == k then value else table j
 
 abbrev pub nowhere : ℕ → Option (List Kind)
 nowhere offset = None

@@ -1,8 +1,9 @@
-ghost use Rattle.std.specs.Prelude.{◌≡◌};
+ghost use Rattle.std.specs.Prelude.{◌≡◌, Some};
 ghost use Rattle.verifier.specs.Words.{code_defect_number, code_defect_words};
 
 use common::OrNoMemory;
-use thiserror::Error;
+use std::error::Error;
+use std::fmt;
 
 /// What is wrong in a module's code.
 #[derive(Clone, Copy, Debug, PartialEq, Eq)]
@@ -48,13 +49,22 @@ impl CodeDefect {
 }
 
 /// What a module's code is refused for: what is wrong, and the procedure and the byte offset where.
-#[derive(Clone, Copy, Debug, PartialEq, Eq, Error)]
-#[error("a defect in the code")]
+#[derive(Clone, Copy, Debug, PartialEq, Eq)]
 pub struct CodeRefusal {
     pub defect: CodeDefect,
     pub procedure: u32,
     pub offset: u32,
 }
+
+impl fmt::Display for CodeRefusal {
+    ghost output = { λ refusal. Some (code_defect_words refusal.defect) };
+
+    fn fmt<W: fmt::Write>(&self, f: &mut fmt::Formatter<W>) -> fmt::Result {
+        write!(f, "{}", self.defect.words())
+    }
+}
+
+impl Error for CodeRefusal {}
 
 /// Why a module was not verified.
 pub type VerifyFault = OrNoMemory<CodeRefusal>;

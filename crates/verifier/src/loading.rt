@@ -3,9 +3,10 @@ ghost use Rattle.bytecode.specs.Contents.{ModuleContents};
 ghost use Rattle.bytecode.specs.Form.{Spells};
 ghost use Rattle.bytecode.specs.Format.{module_file};
 ghost use Rattle.common.specs.Answers.{Answers, IfRefused};
-ghost use Rattle.std.specs.Prelude.{◌≡◌, IfErr, IfOk};
+ghost use Rattle.std.specs.Prelude.{◌≡◌, IfErr, IfOk, Some};
 ghost use Rattle.verifier.specs.Refusals.{HasNoDefect};
 ghost use Rattle.verifier.specs.Loaded.{CannotLoad, IsLoaded};
+ghost use Rattle.verifier.specs.Words.{load_refusal_number, load_refusal_words};
 ghost use Rattle.verifier.specs.declared.loading.LoadRefusal.TheVariants.{Bytes, Code};
 
 use crate::fault::CodeRefusal;
@@ -13,6 +14,8 @@ use crate::verified::{Verified, verify};
 use common::OrNoMemory;
 use module_file::{ModuleRefusal, decode};
 use std::alloc::Global;
+use std::error::Error;
+use std::fmt;
 
 /// Why bytes are not loaded.
 #[derive(Clone, Copy, Debug, PartialEq, Eq)]
@@ -22,6 +25,38 @@ pub enum LoadRefusal {
     /// 811 to 815: the module is refused for this in its code.
     Code(CodeRefusal),
 }
+
+impl LoadRefusal {
+    /// The number that the refusal is reported by: that of its defect.
+    pub fn number(&self) -> u32
+        ensures { result ≡ load_refusal_number self.now }
+    {
+        match self {
+            LoadRefusal::Bytes(refusal) => refusal.defect.number(),
+            LoadRefusal::Code(refusal) => refusal.defect.number(),
+        }
+    }
+
+    /// The words that the refusal is reported by: those of its defect.
+    pub fn words(&self) -> &'static str
+        ensures { result.now ≡ load_refusal_words self.now }
+    {
+        match self {
+            LoadRefusal::Bytes(refusal) => refusal.defect.words(),
+            LoadRefusal::Code(refusal) => refusal.defect.words(),
+        }
+    }
+}
+
+impl fmt::Display for LoadRefusal {
+    ghost output = { λ refusal. Some (load_refusal_words refusal) };
+
+    fn fmt<W: fmt::Write>(&self, f: &mut fmt::Formatter<W>) -> fmt::Result {
+        write!(f, "{}", self.words())
+    }
+}
+
+impl Error for LoadRefusal {}
 
 /// Why bytes were not loaded.
 pub type LoadFault = OrNoMemory<LoadRefusal>;

@@ -83,7 +83,8 @@ impl Model for Operands {
 
     ghost view = { λ o. spelled ([] ∷ []) o.links.items };
 
-    ghost invariant = { λ o. IsShared (spelled ([] ∷ []) o.links.items) o.links.items o.ints.items o.booleans.items };
+    ghost invariant = { λ o. IsShared (spelled ([] ∷ []) o.links.items) o.links.items o.ints.items
+        o.booleans.items };
 }
 
 impl Operands {
@@ -124,7 +125,8 @@ impl Operands {
         requires { list < length self.now }
         ensures there { IfSome result (λ r. r < length self.now) }
         ensures some { IfSome result (λ r. list_of self.now r ≡ kind ∷ list_of self.now list) }
-        ensures none { IfNone result ((k : ℕ) → k < length self.now → list_of self.now k ≢ kind ∷ list_of self.now list) }
+        ensures none { IfNone result ((k : ℕ) → k < length self.now → list_of self.now k
+            ≢ kind ∷ list_of self.now list) }
     {
         match kind {
             Kind::Int => self.ints[list as usize],
@@ -136,7 +138,8 @@ impl Operands {
     fn add(&mut self, list: u32, kind: Kind) -> Result<u32, AllocError>
         requires there { list < length self.old }
         requires room { length self.old < 2 ^ 32 }
-        requires fresh { (k : ℕ) → k < length self.old → list_of self.old k ≢ kind ∷ list_of self.old list }
+        requires fresh { (k : ℕ) → k < length self.old → list_of self.old k
+            ≢ kind ∷ list_of self.old list }
         ensures longer { IsLonger self.old self.new }
         ensures few { length self.new ≤ length self.old + 1 }
         ensures there { IfOk result (λ r. r < length self.new) }
@@ -241,10 +244,7 @@ impl Operands {
     {
         let mut rest = list;
         for kind in kinds {
-            match self.pop(rest, *kind) {
-                Ok(below) => rest = below,
-                Err(defect) => return Err(defect),
-            }
+            rest = self.pop(rest, *kind)?;
         }
         Ok(rest)
     }
@@ -276,7 +276,8 @@ impl Operands {
         ensures few { result.1 ≤ length blocks.now }
         ensures same { (kinds : List Kind) → blocks.now ≡ full_blocks kinds →
             all_popped (map (λ kind. Some kind) kinds) (list_of self.now list)
-            ≡ all_popped (map (λ kind. Some kind) (drop (result.1 * 64) kinds)) (list_of self.now result.0) }
+            ≡ all_popped (map (λ kind. Some kind) (drop (result.1 * 64) kinds))
+            (list_of self.now result.0) }
     {
         let mut rest = list;
         let mut count = 0;

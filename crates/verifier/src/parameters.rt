@@ -14,15 +14,6 @@ use bytecode::{Channel, Global as Variable, Kind, Module, Procedure, Slot};
 use std::alloc::{AllocError, Global};
 use std::marker::Model;
 
-/// The kind of a slot.
-pub(crate) fn kind_of(slot: Slot) -> Kind
-    ensures { result ≡ flow.slot_kind (Some slot) }
-{
-    match slot {
-        Slot::Scalar(kind) | Slot::Array(kind, _) => kind,
-    }
-}
-
 // The kinds of the last 64 of the first so many slots as bits, the last one the lowest.
 fn block_of(slots: &[Slot], count: usize) -> u64
     requires full { 64 ≤ count }
@@ -32,7 +23,7 @@ fn block_of(slots: &[Slot], count: usize) -> u64
     let first = count - 64;
     let mut bits = 0;
     for index in 0..64 {
-        bits = bits * 2 + bit_of(kind_of(slots[first + index]));
+        bits = bits * 2 + bit_of(slots[first + index].kind());
     }
     bits
 }

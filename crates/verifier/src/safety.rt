@@ -16,7 +16,8 @@ pub fn modules_without_a_defect_are_never_stuck()
 
 /// A module for which there is a refusal is not without defects.
 pub fn refused_modules_have_a_defect()
-    ensures { (m : ModuleContents) (refusal : CodeRefusal) → IsCodeRefusal m refusal → HasNoDefect m → ⊥ }
+    ensures { (m : ModuleContents) (refusal : CodeRefusal) → IsCodeRefusal m refusal →
+        HasNoDefect m → ⊥ }
 {}
 
 /// No frame of a run of a module without a defect ever has more operands than the greatest depth of its procedure.

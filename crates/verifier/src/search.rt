@@ -57,13 +57,17 @@ impl Search {
     // Control goes from an offset to another one with a list. Answers whether it is the first there; then that offset is
     // still to be looked at.
     fn arrive(&mut self, body: &Body, at: u32, to: u32, list: u32) -> Result<bool, FlowFault>
-        requires searching { IsSearching body.now.program.now body.now.procedure.now self.old (at ∷ []) }
-        requires edge { IsAtEdge body.now.program.now body.now.procedure.now self.old at to (list_of self.old.operands list) }
+        requires searching { IsSearching body.now.program.now body.now.procedure.now self.old
+            (at ∷ []) }
+        requires edge { IsAtEdge body.now.program.now body.now.procedure.now self.old at to
+            (list_of self.old.operands list) }
         requires list { list < length self.old.operands }
         requires boundary { IsBoundary body.now.procedure.now to }
         requires room { length self.old.operands + left self.old ≤ 2 ^ 32 }
-        ensures first { IfOk result (λ first. first ≡ true → Flowed body.now.program.now body.now.procedure.now self.old (waiting self.new to) at to list) }
-        ensures other { IfOk result (λ first. first ≡ false → Flowed body.now.program.now body.now.procedure.now self.old self.new at to list) }
+        ensures first { IfOk result (λ first. first ≡ true → Flowed body.now.program.now
+            body.now.procedure.now self.old (waiting self.new to) at to list) }
+        ensures other { IfOk result (λ first. first ≡ false → Flowed body.now.program.now
+            body.now.procedure.now self.old self.new at to list) }
         ensures rejected { IfErr result (IfRefused
             (IsFlowRefusal body.now.program.now body.now.procedure.now)) }
     {
@@ -84,12 +88,15 @@ impl Search {
 
     // Control goes from an offset to another one with a list, and that one waits if control is the first there.
     fn reach(&mut self, body: &Body, at: u32, to: u32, list: u32) -> Result<(), FlowFault>
-        requires searching { IsSearching body.now.program.now body.now.procedure.now self.old (at ∷ []) }
-        requires edge { IsAtEdge body.now.program.now body.now.procedure.now self.old at to (list_of self.old.operands list) }
+        requires searching { IsSearching body.now.program.now body.now.procedure.now self.old
+            (at ∷ []) }
+        requires edge { IsAtEdge body.now.program.now body.now.procedure.now self.old at to
+            (list_of self.old.operands list) }
         requires list { list < length self.old.operands }
         requires boundary { IsBoundary body.now.procedure.now to }
         requires room { length self.old.operands + left self.old ≤ 2 ^ 32 }
-        ensures accepted { OnOk result (Flowed body.now.program.now body.now.procedure.now self.old self.new at to list) }
+        ensures accepted { OnOk result (Flowed body.now.program.now body.now.procedure.now self.old
+            self.new at to list) }
         ensures rejected { IfErr result (IfRefused
             (IsFlowRefusal body.now.program.now body.now.procedure.now)) }
     {
@@ -108,14 +115,17 @@ impl Search {
         instruction: Instruction,
         list: u32,
     ) -> Result<u32, FlowFault>
-        requires searching { IsSearching body.now.program.now body.now.procedure.now self.old (at ∷ []) }
+        requires searching { IsSearching body.now.program.now body.now.procedure.now self.old
+            (at ∷ []) }
         requires shape { table self.old at ≡ Some (list_of self.old.operands list) }
         requires list { list < length self.old.operands }
         requires instruction { instruction_at body.now.procedure.now.code at ≡ Some instruction }
         requires room { length self.old.operands < 2 ^ 32 }
-        ensures accepted { OnOk result (IsApplied body.now.program.now body.now.procedure.now self.old self.new at) }
+        ensures accepted { OnOk result (IsApplied body.now.program.now body.now.procedure.now
+            self.old self.new at) }
         ensures there { IfOk result (λ r. r < length self.new.operands) }
-        ensures effect { IfOk result (λ r. HasEffect body.now.program.now body.now.procedure.now self.new at instruction (list_of self.new.operands r)) }
+        ensures effect { IfOk result (λ r. HasEffect body.now.program.now body.now.procedure.now
+            self.new at instruction (list_of self.new.operands r)) }
         ensures rejected { IfErr result (IfRefused
             (IsFlowRefusal body.now.program.now body.now.procedure.now)) }
     {
@@ -140,14 +150,17 @@ impl Search {
         instruction: Instruction,
         list: u32,
     ) -> Result<(), FlowFault>
-        requires searching { IsSearching body.now.program.now body.now.procedure.now self.old (at ∷ []) }
-        requires effect { HasEffect body.now.program.now body.now.procedure.now self.old at instruction (list_of self.old.operands list) }
+        requires searching { IsSearching body.now.program.now body.now.procedure.now self.old
+            (at ∷ []) }
+        requires effect { HasEffect body.now.program.now body.now.procedure.now self.old at
+            instruction (list_of self.old.operands list) }
         requires list { list < length self.old.operands }
         requires boundaries { KeepsBoundaries body.now.procedure.now }
         requires room { length self.old.operands + left self.old ≤ 2 ^ 32 }
         ensures accepted { OnOk result (KeepsSearching body.now.program.now body.now.procedure.now
             self.old self.new at) }
-        ensures there { OnOk result ((to : ℕ) → targets.target_of instruction ≡ Some to → table self.new to ≡ Some (list_of self.old.operands list)) }
+        ensures there { OnOk result ((to : ℕ) → targets.target_of instruction ≡ Some to →
+            table self.new to ≡ Some (list_of self.old.operands list)) }
         ensures rejected { IfErr result (IfRefused
             (IsFlowRefusal body.now.program.now body.now.procedure.now)) }
     {
@@ -159,7 +172,8 @@ impl Search {
 
     // Control goes to each handler whose range holds the offset. Where it went before, it need not go again.
     fn raise(&mut self, body: &Body, coverage: &mut Coverage, at: u32) -> Result<(), FlowFault>
-        requires searching { IsSearching body.now.program.now body.now.procedure.now self.old (at ∷ []) }
+        requires searching { IsSearching body.now.program.now body.now.procedure.now self.old
+            (at ∷ []) }
         requires there { HasInstruction body.now.procedure.now self.old at }
         requires boundaries { KeepsBoundaries body.now.procedure.now }
         requires waiting { IsWaiting body.now.procedure.now coverage.old self.old }
@@ -167,7 +181,8 @@ impl Search {
         ensures accepted { OnOk result (KeepsSearching body.now.program.now body.now.procedure.now
             self.old self.new at) }
         ensures waiting { OnOk result (IsWaiting body.now.procedure.now coverage.new self.new) }
-        ensures there { OnOk result ((h : Handler) → Contains body.now.procedure.now.handlers h → h.start ≤ at → at < h.end → table self.new h.target ≡ Some []) }
+        ensures there { OnOk result ((h : Handler) → Contains body.now.procedure.now.handlers h →
+            h.start ≤ at → at < h.end → table self.new h.target ≡ Some []) }
         ensures rejected { IfErr result (IfRefused
             (IsFlowRefusal body.now.program.now body.now.procedure.now)) }
     {
@@ -186,17 +201,22 @@ impl Search {
         instruction: Instruction,
         list: u32,
     ) -> Result<Option<u32>, FlowFault>
-        requires searching { IsSearching body.now.program.now body.now.procedure.now self.old (at ∷ []) }
-        requires effect { HasEffect body.now.program.now body.now.procedure.now self.old at instruction (list_of self.old.operands list) }
+        requires searching { IsSearching body.now.program.now body.now.procedure.now self.old
+            (at ∷ []) }
+        requires effect { HasEffect body.now.program.now body.now.procedure.now self.old at
+            instruction (list_of self.old.operands list) }
         requires list { list < length self.old.operands }
-        requires jumps { (to : ℕ) → targets.target_of instruction ≡ Some to → table self.old to ≡ Some (list_of self.old.operands list) }
-        requires caught { (h : Handler) → Contains body.now.procedure.now.handlers h → h.start ≤ at → at < h.end → table self.old h.target ≡ Some [] }
+        requires jumps { (to : ℕ) → targets.target_of instruction ≡ Some to → table self.old to
+            ≡ Some (list_of self.old.operands list) }
+        requires caught { (h : Handler) → Contains body.now.procedure.now.handlers h →
+            h.start ≤ at → at < h.end → table self.old h.target ≡ Some [] }
         requires boundaries { KeepsBoundaries body.now.procedure.now }
         requires short { code_length body.now.procedure.now.code < 2 ^ 32 }
         requires room { length self.old.operands + left self.old ≤ 2 ^ 32 }
         ensures next { IfOk result (IsSearchingNext body.now.program.now body.now.procedure.now
             self.new) }
-        ensures keeps { OnOk result ((offset : ℕ) (kinds : List Kind) → table self.old offset ≡ Some kinds → table self.new offset ≡ Some kinds) }
+        ensures keeps { OnOk result ((offset : ℕ) (kinds : List Kind) → table self.old offset
+            ≡ Some kinds → table self.new offset ≡ Some kinds) }
         ensures same { OnOk result (self.new.operands ≡ self.old.operands) }
         ensures left { IfOk result (λ next. left self.new + count next ≤ left self.old) }
         ensures rejected { IfErr result (IfRefused
@@ -222,7 +242,8 @@ impl Search {
         instruction: Instruction,
         list: u32,
     ) -> Result<Option<u32>, FlowFault>
-        requires searching { IsSearching body.now.program.now body.now.procedure.now self.old (at ∷ []) }
+        requires searching { IsSearching body.now.program.now body.now.procedure.now self.old
+            (at ∷ []) }
         requires shape { table self.old at ≡ Some (list_of self.old.operands list) }
         requires list { list < length self.old.operands }
         requires instruction { instruction_at body.now.procedure.now.code at ≡ Some instruction }
@@ -252,7 +273,8 @@ impl Search {
         coverage: &mut Coverage,
         at: u32,
     ) -> Result<Option<u32>, FlowFault>
-        requires searching { IsSearching body.now.program.now body.now.procedure.now self.old (at ∷ []) }
+        requires searching { IsSearching body.now.program.now body.now.procedure.now self.old
+            (at ∷ []) }
         requires there { HasInstruction body.now.procedure.now self.old at }
         requires boundaries { KeepsBoundaries body.now.procedure.now }
         requires waiting { IsWaiting body.now.procedure.now coverage.old self.old }
@@ -277,16 +299,19 @@ impl Search {
 
     // Looks at an offset that has a list, and at those to which control goes straight on from there.
     fn follow(&mut self, body: &Body, coverage: &mut Coverage, at: u32) -> Result<(), FlowFault>
-        requires searching { IsSearching body.now.program.now body.now.procedure.now self.old (at ∷ []) }
+        requires searching { IsSearching body.now.program.now body.now.procedure.now self.old
+            (at ∷ []) }
         requires there { HasInstruction body.now.procedure.now self.old at }
         requires boundaries { KeepsBoundaries body.now.procedure.now }
         requires waiting { IsWaiting body.now.procedure.now coverage.old self.old }
         requires body { IsSearchableBody body.now }
         requires room { length self.old.operands + left self.old < 2 ^ 32 }
-        ensures accepted { OnOk result (IsSearching body.now.program.now body.now.procedure.now self.new []) }
+        ensures accepted { OnOk result (IsSearching body.now.program.now body.now.procedure.now
+            self.new []) }
         ensures waiting { OnOk result (IsWaiting body.now.procedure.now coverage.new self.new) }
         ensures left { OnOk result (left self.new ≤ left self.old) }
-        ensures few { OnOk result (length self.new.operands + left self.new ≤ length self.old.operands + left self.old + 1) }
+        ensures few { OnOk result (length self.new.operands + left self.new ≤ length
+            self.old.operands + left self.old + 1) }
         ensures rejected { IfErr result (IfRefused
             (IsFlowRefusal body.now.program.now body.now.procedure.now)) }
     {
@@ -305,7 +330,8 @@ impl Search {
         requires body { IsSearchableBody body.now }
         requires room { length self.old.operands + left self.old ≤ 2 ^ 32 }
         ensures accepted { OnOk result (FlowsWell body.now.program.now body.now.procedure.now) }
-        ensures longest { OnOk result (HaveLongest body.now.program.now body.now.procedure.now self.new.operands) }
+        ensures longest { OnOk result (HaveLongest body.now.program.now body.now.procedure.now
+            self.new.operands) }
         ensures rejected { IfErr result (IfRefused
             (IsFlowRefusal body.now.program.now body.now.procedure.now)) }
     {
@@ -323,7 +349,8 @@ pub(crate) fn find_defect(alloc: Global, body: &Body) -> Result<u32, FlowFault>
     requires body { IsSearchableBody body.now }
     requires few { length body.now.procedure.now.handlers < 2 ^ 32 }
     ensures accepted { OnOk result (FlowsWell body.now.program.now body.now.procedure.now) }
-    ensures depth { IfOk result (λ depth. IsGreatestDepth body.now.program.now body.now.procedure.now depth) }
+    ensures depth { IfOk result (λ depth. IsGreatestDepth body.now.program.now
+        body.now.procedure.now depth) }
     ensures rejected { IfErr result (IfRefused
         (IsFlowRefusal body.now.program.now body.now.procedure.now)) }
 {

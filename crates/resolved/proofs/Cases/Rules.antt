@@ -1,6 +1,7 @@
 -- Each rule of labels, once where a program fits it and once where none of its labellings does. Each program but those of calls
 -- begins with `int{Alice:} x = 0; try { x = receive s; } catch (End) { }`.
-use Rattle.std.proofs.Common.{◌≡◌, refl, List, [], ◌∷◌, ◌++◌, Bool, true, false, ◌&&◌}
+use Rattle.std.proofs.Common.{◌≡◌, refl, List, [], ◌∷◌, ◌++◌, true, false}
+use Rattle.std.proofs.Math.Bool.{and-false}
 use Rattle.std.specs.Prelude.{Some, None}
 use Rattle.std.specs.Int.{int_wrap}
 use Rattle.labels.specs.Label.{Label}
@@ -13,10 +14,6 @@ use Rattle.resolved.specs.Tree.{Logical, Binary, Short, Statement, Clear, Store,
 use Rattle.resolved.specs.Program.{Program}
 use Rattle.resolved.specs.Labelled.{Labelling}
 use Rattle.resolved.proofs.Cases.Kit.{arith, bounds, end, oops, s_channel, q_channel, alice, alice_to_bob, int_slot, unlabelled_slot, array_slot, int, var, set_to, send_public, positive, block, on, try_to, if_then, while_loop, receive_secret, procedure, thrown, program, main_program, secret_program, all_written, loop_is, locals_are, fits}
-
-and_false : (test : Bool) → (test && false) ≡ false
-and_false true = refl
-and_false false = refl
 
 -- ---- assignment
 -- `int{Alice: Bob} y = 0; int{Alice:} z = y;`
@@ -36,7 +33,7 @@ unlabelled_refused : (label : Label)
     → fits (secret_program (unlabelled_slot ∷ []) (set_to 1 (var 0) ∷ send_public (var 1) ∷ [])) (locals_are label) ≡ false
 unfolding int_wrap
 unlabelled_refused [] = refl
-unlabelled_refused (policy ∷ rest) = and_false _
+unlabelled_refused (policy ∷ rest) = and-false _
 
 -- ---- the declaration of an array
 -- `if (x > 0) { int{Alice:} a[2]; }` and `if (x > 0) { int{} a[2]; }`
@@ -92,7 +89,7 @@ reported_refused : (label : Label)
     { throws = thrown end alice; end_label = alice } ∷ [])) (locals_are label) ≡ false
 unfolding int_wrap
 reported_refused [] = refl
-reported_refused (policy ∷ rest) = and_false _
+reported_refused (policy ∷ rest) = and-false _
 
 -- ---- send
 send_fits : fits (secret_program [] (send_public (int 7) ∷ [])) all_written ≡ true

@@ -1,5 +1,6 @@
 -- The meaning keeps the types.
 use Rattle.std.proofs.Common.{◌≡◌, refl, sym, ◌∙◌, ap, subst, ℕ, zero, suc, List, [], ◌∷◌, length, Bool, true, false, ◌&&◌}
+use Rattle.std.proofs.lemmas.Bool.{and_parts}
 use Rattle.std.specs.Prelude.{Option, Some, None, is_none, if◌then◌else◌, ◌==◌, slice_get, ℤ}
 use Rattle.resolved.specs.declared.expression.Base.{Base}
 use Rattle.resolved.specs.declared.expression.Base.TheVariants.{Int, Boolean}
@@ -18,7 +19,7 @@ use Rattle.resolved.specs.Meaning.{Outcome, Ended, Stopped, Calls, normally, aft
 use Rattle.resolved.specs.WellFormed.{VariableType, variable_type, scalar_by, array_by, has_length, has_base, has_result, same_base, target_by, statement_fits, block_fits, handlers_fit, channel_is, is_exception, call_matches, arguments_match, parameters_of, well_formed}
 use Rattle.resolved.specs.Kinds.{StateFits, GivesBase, OutcomeFits, MeaningKeepsTypes, ValuesHaveTheirTypes, ArgumentsFit}
 use Rattle.resolved.proofs.Parts.{ProcedureParts, procedure_there, procedure_at_is}
-use Rattle.resolved.proofs.Sound.Values.{both, same_base_is, same_base_itself, value_fits, values_match, GivesMatch}
+use Rattle.resolved.proofs.Sound.Values.{same_base_is, same_base_itself, value_fits, values_match, GivesMatch}
 use Rattle.resolved.proofs.Sound.States.{some_same, same_variables, assigned_fits, stored_fits, cleared_fits, entering_fits, back_fits}
 
 not_true : ◌≡◌ {A = Bool} false true → ⊥
@@ -97,7 +98,7 @@ scalar_found test None type h e = cc
 scalar_found test (Some found) type h e =
     let same : found ≡ type = some_same e in
     let P : VariableType → Type 0 = λ t. (is_none t.size ≡ true) × (test t.base ≡ true) in
-    let parts : (is_none found.size ≡ true) × (test found.base ≡ true) = both (is_none found.size) _ h in
+    let parts : (is_none found.size ≡ true) × (test found.base ≡ true) = and_parts (is_none found.size) _ h in
     subst P same parts
 
 array_found : (length : ℕ) (test : Base → Bool) (found : Option VariableType) (type : VariableType)
@@ -105,7 +106,7 @@ array_found : (length : ℕ) (test : Base → Bool) (found : Option VariableType
 array_found length test None type h e = cc
 array_found length test (Some found) type h e =
     let same : found ≡ type = some_same e in
-    subst (λ t. test t.base ≡ true) same (both (has_length found.size length) _ h).1
+    subst (λ t. test t.base ≡ true) same (and_parts (has_length found.size length) _ h).1
 
 module _ (program : Program) (procedure : ProcedureEntry) where
   kept_fits : (target : Option Variable) (v : Value) (s : SourceState) → StateFits program procedure s
@@ -224,7 +225,7 @@ module _ (program : Program) (procedure : ProcedureEntry) (calls : Calls) (keep 
   call_keeps f (Some callee) arguments target s state found h =
       let parts : (arguments_match program procedure (parameters_of callee) arguments ≡ true)
       × (target_by program procedure target (λ base. has_result callee.result (same_base base)) ≡ true) =
-      both (arguments_match program procedure (parameters_of callee) arguments) _ h in
+      and_parts (arguments_match program procedure (parameters_of callee) arguments) _ h in
       evaluated_fits program procedure Return procedure.result (values_of s arguments) s _ state (λ values given.
       returned_to_fits program procedure callee.result target (calls f values s)
       (keep procedure f callee found values
@@ -252,10 +253,10 @@ module _ (program : Program) (procedure : ProcedureEntry) (calls : Calls) (keep 
     statement_keeps (Clear at slot) s state h = record { state = cleared_fits program procedure s slot state; returned = tt }
     statement_keeps (Store at array length index e) s state h =
         store_keeps array length index e s state
-        (both (array_by (variable_type program procedure array) length (λ base. has_base program procedure base e)) _ h).0
+        (and_parts (array_by (variable_type program procedure array) length (λ base. has_base program procedure base e)) _ h).0
     statement_keeps (Receive at channel target) s state h =
         received_fits program procedure (s.inputs channel) channel target s state
-        (both (channel_is (slice_get program.channels channel) Input) _ h).1 Return procedure.result
+        (and_parts (channel_is (slice_get program.channels channel) Input) _ h).1 Return procedure.result
     statement_keeps (Send at channel e) s state h =
         evaluated_fits program procedure Return procedure.result (value_of s e) s _ state (λ v _.
         record { state = sending_fits program procedure channel v s state; returned = tt })
@@ -264,20 +265,20 @@ module _ (program : Program) (procedure : ProcedureEntry) (calls : Calls) (keep 
     statement_keeps (If at e yes_block no_block) s state h =
         let parts : (has_base program procedure Boolean e && block_fits program procedure yes_block ≡ true)
         × (block_fits program procedure no_block ≡ true) =
-        both (has_base program procedure Boolean e && block_fits program procedure yes_block) _ h in
+        and_parts (has_base program procedure Boolean e && block_fits program procedure yes_block) _ h in
         evaluated_fits program procedure Return procedure.result (value_of s e) s _ state (λ v _.
         either_fits program procedure Return procedure.result (truth_in v) _ _
-        (block_keeps yes_block s state (both (has_base program procedure Boolean e) _ parts.0).1)
+        (block_keeps yes_block s state (and_parts (has_base program procedure Boolean e) _ parts.0).1)
         (block_keeps no_block s state parts.1))
     statement_keeps (While at loop e body) s state h =
         turns_fits program procedure Return procedure.result k (λ t. value_of t e) (block_meaning calls k body)
-        (λ t fit. block_keeps body t fit (both (has_base program procedure Boolean e) _ h).1) s state
+        (λ t fit. block_keeps body t fit (and_parts (has_base program procedure Boolean e) _ h).1) s state
     statement_keeps (Leave at exit) s state h = record { state = state; returned = tt }
     statement_keeps (ReturnWith at None) s state h = record { state = state; returned = tt }
     statement_keeps (ReturnWith at (Some e)) s state h = return_keeps procedure.result e s state h
     statement_keeps (Try at block handlers) s state h =
         let parts : (block_fits program procedure block ≡ true) × (handlers_fit program procedure handlers ≡ true) =
-        both (block_fits program procedure block) _ h in
+        and_parts (block_fits program procedure block) _ h in
         caught_fits program procedure Return procedure.result (block_meaning calls k block s) _ (block_keeps block s state parts.0)
         (λ exception t fit. handlers_keep handlers exception t fit parts.1)
     statement_keeps (Nested at block) s state h = block_keeps block s state h
@@ -287,7 +288,7 @@ module _ (program : Program) (procedure : ProcedureEntry) (calls : Calls) (keep 
     block_keeps Empty s state h = record { state = state; returned = tt }
     block_keeps (Then statement rest) s state h =
         let parts : (statement_fits program procedure statement ≡ true) × (block_fits program procedure rest ≡ true) =
-        both (statement_fits program procedure statement) _ h in
+        and_parts (statement_fits program procedure statement) _ h in
         after_fits program procedure Return procedure.result (statement_meaning calls k statement s) (block_meaning calls k rest)
         (statement_keeps statement s state parts.0) (λ t fit. block_keeps rest t fit parts.1)
 
@@ -297,9 +298,9 @@ module _ (program : Program) (procedure : ProcedureEntry) (calls : Calls) (keep 
     handlers_keep NoMore exception s state h = record { state = state; returned = tt }
     handlers_keep (Catch at handled body rest) exception s state h =
         let parts : (is_exception program handled && block_fits program procedure body ≡ true) × (handlers_fit program procedure rest ≡ true) =
-        both (is_exception program handled && block_fits program procedure body) _ h in
+        and_parts (is_exception program handled && block_fits program procedure body) _ h in
         either_fits program procedure Return procedure.result (exception == handled) _ _
-        (block_keeps body s state (both (is_exception program handled) _ parts.0).1)
+        (block_keeps body s state (and_parts (is_exception program handled) _ parts.0).1)
         (handlers_keep rest exception s state parts.1)
 
 -- ---- calls

@@ -2,7 +2,7 @@
 use Rattle.std.proofs.Common.{◌≡◌, refl, sym, subst, take, ℕ, [], true, ◌&&◌, ◌==◌}
 use Rattle.std.specs.Prelude.{Option, Some, None, slice_get}
 use Rattle.std.specs.List.{list_all}
-use Rattle.std.proofs.lemmas.Bool.{eqb-true}
+use Rattle.std.proofs.lemmas.Bool.{eqb-true, and_parts}
 use Rattle.resolved.specs.declared.expression.Variable.{Variable}
 use Rattle.resolved.specs.declared.expression.Variable.TheVariants.{Global, Local}
 use Rattle.resolved.specs.Program.{Program, ProcedureEntry, GlobalEntry, procedure_at}
@@ -12,7 +12,7 @@ use Rattle.resolved.specs.Meaning.{entering, first_state, first_cells_of_globals
 use Rattle.resolved.specs.WellFormed.{VariableType, variable_type, global_type, same_base, size_fits, label_fits, first_fits, main_fits, well_formed}
 use Rattle.resolved.specs.Kinds.{CellsFit, StateFits, RunsBeginTyped, ArgumentsFit}
 use Rattle.resolved.proofs.Parts.{ProcedureParts, program_parts, procedure_there, procedure_at_is, passes_at}
-use Rattle.resolved.proofs.Sound.Values.{both, same_base_is}
+use Rattle.resolved.proofs.Sound.Values.{same_base_is}
 use Rattle.resolved.proofs.Sound.States.{some_same, cells_of_fit, entering_fits}
 
 -- the frame of nobody
@@ -28,13 +28,13 @@ first_state_fits program procedure world h = record { fits = go }
     global_fits None n type e e' = cc
     global_fits (Some entry) n type e e' =
         let all_fit : list_all (λ (entry : GlobalEntry). size_fits entry.size && label_fits program.hierarchy entry.label && first_fits entry)
-        program.globals ≡ true = (both (list_all _ program.globals) _ (program_parts program h).globals_are).0 in
+        program.globals ≡ true = (and_parts (list_all _ program.globals) _ (program_parts program h).globals_are).0 in
         let fit : first_fits entry ≡ true =
-        (both (size_fits entry.size && label_fits program.hierarchy entry.label) _ (passes_at _ program.globals n entry all_fit e)).1 in
+        (and_parts (size_fits entry.size && label_fits program.hierarchy entry.label) _ (passes_at _ program.globals n entry all_fit e)).1 in
         let same : record { base = entry.base; size = entry.size } ≡ type = some_same e' in
         subst (λ t. CellsFit t (first_cells_of_globals (Some entry))) same
         (cells_of_fit entry.base entry.size entry.first
-        (same_base_is (base_of entry.first) entry.base (both (same_base (base_of entry.first) entry.base) _ fit).0))
+        (same_base_is (base_of entry.first) entry.base (and_parts (same_base (base_of entry.first) entry.base) _ fit).0))
 
     go : (x : Variable) (type : VariableType) → variable_type program (no_slots procedure) x ≡ Some type
         → CellsFit type (cells (first_state program world) x)
@@ -57,4 +57,4 @@ runs_begin_typed program h world = go (slice_get program.procedures program.main
     go (Some main) e fit =
         let P : ProcedureEntry → Type 0 = λ there. StateFits program there (entering there [] (first_state program world)) in
         subst P (sym (procedure_at_is program program.main main e))
-        (begin_fits main (eqb-true main.parameters 0 (both (main.parameters == 0) _ fit).0) (procedure_there program h program.main main e))
+        (begin_fits main (eqb-true main.parameters 0 (and_parts (main.parameters == 0) _ fit).0) (procedure_there program h program.main main e))

@@ -3,7 +3,7 @@ use Rattle.std.proofs.Common.{◌≡◌, refl, sym, ◌∙◌, ap, subst, ℕ, z
 use Rattle.std.proofs.lemmas.List.{length-replicate, length-map}
 use Rattle.std.specs.Prelude.{Option, Some, None, is_none, if◌then◌else◌, ◌==◌, slice_get}
 use Rattle.std.specs.List.{list_all}
-use Rattle.std.proofs.lemmas.Bool.{eqb-true}
+use Rattle.std.proofs.lemmas.Bool.{eqb-true, and_parts}
 use Rattle.std.proofs.lemmas.List.Elements.{All-nil, All-cons, All-set, All-map, All-replicate, All-weaker}
 use Rattle.resolved.specs.declared.expression.Base.{Base}
 use Rattle.resolved.specs.declared.expression.Base.TheVariants.{Int, Boolean}
@@ -16,7 +16,6 @@ use Rattle.resolved.specs.SourceState.{SourceState, cells, with_cells, assigned,
 use Rattle.resolved.specs.Meaning.{entering, cells_of, first_cells_of_slots}
 use Rattle.resolved.specs.WellFormed.{VariableType, variable_type, slot_type, cell_count, parameter_fits, parameters_of}
 use Rattle.resolved.specs.Kinds.{CellsFit, StateFits, ArgumentsFit}
-use Rattle.resolved.proofs.Sound.Values.{both}
 
 -- a state with the same variables
 pub same_variables : (program : Program) (procedure : ProcedureEntry) (s t : SourceState) → ((x : Variable) → cells t x ≡ cells s x)
@@ -110,13 +109,13 @@ argument_matches zero slots (w ∷ values) n slot v matches fit e e' = absurd ma
 argument_matches (suc m) [] values n slot v matches fit e e' = cc
 argument_matches (suc m) (parameter ∷ slots) [] n slot v matches fit e e' = absurd matches
 argument_matches (suc m) (parameter ∷ slots) (w ∷ values) zero slot v matches fit e e' =
-    let scalar : is_none parameter.size ≡ true = (both (is_none parameter.size) _ (both (parameter_fits parameter) _ fit).0).0 in
+    let scalar : is_none parameter.size ≡ true = (and_parts (is_none parameter.size) _ (and_parts (parameter_fits parameter) _ fit).0).0 in
     let same_slot : parameter ≡ slot = cc in
     let same_value : w ≡ v = cc in
     let P : SlotEntry → Type 0 = λ entry. (is_none entry.size ≡ true) × (base_of v ≡ entry.base) in
     subst P same_slot (scalar, ap base_of (sym same_value) ∙ matches.0)
 argument_matches (suc m) (parameter ∷ slots) (w ∷ values) (suc n) slot v matches fit e e' =
-    argument_matches m slots values n slot v matches.1 (both (parameter_fits parameter) _ fit).1 e e'
+    argument_matches m slots values n slot v matches.1 (and_parts (parameter_fits parameter) _ fit).1 e e'
 
 -- a call begins in a state that fits its procedure
 pub entering_fits : (program : Program) (caller callee : ProcedureEntry) (s : SourceState) (values : List Value)

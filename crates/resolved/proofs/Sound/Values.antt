@@ -1,7 +1,7 @@
 -- The value of an expression has its base type.
 use Rattle.std.proofs.Common.{◌≡◌, refl, sym, ◌∙◌, subst, ℕ, ◌<◌, List, [], ◌∷◌, length, Bool, true, false, ◌&&◌, arith}
 use Rattle.std.specs.Prelude.{Option, Some, None, is_none, ℤ, pos, negsuc, nat_lt, if◌then◌else◌}
-use Rattle.std.proofs.lemmas.Bool.{eqb-true}
+use Rattle.std.proofs.lemmas.Bool.{eqb-true, and_parts}
 use Rattle.std.proofs.lemmas.List.Elements.{All-get_or}
 use Rattle.std.proofs.lemmas.Bool.Decides.{nat_tests}
 use Rattle.resolved.specs.declared.expression.Base.{Base}
@@ -16,16 +16,13 @@ use Rattle.resolved.specs.declared.expression.Operator.TheVariants.{Add, Subtrac
 use Rattle.resolved.specs.declared.expression.Connective.{Connective}
 use Rattle.resolved.specs.Tree.{Expression, Integer, Logical, Read, Element, Unary, Binary, Short}
 use Rattle.resolved.specs.Program.{Program, ProcedureEntry, SlotEntry}
-use Rattle.resolved.specs.Value.{Evaluated, Yields, Raises, then_with, base_of, operator_value, prefix_value, checked_index, number_in, in_range, position_of, is_zero, decides, bounds_exception}
+use Rattle.resolved.specs.Value.{Evaluated, Yields, Raises, then_with, base_of, operator_value, prefix_value, checked_index, number_in, in_range, position_of, decides, bounds_exception}
 use Rattle.resolved.specs.SourceState.{SourceState, cells, cell_at, value_of, values_of}
 use Rattle.resolved.specs.WellFormed.{VariableType, variable_type, scalar_by, array_by, has_length, cell_count, same_base, prefix_base, result_base, has_base, arguments_match}
 use Rattle.resolved.specs.Kinds.{CellsFit, StateFits, GivesBase, ArgumentsFit}
+use Rattle.common.specs.Integers.{is_zero}
 
 -- ---- tests
-pub both : (a b : Bool) → (a && b) ≡ true → (a ≡ true) × (b ≡ true)
-both true true h = (refl, refl)
-both true false h = (refl, h)
-both false b h = cc
 
 pub same_base_is : (a b : Base) → same_base a b ≡ true → a ≡ b
 same_base_is Int Int h = refl
@@ -113,7 +110,7 @@ module _ (program : Program) (procedure : ProcedureEntry) (s : SourceState) (sta
           → base_of (cell_at (cells s x) 0) ≡ base
       go None e h = cc
       go (Some type) e h =
-          let parts : (is_none type.size ≡ true) × (same_base base type.base ≡ true) = both (is_none type.size) _ h in
+          let parts : (is_none type.size ≡ true) × (same_base base type.base ≡ true) = and_parts (is_none type.size) _ h in
           cell_fits type (cells s x) 0 (state.fits x type e) (one_cell type.size parts.0) ∙ sym (same_base_is base type.base parts.1)
         where
           one_cell : (size : Option ℕ) → is_none size ≡ true → 0 < cell_count size
@@ -129,7 +126,7 @@ module _ (program : Program) (procedure : ProcedureEntry) (s : SourceState) (sta
           → array_by found length (same_base base) ≡ true → base_of (cell_at (cells s array) i) ≡ base
       go None e h = cc
       go (Some type) e h =
-          let parts : (has_length type.size length ≡ true) × (same_base base type.base ≡ true) = both (has_length type.size length) _ h in
+          let parts : (has_length type.size length ≡ true) × (same_base base type.base ≡ true) = and_parts (has_length type.size length) _ h in
           cell_fits type (cells s array) i (state.fits array type e) (all_cells type.size parts.0)
           ∙ sym (same_base_is base type.base parts.1)
         where
@@ -139,31 +136,31 @@ module _ (program : Program) (procedure : ProcedureEntry) (s : SourceState) (sta
 
   -- the value of a well-formed expression has its base type
   pub value_fits : (base : Base) (e : Expression) → has_base program procedure base e ≡ true → GivesBase base (value_of s e)
-  value_fits base (Integer n) h = same_base_is Int base (both (same_base Int base) _ h).0
+  value_fits base (Integer n) h = same_base_is Int base (and_parts (same_base Int base) _ h).0
   value_fits base (Logical b) h = same_base_is Boolean base h
   value_fits base (Read x) h = scalar_read base x h
   value_fits base (Element array length index) h =
       let parts : (array_by (variable_type program procedure array) length (same_base base) ≡ true)
       × (has_base program procedure Int index ≡ true) =
-      both (array_by (variable_type program procedure array) length (same_base base)) _ h in
+      and_parts (array_by (variable_type program procedure array) length (same_base base)) _ h in
       then_gives base (value_of s index) _ (λ v _.
       then_gives base (checked_index v length) _ (λ i e'.
       element_read base array length i parts.0 (checked_below v length i e')))
   value_fits base (Unary prefix e) h =
       let parts : (same_base (prefix_base prefix) base ≡ true) × (has_base program procedure (prefix_base prefix) e ≡ true) =
-      both (same_base (prefix_base prefix) base) _ h in
+      and_parts (same_base (prefix_base prefix) base) _ h in
       then_gives base (value_of s e) _ (λ v _. prefix_keeps prefix v ∙ same_base_is (prefix_base prefix) base parts.0)
   value_fits base (Binary operator d e) h =
       let same : same_base (result_base operator) base ≡ true =
-      (both (same_base (result_base operator) base) _ (both (same_base (result_base operator) base && _) _ h).0).0 in
+      (and_parts (same_base (result_base operator) base) _ (and_parts (same_base (result_base operator) base && _) _ h).0).0 in
       then_gives base (value_of s d) _ (λ v _.
       then_gives base (value_of s e) _ (λ w _.
       gives_at (result_base operator) base _ (same_base_is (result_base operator) base same) (operator_gives operator v w)))
   value_fits base (Short connective d e) h =
       let outer : (same_base Boolean base && has_base program procedure Boolean d ≡ true) × (has_base program procedure Boolean e ≡ true) =
-      both (same_base Boolean base && has_base program procedure Boolean d) _ h in
+      and_parts (same_base Boolean base && has_base program procedure Boolean d) _ h in
       let inner : (same_base Boolean base ≡ true) × (has_base program procedure Boolean d ≡ true) =
-      both (same_base Boolean base) _ outer.0 in
+      and_parts (same_base Boolean base) _ outer.0 in
       let is : Boolean ≡ base = same_base_is Boolean base inner.0 in
       connective_gives base connective (value_of s d) (value_of s e) is (value_fits Boolean d inner.1) (value_fits Boolean e outer.1)
 
@@ -187,6 +184,6 @@ values_match program procedure s state [] (e ∷ rest) h = cc
 values_match program procedure s state (parameter ∷ parameters) [] h = cc
 values_match program procedure s state (parameter ∷ parameters) (e ∷ rest) h =
     let parts : (has_base program procedure parameter.base e ≡ true) × (arguments_match program procedure parameters rest ≡ true) =
-    both (has_base program procedure parameter.base e) _ h in
+    and_parts (has_base program procedure parameter.base e) _ h in
     more_match parameter parameters (value_of s e) (values_of s rest) (value_fits program procedure s state parameter.base e parts.0)
     (values_match program procedure s state parameters rest parts.1)

@@ -5,7 +5,7 @@ use Rattle.common.specs.Answers.{IfRefused}
 use Rattle.common.proofs.Casting.{cast-answer, mapped-ok}
 use Rattle.acceptance.specs.Accepted.{HasHierarchy}
 use Rattle.checker.specs.Reported.{IsCheckRefusal}
-use Rattle.compiler.specs.Reported.{IsFirstFault, StandForNone, not_accepted}
+use Rattle.compiler.specs.Reported.{IsFirstFault, StandForNone, texts_refusal}
 use Rattle.compiler.proofs.Refusals.{asked_of_check, first_of_check, stand_for_none}
 use Rattle.compiler.proofs.compilation.check_texts.Goals as goal
 
@@ -52,7 +52,7 @@ returns-clause-rejected c =
     let source = c.args.source.now in
     let has = mapped-ok c.principals_of.result (Ok principals) principals (HasHierarchy c.args.hierarchy.now) refl
     c.in_ok-principals.ensures.cases (λ fault no. no) c.principals_of.ensures.has in
-    stand_for_none c.one_verdict.ensures.one c.args.hierarchy.now source (not_accepted source c.in-Err-Refused.refusal).refusal
+    stand_for_none c.one_verdict.ensures.one c.args.hierarchy.now source (texts_refusal source c.in-Err-Refused.refusal).refusal
     (first_of_check c.args.hierarchy.now source principals has c.in-Err-Refused.refusal
     (subst (IfRefused (IsCheckRefusal principals source)) c.in-Err-Refused.field-0-is c.in-Err-Refused.ensures.first_fault))
 

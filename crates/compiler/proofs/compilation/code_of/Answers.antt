@@ -14,5 +14,5 @@ returns c =
     let exact = c.in_ok-graph.ensures.exact in
     let fits = subst (Fits module_file) exact c.procedures-procedures.ensures.graph.limits in
     code_of_module program c.in_ok-laid.laid c.in_ok-code.code.items (c.in_ok-laid.ensures.exact ∙ ap laid_out exact) c.in_ok-code.ensures
-    (c.modules_have_no_fault.ensures program well ends) (c.modules_are_never_stuck.ensures program well ends fits)
+    (c.modules_have_no_defect.ensures program well ends) (c.modules_are_never_stuck.ensures program well ends fits)
     (c.modules_keep_meaning.ensures program well ends) c.requires.isolated

@@ -4,12 +4,13 @@ use Rattle.std.proofs.lemmas.Result.{on_ok_weaker}
 use Rattle.resolved.specs.Tree as T
 use Rattle.resolved.specs.WellFormed.{statement_nodes}
 use Rattle.resolved.specs.TreeOf.{expression_of, some_expression_of, statement_of, block_of, handlers_of}
-use Rattle.path_map.proofs.Forms.{tree-if, tree-while, tree-try, tree-nested, next-statement, next-handler}
+use Rattle.path_map.proofs.Forms.{tree-if, tree-while, tree-try, tree-nested}
 use Rattle.constraints.proofs.Along.{Along, Handling, along-start, along-step, along-end, handling-start, handling-step, handling-end}
 use Rattle.constraints.proofs.Formed.{form-at, block-walked, statement-walked, if-walked, while-walked, try-walked}
 use Rattle.constraints.proofs.Measured.{statement-within, handler-within}
 use Rattle.constraints.proofs.Taken.{number-at}
 use Rattle.constraints.proofs.walking.+walk.Goals as goal
+use Rattle.resolved.proofs.Views.{next-statement, next-handler}
 
 pub walk_block-returns : goal.walk_block-returns
 walk_block-returns t c =

@@ -1,8 +1,9 @@
 use Rattle.std.proofs.Common.{◌∙◌}
 use Rattle.resolved.specs.CoreOf.{program_of}
 use Rattle.explaining.specs.Flow.{step_line}
-use Rattle.explaining.proofs.Texts.{cut_at, cut_in, on_err}
+use Rattle.explaining.proofs.Texts.{cut_at, cut_in}
 use Rattle.explaining.proofs.flow.write_steps.Goals as goal
+use Rattle.channels.proofs.Views.{on_err}
 
 pub returns-in_err-line-clause-prefix : goal.returns-in_err-line-clause-prefix
 returns-in_err-line-clause-prefix g c =

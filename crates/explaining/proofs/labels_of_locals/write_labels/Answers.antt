@@ -2,10 +2,10 @@ use Rattle.std.proofs.Common.{◌≡◌, ◌<◌, ◌∙◌, List, ap, get_or, l
 use Rattle.resolved.specs.CoreOf.{program_of}
 use Rattle.resolved.specs.declared.tables.Procedure.{Procedure}
 use Rattle.explaining.specs.Locals.{unlabelled_locals}
-use Rattle.explaining.proofs.Texts.{on_err}
 use Rattle.explaining.proofs.Lists.{part_of_none, writes_none, writes_procedure, writes_procedures, writes_some_procedures}
 use Rattle.gathering.proofs.Before.{before-here, before-next}
 use Rattle.explaining.proofs.labels_of_locals.write_labels.Goals as goal
+use Rattle.channels.proofs.Views.{on_err}
 
 pub returns-in_err-marked-clause-prefix : goal.returns-in_err-marked-clause-prefix
 returns-in_err-marked-clause-prefix g c =

@@ -1,9 +1,9 @@
 use Rattle.std.proofs.Common.{◌∙◌, List, ℕ, subst, sym}
 use Rattle.resolved.specs.ProgramOf.{slot_entry}
 use Rattle.explaining.specs.Locals.{IsLocalLine, if_unlabelled, local_of}
-use Rattle.explaining.proofs.Texts.{on_err}
 use Rattle.explaining.proofs.Lists.{part_of_none, with_label, writes_none, writes_one, writes_part}
 use Rattle.explaining.proofs.labels_of_locals.write_local.Goals as goal
+use Rattle.channels.proofs.Views.{on_err}
 
 pub returns-then-is_some-clause-accepted : goal.returns-then-is_some-clause-accepted
 returns-then-is_some-clause-accepted g c =

@@ -1,7 +1,7 @@
 use Rattle.std.proofs.Common.{refl}
-use Rattle.explaining.proofs.Texts.{on_err}
 use Rattle.explaining.proofs.Lists.{writes_none, writes_slot, writes_some_slots}
 use Rattle.explaining.proofs.labels_of_locals.write_locals.Goals as goal
+use Rattle.channels.proofs.Views.{on_err}
 
 pub loop-number-init : goal.loop-number-init
 loop-number-init g c = writes_none c.args.marked.now.text.now c.args.checked.now _ refl _

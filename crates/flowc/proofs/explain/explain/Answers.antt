@@ -1,7 +1,7 @@
-use Rattle.flowc.proofs.Cut.{on_err}
 use Rattle.flowc.proofs.Settled.{not_accepted}
 use Rattle.flowc.specs.Explained.ExplainsSome.{labels}
 use Rattle.flowc.proofs.explain.explain.Goals as goal
+use Rattle.channels.proofs.Views.{on_err}
 
 pub returns-in_ok-write_labels-in-Ok-clause-stdout : goal.returns-in_ok-write_labels-in-Ok-clause-stdout
 returns-in_ok-write_labels-in-Ok-clause-stdout g c =

@@ -1,6 +1,6 @@
-use Rattle.flowc.proofs.Cut.{on_err}
 use Rattle.flowc.proofs.Listed.{listed_some}
 use Rattle.flowc.proofs.list.list_module.Goals as goal
+use Rattle.channels.proofs.Views.{on_err}
 
 pub returns-in_err-write_listing-clause-prefix : goal.returns-in_err-write_listing-clause-prefix
 returns-in_err-write_listing-clause-prefix g c =

@@ -1,9 +1,10 @@
 use Rattle.std.proofs.Common.{◌∙◌, ap, option_map}
 use Rattle.bytecode.specs.Contents.{ModuleContents}
-use Rattle.flowc.proofs.Cut.{appended_all, can_run, cut_off, ends_so, on_err, shows_run}
+use Rattle.flowc.proofs.Cut.{appended_all, can_run, cut_off, ends_so, shows_run}
 use Rattle.flowc.proofs.Reporting.{observer_message, start_message, unwritten_message, unwritten_status}
 use Rattle.flowc.specs.Messages.{IsRefusedLine}
 use Rattle.flowc.proofs.running.run.Goals as goal
+use Rattle.channels.proofs.Views.{on_err}
 
 pub returns-in_err-write_view-clause-prefix : goal.returns-in_err-write_view-clause-prefix
 returns-in_err-write_view-clause-prefix g c =

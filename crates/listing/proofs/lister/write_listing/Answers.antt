@@ -1,6 +1,6 @@
 use Rattle.std.proofs.Common.{refl, sym}
 use Rattle.channels.proofs.Views.{on_err}
-use Rattle.listing.proofs.Fitting.{all_short}
+use Rattle.bytecode.proofs.Widths.{all_short}
 use Rattle.listing.proofs.Listed.{cut_first, cut_second, on_err_then}
 use Rattle.listing.proofs.lister.write_listing.Goals as goal
 

@@ -15,8 +15,9 @@ use Rattle.path_map.specs.Paths.{block_paths, rest_paths, inner_paths}
 use Rattle.path_map.specs.Joins.{raised_list, raises_some}
 use Rattle.path_map.specs.Walks.{IsFound, AreThrown}
 use Rattle.path_map.proofs.Walking.{reserved, outside, along-step, never-raised, in-handler, handling-step, first-left, first-right, none-both, Along, Handling}
-use Rattle.path_map.proofs.Forms.{found-at, faults-at, first-at, tree-if, tree-while, tree-try, tree-nested, return-found, store-same, if-found, while-found, try-is-found, tried-throws, next-statement, next-handler}
+use Rattle.path_map.proofs.Forms.{found-at, faults-at, first-at, tree-if, tree-while, tree-try, tree-nested, return-found, store-same, if-found, while-found, try-is-found, tried-throws}
 use Rattle.path_map.proofs.walk.+walk.Goals as goal
+use Rattle.resolved.proofs.Views.{next-statement, next-handler}
 
 -- an entry for which room was made
 pub walk_block-returns-clause-found : goal.walk_block-returns-clause-found

@@ -2,8 +2,8 @@ use Rattle.std.proofs.Common.{◌≡◌, sym, ◌∙◌, subst, arith, true, ⊎
 use Rattle.std.specs.Prelude.{IsTrue}
 use Rattle.solver.specs.Bits.{has_bit}
 use Rattle.solver.specs.Broken.{is_below}
-use Rattle.solver.proofs.Searching.{lt_or_last}
 use Rattle.solver.proofs.breaker.compare_word.Goals as goal
+use Rattle.common.proofs.Cases.{last_cases}
 
 pub loop-n-preserved : goal.loop-n-preserved
 loop-n-preserved g c = record {
@@ -12,7 +12,7 @@ loop-n-preserved g c = record {
   below = λ m from lt has. ⊎_elim (λ before. c.loop-n.invariant.below m from before has)
       (λ last. subst (λ k. IsTrue (has_bit c.args.left.now.words.items k) → is_below (g.L.Lattice.order c.args.lattice.now) c.args.written.now k c.args.to ≡ true) (sym last)
       (c.stays_below.ensures.below c.if-not-stays_below.false) has)
-      (lt_or_last m c.loop-n.n lt);
+      (last_cases m c.loop-n.n lt);
 }
 
 pub returns-clause-above : goal.returns-clause-above

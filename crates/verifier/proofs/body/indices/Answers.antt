@@ -3,10 +3,11 @@ use Rattle.std.proofs.lemmas.List.{take_more, length-take, length-replicate, dro
 use Rattle.bytecode.specs.Code.{code_length}
 use Rattle.bytecode.specs.declared.instruction.Instruction.TheVariants.{Push}
 use Rattle.verifier.specs.Search.{indices_from}
-use Rattle.verifier.proofs.Offsets.{code_length_more, code_length_within, code_length_split, code_length_drop, few_instructions, width_of-pos}
+use Rattle.verifier.proofs.Offsets.{code_length_more, code_length_within, code_length_split, code_length_drop, few_instructions}
 use Rattle.verifier.proofs.Indices.{indices_step, length-indices}
 use Rattle.verifier.proofs.Reaching.{take_all}
 use Rattle.verifier.proofs.body.indices.Goals as goal
+use Rattle.bytecode.proofs.Widths.{width_of-pos}
 
 pub set-requires-clause-place : goal.set-requires-clause-place
 set-requires-clause-place c =

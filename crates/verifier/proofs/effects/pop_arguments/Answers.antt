@@ -1,4 +1,4 @@
-use Rattle.std.proofs.Common.{◌≡◌, ◌-◌, ◌+◌, ◌*◌, ◌<◌, min, length, drop, map, Some, arith, ap, sym, ◌∙◌}
+use Rattle.std.proofs.Common.{rules, ◌≡◌, ◌-◌, ◌+◌, ◌*◌, ◌<◌, min, length, drop, map, Some, arith, ap, sym, ◌∙◌}
 use Rattle.bytecode.specs.declared.value.Kind.TheVariants.{Int}
 use Rattle.bytecode.specs.declared.declaration.Slot.TheVariants.{Scalar}
 use Rattle.verifier.specs.Flow.{all_popped}
@@ -33,13 +33,14 @@ loop-count-preserved c =
     let inside : c.loop-count.count - 1 < length c.slots-slots.result.now = omega (arith, v.inside, c.loop-count-test.true) in
     record {
       inside = omega (arith, v.inside);
-      there = c.in-Ok.ensures.there;
-      same = v.same ∙ pop_step c.slots-slots.result.now (c.loop-count.count - 1) c.loop-count.count (Scalar Int) less inside c.kind_of.result c.kind_of.ensures (list_of c.args.operands.now c.loop-count.rest) (list_of c.args.operands.now c.in-Ok.below) c.in-Ok.ensures.accepted;
+      there = c.in_ok-rest.ensures.there;
+      same = v.same ∙ pop_step c.slots-slots.result.now (c.loop-count.count - 1) c.loop-count.count (Scalar Int) less inside c.kind.result c.kind.ensures (list_of c.args.operands.now c.loop-count.rest) (list_of c.args.operands.now c.in_ok-rest.rest) c.in_ok-rest.ensures.accepted;
     }
 
-pub returns-in-Err-clause-rejected : goal.returns-in-Err-clause-rejected
-returns-in-Err-clause-rejected c =
+pub returns-in_err-rest-clause-rejected : goal.returns-in_err-rest-clause-rejected
+returns-in_err-rest-clause-rejected c =
     let v = c.loop-count.invariant in
     let less : c.loop-count.count ≡ c.loop-count.count - 1 + 1 = omega (arith, c.loop-count-test.true) in
     let inside : c.loop-count.count - 1 < length c.slots-slots.result.now = omega (arith, v.inside, c.loop-count-test.true) in
-    v.same ∙ pop_fail c.slots-slots.result.now (c.loop-count.count - 1) c.loop-count.count (Scalar Int) less inside c.kind_of.result c.kind_of.ensures (list_of c.args.operands.now c.loop-count.rest) c.in-Err.defect c.in-Err.ensures.rejected
+    let missed = v.same ∙ pop_fail c.slots-slots.result.now (c.loop-count.count - 1) c.loop-count.count (Scalar Int) less inside c.kind.result c.kind.ensures (list_of c.args.operands.now c.loop-count.rest) c.in_err-rest.field-0.0 c.in_err-rest.ensures.rejected in
+    search (rules, missed)

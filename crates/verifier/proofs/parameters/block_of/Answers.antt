@@ -12,7 +12,7 @@ loop-index-preserved c =
     let k = c.args.count - 64 + l.index in
     let more : c.args.count - 64 + (l.index + 1) ≡ k + 1 = omega arith in
     let step : l.bits * 2 + c.bit_of.result ≡ packed (l.index + 1) (reversed (c.args.count - 64 + (l.index + 1)) c.args.slots.now) =
-    packed_step c.args.slots.now k (c.args.count - 64 + (l.index + 1)) (Scalar Int) more (omega (arith, c.requires.there, c.requires.full, c.loop-index-test.true)) l.index l.bits c.bit_of.result l.invariant.bits_are (c.bit_of.ensures ∙ ap bit c.kind_of.ensures) in
+    packed_step c.args.slots.now k (c.args.count - 64 + (l.index + 1)) (Scalar Int) more (omega (arith, c.requires.there, c.requires.full, c.loop-index-test.true)) l.index l.bits c.bit_of.result l.invariant.bits_are (c.bit_of.ensures ∙ ap bit c.kind.ensures) in
     record {
       small = omega (arith, step, packed_small (l.index + 1) (reversed (c.args.count - 64 + (l.index + 1)) c.args.slots.now));
       bits_are = sym step;

@@ -13,7 +13,7 @@ use Rattle.names.specs.Statements.{statement_finding, block_finding, catches_fin
 use Rattle.names.specs.Views.{Resolves, at_point, point_of, setting_of, taken}
 use Rattle.names.proofs.Along.{statement_fits, statement_part, statement_wrong, statement_right, statements_done, exception_wrong, body_wrong, catch_fits, catch_part, catch_right, catches_done}
 use Rattle.names.proofs.Holding.{condition_wrong, if_done, if_else_done, if_wrong, else_wrong, while_done, while_wrong, try_done, try_wrong, handlers_wrong, nested_done, nested_wrong, if_nodes}
-use Rattle.names.proofs.Later.{setting_same}
+use Rattle.names.proofs.Later.{later_through, setting_same}
 use Rattle.names.proofs.body.Body.+block.Goals as goal
 
 -- ---- a statement that holds others, by the function of its form
@@ -135,6 +135,10 @@ resolve_if-returns-in_ok-otherwise-in-Some-clause-made t c =
     c.in_ok-accepted.ensures.made second
     ∙ ap (λ one. Ok (point_of after, one)) (sym (statement_of_if c.args.at c.in_ok-condition.condition c.in_ok-accepted.accepted c.in_ok-otherwise-in-Some.otherwise))
 
+pub resolve_if-returns-in_ok-otherwise-in-Some-clause-later : goal.resolve_if-returns-in_ok-otherwise-in-Some-clause-later
+resolve_if-returns-in_ok-otherwise-in-Some-clause-later t c =
+    later_through c.args.self.now c.resolve_block.new.self c.resolve_block-in-Some.new.self c.in_ok-accepted.ensures.later c.in_ok-otherwise-in-Some.ensures.later
+
 pub resolve_if-returns-in_ok-otherwise-in-Some-clause-grows : goal.resolve_if-returns-in_ok-otherwise-in-Some-clause-grows
 resolve_if-returns-in_ok-otherwise-in-Some-clause-grows t c =
     let nodes = ap (λ otherwise. statement_nodes (if_tree c.args.at (expression_tree c.args.condition.now) (block_tree c.args.accepted.now) (optional_block_tree otherwise))) c.in-Some.is in
@@ -204,6 +208,10 @@ resolve_try-returns-clause-made t c =
     try_done (setting_of before) (point_of before) c.args.at (block_tree c.args.body.now) catches (point_of inside) (point_of after)
     (block_of c.in_ok-body.body.items) (handlers_of c.in_ok-handlers.handlers.items) c.in_ok-body.ensures.made second
     ∙ ap (λ one. Ok (point_of after, one)) (sym (statement_of_try c.args.at c.in_ok-body.body c.in_ok-handlers.handlers))
+
+pub resolve_try-returns-clause-later : goal.resolve_try-returns-clause-later
+resolve_try-returns-clause-later t c =
+    later_through c.args.self.now c.resolve_block.new.self c.resolve_catches.new.self c.in_ok-body.ensures.later c.in_ok-handlers.ensures.later
 
 -- ---- blocks among statements
 

@@ -7,27 +7,14 @@ use Rattle.names.specs.Views.{found_in, signature_view}
 use Rattle.names.proofs.Tables.{empty_finds, ok_inside}
 use Rattle.names.proofs.top.TopNames.declare_built_in.Goals as goal
 
-pub insert-requires-2 : goal.insert-requires-2
-insert-requires-2 c = record {
-  fresh = ap (λ (names : Environment). names (codes "Bounds")) (sym (ok_inside _ _ c.in_ok-insert.ensures.made))
-      ∙ sym (empty_finds c.new-names.result c.new-names.ensures.empty (codes "Bounds"));
-}
-
-pub insert-requires-3 : goal.insert-requires-3
-insert-requires-3 c = record {
-  fresh = ap (λ (names : Environment). names (codes "End")) (sym (ok_inside _ _ c.in_ok-insert-2.ensures.made))
-      ∙ ap (λ (names : Environment). names (codes "End")) (sym (ok_inside _ _ c.in_ok-insert.ensures.made))
-      ∙ sym (empty_finds c.new-names.result c.new-names.ensures.empty (codes "End"));
-}
-
 pub returns : goal.returns
 returns c =
     let none : nothing_declared ≡ found_in c.new-names.result = λ i other. empty_finds c.new-names.result c.new-names.ensures.empty other i in
     let found : Environment = found_in c.insert-3.new.table in
     let e : declaring (codes "End") (Exception 2) (declaring (codes "Bounds") (Exception 1) (declaring (codes "Arith") (Exception 0) nothing_declared)) ≡ found =
     ap (λ one. declaring (codes "End") (Exception 2) (declaring (codes "Bounds") (Exception 1) (declaring (codes "Arith") (Exception 0) one))) none
-    ∙ ap (λ one. declaring (codes "End") (Exception 2) (declaring (codes "Bounds") (Exception 1) one)) (ok_inside _ _ c.in_ok-insert.ensures.made)
-    ∙ ap (λ one. declaring (codes "End") (Exception 2) one) (ok_inside _ _ c.in_ok-insert-2.ensures.made)
-    ∙ ok_inside _ _ c.in_ok-insert-3.ensures.made in
+    ∙ ap (λ one. declaring (codes "End") (Exception 2) (declaring (codes "Bounds") (Exception 1) one)) (ok_inside _ _ c.in_ok-insert.ensures)
+    ∙ ap (λ one. declaring (codes "End") (Exception 2) one) (ok_inside _ _ c.in_ok-insert-2.ensures)
+    ∙ ok_inside _ _ c.in_ok-insert-3.ensures in
     let signatures : [] ≡ map signature_view c.new.result.items = ap (map signature_view) (sym c.new.ensures.items) in
     λ i. Ok (record { names = e i; channels = 0; exceptions = 3; globals = 0; signatures = signatures i })

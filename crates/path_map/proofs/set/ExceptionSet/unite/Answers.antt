@@ -1,8 +1,8 @@
 use Rattle.std.proofs.Common.{ℕ, ◌<◌, ◌||◌, length, get_or, take, ap, ◌∙◌, sym, arith}
 use Rattle.std.specs.Int.Bits.{bit_or}
 use Rattle.std.proofs.lemmas.List.{get_or_read, length-set}
+use Rattle.std.proofs.Math.Bool.{or_assoc}
 use Rattle.path_map.specs.Sets.{row_has, word_has}
-use Rattle.path_map.proofs.Summary.{or-assoc}
 use Rattle.path_map.proofs.Rows.{unite-word, take-row}
 use Rattle.path_map.proofs.set.ExceptionSet.unite.Goals as goal
 
@@ -19,6 +19,6 @@ loop-i-preserved c =
       joined = λ e.
           unite-word words i word (bit_or c.index_mut.result.now word) inside (ap (λ n. bit_or n word) was) e
           ∙ ap (λ b. b || word_has word i e) (c.loop-i.invariant.joined e)
-          ∙ or-assoc (row_has c.args.self.now.words.items e) (row_has (take i others) e) (word_has word i e)
+          ∙ or_assoc (row_has c.args.self.now.words.items e) (row_has (take i others) e) (word_has word i e)
           ∙ ap (λ b. row_has c.args.self.now.words.items e || b) (sym (take-row others i e));
     }

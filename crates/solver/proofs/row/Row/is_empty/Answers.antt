@@ -1,7 +1,9 @@
 use Rattle.std.proofs.Common.{◌∙◌, sym, subst, ◌<◌, ◌≤◌, ◌≡◌, ◌/◌, length, arith, get_or, ⊎_elim}
 use Rattle.std.proofs.lemmas.List.{get_or_read}
-use Rattle.solver.proofs.Members.{empty-bit, get_or-beyond, lt_or_ge, last-of}
+use Rattle.std.proofs.lemmas.Bool.{cases_lt}
+use Rattle.solver.proofs.Members.{empty-bit, get_or-beyond}
 use Rattle.solver.proofs.row.Row.is_empty.Goals as goal
+use Rattle.common.proofs.Cases.{last_cases}
 
 pub returns : goal.returns
 returns c = λ _ n.
@@ -9,7 +11,7 @@ returns c = λ _ n.
     empty-bit words n (⊎_elim
     (λ (lt : n / 64 < c.loop-k.k). c.loop-k.invariant (n / 64) lt)
     (λ (ge : c.loop-k.k ≤ n / 64). get_or-beyond words (n / 64) (omega (arith, ge, c.loop-k-test.false, c.len-k-end.ensures)))
-    (lt_or_ge (n / 64) c.loop-k.k))
+    (cases_lt (n / 64) c.loop-k.k))
 
 pub loop-k-preserved : goal.loop-k-preserved
 loop-k-preserved c = λ j h.
@@ -20,4 +22,4 @@ loop-k-preserved c = λ j h.
     ⊎_elim
     (λ (before : j < k). c.loop-k.invariant j before)
     (λ (last : j ≡ k). subst (λ i. get_or words i 0 ≡ 0) (sym last) (sym mine ∙ c.if-index-ne0.false))
-    (last-of j k h)
+    (last_cases j k h)
